@@ -1,37 +1,36 @@
 -- What is left of a record lies in the gaps of the second input.
-use Rattle.std.proofs.Common.{◌≡◌, ◌||◌, ℕ, zero, suc, ◌+◌, ◌-◌, ◌<◌, ◌≤◌, Bool, true, false, cond, not, List, [], ◌∷◌, ◌++◌, append-nil, map, filter, length, max, min, Option, Some, None, Result, Ok, Err, refl, sym, ap, ap₂, ◌∙◌, subst, inl, inr, arith}
-use Rattle.std.specs.Prelude.{bytes_eq, flat_map, IsTrue}
+use Rattle.std.proofs.Common.{◌≡◌, ℕ, ◌+◌, ◌<◌, ◌≤◌, true, false, cond, not, List, [], ◌∷◌, ◌++◌, append-nil, map, filter, max, min, Some, None, Ok, refl, sym, ap, ap₂, ◌∙◌, subst, inl, inr, arith}
+use Rattle.std.specs.Prelude.{bytes_eq, flat_map}
 use Rattle.std.specs.List.{AllByRecursion}
 use Rattle.std.proofs.lemmas.Bool.{cases_Bool, false≢true, or_parts}
-use Rattle.bt_lines.specs.Handed.{Handed, whole_text}
+use Rattle.bt_lines.specs.Handed.{whole_text}
 use Rattle.bt_lines.specs.declared.fault.Input.TheVariants.{First, Second}
 use Rattle.bt_bed.specs.Feature.{Feature, interval_of, intervals_of}
 use Rattle.bt_bed.specs.Genome.{Entry, genome_names}
 use Rattle.bt_bed.specs.Good.{items_in}
 use Rattle.bt_bed.specs.GoodBed.{bed_good}
 use Rattle.bt_bed.specs.Header.{is_header}
-use Rattle.bt_bed.specs.Interval.{Interval, Span, placed_on, span_of, spans_on}
+use Rattle.bt_bed.specs.Interval.{Interval, Span, span_of, spans_on}
 use Rattle.bt_bed.specs.IntervalLine.{interval_lines}
 use Rattle.bt_bed.specs.Order.{Order}
 use Rattle.bt_bed.specs.Rank.{AreDistinct, is_among}
-use Rattle.bt_bed.specs.Stretches.{AreApartFrom, AreStretchesOf, IsCovered, stretches_from}
-use Rattle.bt_bed.proofs.NameLemmas.{cases_name, name_eq, same_name}
+use Rattle.bt_bed.specs.Stretches.{AreApartFrom, IsCovered, stretches_from}
+use Rattle.bt_bed.proofs.NameLemmas.{cases_name, name_eq}
 use Rattle.bt_runs.specs.Gaps.{IsBare, complement, gaps_of, gaps_on, is_asked, length_in}
-use Rattle.bt_runs.proofs.ChromosomeLemmas.{spans_on-append, spans_on-here, spans_on-elsewhere}
+use Rattle.bt_runs.proofs.ChromosomeLemmas.{spans_on-append, spans_on-elsewhere}
 use Rattle.bt_runs.proofs.OneGap.{are_gaps}
 use Rattle.bt_sweep.specs.Hits.{any_overlap, hits, hits_among}
 use Rattle.bt_sweep.specs.IntersectLines.{hit_line, intersect, lines_for, piece_line}
-use Rattle.bt_sweep.specs.Pieces.{IsLeft, pieces, spans_of}
+use Rattle.bt_sweep.specs.Pieces.{pieces, spans_of}
 use Rattle.bt_sweep.specs.declared.shape.Shape.TheVariants.{Cut, Pieces}
 use Rattle.bt_sweep.proofs.PieceLemmas.{only_pieces}
-use Rattle.bt_tool.specs.Behaviour.{entries_in, order_of}
+use Rattle.bt_tool.specs.Behaviour.{order_of}
 use Rattle.bt_tool.specs.Inputs.{Inputs, or_empty}
 use Rattle.bt_tool.specs.RecordReport.{Report}
-use Rattle.bt_tool.specs.Report.{chromosomes_of, report_of}
-use Rattle.bt_tool.specs.SweepReport.{met_within}
+use Rattle.bt_tool.specs.Report.{chromosomes_of}
 use Rattle.bt_tool.specs.Written.{complement_written}
 use Rattle.bt_tool.specs.declared.plan_type.Command.TheVariants.{Complement, Intersect, Subtract}
-use Rattle.bt_laws.specs.Pipes.{RunsWell, first_records, second_records}
+use Rattle.bt_laws.specs.Pipes.{first_records, second_records}
 use Rattle.bt_laws.specs.SameLines.{Writes}
 use Rattle.bt_laws.specs.SameSweeps.{AreWithin, of_second, subtract_by_complement, with_second}
 use Rattle.bt_laws.specs.Taken.{AreApart, EachPair, IsInput, is_no_header, three_columns}

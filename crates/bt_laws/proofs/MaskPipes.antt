@@ -1,36 +1,22 @@
 -- Masked sequences, read again.
-use Rattle.std.proofs.Common.{◌≡◌, ◌≢◌, ◌||◌, ◌&&◌, ℕ, zero, suc, ◌+◌, ◌-◌, ◌<◌, ◌≤◌, Bool, true, false, cond, not, List, [], ◌∷◌, ◌++◌, append-nil, append_assoc, map, length, Option, Some, None, Result, Ok, Err, inl, inr, refl, sym, ap, ap₂, ◌∙◌, subst, arith, eqb, leb}
-use Rattle.std.specs.Prelude.{flat_map, if◌then◌else◌, is_none}
-use Rattle.std.specs.List.{AllByRecursion, list_all, list_any}
-use Rattle.std.specs.Option.{option_or}
+use Rattle.std.proofs.Common.{◌≡◌, ℕ, suc, ◌+◌, ◌<◌, Bool, true, false, cond, List, [], ◌∷◌, ◌++◌, append-nil, append_assoc, map, length, Option, Some, None, Result, Ok, Err, inl, inr, refl, sym, ap, ap₂, ◌∙◌, subst, arith, eqb}
+use Rattle.std.specs.Prelude.{flat_map, if◌then◌else◌}
 use Rattle.std.specs.Io.BufRead.{ends_with_byte, strip_last}
-use Rattle.std.proofs.lemmas.Bool.{cases_Bool, false≢true, le-leb, ne_eqb}
-use Rattle.std.proofs.lemmas.Bool.Decides.{nat_tests}
+use Rattle.std.proofs.lemmas.Bool.{cases_Bool}
 use Rattle.std.proofs.lemmas.List.{length-append}
-use Rattle.std.proofs.lemmas.List.Elements.{All-cons, All-head, All-nil, All-tail}
-use Rattle.bt_lines.specs.Fault.{Told}
-use Rattle.bt_lines.specs.Handed.{Handed, cut_fault, lines_handed, whole_text}
+use Rattle.std.proofs.lemmas.List.Elements.{All-cons, All-nil}
 use Rattle.bt_lines.specs.LentLine.{NoLineFeed}
-use Rattle.bt_lines.specs.Lines.{TextLine, end_bytes, fed_line, last_line, lines_from, text_lines}
+use Rattle.bt_lines.specs.Lines.{TextLine, end_bytes, fed_line, last_line, lines_from}
 use Rattle.bt_lines.specs.declared.fault.Input.{Input}
-use Rattle.bt_lines.specs.declared.fault.Input.TheVariants.{First, Second}
 use Rattle.bt_lines.specs.declared.fault.Kind.{Kind}
 use Rattle.bt_lines.specs.declared.fault.Kind.TheVariants.{TextBeforeHeader}
 use Rattle.bt_lines.specs.declared.line.LineEnd.{LineEnd}
 use Rattle.bt_lines.specs.declared.line.LineEnd.TheVariants.{Absent, Cr, CrLf, Lf}
-use Rattle.bt_lines.proofs.LinesLemmas.{lines_from-fed, lines_from-last, lines_from-nil, strip_last-other, strip_last-push}
+use Rattle.bt_lines.proofs.LinesLemmas.{lines_from-fed, lines_from-last, lines_from-nil, strip_last-other}
 use Rattle.bt_lines.proofs.TextLemmas.{by_lines}
-use Rattle.bt_bed.specs.Feature.{Feature}
-use Rattle.bt_bed.specs.Good.{Good, good_from, good_with, items_in, or_else}
-use Rattle.bt_bed.specs.Meeting.{Met, Rule, meet, written}
-use Rattle.bt_seq.specs.MaskHow.{is_upper_case, masked_byte}
-use Rattle.bt_seq.specs.Masked.{covers, masked_from, masked_line, masked_text}
-use Rattle.bt_seq.specs.Owners.{own_records}
-use Rattle.bt_seq.specs.Sequences.{Reached, SequenceLine, bases_in, bases_up_to, header_behind, is_header, line_behind, line_says, may_stand, name_in, sequence_format, sequence_good}
-use Rattle.bt_seq.specs.declared.mask_how.MaskHow.{MaskHow}
-use Rattle.bt_seq.specs.declared.mask_how.MaskHow.TheVariants.{Soft, Hard}
-use Rattle.bt_laws.specs.MaskPipes.{KeepsLines, layout_of}
-use Rattle.bt_laws.proofs.Clear.{clear_both, clear_front, clear_strip}
+use Rattle.bt_bed.specs.Good.{Good, good_from, good_with, items_in}
+use Rattle.bt_seq.specs.Sequences.{Reached, SequenceLine, bases_in, header_behind, is_header, line_behind, line_says, may_stand, name_in, sequence_format}
+use Rattle.bt_laws.proofs.Clear.{clear_both, clear_strip}
 use Rattle.bt_laws.proofs.TailSays.{ends_both, strip_both}
 
 -- a line with another text

@@ -1,16 +1,16 @@
 -- What maskfasta writes has the lines of its input, and is masked already.
-use Rattle.std.proofs.Common.{◌≡◌, ◌≢◌, ◌||◌, ◌&&◌, ℕ, zero, suc, ◌+◌, ◌-◌, ◌<◌, ◌≤◌, Bool, true, false, cond, not, List, [], ◌∷◌, ◌++◌, append-nil, append_assoc, map, length, Option, Some, None, Result, Ok, Err, inl, inr, refl, sym, ap, ap₂, ◌∙◌, subst, arith, eqb, leb}
+use Rattle.std.proofs.Common.{◌≡◌, ◌||◌, ℕ, suc, ◌+◌, ◌≤◌, Bool, true, false, List, [], ◌∷◌, ◌++◌, map, length, Option, Some, None, inl, inr, refl, sym, ap, ap₂, ◌∙◌, arith, eqb, leb}
 use Rattle.std.specs.Prelude.{◌⊎◌, flat_map, if◌then◌else◌, is_none}
-use Rattle.std.specs.List.{AllByRecursion, list_all, list_any, take_while}
+use Rattle.std.specs.List.{list_all, list_any}
 use Rattle.std.specs.Option.{option_or}
 use Rattle.std.specs.Io.BufRead.{ends_with_byte}
-use Rattle.std.proofs.lemmas.Bool.{and_parts, cases_Bool, false≢true, leb-true, ne_eqb}
+use Rattle.std.proofs.lemmas.Bool.{and_parts, false≢true, leb-true, ne_eqb}
 use Rattle.std.proofs.lemmas.Bool.Decides.{nat_tests}
 use Rattle.std.proofs.lemmas.List.Elements.{All-cons, All-head, All-nil, All-tail}
 use Rattle.bt_lines.specs.Fault.{Told, read_failed}
 use Rattle.bt_lines.specs.Handed.{Handed, cut_fault, lines_handed, whole_text}
 use Rattle.bt_lines.specs.LentLine.{NoLineFeed}
-use Rattle.bt_lines.specs.Lines.{TextLine, end_bytes, lines_from, text_lines, whole_lines}
+use Rattle.bt_lines.specs.Lines.{TextLine, end_bytes, text_lines, whole_lines}
 use Rattle.bt_lines.specs.declared.fault.Input.TheVariants.{First, Second}
 use Rattle.bt_bed.specs.Feature.{Feature}
 use Rattle.bt_bed.specs.Genome.{Entry}
@@ -23,18 +23,16 @@ use Rattle.bt_seq.specs.Owners.{own_records}
 use Rattle.bt_seq.specs.Sequences.{SequenceLine, is_header, sequence_format, sequence_good}
 use Rattle.bt_seq.specs.declared.mask_how.MaskHow.{MaskHow}
 use Rattle.bt_seq.specs.declared.mask_how.MaskHow.TheVariants.{Soft, Hard}
-use Rattle.bt_tool.specs.Behaviour.{behaviour_of}
 use Rattle.bt_tool.specs.Inputs.{Inputs, or_empty}
 use Rattle.bt_tool.specs.RecordReport.{Report}
-use Rattle.bt_tool.specs.Report.{chromosomes_of, report_of}
+use Rattle.bt_tool.specs.Report.{report_of}
 use Rattle.bt_tool.specs.SweepReport.{met_report}
 use Rattle.bt_tool.specs.declared.plan_type.Command.TheVariants.{MaskFasta}
-use Rattle.bt_laws.specs.MaskPipes.{KeepsLines, Layout, layout_of, masked_keep_layout, masked_twice}
+use Rattle.bt_laws.specs.MaskPipes.{KeepsLines, layout_of, masked_keep_layout, masked_twice}
 use Rattle.bt_laws.specs.Pipes.{RunsWell}
 use Rattle.bt_laws.specs.SameLines.{Writes}
 use Rattle.bt_laws.specs.SameRuns.{piped}
 use Rattle.bt_laws.proofs.MaskPipes.{IsAgain, Stands, again_lines, with_text}
-use Rattle.bt_laws.proofs.PartLists.{all_any, flat_map_same}
 use Rattle.bt_laws.proofs.PipeLaws.{report_is, well_there}
 use Rattle.bt_laws.proofs.RunsAgain.{report_there, writes_is}
 use Rattle.bt_laws.proofs.TailSays.{ends_both}

@@ -1,17 +1,15 @@
 -- Pairs of records that hit one another, from both sides.
-use Rattle.std.proofs.Common.{◌≡◌, ◌||◌, ◌&&◌, ℕ, suc, ◌+◌, ◌-◌, ◌<◌, ◌≤◌, Bool, true, false, cond, not, List, [], ◌∷◌, ◌++◌, append-nil, append_assoc, map, filter, length, max, min, Option, Some, None, Result, Ok, inl, inr, refl, sym, ap, ap₂, ◌∙◌, subst, arith, ltb}
-use Rattle.std.specs.Prelude.{◌⊎◌, IsPermutation, bytes_eq, flat_map, if◌then◌else◌}
-use Rattle.std.specs.List.{AllByRecursion, list_all}
+use Rattle.std.proofs.Common.{◌≡◌, ◌||◌, ◌&&◌, ℕ, suc, ◌-◌, Bool, true, false, cond, not, List, [], ◌∷◌, ◌++◌, append_assoc, map, filter, length, max, min, None, inl, inr, refl, sym, ap, ap₂, ◌∙◌, subst, arith, ltb}
+use Rattle.std.specs.Prelude.{IsPermutation, flat_map}
 use Rattle.std.proofs.lemmas.Grind.{flat_map-append}
 use Rattle.std.proofs.lemmas.List.{map-append}
-use Rattle.std.proofs.lemmas.List.Sorted.{IsPermutation-append, IsPermutation-append_comm, IsPermutation-append_left, IsPermutation-append_right, IsPermutation-refl, IsPermutation-trans}
-use Rattle.bt_lines.specs.Fault.{Told, read_failed}
+use Rattle.std.proofs.lemmas.List.Sorted.{IsPermutation-append_comm, IsPermutation-append_left, IsPermutation-append_right, IsPermutation-refl, IsPermutation-trans}
+use Rattle.bt_lines.specs.Fault.{read_failed}
 use Rattle.bt_lines.specs.Handed.{Handed, cut_fault, lines_handed}
 use Rattle.bt_lines.specs.Lines.{whole_lines}
 use Rattle.bt_lines.specs.declared.fault.Input.TheVariants.{First, Second}
 use Rattle.bt_bed.specs.Feature.{Feature}
-use Rattle.bt_bed.specs.Genome.{Entry}
-use Rattle.bt_bed.specs.Good.{Good, good, items_in, or_else}
+use Rattle.bt_bed.specs.Good.{good, items_in, or_else}
 use Rattle.bt_bed.specs.GoodBed.{bed_format, bed_good}
 use Rattle.bt_bed.specs.Order.{Order}
 use Rattle.bt_bed.specs.Sorting.{sorting_of}
@@ -20,16 +18,15 @@ use Rattle.bt_bed.specs.declared.strand.Strand.{Strand}
 use Rattle.bt_bed.specs.declared.strand.Strand.TheVariants.{Dot, Minus, Plus}
 use Rattle.bt_bed.proofs.NameLemmas.{name_eq-sym}
 use Rattle.bt_sweep.specs.Hits.{has_fraction, hits, hits_among, is_enough, shared_bases, strands_agree}
-use Rattle.bt_sweep.specs.IntersectLines.{hit_line, intersect, lines_for, lines_of}
+use Rattle.bt_sweep.specs.IntersectLines.{hit_line, intersect, lines_for}
 use Rattle.bt_sweep.specs.declared.hit_rule.HitRule.{HitRule}
 use Rattle.bt_sweep.specs.declared.shape.Shape.TheVariants.{OrigBoth}
 use Rattle.bt_sweep.proofs.RuleLemmas.{enough_of_nothing}
 use Rattle.bt_tool.specs.Behaviour.{order_of}
-use Rattle.bt_tool.specs.Inputs.{Inputs, or_empty}
-use Rattle.bt_tool.specs.Report.{report_of}
+use Rattle.bt_tool.specs.Inputs.{or_empty}
 use Rattle.bt_tool.specs.declared.plan_type.Command.TheVariants.{Intersect}
 use Rattle.bt_laws.specs.PairSides.{IsEven, Pair, exchanged, pair_line, pairs_have_two_sides, pairs_of, turned}
-use Rattle.bt_laws.specs.Pipes.{RunsWell, first_records, second_records}
+use Rattle.bt_laws.specs.Pipes.{first_records, second_records}
 use Rattle.bt_laws.specs.SameLines.{Writes}
 use Rattle.bt_laws.proofs.PipeLaws.{intersect_whole, well_there}
 use Rattle.bt_laws.proofs.SameLines.{writes_lines}
@@ -173,8 +170,7 @@ two_sides rule held inputs chromosomes even well =
     let one = other_input order (or_empty inputs.second) nones.1 in
     let two = other_second order inputs.first nones.0 in
     let lines : intersect OrigBoth rule (first_records chromosomes (exchanged inputs)) (second_records chromosomes (exchanged inputs)) ≡ flat_map pair_line (pairs_of rule seconds firsts) =
-    ap₂ (intersect OrigBoth rule) one.0 two.0 ∙ pair_lines rule seconds firsts in
-    (
+    ap₂ (intersect OrigBoth rule) one.0 two.0 ∙ pair_lines rule seconds firsts in (
       pairs_of rule firsts seconds,
       pairs_of rule seconds firsts,
       subst (Writes (Intersect OrigBoth rule held) inputs) (pair_lines rule firsts seconds) (writes_lines OrigBoth rule held inputs chromosomes well),

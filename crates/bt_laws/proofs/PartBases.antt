@@ -1,15 +1,10 @@
 -- What is cut of records, and what is left of them.
-use Rattle.std.proofs.Common.{◌≡◌, ℕ, suc, ◌+◌, ◌-◌, ◌<◌, ◌≤◌, Bool, true, false, cond, List, [], ◌∷◌, ◌++◌, map, max, min, Option, Some, None, inl, inr, refl, sym, ap, ap₂, ◌∙◌, subst, arith}
+use Rattle.std.proofs.Common.{◌≡◌, ℕ, ◌<◌, ◌≤◌, false, cond, List, [], ◌∷◌, ◌++◌, map, inl, inr, refl, sym, ap, ◌∙◌, subst}
 use Rattle.std.specs.Prelude.{◌⊎◌, bytes_eq, flat_map}
-use Rattle.std.specs.List.{AllByRecursion}
 use Rattle.std.proofs.lemmas.Bool.{cases_Bool, false≢true}
 use Rattle.bt_lines.specs.declared.fault.Input.TheVariants.{First, Second}
 use Rattle.bt_bed.specs.Feature.{Feature, interval_of, intervals_of}
-use Rattle.bt_bed.specs.Genome.{Entry}
-use Rattle.bt_bed.specs.Good.{items_in}
-use Rattle.bt_bed.specs.GoodBed.{bed_good}
 use Rattle.bt_bed.specs.Interval.{Interval, Span, placed_on, span_of, spans_on}
-use Rattle.bt_bed.specs.Order.{Order, IsTotal}
 use Rattle.bt_bed.specs.Stretches.{IsCovered}
 use Rattle.bt_bed.proofs.GoodBedLemmas.{placed_good}
 use Rattle.bt_bed.proofs.NameLemmas.{cases_name, name_eq}
@@ -22,13 +17,11 @@ use Rattle.bt_sweep.specs.Pieces.{pieces, spans_of}
 use Rattle.bt_sweep.specs.declared.shape.Shape.TheVariants.{Cut, Pieces}
 use Rattle.bt_sweep.proofs.PieceLemmas.{are_pieces}
 use Rattle.bt_tool.specs.Behaviour.{order_of}
-use Rattle.bt_tool.specs.Inputs.{Inputs, or_empty}
+use Rattle.bt_tool.specs.Inputs.{or_empty}
 use Rattle.bt_tool.specs.RecordReport.{Report}
-use Rattle.bt_tool.specs.Report.{report_of}
 use Rattle.bt_tool.specs.declared.plan_type.Command.TheVariants.{Intersect, Subtract}
 use Rattle.bt_laws.specs.PartBases.{PartBases, intersect_and_subtract_part}
 use Rattle.bt_laws.specs.Pipes.{IsInputAt, RunsWell, first_records, second_records}
-use Rattle.bt_laws.specs.Taken.{AreDisjoint, EachPair, IsInput}
 use Rattle.bt_laws.proofs.GapsHit.{covered_cut, cut_covered, cut_span}
 use Rattle.bt_laws.proofs.PipeLaws.{intersect_whole, order_total, subtract_whole}
 use Rattle.bt_laws.proofs.RunsAgain.{here_all, none_there, report_there}
@@ -168,8 +161,7 @@ parts_of_first held inputs chromosomes well apart =
     let placed = placed_good First order inputs.first total in
     let placed_second = placed_good Second order (or_empty inputs.second) total in
     let pieces_well = other_shape Cut Pieces any_overlap held inputs chromosomes well in
-    let subtract_well : RunsWell (Subtract false any_overlap held) inputs chromosomes = record { genome = well.genome; faultless = ap (λ (r : Report). r.fault) (report_there (Subtract false any_overlap held) inputs chromosomes well.genome ∙ sym (report_there (Intersect Pieces any_overlap held) inputs chromosomes well.genome)) ∙ pieces_well.faultless } in
-    (
+    let subtract_well : RunsWell (Subtract false any_overlap held) inputs chromosomes = record { genome = well.genome; faultless = ap (λ (r : Report). r.fault) (report_there (Subtract false any_overlap held) inputs chromosomes well.genome ∙ sym (report_there (Intersect Pieces any_overlap held) inputs chromosomes well.genome)) ∙ pieces_well.faultless } in (
       places (cuts seconds) firsts,
       places (lefts seconds) firsts,
       subst (λ text. IsInputAt order text (places (cuts seconds) firsts)) (sym (intersect_whole Cut any_overlap held inputs chromosomes well))

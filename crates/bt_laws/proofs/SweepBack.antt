@@ -1,6 +1,6 @@
 -- What intersect and subtract write is an input of the next command.
-use Rattle.std.proofs.Common.{◌≡◌, ℕ, zero, suc, ◌+◌, ◌-◌, ◌<◌, ◌≤◌, Bool, true, false, cond, not, List, [], ◌∷◌, ◌++◌, map, filter, length, max, min, Option, Some, None, refl, sym, ap, ap₂, ◌∙◌, subst, inl, inr, arith, append_assoc, append-nil, decimal, ltb}
-use Rattle.std.specs.Prelude.{IsTrue, flat_map, codes, replicate, bytes_eq}
+use Rattle.std.proofs.Common.{◌≡◌, ℕ, zero, suc, ◌+◌, ◌-◌, ◌<◌, ◌≤◌, Bool, true, false, cond, not, List, [], ◌∷◌, ◌++◌, map, filter, length, max, min, refl, sym, ap, ap₂, ◌∙◌, subst, inl, inr, arith, append_assoc, append-nil, decimal}
+use Rattle.std.specs.Prelude.{IsTrue, flat_map, replicate}
 use Rattle.std.specs.List.{AllByRecursion}
 use Rattle.std.specs.Cmp.Lexicographic.{bytes_decides}
 use Rattle.std.specs.declared.cmp.Ordering.TheVariants.{Less, Equal}
@@ -27,10 +27,10 @@ use Rattle.bt_laws.specs.Taken.{AreDisjoint, EachPair, IsInput, is_no_header}
 use Rattle.bt_laws.proofs.Clear.{clear_both, clear_tab}
 use Rattle.bt_laws.proofs.Digits.{clear_number}
 use Rattle.bt_laws.proofs.LinesBack.{Columns, IsColumns, lines_back, record_back, text_of_columns}
-use Rattle.bt_laws.proofs.PartLists.{all_any, all_both, all_filter, all_flat_map, all_map, all_so, filter_all}
+use Rattle.bt_laws.proofs.PartLists.{all_any, all_both, all_flat_map, all_map, all_so, filter_all}
 use Rattle.bt_laws.proofs.Placing.{all_zip, apart_pairs, pairs_both, pairs_filter, pairs_from_map, pairs_map, pairs_so}
 use Rattle.bt_laws.proofs.SaidWell.{IsSaid}
-use Rattle.bt_laws.proofs.TailSays.{columns_text, tail_clear}
+use Rattle.bt_laws.proofs.TailSays.{tail_clear}
 
 -- ---- pairs of a list of lists
 
@@ -479,8 +479,7 @@ module _ (order : Order) (total : IsTotal order) where
       → (records : List Feature) × IsInput order (intersect shape rule first second) records × (intervals_of records ≡ flat_map (λ a. map (λ (line : Columns). line.at) (columns_for shape a (hits_among rule a second))) first)
   unfolding cut_lines lines all_columns part
   cut_at shape rule first second said said_second placed placed_second apart cuts =
-      let at = cut_lines shape rule first second said said_second placed placed_second apart cuts in
-      (
+      let at = cut_lines shape rule first second said said_second placed placed_second apart cuts in (
         map record_back at,
         lines_input order total shape rule first second said said_second placed (cut_placed shape rule first second said said_second placed placed_second apart cuts),
         back_at at ∙ map_flat (λ a. columns_for shape a (hits_among rule a second)) (λ a. map (λ (line : Columns). line.at) (columns_for shape a (hits_among rule a second))) first (λ a. refl),

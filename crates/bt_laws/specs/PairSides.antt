@@ -1,5 +1,5 @@
 -- The pairs of intersect -wa -wb, from both sides.
-use Rattle.std.specs.Prelude.{◌≡◌, ◌⊎◌, ℕ, Bool, true, List, [], ◌∷◌, map, flat_map, IsPermutation}
+use Rattle.std.specs.Prelude.{◌≡◌, ◌⊎◌, ℕ, true, List, [], ◌∷◌, map, flat_map, IsPermutation}
 use Rattle.std.specs.Prelude.{Option, Some, None}
 use Rattle.bt_bed.specs.Feature.{Feature}
 use Rattle.bt_bed.specs.Genome.{Entry}

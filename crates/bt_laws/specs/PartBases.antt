@@ -1,11 +1,10 @@
 -- The bases that intersect writes and those that subtract leaves.
-use Rattle.std.specs.Prelude.{◌≡◌, ◌⊎◌, ℕ, false, List, map, flat_map, max, min, Option, Some}
-use Rattle.bt_bed.specs.Feature.{Feature, intervals_of}
+use Rattle.std.specs.Prelude.{◌⊎◌, ℕ, false, List, Option}
+use Rattle.bt_bed.specs.Feature.{intervals_of}
 use Rattle.bt_bed.specs.Genome.{Entry}
-use Rattle.bt_bed.specs.Interval.{Interval, Span, placed_on, spans_on}
+use Rattle.bt_bed.specs.Interval.{Interval, spans_on}
 use Rattle.bt_bed.specs.Stretches.{IsCovered}
-use Rattle.bt_sweep.specs.Hits.{any_overlap, hits_among}
-use Rattle.bt_sweep.specs.Pieces.{pieces}
+use Rattle.bt_sweep.specs.Hits.{any_overlap}
 use Rattle.bt_sweep.specs.declared.shape.Shape.TheVariants.{Cut}
 use Rattle.bt_tool.specs.Behaviour.{order_of}
 use Rattle.bt_tool.specs.Inputs.{Inputs}

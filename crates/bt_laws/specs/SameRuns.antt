@@ -1,5 +1,5 @@
 -- Runs of merge, complement and genomecov that write the same bytes.
-use Rattle.std.specs.Prelude.{◌≡◌, ◌≢◌, ◌==◌, ℕ, Bool, true, false, List, [], ◌∷◌, ◌++◌}
+use Rattle.std.specs.Prelude.{◌≡◌, ◌≢◌, ◌==◌, ℕ, Bool, true, false, List, ◌∷◌, ◌++◌}
 use Rattle.std.specs.Prelude.{Option, None, map, filter, nat_lt}
 use Rattle.bt_lines.specs.Handed.{whole_text}
 use Rattle.bt_bed.specs.Feature.{Feature}

@@ -6,7 +6,7 @@ use Rattle.bt_sweep.specs.Hits.{hits_among}
 use Rattle.bt_sweep.specs.declared.hit_rule.HitRule.{HitRule}
 use Rattle.bt_sweep.specs.declared.shape.Shape.{Shape}
 use Rattle.bt_sweep.specs.declared.shape.Shape.TheVariants.{Count, Cut, CutAndB, Missing, Once}
-use Rattle.bt_sweep.specs.declared.shape.Shape.TheVariants.{OrigA, OrigBoth, Overlap, Pieces, Whole}
+use Rattle.bt_sweep.specs.declared.shape.Shape.TheVariants.{Pieces, Whole}
 
 -- whether each line begins with a record of the first input, as it lies: without a shape and with
 -- -wb its start and its end are cut, and subtract writes its pieces
