@@ -47,3 +47,4 @@ pub mod MaskPipes
 pub mod MaskTwice
 pub mod PartBases
 pub mod PairSides
+pub mod DepthSum

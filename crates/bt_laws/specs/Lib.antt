@@ -15,3 +15,4 @@ pub mod PipeExamples
 pub mod MaskPipes
 pub mod PartBases
 pub mod PairSides
+pub mod DepthSum

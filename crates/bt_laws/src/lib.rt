@@ -4,6 +4,7 @@
 //! `specs/`, in the words of the report of a run (`report_of` of bt_tool).
 #![tactic(auto)]
 
+pub mod depth_sum;
 pub mod length_laws;
 pub mod mask_laws;
 pub mod pair_sides;
