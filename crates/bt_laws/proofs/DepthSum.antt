@@ -1,8 +1,7 @@
 -- Depth times length, added up.
-use Rattle.std.proofs.Common.{◌≡◌, ◌||◌, ◌&&◌, ℕ, zero, suc, ◌+◌, ◌-◌, ◌*◌, ◌<◌, ◌≤◌, Bool, true, false, cond, List, [], ◌∷◌, ◌++◌, map, filter, length, max, min, Option, Some, None, inl, inr, refl, sym, ap, ap₂, ◌∙◌, subst, arith, eqb, leb, ltb}
-use Rattle.std.specs.Prelude.{◌⊎◌, bytes_eq, flat_map, nat_le, nat_lt, sum_by, ◌==◌}
-use Rattle.std.specs.List.{AllByRecursion}
-use Rattle.std.proofs.lemmas.Bool.{cases_Bool, cases_lt, eqb-true, le-leb, le-ltb, lt-leb, lt-ltb, ltb-true, or_parts}
+use Rattle.std.proofs.Common.{◌≡◌, ◌&&◌, ℕ, zero, suc, ◌+◌, ◌-◌, ◌*◌, ◌<◌, ◌≤◌, Bool, true, false, cond, List, [], ◌∷◌, map, filter, length, max, min, Option, Some, None, inl, inr, refl, sym, ap, ap₂, ◌∙◌, arith, eqb}
+use Rattle.std.specs.Prelude.{◌⊎◌, bytes_eq, flat_map, nat_lt, sum_by}
+use Rattle.std.proofs.lemmas.Bool.{cases_lt, eqb-true, le-leb, le-ltb, lt-leb, lt-ltb, or_parts}
 use Rattle.std.proofs.lemmas.Bool.Decides.{nat_tests}
 use Rattle.std.proofs.Math.Nat.{mul-suc}
 use Rattle.std.proofs.lemmas.List.Sums.{sum_by-append, sum_by-cons}
@@ -12,16 +11,13 @@ use Rattle.bt_bed.specs.Interval.{Interval, Span, span_of, spans_on}
 use Rattle.bt_bed.specs.Rank.{AreDistinct, is_among}
 use Rattle.bt_bed.specs.declared.strand.Strand.{Strand}
 use Rattle.bt_bed.proofs.NameLemmas.{cases_name, name_eq, name_ne-sym}
-use Rattle.bt_runs.specs.Depth.{DepthInterval, counted_on, coverage, covers, depth_at, depth_lines, depth_of, depth_on, depths_on, is_counted_by, reported}
+use Rattle.bt_runs.specs.Depth.{counted_on, coverage, covers, depth_at, depth_of, depth_on, depths_on, is_counted_by}
 use Rattle.bt_runs.specs.Gaps.{length_in}
-use Rattle.bt_runs.specs.Levels.{Begun, Level, begun_after, begun_at, ended_after, ended_at, goes_on, levels_from, levels_of, next_begun, next_ended}
+use Rattle.bt_runs.specs.Levels.{Begun, Level, begun_after, begun_at, ended_after, ended_at, levels_from, levels_of, next_begun, next_ended}
 use Rattle.bt_runs.proofs.ChromosomeLemmas.{spans_on-elsewhere, spans_on-here}
 use Rattle.bt_runs.proofs.LevelLemmas.{levels_more}
-use Rattle.bt_tool.specs.Inputs.{Inputs}
-use Rattle.bt_tool.specs.declared.plan_type.Command.TheVariants.{Coverage}
 use Rattle.bt_laws.specs.DepthSum.{bases_below, depth_bases, depths_sum}
-use Rattle.bt_laws.specs.Pipes.{RunsWell, first_records}
-use Rattle.bt_laws.specs.SameLines.{Writes}
+use Rattle.bt_laws.specs.Pipes.{first_records}
 use Rattle.bt_laws.proofs.Covers.{depth_both}
 use Rattle.bt_laws.proofs.PipeLaws.{chroms_of, genomecov_whole}
 
@@ -235,8 +231,7 @@ pub sum_depths : depths_sum
 unfolding coverage
 sum_depths strand inputs entries well =
     let records = first_records (Some entries) inputs in
-    let known = chroms_of inputs.genome entries well.genome in
-    (
+    let known = chroms_of inputs.genome entries well.genome in (
       coverage false strand entries records,
       record { output = genomecov_whole false strand inputs (Some entries) well; faultless = well.faultless },
       entries_sum strand records entries known.1 ∙ features_sum entries (filter (λ r. is_counted_by strand r.strand) records),

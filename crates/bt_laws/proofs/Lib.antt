@@ -48,3 +48,4 @@ pub mod MaskTwice
 pub mod PartBases
 pub mod PairSides
 pub mod DepthSum
+pub mod PipesApart

@@ -16,3 +16,4 @@ pub mod MaskPipes
 pub mod PartBases
 pub mod PairSides
 pub mod DepthSum
+pub mod PipesApart
