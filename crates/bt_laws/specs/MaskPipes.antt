@@ -21,7 +21,7 @@ abbrev pub KeepsLines : MaskHow → Type 0
 KeepsLines Soft = ⊤
 KeepsLines (Hard mask) = (13 < mask) × (mask ≢ 62)
 
--- where a line stands: its sequences' names, how many bases come before it, how many bytes it has,
+-- where a line is: its sequences' names, how many bases come before it, how many bytes it has,
 -- and its line end
 pub record Layout : Type 0 where
   pub names : List (List ℕ)

@@ -40,7 +40,7 @@ complement_of_merge =
     → Writes (Complement limit) (piped (Merge 0 All) inputs)
     (report_of (Complement limit) inputs).output
 
--- the same records, except that two neighbours of one chromosome stand the other way round; where
+-- the same records, except that two neighbours of one chromosome come the other way round; where
 -- both lists are in order, the two have one start
 pub record AreExchanged (rs ss : List Feature) : Type 0 where
   pub before : List Feature
@@ -51,7 +51,7 @@ pub record AreExchanged (rs ss : List Feature) : Type 0 where
   pub first : rs ≡ before ++ one ∷ other ∷ after
   pub second : ss ≡ before ++ other ∷ one ∷ after
 
--- the same records, except that one stands there twice
+-- the same records, except that one comes twice
 pub record IsRepeated (rs ss : List Feature) : Type 0 where
   pub before : List Feature
   pub after : List Feature

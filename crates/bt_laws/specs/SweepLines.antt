@@ -16,7 +16,7 @@ begins_with_a CutAndB = false
 begins_with_a Pieces = false
 begins_with_a _ = true
 
--- how many lines begin so with a record that so many records hit
+-- how many lines begin with a record, by how many records hit it
 abbrev pub line_count : Shape → ℕ → ℕ
 line_count Once zero = 0
 line_count Once (suc n) = 1
