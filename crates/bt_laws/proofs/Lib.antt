@@ -49,3 +49,4 @@ pub mod PartBases
 pub mod PairSides
 pub mod DepthSum
 pub mod PipesApart
+pub mod MaskBoth

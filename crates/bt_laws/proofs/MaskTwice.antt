@@ -65,7 +65,7 @@ twice_by true base e =
     ap (λ (b : Bool). if b then (base + 32) + 32 else base + 32) off
 twice_by false base e = ap (λ (b : Bool). if b then base + 32 else base) e
 
-masked_again : (how : MaskHow) (base : ℕ) → masked_byte how (masked_byte how base) ≡ masked_byte how base
+pub masked_again : (how : MaskHow) (base : ℕ) → masked_byte how (masked_byte how base) ≡ masked_byte how base
 masked_again Soft base = twice_by (is_upper_case base) base refl
 masked_again (Hard mask) base = refl
 
@@ -108,7 +108,7 @@ module _ (how : MaskHow) (keeps : KeepsLines how) where
         All-cons (λ b. eqb b 10 ≡ false) (kept_base position base) (masked_from how records (suc position) bases)
         (kept_not position base 10 (isnt 10 (inl (omega arith))) (omega arith) (All-head (λ b. eqb b 10 ≡ false) base bases h)) (clear_from (suc position) bases (All-tail (λ b. eqb b 10 ≡ false) base bases h))
 
-    header_from : (position : ℕ) (bases : List ℕ) → is_header bases ≡ false → is_header (masked_from how records position bases) ≡ false
+    pub header_from : (position : ℕ) (bases : List ℕ) → is_header bases ≡ false → is_header (masked_from how records position bases) ≡ false
     header_from position [] e = refl
     header_from position (base ∷ bases) e = kept_not position base 62 (isnt 62 (inr refl)) (omega arith) e
 
@@ -172,13 +172,13 @@ module _ (how : MaskHow) (names : List (List ℕ)) (second : Good Feature) where
   second_by true lines other (Some f) one_more stop e = cc
   second_by false lines other one one_more stop e = e
 
-  met_all : (items : List SequenceLine) (fault : Option Told) → second.fault ≡ None → meet rule items fault ≡ record { lines = flat_map (masked_line how (items_in second)) items; fault = option_or fault rule.last }
+  pub met_all : (items : List SequenceLine) (fault : Option Told) → second.fault ≡ None → meet rule items fault ≡ record { lines = flat_map (masked_line how (items_in second)) items; fault = option_or fault rule.last }
   met_all items fault none =
       ap (λ (t : Option Told). met_of (list_all (λ line. is_none t || decided line (items_in second)) items) (flat_map rule.lines items) (written rule items) fault rule.last second.fault) none
       ∙ ap (λ b. met_of b (flat_map rule.lines items) (written rule items) fault rule.last second.fault) (all_pass items)
 
 -- the last names stay
-names_same : (f : SequenceLine → List ℕ) (items : List SequenceLine) → names_of (map (λ line. with_text line (f line)) items) ≡ names_of items
+pub names_same : (f : SequenceLine → List ℕ) (items : List SequenceLine) → names_of (map (λ line. with_text line (f line)) items) ≡ names_of items
 names_same f [] = refl
 names_same f (line ∷ []) = refl
 names_same f (line ∷ next ∷ lines) = names_same f (next ∷ lines)
@@ -191,7 +191,7 @@ or_none : (one cut : Option Told) → or_else one cut ≡ None → (one ≡ None
 or_none None cut e = (refl, e)
 or_none (Some f) cut e = cc
 
-or_else_none : (fault : Option Told) → or_else fault None ≡ fault
+pub or_else_none : (fault : Option Told) → or_else fault None ≡ fault
 or_else_none None = refl
 or_else_none (Some fault) = refl
 
@@ -210,7 +210,7 @@ size_by : (how : MaskHow) (records : List Feature) (header : Bool) (line : Seque
 size_by how records true line = refl
 size_by how records false line = size_of how (own_records line.names records) line.before line.text
 
-module _ (how : MaskHow) (full : Bool) (inputs : Inputs) (chromosomes : Option (List Entry)) (keeps : KeepsLines how) (well : RunsWell (MaskFasta how full) inputs chromosomes) where
+module _ (how : MaskHow) (full : Bool) (inputs : Inputs) (chromosomes : Option (List Entry)) (well : RunsWell (MaskFasta how full) inputs chromosomes) where
   abbrev first : Good SequenceLine
   first = sequence_good full First inputs.first
 
@@ -238,16 +238,16 @@ module _ (how : MaskHow) (full : Bool) (inputs : Inputs) (chromosomes : Option (
   no_fault : (mask_met how first second).fault ≡ None
   no_fault = well_there (MaskFasta how full) inputs chromosomes well
 
-  second_none : second.fault ≡ None
+  pub second_none : second.fault ≡ None
   second_none = second_by how names second (list_all (mask_rule how names second).decided items) (flat_map (mask_rule how names second).lines items) (written (mask_rule how names second) items) first.fault (no_sequence names second.members) second.fault no_fault
 
   met_is : mask_met how first second ≡ record { lines = output; fault = option_or first.fault (mask_rule how names second).last }
   met_is = met_all how names second items first.fault second_none
 
-  nones : (first.fault ≡ None) × ((mask_rule how names second).last ≡ None)
+  pub nones : (first.fault ≡ None) × ((mask_rule how names second).last ≡ None)
   nones = both_none first.fault (mask_rule how names second).last (ap (λ (m : Met ℕ Told). m.fault) (sym met_is) ∙ no_fault)
 
-  output_there : (report_of (MaskFasta how full) inputs).output ≡ output
+  pub output_there : (report_of (MaskFasta how full) inputs).output ≡ output
   output_there = ap (λ (r : Report). r.output) (report_is (MaskFasta how full) inputs chromosomes well) ∙ ap (λ (m : Met ℕ Told). m.lines) met_is
 
   parts : ((good (sequence_format full) First (lines_handed inputs.first)).fault ≡ None) × (cut_fault First inputs.first ≡ None)
@@ -262,47 +262,48 @@ module _ (how : MaskHow) (full : Bool) (inputs : Inputs) (chromosomes : Option (
   abbrev read : Good SequenceLine
   read = sequence_good full First (whole_text output)
 
-  is_again : IsAgain full First new_text (safe_text how keeps records) (items_in all_lines) (good (sequence_format full) First (text_lines (flat_map (masked_line how records) (items_in all_lines))))
-  is_again = again_lines full First new_text (safe_text how keeps records) 1 inputs.first.text 1 (sequence_format full).begin (ap (λ ls. (good (sequence_format full) First ls).fault) (sym (uncut inputs.first parts.1)) ∙ parts.0)
+  module _ (keeps : KeepsLines how) where
+    is_again : IsAgain full First new_text (safe_text how keeps records) (items_in all_lines) (good (sequence_format full) First (text_lines (flat_map (masked_line how records) (items_in all_lines))))
+    is_again = again_lines full First new_text (safe_text how keeps records) 1 inputs.first.text 1 (sequence_format full).begin (ap (λ ls. (good (sequence_format full) First ls).fault) (sym (uncut inputs.first parts.1)) ∙ parts.0)
 
-  read_items : items_in read ≡ map again_line items
-  read_items =
-      ap (λ is. items_in (good (sequence_format full) First (text_lines (flat_map (masked_line how records) is)))) same_items ∙ is_again.items ∙ ap (map again_line) (sym same_items)
+    pub read_items : items_in read ≡ map again_line items
+    read_items =
+        ap (λ is. items_in (good (sequence_format full) First (text_lines (flat_map (masked_line how records) is)))) same_items ∙ is_again.items ∙ ap (map again_line) (sym same_items)
 
-  read_none : read.fault ≡ None
-  read_none =
-      or_else_none (good (sequence_format full) First (text_lines output)).fault
-      ∙ ap (λ is. (good (sequence_format full) First (text_lines (flat_map (masked_line how records) is))).fault) same_items ∙ is_again.faultless
+    pub read_none : read.fault ≡ None
+    read_none =
+        or_else_none (good (sequence_format full) First (text_lines output)).fault
+        ∙ ap (λ is. (good (sequence_format full) First (text_lines (flat_map (masked_line how records) is))).fault) same_items ∙ is_again.faultless
 
-  layouts : (all : List SequenceLine) → map layout_of (map again_line all) ≡ map layout_of all
-  layouts [] = refl
-  layouts (line ∷ all) = ap₂ (λ n rest. record { names = line.names; before = line.before; bytes = n; ending = line.ending } ∷ rest) (size_by how records (is_header line.text) line) (layouts all)
+    layouts : (all : List SequenceLine) → map layout_of (map again_line all) ≡ map layout_of all
+    layouts [] = refl
+    layouts (line ∷ all) = ap₂ (λ n rest. record { names = line.names; before = line.before; bytes = n; ending = line.ending } ∷ rest) (size_by how records (is_header line.text) line) (layouts all)
 
-  lines_again : (all : List SequenceLine) → flat_map (masked_line how records) (map again_line all) ≡ flat_map (masked_line how records) all
-  lines_again [] = refl
-  lines_again (line ∷ all) = ap₂ (λ a b. a ++ b) (text_again how keeps records line) (lines_again all)
+    lines_again : (all : List SequenceLine) → flat_map (masked_line how records) (map again_line all) ≡ flat_map (masked_line how records) all
+    lines_again [] = refl
+    lines_again (line ∷ all) = ap₂ (λ a b. a ++ b) (text_again how keeps records line) (lines_again all)
 
-  met_again : mask_met how read second ≡ record { lines = output; fault = None }
-  met_again =
-      met_all how (names_of (items_in read)) second (items_in read) read.fault second_none
-      ∙ ap₂ (λ is fault. record { lines = flat_map (masked_line how records) is; fault = option_or fault (mask_rule how (names_of is) second).last }) read_items read_none
-      ∙ ap₂ (λ l fault. record { lines = l; fault = fault }) (lines_again items) (ap (λ ns. (mask_rule how ns second).last) (names_same new_text items) ∙ nones.1)
+    met_again : mask_met how read second ≡ record { lines = output; fault = None }
+    met_again =
+        met_all how (names_of (items_in read)) second (items_in read) read.fault second_none
+        ∙ ap₂ (λ is fault. record { lines = flat_map (masked_line how records) is; fault = option_or fault (mask_rule how (names_of is) second).last }) read_items read_none
+        ∙ ap₂ (λ l fault. record { lines = l; fault = fault }) (lines_again items) (ap (λ ns. (mask_rule how ns second).last) (names_same new_text items) ∙ nones.1)
 
-  pub twice : Writes (MaskFasta how full) (piped (MaskFasta how full) inputs) (report_of (MaskFasta how full) inputs).output
-  twice = writes_is (MaskFasta how full) (piped (MaskFasta how full) inputs) (report_of (MaskFasta how full) inputs).output
-      (report_there (MaskFasta how full) (piped (MaskFasta how full) inputs) chromosomes well.genome
-      ∙ ap (λ text. met_report (mask_met how (sequence_good full First (whole_text text)) second)) output_there
-      ∙ ap met_report met_again ∙ ap (λ bytes. record { output = bytes; fault = None }) (sym output_there))
+    pub twice : Writes (MaskFasta how full) (piped (MaskFasta how full) inputs) (report_of (MaskFasta how full) inputs).output
+    twice = writes_is (MaskFasta how full) (piped (MaskFasta how full) inputs) (report_of (MaskFasta how full) inputs).output
+        (report_there (MaskFasta how full) (piped (MaskFasta how full) inputs) chromosomes well.genome
+        ∙ ap (λ text. met_report (mask_met how (sequence_good full First (whole_text text)) second)) output_there
+        ∙ ap met_report met_again ∙ ap (λ bytes. record { output = bytes; fault = None }) (sym output_there))
 
-  pub layout : ((sequence_good full First (whole_text (report_of (MaskFasta how full) inputs).output)).fault ≡ None)
-      × (map layout_of (items_in (sequence_good full First (whole_text (report_of (MaskFasta how full) inputs).output))) ≡ map layout_of items)
-  layout = (
-    ap (λ text. (sequence_good full First (whole_text text)).fault) output_there ∙ read_none,
-    ap (λ text. map layout_of (items_in (sequence_good full First (whole_text text)))) output_there ∙ ap (map layout_of) read_items ∙ layouts items,
-  )
+    pub layout : ((sequence_good full First (whole_text (report_of (MaskFasta how full) inputs).output)).fault ≡ None)
+        × (map layout_of (items_in (sequence_good full First (whole_text (report_of (MaskFasta how full) inputs).output))) ≡ map layout_of items)
+    layout = (
+      ap (λ text. (sequence_good full First (whole_text text)).fault) output_there ∙ read_none,
+      ap (λ text. map layout_of (items_in (sequence_good full First (whole_text text)))) output_there ∙ ap (map layout_of) read_items ∙ layouts items,
+    )
 
 pub layout_kept : masked_keep_layout
-layout_kept how full inputs chromosomes keeps well = layout how full inputs chromosomes keeps well
+layout_kept how full inputs chromosomes keeps well = layout how full inputs chromosomes well keeps
 
 pub mask_twice : masked_twice
-mask_twice how full inputs chromosomes keeps well = twice how full inputs chromosomes keeps well
+mask_twice how full inputs chromosomes keeps well = twice how full inputs chromosomes well keeps
