@@ -1,12 +1,11 @@
 -- Records that differ in the order of neighbours, or in one that comes twice.
-use Rattle.std.proofs.Common.{◌≡◌, ◌||◌, ℕ, suc, ◌+◌, ◌-◌, ◌<◌, ◌≤◌, Bool, true, false, cond, not, List, [], ◌∷◌, ◌++◌, map, filter, length, Option, Some, None, refl, sym, ap, ap₂, ◌∙◌, subst, inl, inr, arith}
-use Rattle.std.specs.Prelude.{◌≢◌, bytes_eq, flat_map}
-use Rattle.std.specs.List.{AllByRecursion}
+use Rattle.std.proofs.Common.{◌≡◌, ◌||◌, ℕ, ◌+◌, ◌<◌, Bool, true, false, cond, not, List, [], ◌∷◌, ◌++◌, map, filter, Option, refl, sym, ap, ◌∙◌, subst, arith}
+use Rattle.std.specs.Prelude.{◌≢◌, flat_map}
 use Rattle.std.proofs.lemmas.List.{map-append}
 use Rattle.std.proofs.lemmas.List.Elements.{filter-append}
 use Rattle.bt_bed.specs.Feature.{Feature, interval_of, intervals_of}
 use Rattle.bt_bed.specs.Genome.{Entry}
-use Rattle.bt_bed.specs.Interval.{Interval, Span, placed_on, spans_on}
+use Rattle.bt_bed.specs.Interval.{Interval, placed_on, spans_on}
 use Rattle.bt_bed.specs.IntervalLine.{interval_lines}
 use Rattle.bt_bed.specs.Order.{Order}
 use Rattle.bt_bed.specs.Rank.{is_among}
@@ -14,8 +13,8 @@ use Rattle.bt_bed.specs.Together.{has_records}
 use Rattle.bt_bed.specs.declared.strand.Strand.{Strand}
 use Rattle.bt_runs.specs.Counted.{counted, is_counted}
 use Rattle.bt_runs.specs.Depth.{coverage, depth_at, depth_lines, depth_of, depth_on, depths_on, is_counted_by, reported}
-use Rattle.bt_runs.specs.Gaps.{complement, gaps_of, gaps_on, is_asked}
-use Rattle.bt_runs.specs.Merged.{chromosomes, merged, runs_of, runs_on, without}
+use Rattle.bt_runs.specs.Gaps.{complement, gaps_on, is_asked}
+use Rattle.bt_runs.specs.Merged.{chromosomes, merged, runs_on, without}
 use Rattle.bt_runs.specs.RunOrder.{in_order, ordered_runs}
 use Rattle.bt_runs.specs.declared.merge_strand.MergeStrand.{MergeStrand}
 use Rattle.bt_runs.specs.declared.merge_strand.MergeStrand.TheVariants.{All, Each, One}
@@ -24,9 +23,7 @@ use Rattle.bt_runs.proofs.FileOrder.{same_chromosome}
 use Rattle.bt_tool.specs.Behaviour.{entries_in, order_of}
 use Rattle.bt_tool.specs.Inputs.{Inputs}
 use Rattle.bt_tool.specs.Report.{report_of}
-use Rattle.bt_tool.specs.Written.{merge_written}
-use Rattle.bt_tool.specs.declared.plan_type.Command.{Command}
-use Rattle.bt_tool.specs.declared.plan_type.Command.TheVariants.{Complement, Coverage, Merge}
+use Rattle.bt_tool.specs.declared.plan_type.Command.TheVariants.{Complement, Merge}
 use Rattle.bt_laws.specs.Pipes.{RunsWell, first_records}
 use Rattle.bt_laws.specs.SameRuns.{AreExchanged, IsRepeated, exchanged_complement, exchanged_genomecov, exchanged_merge, repeated_complement, repeated_merge}
 use Rattle.bt_laws.proofs.Covers.{SameCover, depth_both, same_by_depth, same_gaps, same_levels, same_runs}

@@ -1,12 +1,10 @@
 -- The lines of a text have no line feed, and neither has what they say.
-use Rattle.std.proofs.Common.{◌≡◌, ℕ, suc, ◌+◌, ◌<◌, ◌≤◌, Bool, true, false, cond, List, [], ◌∷◌, ◌++◌, length, take, Option, Some, None, Result, Ok, Err, refl, sym, ap, ◌∙◌, subst, append_assoc, eqb, arith}
-use Rattle.std.specs.Prelude.{flat_map, ◌==◌, codes, decimal}
+use Rattle.std.proofs.Common.{◌≡◌, ℕ, Bool, true, false, List, [], ◌∷◌, ◌++◌, refl, sym, subst, eqb}
 use Rattle.std.specs.List.{AllByRecursion}
 use Rattle.std.specs.Io.BufRead.{ends_with_byte, strip_last}
-use Rattle.std.proofs.lemmas.List.{append_cancel_right}
 use Rattle.std.proofs.lemmas.List.Elements.{All-append, All-cons, All-head, All-tail, All-nil}
 use Rattle.bt_lines.specs.LentLine.{NoLineFeed}
-use Rattle.bt_lines.specs.Lines.{TextLine, fed_line, last_line, lines_from, whole_lines_from}
+use Rattle.bt_lines.specs.Lines.{TextLine, last_line, lines_from, whole_lines_from}
 use Rattle.bt_lines.proofs.LinesLemmas.{lines_from-fed, lines_from-last, strip_last-other, strip_last-push}
 use Rattle.bt_lines.proofs.TextLemmas.{by_lines, whole_lines_from-fed, whole_lines_from-last}
 

@@ -1,33 +1,29 @@
 -- The lines of alignments that are sorted are an input.
-use Rattle.std.proofs.Common.{◌≡◌, ◌||◌, ℕ, suc, ◌+◌, ◌-◌, ◌<◌, ◌≤◌, Bool, true, false, cond, not, List, [], ◌∷◌, ◌++◌, append-nil, append_assoc, map, filter, length, Option, Some, None, Result, Ok, Err, inl, inr, refl, sym, ap, ap₂, ◌∙◌, subst, arith, eqb, leb, ltb, decimal}
-use Rattle.std.specs.Prelude.{IsTrue, bytes_eq, codes, flat_map, if◌then◌else◌, nat_lt, ◌==◌}
+use Rattle.std.proofs.Common.{◌≡◌, ◌||◌, ℕ, ◌+◌, ◌-◌, ◌<◌, ◌≤◌, Bool, true, false, cond, not, List, [], ◌∷◌, ◌++◌, append-nil, append_assoc, map, filter, length, Option, Some, None, Result, Ok, Err, inl, inr, refl, sym, ap, ap₂, ◌∙◌, subst, arith, eqb, leb, ltb, decimal}
+use Rattle.std.specs.Prelude.{codes, flat_map, if◌then◌else◌}
 use Rattle.std.specs.List.{AllByRecursion, join_with_byte}
-use Rattle.std.specs.Io.BufRead.{strip_last}
-use Rattle.std.proofs.lemmas.Bool.{cases_lt, false≢true, lt-ltb, or_parts}
+use Rattle.std.proofs.lemmas.Bool.{cases_lt, false≢true, lt-ltb}
 use Rattle.std.proofs.lemmas.List.Elements.{All-cons, All-nil}
 use Rattle.std.proofs.lemmas.List.Splits.{join_with_byte-slice_split}
-use Rattle.bt_lines.specs.Fault.{Told}
 use Rattle.bt_lines.specs.Handed.{lines_handed}
 use Rattle.bt_lines.specs.LentLine.{NoLineFeed}
 use Rattle.bt_lines.specs.Lines.{TextLine, pieces}
-use Rattle.bt_lines.specs.Number.{value_of}
 use Rattle.bt_lines.specs.declared.fault.Input.{Input}
 use Rattle.bt_lines.specs.declared.fault.Input.TheVariants.{First}
 use Rattle.bt_lines.specs.declared.fault.Kind.{Kind}
 use Rattle.bt_lines.specs.declared.fault.Kind.TheVariants.{StopTooLarge}
 use Rattle.bt_lines.proofs.ColumnLemmas.{IsColumn}
-use Rattle.bt_bed.specs.Feature.{Feature, intervals_of}
+use Rattle.bt_bed.specs.Feature.{intervals_of}
 use Rattle.bt_bed.specs.Good.{Good, good_from, good_with, items_in}
 use Rattle.bt_bed.specs.Header.{is_header}
 use Rattle.bt_bed.specs.Interval.{Interval}
 use Rattle.bt_bed.specs.Locus.{ArePlaced}
-use Rattle.bt_bed.specs.Order.{Order, IsTotal}
 use Rattle.bt_bed.specs.Record.{IsName}
 use Rattle.bt_bed.proofs.Kept.{pieces_are_columns}
-use Rattle.bt_seq.specs.Alignment.{Alignment, Fields, alignment_at, alignment_of, columns_say, fields_of, fields_say, gives_nothing, is_skipped, max_flag, max_position, max_quality, value_up_to, values_say}
-use Rattle.bt_seq.specs.BedLines.{bed_columns, bed_line, bed_lines, read_name, strand_sign}
+use Rattle.bt_seq.specs.Alignment.{Alignment, Fields, alignment_at, alignment_of, columns_say, fields_of, fields_say, gives_nothing, is_skipped, max_flag, max_position, max_quality, value_up_to}
+use Rattle.bt_seq.specs.BedLines.{bed_lines, read_name, strand_sign}
 use Rattle.bt_seq.specs.Cigar.{length_of}
-use Rattle.bt_seq.specs.GoodSam.{sam_format, sam_good}
+use Rattle.bt_seq.specs.GoodSam.{sam_format}
 use Rattle.bt_tool.specs.ConvertReport.{alignment_lines}
 use Rattle.bt_tool.specs.Inputs.{Inputs}
 use Rattle.bt_tool.specs.Report.{chromosomes_of, report_of, report_on}
@@ -225,8 +221,7 @@ unfolding report_of
 bamtobed_input cigar inputs order total none placed =
     let all = alignments_of inputs in
     let lines = map (aligned_columns cigar) all in
-    let are = all_map IsColumns (aligned_columns cigar) all (all_so IsAligned (λ a. IsColumns (aligned_columns cigar a)) all (columns_aligned cigar) (aligned_lines First (lines_handed inputs.first) (clear_handed inputs.first))) in
-    (
+    let are = all_map IsColumns (aligned_columns cigar) all (all_so IsAligned (λ a. IsColumns (aligned_columns cigar a)) all (columns_aligned cigar) (aligned_lines First (lines_handed inputs.first) (clear_handed inputs.first))) in (
       filter is_no_header (map record_back lines),
       subst (λ text. IsInput order text (filter is_no_header (map record_back lines))) (sym (output_is inputs cigar none ∙ lines_as cigar all)) (lines_back order total lines are (subst (ArePlaced order) (sym (places_are cigar all)) placed)),
       read_places lines ∙ ap (filter (λ (r : Interval). not (is_header r.chrom))) (places_are cigar all),

@@ -1,14 +1,13 @@
 -- Spans that cover the same positions: the runs and the gaps are the same.
-use Rattle.std.proofs.Common.{◌≡◌, ℕ, suc, ◌+◌, ◌-◌, ◌<◌, ◌≤◌, Bool, true, false, cond, not, List, [], ◌∷◌, ◌++◌, map, filter, length, Option, Some, None, refl, sym, ap, ap₂, ◌∙◌, subst, inl, inr, arith, length-append}
-use Rattle.std.specs.Prelude.{nat_lt}
+use Rattle.std.proofs.Common.{◌≡◌, ℕ, ◌+◌, ◌<◌, List, ◌++◌, filter, length, Option, sym, ap, ◌∙◌, subst, inl, inr, arith, length-append}
 use Rattle.std.proofs.lemmas.Bool.{cases_eq, cases_lt, lt-ltb, ltb-true}
 use Rattle.std.proofs.lemmas.List.Elements.{filter-append}
 use Rattle.bt_bed.specs.Interval.{Span}
-use Rattle.bt_bed.specs.Stretches.{AreStretchesOf, IsCovered}
-use Rattle.bt_runs.specs.Depth.{covers, depth_at, depth_of, reported}
+use Rattle.bt_bed.specs.Stretches.{IsCovered}
+use Rattle.bt_runs.specs.Depth.{covers, depth_at}
 use Rattle.bt_runs.specs.Gaps.{IsBare, gaps_of}
-use Rattle.bt_runs.specs.Levels.{AreLevelsOf, levels_of}
-use Rattle.bt_runs.specs.Merged.{Bridged, is_covered, runs_of}
+use Rattle.bt_runs.specs.Levels.{levels_of}
+use Rattle.bt_runs.specs.Merged.{Bridged, runs_of}
 use Rattle.bt_runs.proofs.Bridging.{are_runs, bridged_here, is_covered-Decides, only_runs}
 use Rattle.bt_runs.proofs.CoveredLevels.{covered_depth}
 use Rattle.bt_runs.proofs.LevelLemmas.{are_levels, only_levels}

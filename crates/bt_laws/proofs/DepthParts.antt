@@ -1,7 +1,6 @@
 -- The intervals of depth 0, and the others.
-use Rattle.std.proofs.Common.{◌≡◌, ◌||◌, ℕ, suc, ◌+◌, ◌<◌, ◌≤◌, Bool, true, false, cond, not, List, [], ◌∷◌, ◌++◌, map, filter, Option, Some, None, refl, sym, ap, ap₂, ◌∙◌, subst, inl, inr, arith, eqb, ltb}
+use Rattle.std.proofs.Common.{◌≡◌, ℕ, ◌<◌, Bool, true, false, cond, List, [], ◌∷◌, ◌++◌, map, filter, Option, Some, None, refl, sym, ap, ap₂, ◌∙◌, subst, inl, inr, arith, eqb}
 use Rattle.std.specs.Prelude.{flat_map, nat_lt}
-use Rattle.std.specs.List.{AllByRecursion}
 use Rattle.std.proofs.lemmas.Bool.{cases_Bool, eqb-true, lt-ltb, ltb-true}
 use Rattle.std.proofs.lemmas.List.Elements.{filter-append}
 use Rattle.bt_lines.specs.declared.fault.Input.TheVariants.{First}
@@ -9,24 +8,19 @@ use Rattle.bt_bed.specs.Feature.{Feature}
 use Rattle.bt_bed.specs.Genome.{Entry}
 use Rattle.bt_bed.specs.Good.{items_in}
 use Rattle.bt_bed.specs.GoodBed.{bed_good}
-use Rattle.bt_bed.specs.Interval.{Interval, Span}
-use Rattle.bt_bed.specs.IntervalLine.{interval_lines}
+use Rattle.bt_bed.specs.Interval.{Span}
 use Rattle.bt_bed.specs.declared.strand.Strand.{Strand}
 use Rattle.bt_runs.specs.CoveredLevels.{interval_at}
-use Rattle.bt_runs.specs.Depth.{DepthInterval, counted_on, coverage, depth_at, depth_lines, depth_of, depth_on, depths_on, reported}
+use Rattle.bt_runs.specs.Depth.{DepthInterval, counted_on, coverage, depth_at, depth_lines, depth_of, depth_on, depths_on}
 use Rattle.bt_runs.specs.Gaps.{complement}
-use Rattle.bt_runs.specs.Levels.{AreDisjointFrom, AreLevelsOf, DiffersFromNext, HasValue, Level, levels_of}
+use Rattle.bt_runs.specs.Levels.{AreDisjointFrom, DiffersFromNext, HasValue, Level, levels_of}
 use Rattle.bt_runs.proofs.CoveredLevels.{gaps_depth_0}
 use Rattle.bt_runs.proofs.LevelLemmas.{are_levels, looser, only_levels}
 use Rattle.bt_tool.specs.Behaviour.{entries_in, order_of}
-use Rattle.bt_tool.specs.Inputs.{Inputs}
-use Rattle.bt_tool.specs.Report.{report_of}
 use Rattle.bt_tool.specs.Written.{complement_written, coverage_written}
 use Rattle.bt_tool.specs.declared.plan_type.Command.TheVariants.{Complement, Coverage}
-use Rattle.bt_laws.specs.Pipes.{RunsWell, first_records}
-use Rattle.bt_laws.specs.SameLines.{Writes}
+use Rattle.bt_laws.specs.Pipes.{first_records}
 use Rattle.bt_laws.specs.SameRuns.{bg_is_bga_above_0, depth_0_is_complement, without_depth}
-use Rattle.bt_laws.proofs.PartLists.{all_any, flat_map_same}
 use Rattle.bt_laws.proofs.PipeLaws.{complement_whole, genomecov_whole}
 use Rattle.bt_laws.proofs.RunsAgain.{fault_as, told_same}
 
@@ -139,8 +133,7 @@ zero_depths inputs chromosomes well =
     let entries = entries_in chromosomes in
     let good = bed_good First (order_of chromosomes) inputs.first in
     let gaps = complement false entries records in
-    let other = fault_as (Coverage true None) (Complement false) inputs chromosomes well (told_same (coverage_written entries true None) (complement_written entries false) (items_in good) good.fault) in
-    (
+    let other = fault_as (Coverage true None) (Complement false) inputs chromosomes well (told_same (coverage_written entries true None) (complement_written entries false) (items_in good) good.fault) in (
       coverage true None entries records,
       gaps,
       record { output = genomecov_whole true None inputs chromosomes well; faultless = well.faultless },
@@ -153,8 +146,7 @@ deep_depths strand inputs chromosomes well =
     let records = first_records chromosomes inputs in
     let entries = entries_in chromosomes in
     let good = bed_good First (order_of chromosomes) inputs.first in
-    let other = fault_as (Coverage true strand) (Coverage false strand) inputs chromosomes well (told_same (coverage_written entries true strand) (coverage_written entries false strand) (items_in good) good.fault) in
-    (
+    let other = fault_as (Coverage true strand) (Coverage false strand) inputs chromosomes well (told_same (coverage_written entries true strand) (coverage_written entries false strand) (items_in good) good.fault) in (
       coverage true strand entries records,
       record { output = genomecov_whole true strand inputs chromosomes well; faultless = well.faultless },
       record { output = genomecov_whole false strand inputs chromosomes other ∙ ap depth_lines (deep_coverage strand entries records); faultless = other.faultless },

@@ -1,6 +1,6 @@
 -- Intervals of depths above 0 cover what the records cover.
-use Rattle.std.proofs.Common.{◌≡◌, ◌||◌, ℕ, zero, suc, ◌+◌, ◌-◌, ◌<◌, ◌≤◌, Bool, true, false, cond, not, List, [], ◌∷◌, ◌++◌, append-nil, map, filter, Option, Some, None, Result, Ok, Err, refl, sym, ap, ap₂, ◌∙◌, subst, inl, inr, arith}
-use Rattle.std.specs.Prelude.{bytes_eq, flat_map, nat_lt}
+use Rattle.std.proofs.Common.{◌≡◌, ℕ, ◌<◌, ◌≤◌, true, false, cond, List, [], ◌∷◌, ◌++◌, append-nil, map, filter, Some, None, refl, sym, ap, ap₂, ◌∙◌, subst, inl, inr, arith}
+use Rattle.std.specs.Prelude.{bytes_eq, flat_map}
 use Rattle.std.specs.List.{AllByRecursion}
 use Rattle.std.proofs.lemmas.Bool.{cases_Bool, false≢true, lt-ltb, or_parts}
 use Rattle.std.proofs.lemmas.List.{map-append}
@@ -11,7 +11,7 @@ use Rattle.bt_bed.specs.Genome.{Entry, genome_names}
 use Rattle.bt_bed.specs.Good.{items_in}
 use Rattle.bt_bed.specs.GoodBed.{bed_good}
 use Rattle.bt_bed.specs.Header.{is_header}
-use Rattle.bt_bed.specs.Interval.{Interval, Span, placed_on, span_of, spans_on}
+use Rattle.bt_bed.specs.Interval.{Span, placed_on, span_of, spans_on}
 use Rattle.bt_bed.specs.IntervalLine.{interval_lines}
 use Rattle.bt_bed.specs.Locus.{ArePlaced}
 use Rattle.bt_bed.specs.Order.{Order}
@@ -21,23 +21,21 @@ use Rattle.bt_bed.proofs.GoodBedLemmas.{placed_good}
 use Rattle.bt_bed.proofs.NameLemmas.{cases_name, name_eq}
 use Rattle.bt_runs.specs.Counted.{counted}
 use Rattle.bt_runs.specs.CoveredLevels.{interval_at}
-use Rattle.bt_runs.specs.Depth.{DepthInterval, counted_on, coverage, depth_at, depth_lines, depth_of, depth_on, depths_on, is_counted_by}
+use Rattle.bt_runs.specs.Depth.{DepthInterval, counted_on, coverage, depth_at, depth_of, depth_on, depths_on}
 use Rattle.bt_runs.specs.Gaps.{length_in}
-use Rattle.bt_runs.specs.Levels.{AreLevelsOf, HasValue, Level, begun_after, ended_after, levels_of}
+use Rattle.bt_runs.specs.Levels.{HasValue, Level, begun_after, ended_after, levels_of}
 use Rattle.bt_runs.specs.Merged.{merged}
 use Rattle.bt_runs.specs.RunOrder.{ordered_runs}
 use Rattle.bt_runs.specs.declared.merge_strand.MergeStrand.TheVariants.{All}
 use Rattle.bt_runs.proofs.ChromosomeLemmas.{spans_on-append, spans_on-elsewhere}
 use Rattle.bt_runs.proofs.LevelLemmas.{are_levels}
 use Rattle.bt_runs.proofs.RunOrder.{file_ordered}
-use Rattle.bt_tool.specs.Behaviour.{entries_in, order_of}
-use Rattle.bt_tool.specs.Inputs.{Inputs}
-use Rattle.bt_tool.specs.Report.{chromosomes_of, report_of}
+use Rattle.bt_tool.specs.Behaviour.{order_of}
+use Rattle.bt_tool.specs.Report.{report_of}
 use Rattle.bt_tool.specs.Written.{coverage_written, merge_written}
 use Rattle.bt_tool.specs.declared.plan_type.Command.TheVariants.{Coverage, Merge}
 use Rattle.bt_laws.specs.LengthLaws.{merge_of_genomecov}
-use Rattle.bt_laws.specs.Pipes.{RunsWell, first_records}
-use Rattle.bt_laws.specs.SameLines.{Writes}
+use Rattle.bt_laws.specs.Pipes.{first_records}
 use Rattle.bt_laws.specs.SameRuns.{piped}
 use Rattle.bt_laws.specs.SameSweeps.{AreWithin}
 use Rattle.bt_laws.specs.Taken.{IsInput, four_columns, is_no_header}

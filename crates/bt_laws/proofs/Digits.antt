@@ -1,6 +1,5 @@
 -- A number's text has digits alone, whatever the number.
-use Rattle.std.proofs.Common.{◌≡◌, ℕ, zero, suc, ◌+◌, ◌/◌, ◌%◌, ◌<◌, ◌≤◌, Bool, true, false, cond, List, [], ◌∷◌, ◌++◌, length, refl, sym, subst, eqb, arith, decimal}
-use Rattle.std.specs.Prelude.{nat_lt}
+use Rattle.std.proofs.Common.{◌≡◌, ℕ, zero, suc, ◌+◌, ◌/◌, ◌%◌, ◌<◌, ◌≤◌, Bool, true, false, cond, List, [], ◌∷◌, refl, sym, subst, eqb, arith, decimal}
 use Rattle.std.specs.Fmt.{digit_glyph, digits, digits_onto}
 use Rattle.std.specs.List.{AllByRecursion}
 use Rattle.std.specs.Io.BufRead.{ends_with_byte, strip_last}

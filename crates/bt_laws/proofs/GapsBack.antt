@@ -1,26 +1,23 @@
 -- What complement and genomecov write is an input of the next command.
-use Rattle.std.proofs.Common.{◌≡◌, ℕ, suc, ◌+◌, ◌-◌, ◌<◌, ◌≤◌, Bool, true, false, cond, not, List, [], ◌∷◌, ◌++◌, map, filter, Option, Some, None, refl, sym, ap, ap₂, ◌∙◌, subst, inl, inr, arith, eqb, append_assoc, append-nil, decimal}
+use Rattle.std.proofs.Common.{◌≡◌, ℕ, ◌-◌, ◌<◌, ◌≤◌, Bool, false, List, [], ◌∷◌, ◌++◌, map, filter, Option, refl, sym, ap, ap₂, ◌∙◌, subst, inl, inr, arith, eqb, append_assoc, decimal}
 use Rattle.std.specs.Prelude.{IsTrue, flat_map, codes}
 use Rattle.std.specs.List.{AllByRecursion}
-use Rattle.std.specs.Io.BufRead.{strip_last}
 use Rattle.std.proofs.lemmas.Bool.Decides.{nat_tests}
 use Rattle.std.proofs.lemmas.List.Splits.{slice_split_none}
 use Rattle.std.proofs.lemmas.List.Elements.{All-cons, All-nil}
-use Rattle.bt_lines.specs.LentLine.{NoLineFeed}
 use Rattle.bt_lines.specs.Lines.{pieces}
 use Rattle.bt_lines.proofs.ColumnLemmas.{IsColumn, IsInside}
 use Rattle.bt_bed.specs.Feature.{Feature, intervals_of}
 use Rattle.bt_bed.specs.Genome.{Entry, genome_names}
-use Rattle.bt_bed.specs.Interval.{Interval, Span, placed_on, spans_on}
+use Rattle.bt_bed.specs.Interval.{Interval, Span, spans_on}
 use Rattle.bt_bed.specs.IntervalLine.{interval_lines}
 use Rattle.bt_bed.specs.Locus.{ArePlaced, IsPlacedBefore}
 use Rattle.bt_bed.specs.Order.{Order, IsTotal}
 use Rattle.bt_bed.specs.Rank.{AreDistinct, rank_order}
 use Rattle.bt_bed.specs.RankTotal.{ranks_total}
-use Rattle.bt_bed.specs.Record.{IsName, columns_in, strand_of}
-use Rattle.bt_bed.specs.Stretches.{AreApartFrom, IsCovered}
+use Rattle.bt_bed.specs.Record.{columns_in, strand_of}
+use Rattle.bt_bed.specs.Stretches.{AreApartFrom}
 use Rattle.bt_bed.specs.declared.strand.Strand.{Strand}
-use Rattle.bt_bed.specs.declared.strand.Strand.TheVariants.{Dot}
 use Rattle.bt_runs.specs.CoveredLevels.{interval_at}
 use Rattle.bt_runs.specs.Depth.{DepthInterval, coverage, depth_line, depth_lines, depth_on, depth_of, depths_on, counted_on}
 use Rattle.bt_runs.specs.Gaps.{complement, gaps_of, gaps_on, is_asked}
@@ -31,7 +28,7 @@ use Rattle.bt_laws.proofs.Clear.{clear_tab}
 use Rattle.bt_laws.proofs.Digits.{IsDigit, clear_number, decimal_digits, strip_number}
 use Rattle.bt_laws.proofs.LinesBack.{Columns, IsColumns, lines_back, record_back, text_of_columns}
 use Rattle.bt_laws.proofs.PartLists.{all_any, all_filter, all_flat_map, all_map, all_so}
-use Rattle.bt_laws.proofs.Placing.{Earlier, all_unmap, all_zip, apart_pairs, known_names, names_pairs, on_name, pairs_filter, pairs_from_map, pairs_map, pairs_so, parts_pairs, parts_placed, spans_apart, spans_placed}
+use Rattle.bt_laws.proofs.Placing.{Earlier, all_unmap, apart_pairs, known_names, names_pairs, on_name, pairs_filter, pairs_from_map, pairs_map, pairs_so, parts_pairs, parts_placed, spans_apart, spans_placed}
 use Rattle.bt_laws.proofs.RunsBack.{IsWritten, intervals_back, on_written, scanned}
 use Rattle.bt_laws.proofs.SaidWell.{IsChrom}
 

@@ -1,37 +1,36 @@
 -- What is left of a record lies in the gaps of the second input.
-use Rattle.std.proofs.Common.{◌≡◌, ◌||◌, ℕ, zero, suc, ◌+◌, ◌-◌, ◌<◌, ◌≤◌, Bool, true, false, cond, not, List, [], ◌∷◌, ◌++◌, append-nil, map, filter, length, max, min, Option, Some, None, Result, Ok, Err, refl, sym, ap, ap₂, ◌∙◌, subst, inl, inr, arith}
-use Rattle.std.specs.Prelude.{bytes_eq, flat_map, IsTrue}
+use Rattle.std.proofs.Common.{◌≡◌, ℕ, ◌+◌, ◌<◌, ◌≤◌, true, false, cond, not, List, [], ◌∷◌, ◌++◌, append-nil, map, filter, max, min, Some, None, Ok, refl, sym, ap, ap₂, ◌∙◌, subst, inl, inr, arith}
+use Rattle.std.specs.Prelude.{bytes_eq, flat_map}
 use Rattle.std.specs.List.{AllByRecursion}
 use Rattle.std.proofs.lemmas.Bool.{cases_Bool, false≢true, or_parts}
-use Rattle.bt_lines.specs.Handed.{Handed, whole_text}
+use Rattle.bt_lines.specs.Handed.{whole_text}
 use Rattle.bt_lines.specs.declared.fault.Input.TheVariants.{First, Second}
 use Rattle.bt_bed.specs.Feature.{Feature, interval_of, intervals_of}
 use Rattle.bt_bed.specs.Genome.{Entry, genome_names}
 use Rattle.bt_bed.specs.Good.{items_in}
 use Rattle.bt_bed.specs.GoodBed.{bed_good}
 use Rattle.bt_bed.specs.Header.{is_header}
-use Rattle.bt_bed.specs.Interval.{Interval, Span, placed_on, span_of, spans_on}
+use Rattle.bt_bed.specs.Interval.{Interval, Span, span_of, spans_on}
 use Rattle.bt_bed.specs.IntervalLine.{interval_lines}
 use Rattle.bt_bed.specs.Order.{Order}
 use Rattle.bt_bed.specs.Rank.{AreDistinct, is_among}
-use Rattle.bt_bed.specs.Stretches.{AreApartFrom, AreStretchesOf, IsCovered, stretches_from}
-use Rattle.bt_bed.proofs.NameLemmas.{cases_name, name_eq, same_name}
+use Rattle.bt_bed.specs.Stretches.{AreApartFrom, IsCovered, stretches_from}
+use Rattle.bt_bed.proofs.NameLemmas.{cases_name, name_eq}
 use Rattle.bt_runs.specs.Gaps.{IsBare, complement, gaps_of, gaps_on, is_asked, length_in}
-use Rattle.bt_runs.proofs.ChromosomeLemmas.{spans_on-append, spans_on-here, spans_on-elsewhere}
+use Rattle.bt_runs.proofs.ChromosomeLemmas.{spans_on-append, spans_on-elsewhere}
 use Rattle.bt_runs.proofs.OneGap.{are_gaps}
 use Rattle.bt_sweep.specs.Hits.{any_overlap, hits, hits_among}
 use Rattle.bt_sweep.specs.IntersectLines.{hit_line, intersect, lines_for, piece_line}
-use Rattle.bt_sweep.specs.Pieces.{IsLeft, pieces, spans_of}
+use Rattle.bt_sweep.specs.Pieces.{pieces, spans_of}
 use Rattle.bt_sweep.specs.declared.shape.Shape.TheVariants.{Cut, Pieces}
 use Rattle.bt_sweep.proofs.PieceLemmas.{only_pieces}
-use Rattle.bt_tool.specs.Behaviour.{entries_in, order_of}
+use Rattle.bt_tool.specs.Behaviour.{order_of}
 use Rattle.bt_tool.specs.Inputs.{Inputs, or_empty}
 use Rattle.bt_tool.specs.RecordReport.{Report}
-use Rattle.bt_tool.specs.Report.{chromosomes_of, report_of}
-use Rattle.bt_tool.specs.SweepReport.{met_within}
+use Rattle.bt_tool.specs.Report.{chromosomes_of}
 use Rattle.bt_tool.specs.Written.{complement_written}
 use Rattle.bt_tool.specs.declared.plan_type.Command.TheVariants.{Complement, Intersect, Subtract}
-use Rattle.bt_laws.specs.Pipes.{RunsWell, first_records, second_records}
+use Rattle.bt_laws.specs.Pipes.{first_records, second_records}
 use Rattle.bt_laws.specs.SameLines.{Writes}
 use Rattle.bt_laws.specs.SameSweeps.{AreWithin, of_second, subtract_by_complement, with_second}
 use Rattle.bt_laws.specs.Taken.{AreApart, EachPair, IsInput, is_no_header, three_columns}
@@ -100,7 +99,7 @@ unhidden name (r ∷ rs) e = elim (cases_Bool (is_no_header (three_columns r))) 
 
 -- ---- what a has in the gaps
 
-abbrev cut_span : Feature → Feature → Span
+abbrev pub cut_span : Feature → Feature → Span
 cut_span a g = record { start = max a.start g.start; stop = min a.stop g.stop }
 
 cut_lines : (a : Feature) (found : List Feature) → flat_map (hit_line Cut a) found ≡ flat_map (piece_line a) (map (cut_span a) found)
@@ -112,12 +111,12 @@ from_pairs first [] all pairs = tt
 from_pairs first (s ∷ ss) all pairs =
     (all.0.0, all.0.1, from_pairs (s.stop + 1) ss (all_zip (λ (t : Span). (first ≤ t.start) × (t.start < t.stop)) (λ (t : Span). s.stop < t.start) (λ (t : Span). (s.stop + 1 ≤ t.start) × (t.start < t.stop)) ss (λ t h k. (omega (arith, k), h.1)) all.1 pairs.0) pairs.1)
 
-cut_covered : (a : Feature) (found : List Feature) (p : ℕ) → IsCovered (map (cut_span a) found) p → IsCovered (spans_of found) p × (a.start ≤ p) × (p < a.stop)
+pub cut_covered : (a : Feature) (found : List Feature) (p : ℕ) → IsCovered (map (cut_span a) found) p → IsCovered (spans_of found) p × (a.start ≤ p) × (p < a.stop)
 cut_covered a [] p c = absurd c
 cut_covered a (g ∷ found) p (inl here) = (inl (omega (arith, here.0), omega (arith, here.1)), omega (arith, here.0), omega (arith, here.1))
 cut_covered a (g ∷ found) p (inr there) = let more = cut_covered a found p there in (inr more.0, more.1, more.2)
 
-covered_cut : (a : Feature) (found : List Feature) (p : ℕ) → a.start ≤ p → p < a.stop → IsCovered (spans_of found) p → IsCovered (map (cut_span a) found) p
+pub covered_cut : (a : Feature) (found : List Feature) (p : ℕ) → a.start ≤ p → p < a.stop → IsCovered (spans_of found) p → IsCovered (map (cut_span a) found) p
 covered_cut a [] p from to c = absurd c
 covered_cut a (g ∷ found) p from to (inl here) = inl (omega (arith, here.0, from), omega (arith, here.1, to))
 covered_cut a (g ∷ found) p from to (inr there) = inr (covered_cut a found p from to there)

@@ -1,47 +1,43 @@
 -- Gaps of gaps, and merged depths.
-use Rattle.std.proofs.Common.{◌≡◌, ◌||◌, ℕ, zero, suc, ◌+◌, ◌-◌, ◌<◌, ◌≤◌, Bool, true, false, cond, not, List, [], ◌∷◌, ◌++◌, append-nil, map, filter, length, max, min, Option, Some, None, Result, Ok, Err, refl, sym, ap, ap₂, ◌∙◌, subst, inl, inr, arith}
-use Rattle.std.specs.Prelude.{bytes_eq, flat_map, IsTrue, nat_lt}
+use Rattle.std.proofs.Common.{◌≡◌, ℕ, ◌+◌, ◌<◌, ◌≤◌, true, false, cond, List, [], ◌∷◌, ◌++◌, map, filter, min, Some, None, refl, sym, ap, ap₂, ◌∙◌, subst, inl, inr, arith}
+use Rattle.std.specs.Prelude.{bytes_eq, flat_map, nat_lt}
 use Rattle.std.specs.List.{AllByRecursion}
 use Rattle.std.proofs.lemmas.Bool.{cases_Bool, cases_lt, false≢true, le-ltb, lt-ltb, or_parts}
 use Rattle.std.proofs.lemmas.Grind.{flat_map-append}
-use Rattle.bt_lines.specs.Handed.{whole_text}
 use Rattle.bt_lines.specs.declared.fault.Input.TheVariants.{First}
-use Rattle.bt_bed.specs.Feature.{Feature, interval_of, intervals_of}
+use Rattle.bt_bed.specs.Feature.{Feature, intervals_of}
 use Rattle.bt_bed.specs.Genome.{Entry, genome_names}
 use Rattle.bt_bed.specs.Good.{items_in}
 use Rattle.bt_bed.specs.GoodBed.{bed_good}
 use Rattle.bt_bed.specs.Header.{is_header}
-use Rattle.bt_bed.specs.Interval.{Interval, Span, placed_on, span_of, spans_on}
+use Rattle.bt_bed.specs.Interval.{Interval, Span, placed_on, spans_on}
 use Rattle.bt_bed.specs.IntervalLine.{interval_lines}
 use Rattle.bt_bed.specs.Locus.{ArePlaced}
 use Rattle.bt_bed.specs.Order.{Order}
 use Rattle.bt_bed.specs.Rank.{AreDistinct, is_among, rank_order}
-use Rattle.bt_bed.specs.Stretches.{AreApartFrom, AreStretchesOf, IsCovered}
+use Rattle.bt_bed.specs.Stretches.{AreApartFrom, IsCovered}
 use Rattle.bt_bed.proofs.GoodBedLemmas.{placed_good}
-use Rattle.bt_bed.proofs.NameLemmas.{cases_name, name_eq, name_ne-sym}
+use Rattle.bt_bed.proofs.NameLemmas.{name_eq, name_ne-sym}
 use Rattle.bt_runs.specs.Counted.{counted}
-use Rattle.bt_runs.specs.Gaps.{IsBare, complement, gaps_of, gaps_on, is_asked, length_in}
+use Rattle.bt_runs.specs.Gaps.{complement, gaps_of, gaps_on, is_asked, length_in}
 use Rattle.bt_runs.specs.Merged.{is_covered, merged, runs_of, runs_on}
 use Rattle.bt_runs.specs.RunOrder.{ordered_runs}
 use Rattle.bt_runs.specs.declared.merge_strand.MergeStrand.TheVariants.{All}
 use Rattle.bt_runs.proofs.Bridging.{are_runs, is_covered-Decides}
-use Rattle.bt_runs.proofs.ChromosomeLemmas.{spans_on-append}
 use Rattle.bt_runs.proofs.OneGap.{are_gaps, only_gaps}
 use Rattle.bt_runs.proofs.RunOrder.{file_ordered}
-use Rattle.bt_tool.specs.Behaviour.{entries_in, order_of}
-use Rattle.bt_tool.specs.Inputs.{Inputs}
-use Rattle.bt_tool.specs.Report.{chromosomes_of, report_of}
+use Rattle.bt_tool.specs.Behaviour.{order_of}
+use Rattle.bt_tool.specs.Report.{report_of}
 use Rattle.bt_tool.specs.Written.{complement_written, merge_written}
-use Rattle.bt_tool.specs.declared.plan_type.Command.TheVariants.{Complement, Coverage, Merge}
+use Rattle.bt_tool.specs.declared.plan_type.Command.TheVariants.{Complement, Merge}
 use Rattle.bt_laws.specs.LengthLaws.{complement_of_complement, cut_at_length}
-use Rattle.bt_laws.specs.Pipes.{RunsWell, first_records}
-use Rattle.bt_laws.specs.SameLines.{Writes}
+use Rattle.bt_laws.specs.Pipes.{first_records}
 use Rattle.bt_laws.specs.SameRuns.{piped}
 use Rattle.bt_laws.specs.Taken.{IsInput, is_no_header, three_columns}
-use Rattle.bt_laws.proofs.Covers.{SameCover, runs_cover}
+use Rattle.bt_laws.proofs.Covers.{runs_cover}
 use Rattle.bt_laws.proofs.GapsBack.{gaps_back}
 use Rattle.bt_laws.proofs.GapsHit.{complement_spans, unhidden}
-use Rattle.bt_laws.proofs.PartLists.{all_any, all_so, filter_all, flat_map_same}
+use Rattle.bt_laws.proofs.PartLists.{all_any, filter_all, flat_map_same}
 use Rattle.bt_laws.proofs.PipeLaws.{chroms_of, complement_whole, merge_whole, order_total}
 use Rattle.bt_laws.proofs.Placing.{all_zip}
 use Rattle.bt_laws.proofs.RunsAgain.{complement_on, fault_as, told_same, writes_is}
@@ -183,8 +179,7 @@ complements_twice inputs entries well plain =
     let merged_well = fault_as (Complement false) (Merge 0 All) inputs (Some entries) well (told_same (complement_written entries false) (merge_written order 0 All) (items_in good) good.fault) in
     let e = complement_whole false inputs (Some entries) well in
     let gaps = complement false entries records in
-    let is = subst (λ text. IsInput order text (filter is_no_header (map three_columns gaps))) (sym e) (gaps_back entries known.0 known.1 false records) in
-    (
+    let is = subst (λ text. IsInput order text (filter is_no_header (map three_columns gaps))) (sym e) (gaps_back entries known.0 known.1 false records) in (
       ordered_runs order 0 All records,
       record { output = merge_whole 0 All inputs (Some entries) merged_well; faultless = merged_well.faultless },
       writes_is (Complement false) (piped (Complement false) inputs) (interval_lines (flat_map (cut_at_length entries) (ordered_runs order 0 All records)))

@@ -43,3 +43,10 @@ pub mod GapsHit
 pub mod LengthLaws
 pub mod DepthsMerged
 pub mod ConvertPipes
+pub mod MaskPipes
+pub mod MaskTwice
+pub mod PartBases
+pub mod PairSides
+pub mod DepthSum
+pub mod PipesApart
+pub mod MaskBoth

@@ -1,14 +1,14 @@
 -- The reports whose outputs go on as inputs.
-use Rattle.std.proofs.Common.{append-nil, append_assoc, ◌≡◌, ℕ, Bool, true, false, ◌&&◌, List, [], ◌∷◌, ◌++◌, map, filter, Option, Some, None, Result, Ok, Err, refl, sym, ap, ◌∙◌, subst}
-use Rattle.std.specs.Prelude.{◌≢◌, flat_map, is_none, ◌||◌, IsTrue, if◌then◌else◌}
-use Rattle.std.specs.List.{AllByRecursion, list_all, take_while}
+use Rattle.std.proofs.Common.{append-nil, append_assoc, ◌≡◌, ℕ, Bool, true, false, List, [], ◌∷◌, ◌++◌, map, filter, Option, Some, None, Result, Ok, Err, refl, sym, ap, ◌∙◌, subst}
+use Rattle.std.specs.Prelude.{◌≢◌, flat_map, if◌then◌else◌}
+use Rattle.std.specs.List.{AllByRecursion, list_all}
 use Rattle.std.specs.Option.{option_or}
 use Rattle.bt_lines.specs.Fault.{Told}
-use Rattle.bt_lines.specs.Handed.{Handed, cut_fault, lines_handed}
+use Rattle.bt_lines.specs.Handed.{Handed}
 use Rattle.bt_lines.specs.declared.fault.Input.TheVariants.{First, Genome, Second}
 use Rattle.bt_bed.specs.ByteOrder.{byte_order, bytes_total}
 use Rattle.bt_bed.specs.Feature.{Feature, intervals_of}
-use Rattle.bt_bed.specs.Genome.{Entry, genome_cut, genome_handed, genome_names, genome_of}
+use Rattle.bt_bed.specs.Genome.{Entry, genome_handed, genome_names}
 use Rattle.bt_bed.specs.Good.{Good, Member, items_in}
 use Rattle.bt_bed.specs.GoodBed.{bed_good}
 use Rattle.bt_bed.specs.Interval.{Interval}
@@ -16,14 +16,14 @@ use Rattle.bt_bed.specs.IntervalLine.{interval_lines}
 use Rattle.bt_bed.specs.Locus.{ArePlaced}
 use Rattle.bt_bed.specs.LineKind.{fault_at_line}
 use Rattle.bt_lines.specs.declared.fault.Kind.TheVariants.{TooManyHeld}
-use Rattle.bt_bed.specs.Meeting.{Met, Rule, meet, written}
+use Rattle.bt_bed.specs.Meeting.{Met, meet, written}
 use Rattle.bt_bed.specs.Order.{Order, IsTotal}
-use Rattle.bt_bed.specs.Rank.{AreDistinct, rank_order}
+use Rattle.bt_bed.specs.Rank.{AreDistinct}
 use Rattle.bt_bed.specs.RankTotal.{ranks_total}
 use Rattle.bt_bed.specs.declared.strand.Strand.{Strand}
 use Rattle.bt_bed.proofs.GoodBedLemmas.{non_empty_good, placed_good}
 use Rattle.bt_runs.specs.CoveredLevels.{interval_at}
-use Rattle.bt_runs.specs.Depth.{DepthInterval, coverage, depth_lines}
+use Rattle.bt_runs.specs.Depth.{coverage, depth_lines}
 use Rattle.bt_runs.specs.Gaps.{complement}
 use Rattle.bt_runs.specs.RunOrder.{ordered_runs}
 use Rattle.bt_runs.specs.StrandRuns.{places_of, strand_runs}
@@ -33,16 +33,16 @@ use Rattle.bt_runs.proofs.StrandOrder.{in_order}
 use Rattle.bt_sweep.specs.IntersectLines.{intersect}
 use Rattle.bt_sweep.specs.Limit.{are_too_many, cut_behind, limited}
 use Rattle.bt_sweep.specs.Subtract.{subtract_shape}
-use Rattle.bt_sweep.specs.SweepMeeting.{intersect_met, sweep_rule}
+use Rattle.bt_sweep.specs.SweepMeeting.{sweep_rule}
 use Rattle.bt_sweep.specs.declared.hit_rule.HitRule.{HitRule}
 use Rattle.bt_sweep.specs.declared.shape.Shape.{Shape}
-use Rattle.bt_sweep.specs.declared.shape.Shape.TheVariants.{Whole, Pieces}
+use Rattle.bt_sweep.specs.declared.shape.Shape.TheVariants.{Whole}
 use Rattle.bt_sweep.proofs.SweepsLemmas.{faultless_all}
 use Rattle.bt_tool.specs.Behaviour.{behaviour_of, entries_in, order_of}
 use Rattle.bt_tool.specs.Inputs.{Inputs, or_empty}
 use Rattle.bt_tool.specs.RecordReport.{Report, report_by}
 use Rattle.bt_tool.specs.Report.{chromosomes_of, of_file, report_of, report_on}
-use Rattle.bt_tool.specs.SweepReport.{intersect_report, met_within}
+use Rattle.bt_tool.specs.SweepReport.{met_within}
 use Rattle.bt_tool.specs.Written.{Written, complement_written, coverage_written, merge_written}
 use Rattle.bt_tool.specs.declared.plan_type.Command.{Command}
 use Rattle.bt_tool.specs.declared.plan_type.Command.TheVariants.{Complement, Coverage, Intersect, Merge, Subtract}

@@ -1,20 +1,20 @@
 -- Intervals chromosome by chromosome: they are in order, and those of different chromosomes have nothing in common.
 use Rattle.std.proofs.Common.{◌≡◌, ℕ, suc, ◌+◌, ◌<◌, ◌≤◌, Bool, true, false, cond, List, [], ◌∷◌, ◌++◌, map, filter, Option, Some, None, refl, sym, ap, ◌∙◌, subst, inl, inr, arith}
-use Rattle.std.specs.Prelude.{IsTrue, IsFalse, flat_map, bytes_eq, is_some, option_map}
+use Rattle.std.specs.Prelude.{IsTrue, flat_map, bytes_eq, is_some, option_map}
 use Rattle.std.specs.List.{AllByRecursion}
 use Rattle.std.specs.declared.cmp.Ordering.TheVariants.{Less, Equal}
-use Rattle.std.proofs.lemmas.Bool.{false≢true, or_parts}
+use Rattle.std.proofs.lemmas.Bool.{or_parts}
 use Rattle.bt_bed.specs.Interval.{Interval, Span, placed_on}
 use Rattle.bt_bed.specs.Locus.{ArePlaced, IsPlacedBefore}
 use Rattle.bt_bed.specs.Order.{Order, IsTotal}
 use Rattle.bt_bed.specs.Rank.{AreDistinct, compare_ranks, is_among, rank_of, rank_order}
 use Rattle.bt_bed.specs.Stretches.{AreApartFrom}
 use Rattle.bt_bed.proofs.NameLemmas.{name_ne-sym}
-use Rattle.bt_runs.specs.RunOrder.{AreAscending, AreKnown, ComesBefore}
+use Rattle.bt_runs.specs.RunOrder.{AreAscending, AreKnown}
 use Rattle.bt_runs.proofs.Standing.{cmp_less, less_cmp}
 use Rattle.bt_runs.proofs.FileOrder.{rank_of-here, rank_of-later}
 use Rattle.bt_laws.specs.Taken.{AreApart, AreDisjoint, EachPair}
-use Rattle.bt_laws.proofs.PartLists.{all_any, all_back, all_both, all_filter, all_flat_map, all_front, all_map, all_so}
+use Rattle.bt_laws.proofs.PartLists.{all_any, all_both, all_filter, all_flat_map, all_map, all_so}
 
 -- ---- pairs
 

@@ -1,23 +1,20 @@
 -- Lines that say records in order are an input without a fault, of these records.
-use Rattle.std.proofs.Common.{◌≡◌, ℕ, suc, ◌≤◌, ◌<◌, Bool, true, false, cond, List, [], ◌∷◌, ◌++◌, map, Option, Some, None, Result, Ok, Err, refl, sym, ap, ap₂, ◌∙◌, subst, append_assoc, inl, inr, arith}
-use Rattle.std.specs.Prelude.{IsTrue, flat_map, bytes_eq, nat_lt, codes}
+use Rattle.std.proofs.Common.{◌≡◌, ℕ, suc, ◌≤◌, false, cond, List, [], ◌∷◌, ◌++◌, Option, Some, None, Ok, Err, refl, sym, ap, ◌∙◌, subst, append_assoc, inl, inr, arith}
+use Rattle.std.specs.Prelude.{IsTrue, flat_map}
 use Rattle.std.specs.List.{AllByRecursion}
-use Rattle.std.specs.Cmp.Lexicographic.{bytes_decides}
 use Rattle.std.specs.Io.BufRead.{strip_last}
 use Rattle.std.specs.Ordering.{ordering_reverse}
 use Rattle.std.specs.declared.cmp.Ordering.{Ordering}
 use Rattle.std.specs.declared.cmp.Ordering.TheVariants.{Less, Equal, Greater}
 use Rattle.std.proofs.lemmas.Bool.Decides.{nat_tests}
 use Rattle.bt_lines.specs.LentLine.{NoLineFeed}
-use Rattle.bt_lines.specs.Lines.{TextLine, fed_line, lines_from, text_lines}
+use Rattle.bt_lines.specs.Lines.{fed_line, lines_from, text_lines}
 use Rattle.bt_lines.specs.declared.fault.Input.{Input}
-use Rattle.bt_lines.specs.declared.fault.Kind.{Kind}
 use Rattle.bt_lines.specs.declared.fault.Kind.TheVariants.{UnknownChrom, OutOfOrder}
 use Rattle.bt_lines.proofs.LinesLemmas.{lines_from-fed, lines_from-nil}
 use Rattle.bt_bed.specs.Feature.{Feature, interval_of, intervals_of}
 use Rattle.bt_bed.specs.Good.{Good, good, good_from, good_with, items_in}
 use Rattle.bt_bed.specs.GoodBed.{bed_format, line_says, locus_at, said_after}
-use Rattle.bt_bed.specs.Interval.{Interval}
 use Rattle.bt_bed.specs.Locus.{ArePlaced, IsPlacedBefore, IsUpTo, Locus, is_below_at}
 use Rattle.bt_bed.specs.Order.{Order, IsTotal}
 use Rattle.bt_bed.specs.Record.{record_of}

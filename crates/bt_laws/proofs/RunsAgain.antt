@@ -1,28 +1,28 @@
 -- The runs of a merge, taken as records.
-use Rattle.std.proofs.Common.{◌≡◌, append-nil, inl, inr, ◌||◌, ℕ, suc, Bool, true, false, cond, not, List, [], ◌∷◌, ◌++◌, map, filter, Option, Some, None, Result, Ok, Err, refl, sym, ap, ap₂, ◌∙◌, subst, arith, length}
-use Rattle.std.specs.Prelude.{◌≢◌, IsFalse, IsTrue, bytes_eq, flat_map, ◌<◌}
+use Rattle.std.proofs.Common.{◌≡◌, append-nil, inl, inr, ◌||◌, ℕ, Bool, true, false, cond, not, List, [], ◌∷◌, ◌++◌, map, filter, Option, Some, None, Ok, refl, sym, ap, ap₂, ◌∙◌, subst, arith, length}
+use Rattle.std.specs.Prelude.{bytes_eq, flat_map, ◌<◌}
 use Rattle.std.specs.List.{AllByRecursion}
 use Rattle.std.proofs.lemmas.Bool.{cases_Bool, or_parts}
 use Rattle.bt_lines.specs.Fault.{Told}
-use Rattle.bt_lines.specs.Handed.{Handed, whole_text}
+use Rattle.bt_lines.specs.Handed.{whole_text}
 use Rattle.bt_lines.specs.declared.fault.Input.TheVariants.{First}
 use Rattle.bt_bed.specs.Feature.{Feature, interval_of, intervals_of}
 use Rattle.bt_bed.specs.Genome.{Entry}
 use Rattle.bt_bed.specs.Good.{items_in}
 use Rattle.bt_bed.specs.GoodBed.{bed_good}
-use Rattle.bt_bed.specs.Interval.{AreNonEmpty, Interval, Span, placed_on, span_of, spans_on}
+use Rattle.bt_bed.specs.Interval.{Interval, Span, placed_on, span_of, spans_on}
 use Rattle.bt_bed.specs.IntervalLine.{interval_lines}
 use Rattle.bt_bed.specs.Locus.{ArePlaced}
 use Rattle.bt_bed.specs.Order.{Order, IsTotal}
 use Rattle.bt_bed.specs.Rank.{AreDistinct, is_among}
 use Rattle.bt_bed.specs.Stretches.{IsCovered}
 use Rattle.bt_bed.specs.Together.{has_records}
-use Rattle.bt_bed.proofs.GoodBedLemmas.{non_empty_good, placed_good}
-use Rattle.bt_bed.proofs.NameLemmas.{cases_name, name_eq, name_ne-sym, same_name}
+use Rattle.bt_bed.proofs.GoodBedLemmas.{placed_good}
+use Rattle.bt_bed.proofs.NameLemmas.{cases_name, name_eq}
 use Rattle.bt_runs.specs.Counted.{counted, is_counted}
 use Rattle.bt_runs.specs.Gaps.{complement}
 use Rattle.bt_runs.specs.Merged.{chromosomes, merged, runs_of, runs_on, without}
-use Rattle.bt_runs.specs.RunOrder.{AreKnown, in_order, ordered_runs}
+use Rattle.bt_runs.specs.RunOrder.{ordered_runs}
 use Rattle.bt_runs.specs.declared.merge_strand.MergeStrand.{MergeStrand}
 use Rattle.bt_runs.specs.declared.merge_strand.MergeStrand.TheVariants.{All, Each, One}
 use Rattle.bt_runs.proofs.Bridging.{are_runs, bridged_here}
@@ -44,7 +44,6 @@ use Rattle.bt_laws.specs.Taken.{IsInput, three_columns}
 use Rattle.bt_laws.proofs.AlikeRecords.{gaps_by}
 use Rattle.bt_laws.proofs.Covers.{SameCover, runs_again, runs_cover}
 use Rattle.bt_laws.proofs.PartLists.{all_any, all_filter, all_map, all_so, filter_all, flat_map_same}
-use Rattle.bt_laws.proofs.Placing.{on_name}
 use Rattle.bt_laws.proofs.PipeLaws.{complement_whole, merge_whole, order_total}
 use Rattle.bt_laws.proofs.RunsBack.{merge_back, merge_placed}
 use Rattle.bt_laws.proofs.SaidWell.{IsSaid, good_are_said}

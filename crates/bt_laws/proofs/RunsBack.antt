@@ -1,51 +1,35 @@
 -- What merge, complement and genomecov write is an input of the next command.
-use Rattle.std.proofs.Common.{◌≡◌, ℕ, suc, ◌+◌, ◌-◌, ◌<◌, ◌≤◌, Bool, true, false, cond, not, List, [], ◌∷◌, ◌++◌, map, filter, max, Option, Some, None, refl, sym, ap, ap₂, ◌∙◌, subst, inl, inr, arith, eqb, append_assoc, append-nil, decimal}
+use Rattle.std.proofs.Common.{◌≡◌, ℕ, ◌+◌, ◌-◌, ◌<◌, ◌≤◌, Bool, true, false, cond, not, List, [], ◌∷◌, ◌++◌, map, filter, refl, sym, ap, ap₂, ◌∙◌, subst, inl, inr, arith, eqb, append-nil, decimal}
 use Rattle.std.specs.Prelude.{IsTrue, flat_map, codes, if◌then◌else◌, bytes_eq}
 use Rattle.std.specs.List.{AllByRecursion}
-use Rattle.std.specs.Io.BufRead.{strip_last}
 use Rattle.std.specs.Ordering.{is_lt}
-use Rattle.std.proofs.lemmas.List.Splits.{slice_split_none}
-use Rattle.std.proofs.lemmas.List.Elements.{All-cons, All-nil}
+use Rattle.std.proofs.lemmas.List.Elements.{All-nil}
 use Rattle.bt_lines.specs.LentLine.{NoLineFeed}
-use Rattle.bt_lines.specs.Lines.{pieces}
-use Rattle.bt_lines.proofs.ColumnLemmas.{IsColumn, IsInside}
 use Rattle.bt_bed.specs.Feature.{Feature, interval_of, intervals_of}
-use Rattle.bt_bed.specs.Genome.{Entry, genome_names}
 use Rattle.bt_bed.specs.Header.{is_header}
 use Rattle.bt_bed.specs.Interval.{Interval, Span, placed_on, spans_on, span_of}
 use Rattle.bt_bed.specs.IntervalLine.{interval_line, interval_lines}
-use Rattle.bt_bed.specs.Locus.{ArePlaced, IsPlacedBefore}
+use Rattle.bt_bed.specs.Locus.{ArePlaced}
 use Rattle.bt_bed.specs.Order.{Order, IsTotal}
-use Rattle.bt_bed.specs.Rank.{AreDistinct, is_among, rank_order}
-use Rattle.bt_bed.specs.RankTotal.{ranks_total}
-use Rattle.bt_bed.specs.Record.{IsFeature, IsName, columns_in, strand_of}
-use Rattle.bt_bed.specs.Stretches.{AreApartFrom, AreStretchesOf, IsCovered, stretches_from}
+use Rattle.bt_bed.specs.Record.{IsName}
+use Rattle.bt_bed.specs.Stretches.{AreApartFrom, IsCovered, stretches_from}
 use Rattle.bt_bed.proofs.Scan.{scan_finds}
 use Rattle.bt_runs.specs.Counted.{counted, is_counted}
-use Rattle.bt_runs.specs.CoveredLevels.{interval_at}
-use Rattle.bt_runs.specs.Depth.{DepthInterval, coverage, depth_line, depth_lines, depth_on, depth_of, depths_on, counted_on}
-use Rattle.bt_runs.specs.Gaps.{complement, gaps_of, gaps_on, is_asked}
-use Rattle.bt_runs.specs.Levels.{AreDisjointFrom, AreLevelsOf, HasValue, Level, levels_of}
-use Rattle.bt_runs.specs.Merged.{chromosomes, end_of, merged, runs_of, runs_on, without}
+use Rattle.bt_runs.specs.Merged.{chromosomes, end_of, merged, runs_of, runs_on}
 use Rattle.bt_runs.specs.MergedRuns.{merged_runs}
-use Rattle.bt_runs.specs.RunOrder.{AreKnown, in_order, ordered_runs, put_in_order}
+use Rattle.bt_runs.specs.RunOrder.{in_order, ordered_runs, put_in_order}
 use Rattle.bt_runs.specs.StrandRuns.{StrandRun, begun_by, listed_behind, places_of, runs_of_strand, strand_runs}
 use Rattle.bt_runs.specs.declared.merge_strand.MergeStrand.{MergeStrand}
 use Rattle.bt_runs.specs.declared.merge_strand.MergeStrand.TheVariants.{One}
 use Rattle.bt_bed.specs.declared.strand.Strand.{Strand}
-use Rattle.bt_bed.specs.declared.strand.Strand.TheVariants.{Dot}
 use Rattle.bt_runs.proofs.FileOrder.{some_placed}
-use Rattle.bt_runs.proofs.LevelLemmas.{are_levels}
 use Rattle.bt_runs.proofs.NameOrder.{names_in_order}
 use Rattle.bt_runs.proofs.OwnOrder.{distinct_chromosomes}
-use Rattle.bt_runs.proofs.StrandOrder.{in_order as strand_order}
-use Rattle.bt_laws.specs.Taken.{AreApart, AreDisjoint, EachPair, IsInput, four_columns, is_no_header, three_columns}
-use Rattle.bt_laws.proofs.Digits.{IsDigit, clear_number, decimal_digits, strip_number}
-use Rattle.bt_laws.proofs.Clear.{clear_tab}
+use Rattle.bt_laws.specs.Taken.{AreApart, EachPair, IsInput, is_no_header, three_columns}
 use Rattle.bt_laws.proofs.LinesBack.{Columns, IsColumns, lines_back, record_back, text_of_columns}
-use Rattle.bt_laws.proofs.PartLists.{all_any, all_back, all_both, all_filter, all_flat_map, all_front, all_map, all_so, filter_all}
-use Rattle.bt_laws.proofs.Placing.{Earlier, all_unmap, all_zip, apart_disjoint, apart_pairs, ascending_pairs, known_names, names_pairs, on_name, pairs_filter, pairs_from_map, pairs_map, pairs_so, parts_pairs, parts_placed, spans_apart, spans_placed}
-use Rattle.bt_laws.proofs.SaidWell.{IsChrom, IsSaid}
+use Rattle.bt_laws.proofs.PartLists.{all_any, all_both, all_filter, all_flat_map, all_map, all_so, filter_all}
+use Rattle.bt_laws.proofs.Placing.{Earlier, all_zip, apart_pairs, ascending_pairs, on_name, parts_pairs, parts_placed, spans_apart, spans_placed}
+use Rattle.bt_laws.proofs.SaidWell.{IsSaid}
 
 -- ---- lines of three columns
 

@@ -1,30 +1,30 @@
 -- What is known of each good record of an input, and of each chromosome of a genome file.
-use Rattle.std.proofs.Common.{◌≡◌, ℕ, suc, ◌<◌, ◌≤◌, Bool, true, false, cond, ◌&&◌, List, [], ◌∷◌, ◌++◌, length, Option, Some, None, Result, Ok, Err, refl, sym, ap, ◌∙◌, subst, append_assoc, arith, eqb, ltb, leb}
-use Rattle.std.specs.Prelude.{IsTrue, if◌then◌else◌, codes, decimal, ◌==◌}
+use Rattle.std.proofs.Common.{◌≡◌, ℕ, ◌<◌, ◌≤◌, Bool, true, false, cond, ◌&&◌, List, [], ◌∷◌, ◌++◌, length, Option, Some, None, Result, Ok, Err, refl, sym, ap, ◌∙◌, subst, append_assoc, arith, eqb, ltb, leb}
+use Rattle.std.specs.Prelude.{if◌then◌else◌}
 use Rattle.std.specs.List.{AllByRecursion, list_all, join_with_byte}
 use Rattle.std.specs.Char.{is_ascii_digit}
 use Rattle.std.specs.Str.Parse.{digits_value}
 use Rattle.std.proofs.lemmas.Bool.{and_parts, leb-true}
 use Rattle.std.proofs.lemmas.List.Splits.{join_with_byte-slice_split}
-use Rattle.bt_lines.specs.Handed.{Handed, lines_handed, whole_text}
+use Rattle.bt_lines.specs.Handed.{Handed, lines_handed}
 use Rattle.bt_lines.specs.Fault.{Told}
 use Rattle.bt_lines.specs.LentLine.{NoLineFeed}
 use Rattle.bt_lines.specs.Lines.{TextLine, pieces, text_lines, whole_lines}
 use Rattle.bt_lines.specs.Number.{is_number, value_of}
 use Rattle.bt_lines.specs.declared.fault.Input.{Input}
 use Rattle.bt_lines.specs.declared.fault.Kind.{Kind}
-use Rattle.bt_lines.specs.declared.fault.Kind.TheVariants.{BadLength, OutOfOrder, RepeatedChrom, UnknownChrom}
+use Rattle.bt_lines.specs.declared.fault.Kind.TheVariants.{BadLength, RepeatedChrom}
 use Rattle.bt_lines.proofs.ColumnLemmas.{IsColumn}
 use Rattle.bt_bed.specs.Feature.{Feature}
 use Rattle.bt_bed.specs.Genome.{Entry, columns_give, entry_from, entry_of, genome_cut, genome_from, genome_handed, genome_of, genome_with, is_skipped, new_entry, with_entry}
-use Rattle.bt_bed.specs.Good.{Good, good, good_from, good_with, items_in}
-use Rattle.bt_bed.specs.GoodBed.{bed_format, bed_good, line_says, said_after}
+use Rattle.bt_bed.specs.Good.{Good, good_from, good_with, items_in}
+use Rattle.bt_bed.specs.GoodBed.{bed_format, bed_good, line_says}
 use Rattle.bt_bed.specs.Header.{is_header}
 use Rattle.bt_bed.specs.Locus.{Locus}
 use Rattle.bt_bed.specs.Order.{Order}
 use Rattle.bt_bed.specs.Rank.{is_among}
 use Rattle.bt_bed.specs.Record.{IsFeature, IsName, not_skipped, record_of}
-use Rattle.bt_bed.specs.Sorting.{Sorting, falls_in, sorting_of}
+use Rattle.bt_bed.specs.Sorting.{Sorting, sorting_of}
 use Rattle.bt_bed.proofs.FeatureLemmas.{record_said, said_is_feature, said_stands}
 use Rattle.bt_bed.proofs.GoodBedLemmas.{line_said}
 use Rattle.bt_bed.proofs.Kept.{pieces_are_columns}

@@ -1,8 +1,8 @@
 -- The options of intersect and subtract that write the same lines.
-use Rattle.std.proofs.Common.{◌≡◌, ℕ, zero, suc, ◌<◌, Bool, true, false, cond, List, [], ◌∷◌, ◌++◌, map, filter, length, Option, Some, None, Result, Ok, Err, refl, sym, ap, ap₂, ◌∙◌, subst, append-nil, arith, eqb, ltb, decimal}
+use Rattle.std.proofs.Common.{◌≡◌, ℕ, Bool, true, false, cond, List, [], ◌∷◌, ◌++◌, map, filter, length, Option, Result, Ok, Err, refl, sym, ap, ap₂, ◌∙◌, subst, arith, decimal}
 use Rattle.std.proofs.lemmas.Bool.{lt-ltb, ne_eqb}
 use Rattle.std.specs.Prelude.{flat_map, if◌then◌else◌, nat_lt, replicate, ◌==◌}
-use Rattle.std.specs.List.{AllByRecursion, list_all}
+use Rattle.std.specs.List.{list_all}
 use Rattle.std.specs.Option.{option_or}
 use Rattle.bt_lines.specs.Fault.{Told}
 use Rattle.bt_lines.specs.Handed.{Handed}
@@ -21,17 +21,16 @@ use Rattle.bt_sweep.specs.SweepMeeting.{sweep_rule}
 use Rattle.bt_sweep.specs.declared.hit_rule.HitRule.{HitRule}
 use Rattle.bt_sweep.specs.declared.shape.Shape.{Shape}
 use Rattle.bt_sweep.specs.declared.shape.Shape.TheVariants.{Count, Missing, Once, OrigA, Whole}
-use Rattle.bt_tool.specs.Behaviour.{behaviour_of, order_of}
+use Rattle.bt_tool.specs.Behaviour.{order_of}
 use Rattle.bt_tool.specs.Inputs.{Inputs, or_empty}
-use Rattle.bt_tool.specs.RecordReport.{Report}
 use Rattle.bt_tool.specs.Report.{chromosomes_of, report_of, report_on}
 use Rattle.bt_tool.specs.SweepReport.{met_report, met_within}
 use Rattle.bt_tool.specs.declared.plan_type.Command.TheVariants.{Intersect, Subtract}
 use Rattle.bt_laws.specs.Pipes.{RunsWell, first_records, second_records}
-use Rattle.bt_laws.specs.SameLines.{AreCounted, Counted, Writes, counts_say_all, missing_is_whole, own_line}
+use Rattle.bt_laws.specs.SameLines.{Counted, Writes, counts_say_all, missing_is_whole, own_line}
 use Rattle.bt_laws.proofs.PartLists.{all_any, flat_map_same}
 use Rattle.bt_laws.proofs.PartSweep.{written_same}
-use Rattle.bt_laws.proofs.PipeLaws.{intersect_whole, report_is}
+use Rattle.bt_laws.proofs.PipeLaws.{intersect_whole}
 
 -- ---- two shapes that write the same lines of each record
 
@@ -143,8 +142,7 @@ pub counts_all : counts_say_all
 counts_all rule held inputs chromosomes well =
     let firsts = first_records chromosomes inputs in
     let seconds = second_records chromosomes inputs in
-    let writes : (shape : Shape) → Writes (Intersect shape rule held) inputs (intersect shape rule firsts seconds) = λ shape. writes_lines shape rule held inputs chromosomes (other_shape Count shape rule held inputs chromosomes well) in
-    (
+    let writes : (shape : Shape) → Writes (Intersect shape rule held) inputs (intersect shape rule firsts seconds) = λ shape. writes_lines shape rule held inputs chromosomes (other_shape Count shape rule held inputs chromosomes well) in (
       map (counted rule seconds) firsts,
       records_counted rule seconds firsts,
       record {

@@ -1,5 +1,5 @@
 -- What intersect and subtract see of the second input, where any common base is a hit.
-use Rattle.std.proofs.Common.{◌≡◌, ◌&&◌, ℕ, suc, ◌+◌, ◌-◌, ◌<◌, ◌≤◌, Bool, true, false, cond, not, List, [], ◌∷◌, ◌++◌, map, filter, length, max, min, Option, Some, None, Result, Ok, Err, refl, sym, ap, ap₂, ◌∙◌, subst, inl, inr, arith, ltb}
+use Rattle.std.proofs.Common.{◌≡◌, ◌&&◌, ℕ, suc, ◌-◌, ◌<◌, ◌≤◌, Bool, true, false, cond, List, [], ◌∷◌, map, length, max, min, Option, Some, None, Result, Ok, Err, refl, sym, ap, ap₂, ◌∙◌, subst, inl, inr, arith, ltb}
 use Rattle.std.specs.Prelude.{bytes_eq, flat_map, if◌then◌else◌}
 use Rattle.std.specs.List.{AllByRecursion, list_all}
 use Rattle.std.specs.Option.{option_or}
@@ -14,13 +14,13 @@ use Rattle.bt_bed.specs.Feature.{Feature, interval_of, intervals_of}
 use Rattle.bt_bed.specs.Genome.{Entry}
 use Rattle.bt_bed.specs.Good.{Good, good, good_from, good_with, items_in, or_else}
 use Rattle.bt_bed.specs.GoodBed.{bed_format, bed_good, line_says}
-use Rattle.bt_bed.specs.Interval.{Interval, Span, span_of, spans_on}
+use Rattle.bt_bed.specs.Interval.{Interval, span_of, spans_on}
 use Rattle.bt_bed.specs.IntervalLine.{interval_lines}
-use Rattle.bt_bed.specs.Locus.{ArePlaced, Locus}
-use Rattle.bt_bed.specs.Meeting.{Met, Rule, meet, written}
-use Rattle.bt_bed.specs.Order.{Order, IsTotal}
+use Rattle.bt_bed.specs.Locus.{Locus}
+use Rattle.bt_bed.specs.Meeting.{Met, meet, written}
+use Rattle.bt_bed.specs.Order.{Order}
 use Rattle.bt_bed.specs.Sorting.{Sorting, sorting_of}
-use Rattle.bt_bed.specs.Stretches.{AreStretchesOf, IsCovered}
+use Rattle.bt_bed.specs.Stretches.{IsCovered}
 use Rattle.bt_bed.proofs.GoodBedLemmas.{placed_good}
 use Rattle.bt_bed.proofs.NameLemmas.{cases_name, name_eq}
 use Rattle.bt_runs.specs.Counted.{counted}
@@ -28,20 +28,20 @@ use Rattle.bt_runs.specs.Merged.{runs_of}
 use Rattle.bt_runs.specs.RunOrder.{ordered_runs}
 use Rattle.bt_runs.specs.declared.merge_strand.MergeStrand.TheVariants.{All}
 use Rattle.bt_runs.proofs.ChromosomeLemmas.{spans_on-here, spans_on-elsewhere}
-use Rattle.bt_sweep.specs.Hits.{any_overlap, hits, hits_among, is_enough, shared_bases, strands_agree}
-use Rattle.bt_sweep.specs.IntersectLines.{intersect, line_with, lines_for, lines_of, piece_line}
+use Rattle.bt_sweep.specs.Hits.{any_overlap, hits, hits_among, shared_bases, strands_agree}
+use Rattle.bt_sweep.specs.IntersectLines.{intersect, lines_for, lines_of, piece_line}
 use Rattle.bt_sweep.specs.Limit.{limited}
 use Rattle.bt_sweep.specs.Pieces.{IsLeft, pieces, spans_of}
-use Rattle.bt_sweep.specs.SweepMeeting.{intersect_met, sweep_rule}
+use Rattle.bt_sweep.specs.SweepMeeting.{sweep_rule}
 use Rattle.bt_sweep.specs.declared.hit_rule.HitRule.{HitRule}
 use Rattle.bt_sweep.specs.declared.shape.Shape.{Shape}
 use Rattle.bt_sweep.specs.declared.shape.Shape.TheVariants.{Missing, Once, Pieces}
 use Rattle.bt_sweep.proofs.PieceLemmas.{are_pieces, only_pieces}
-use Rattle.bt_sweep.proofs.RuleLemmas.{enough_of_nothing, hit_overlaps, overlap_parts}
+use Rattle.bt_sweep.proofs.RuleLemmas.{enough_of_nothing}
 use Rattle.bt_tool.specs.Behaviour.{behaviour_of, order_of}
 use Rattle.bt_tool.specs.Inputs.{Inputs, or_empty}
 use Rattle.bt_tool.specs.RecordReport.{Report, report_by}
-use Rattle.bt_tool.specs.Report.{chromosomes_of, report_of, report_on}
+use Rattle.bt_tool.specs.Report.{chromosomes_of, report_of}
 use Rattle.bt_tool.specs.SweepReport.{met_within}
 use Rattle.bt_tool.specs.Written.{Written, merge_written}
 use Rattle.bt_tool.specs.declared.plan_type.Command.{Command}
@@ -53,7 +53,7 @@ use Rattle.bt_laws.specs.Taken.{IsInput, three_columns}
 use Rattle.bt_laws.proofs.Covers.{SameCover, runs_cover, same_sym}
 use Rattle.bt_laws.proofs.PartLists.{all_any, all_so, filter_all, flat_map_same}
 use Rattle.bt_laws.proofs.PipeLaws.{intersect_whole, limit_whole, order_total, subtract_whole, well_there}
-use Rattle.bt_laws.proofs.RunsAgain.{back, report_there, run_spans, told_same, writes_is}
+use Rattle.bt_laws.proofs.RunsAgain.{back, report_there, run_spans}
 use Rattle.bt_laws.proofs.RunsBack.{merge_back}
 use Rattle.bt_laws.proofs.SaidWell.{IsSaid, good_are_said}
 use Rattle.bt_laws.proofs.SweepBack.{Hit, all_hits, cut_bounds, same_name}
@@ -212,7 +212,7 @@ met_none order shape rule first second one two =
     none_by (list_all r.decided (items_in first)) (flat_map r.lines (items_in first)) (written r (items_in first)) first.fault second.fault one two
 
 -- a run without a fault has inputs without one
-met_faultless : (order : Order) (shape : Shape) (rule : HitRule) (limit : Option ℕ) (first second : Good Feature) → (met_within order shape rule limit first second).fault ≡ None → (first.fault ≡ None) × (second.fault ≡ None)
+pub met_faultless : (order : Order) (shape : Shape) (rule : HitRule) (limit : Option ℕ) (first second : Good Feature) → (met_within order shape rule limit first second).fault ≡ None → (first.fault ≡ None) × (second.fault ≡ None)
 met_faultless order shape rule limit first second e =
     let seen = limited order limit (items_in first) second in
     let r = sweep_rule order shape rule (items_in seen) seen.fault in
@@ -226,19 +226,19 @@ like_with sorting n last one other (Err kind) ls ms h e = cc
 like_with sorting n last one other (Ok None) ls ms h e = h last e
 like_with sorting n last one other (Ok (Some r)) ls ms h e = let rest = h ((bed_format sorting).after last r) e in (ap (λ l. r ∷ l) rest.0, rest.1)
 
-like_from : (sorting : Sorting) (one other : Input) (last : Option Locus) (lines : List TextLine) → (good_from (bed_format sorting) one last lines).fault ≡ None
+pub like_from : (sorting : Sorting) (one other : Input) (last : Option Locus) (lines : List TextLine) → (good_from (bed_format sorting) one last lines).fault ≡ None
     → (items_in (good_from (bed_format sorting) other last lines) ≡ items_in (good_from (bed_format sorting) one last lines)) × ((good_from (bed_format sorting) other last lines).fault ≡ None)
 unfolding good_from
 like_from sorting one other last [] e = (refl, refl)
 like_from sorting one other last (line ∷ lines) e =
     like_with sorting line.number last one other (line_says sorting last line.text) (λ now. good_from (bed_format sorting) one now lines) (λ now. good_from (bed_format sorting) other now lines) (λ now none. like_from sorting one other now lines none) e
 
-cut_none : (fault cut : Option Told) → or_else fault cut ≡ None → (fault ≡ None) × (cut ≡ None)
+pub cut_none : (fault cut : Option Told) → or_else fault cut ≡ None → (fault ≡ None) × (cut ≡ None)
 cut_none None None e = (refl, refl)
 cut_none None (Some c) e = cc
 cut_none (Some f) cut e = cc
 
-uncut : (is_cut : Bool) (one other : Told) → (if is_cut then Some one else None) ≡ None → (if is_cut then Some other else None) ≡ None
+pub uncut : (is_cut : Bool) (one other : Told) → (if is_cut then Some one else None) ≡ None → (if is_cut then Some other else None) ≡ None
 uncut true one other e = cc
 uncut false one other e = refl
 

@@ -1,6 +1,6 @@
 -- What intersect and subtract write is an input of the next command.
-use Rattle.std.proofs.Common.{◌≡◌, ℕ, zero, suc, ◌+◌, ◌-◌, ◌<◌, ◌≤◌, Bool, true, false, cond, not, List, [], ◌∷◌, ◌++◌, map, filter, length, max, min, Option, Some, None, refl, sym, ap, ap₂, ◌∙◌, subst, inl, inr, arith, append_assoc, append-nil, decimal, ltb}
-use Rattle.std.specs.Prelude.{IsTrue, flat_map, codes, replicate, bytes_eq}
+use Rattle.std.proofs.Common.{◌≡◌, ℕ, zero, suc, ◌+◌, ◌-◌, ◌<◌, ◌≤◌, Bool, true, false, cond, not, List, [], ◌∷◌, ◌++◌, map, filter, length, max, min, refl, sym, ap, ap₂, ◌∙◌, subst, inl, inr, arith, append_assoc, append-nil, decimal}
+use Rattle.std.specs.Prelude.{IsTrue, flat_map, replicate}
 use Rattle.std.specs.List.{AllByRecursion}
 use Rattle.std.specs.Cmp.Lexicographic.{bytes_decides}
 use Rattle.std.specs.declared.cmp.Ordering.TheVariants.{Less, Equal}
@@ -27,10 +27,10 @@ use Rattle.bt_laws.specs.Taken.{AreDisjoint, EachPair, IsInput, is_no_header}
 use Rattle.bt_laws.proofs.Clear.{clear_both, clear_tab}
 use Rattle.bt_laws.proofs.Digits.{clear_number}
 use Rattle.bt_laws.proofs.LinesBack.{Columns, IsColumns, lines_back, record_back, text_of_columns}
-use Rattle.bt_laws.proofs.PartLists.{all_any, all_both, all_filter, all_flat_map, all_map, all_so, filter_all}
+use Rattle.bt_laws.proofs.PartLists.{all_any, all_both, all_flat_map, all_map, all_so, filter_all}
 use Rattle.bt_laws.proofs.Placing.{all_zip, apart_pairs, pairs_both, pairs_filter, pairs_from_map, pairs_map, pairs_so}
 use Rattle.bt_laws.proofs.SaidWell.{IsSaid}
-use Rattle.bt_laws.proofs.TailSays.{columns_text, tail_clear}
+use Rattle.bt_laws.proofs.TailSays.{tail_clear}
 
 -- ---- pairs of a list of lists
 
@@ -73,7 +73,7 @@ module _ (order : Order) (total : IsTotal order) where
 abbrev pub columns_at : Feature → List ℕ → Columns
 columns_at a tail = record { at = interval_of a; tail = tail }
 
-hit_columns : Shape → Feature → Feature → Columns
+unfoldable pub hit_columns : Shape → Feature → Feature → Columns
 hit_columns Cut a b = columns_at (cut a b) a.rest
 hit_columns OrigA a b = columns_at a a.rest
 hit_columns CutAndB a b = columns_at (cut a b) (a.rest ++ 9 ∷ bed_text b)
@@ -85,10 +85,10 @@ hit_columns Count a b = columns_at a a.rest
 hit_columns Pieces a b = columns_at a a.rest
 hit_columns Whole a b = columns_at a a.rest
 
-piece_columns : Feature → Span → Columns
+unfoldable pub piece_columns : Feature → Span → Columns
 piece_columns a p = columns_at (cut_to p.start p.stop a) a.rest
 
-columns_for : Shape → Feature → List Feature → List Columns
+unfoldable pub columns_for : Shape → Feature → List Feature → List Columns
 columns_for Cut a found = map (hit_columns Cut a) found
 columns_for OrigA a found = map (hit_columns OrigA a) found
 columns_for CutAndB a found = map (hit_columns CutAndB a) found
@@ -472,6 +472,18 @@ module _ (order : Order) (total : IsTotal order) where
     pub cut_back : (records : List Feature) × IsInput order (intersect shape rule first second) records
     unfolding cut_lines lines all_columns part
     cut_back = (map record_back cut_lines, lines_input order total shape rule first second said said_second placed cut_placed)
+
+  -- the same, with where its records lie
+  pub cut_at : (shape : Shape) (rule : HitRule) (first second : List Feature) (said : AllByRecursion IsSaid first) (said_second : AllByRecursion IsSaid second) (placed : ArePlaced order (intervals_of first)) (placed_second : ArePlaced order (intervals_of second))
+      (apart : EachPair AreDisjoint (intervals_of first)) (cuts : begins_with_a shape ≡ false)
+      → (records : List Feature) × IsInput order (intersect shape rule first second) records × (intervals_of records ≡ flat_map (λ a. map (λ (line : Columns). line.at) (columns_for shape a (hits_among rule a second))) first)
+  unfolding cut_lines lines all_columns part
+  cut_at shape rule first second said said_second placed placed_second apart cuts =
+      let at = cut_lines shape rule first second said said_second placed placed_second apart cuts in (
+        map record_back at,
+        lines_input order total shape rule first second said said_second placed (cut_placed shape rule first second said said_second placed placed_second apart cuts),
+        back_at at ∙ map_flat (λ a. columns_for shape a (hits_among rule a second)) (λ a. map (λ (line : Columns). line.at) (columns_for shape a (hits_among rule a second))) first (λ a. refl),
+      )
 
   -- pieces of records that have no base in common have none
   pub pieces_back : (rule : HitRule) (first second : List Feature) → AllByRecursion IsSaid first → AllByRecursion IsSaid second → ArePlaced order (intervals_of first) → ArePlaced order (intervals_of second)

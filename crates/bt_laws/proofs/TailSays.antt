@@ -1,5 +1,5 @@
 -- What a line says that begins with a name and two numbers.
-use Rattle.std.proofs.Common.{◌≡◌, ℕ, suc, ◌+◌, ◌-◌, ◌<◌, ◌≤◌, Bool, true, false, cond, ◌||◌, List, [], ◌∷◌, ◌++◌, length, get_or, Option, Some, None, Result, Ok, Err, refl, sym, ap, ◌∙◌, subst, append_assoc, append-nil, eqb, arith, decimal}
+use Rattle.std.proofs.Common.{◌≡◌, ℕ, ◌+◌, ◌-◌, ◌<◌, ◌≤◌, Bool, true, false, cond, ◌||◌, List, [], ◌∷◌, ◌++◌, length, Option, Some, None, Ok, refl, sym, ap, ◌∙◌, subst, append_assoc, append-nil, eqb, arith, decimal}
 use Rattle.std.specs.Prelude.{IsTrue, ◌==◌, codes, nat_lt}
 use Rattle.std.specs.Int.{IsInRange}
 use Rattle.std.specs.List.{AllByRecursion}
@@ -15,7 +15,7 @@ use Rattle.bt_lines.specs.LentLine.{NoLineFeed}
 use Rattle.bt_lines.proofs.LinesLemmas.{strip_last-other, strip_last-push}
 use Rattle.bt_bed.specs.Feature.{Feature}
 use Rattle.bt_bed.specs.Header.{ends_word, first_word, is_header, is_header_word}
-use Rattle.bt_bed.specs.Record.{IsFeature, IsName, bed_text, columns_in, is_kept, record_of, strand_of}
+use Rattle.bt_bed.specs.Record.{IsName, columns_in, is_kept, record_of, strand_of}
 use Rattle.bt_bed.proofs.FeatureLemmas.{header_says}
 use Rattle.bt_bed.proofs.HeaderLemmas.{of_word}
 use Rattle.bt_bed.proofs.RoundTrip.{written_feature}
@@ -24,7 +24,7 @@ use Rattle.bt_laws.proofs.PartLists.{all_back}
 
 -- ---- a byte at the end
 
-ends_both : (byte : ℕ) (front back : List ℕ) → 0 < length back → ends_with_byte byte (front ++ back) ≡ ends_with_byte byte back
+pub ends_both : (byte : ℕ) (front back : List ℕ) → 0 < length back → ends_with_byte byte (front ++ back) ≡ ends_with_byte byte back
 ends_both byte front back some =
     let size : length (front ++ back) ≡ length front + length back = length-append front back in
     let at : length (front ++ back) - 1 ≡ length front + (length back - 1) = omega (arith, size) in

@@ -1,7 +1,6 @@
 -- When the output of bamtobed goes on as an input of the next command.
 use Rattle.std.specs.Prelude.{◌≡◌, Bool, not, false, List, map, filter, None}
 use Rattle.bt_lines.specs.declared.fault.Input.TheVariants.{First}
-use Rattle.bt_bed.specs.Feature.{Feature, intervals_of}
 use Rattle.bt_bed.specs.Good.{items_in}
 use Rattle.bt_bed.specs.Header.{is_header}
 use Rattle.bt_bed.specs.Interval.{Interval}
@@ -11,7 +10,6 @@ use Rattle.bt_seq.specs.Alignment.{Alignment}
 use Rattle.bt_seq.specs.GoodSam.{sam_good}
 use Rattle.bt_tool.specs.Inputs.{Inputs}
 use Rattle.bt_tool.specs.Report.{report_of}
-use Rattle.bt_tool.specs.declared.plan_type.Command.{Command}
 use Rattle.bt_tool.specs.declared.plan_type.Command.TheVariants.{BamToBed}
 use Rattle.bt_laws.specs.Pipes.{IsInputAt}
 

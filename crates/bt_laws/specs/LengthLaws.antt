@@ -1,6 +1,6 @@
 -- Runs of merge, complement and genomecov that write the same bytes, as far as the lengths of the
 -- genome file go.
-use Rattle.std.specs.Prelude.{◌≡◌, ◌≤◌, ℕ, false, List, [], ◌∷◌, Option, Some, None, flat_map, cond}
+use Rattle.std.specs.Prelude.{◌≡◌, ℕ, false, List, [], ◌∷◌, Some, None, flat_map, cond}
 use Rattle.std.specs.Prelude.{min, nat_lt}
 use Rattle.std.specs.List.{AllByRecursion}
 use Rattle.bt_bed.specs.Genome.{Entry}

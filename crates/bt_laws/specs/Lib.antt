@@ -12,3 +12,8 @@ pub mod SameSweeps
 pub mod LengthLaws
 pub mod ConvertPipes
 pub mod PipeExamples
+pub mod MaskPipes
+pub mod PartBases
+pub mod PairSides
+pub mod DepthSum
+pub mod PipesApart

@@ -1,6 +1,5 @@
 -- Small outputs that the next command refuses: why the laws on pipes have their premises.
-use Rattle.std.specs.Prelude.{◌≡◌, ℕ, true, false, List, Option, Some, None, codes}
-use Rattle.bt_lines.specs.Fault.{Told}
+use Rattle.std.specs.Prelude.{◌≡◌, ℕ, true, false, List, Some, None, codes}
 use Rattle.bt_lines.specs.Handed.{whole_text}
 use Rattle.bt_lines.specs.declared.fault.Input.TheVariants.{First}
 use Rattle.bt_lines.specs.declared.fault.Kind.TheVariants.{OutOfOrder}

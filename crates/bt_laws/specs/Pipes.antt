@@ -1,5 +1,5 @@
 -- Which outputs the next command takes as they are, in the same order of the chromosomes.
-use Rattle.std.specs.Prelude.{◌≡◌, ◌≢◌, ℕ, Bool, true, false, List, map, filter, Option, Some, None, Ok}
+use Rattle.std.specs.Prelude.{◌≡◌, ◌≢◌, ℕ, Bool, true, false, List, map, filter, Option, None, Ok}
 use Rattle.bt_lines.specs.declared.fault.Input.TheVariants.{First, Second}
 use Rattle.bt_bed.specs.Feature.{Feature, intervals_of}
 use Rattle.bt_bed.specs.Genome.{Entry}

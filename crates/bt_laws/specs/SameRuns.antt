@@ -1,5 +1,5 @@
 -- Runs of merge, complement and genomecov that write the same bytes.
-use Rattle.std.specs.Prelude.{◌≡◌, ◌≢◌, ◌==◌, ℕ, Bool, true, false, List, [], ◌∷◌, ◌++◌}
+use Rattle.std.specs.Prelude.{◌≡◌, ◌≢◌, ◌==◌, ℕ, Bool, true, false, List, ◌∷◌, ◌++◌}
 use Rattle.std.specs.Prelude.{Option, None, map, filter, nat_lt}
 use Rattle.bt_lines.specs.Handed.{whole_text}
 use Rattle.bt_bed.specs.Feature.{Feature}
@@ -40,7 +40,7 @@ complement_of_merge =
     → Writes (Complement limit) (piped (Merge 0 All) inputs)
     (report_of (Complement limit) inputs).output
 
--- the same records, except that two neighbours of one chromosome stand the other way round; where
+-- the same records, except that two neighbours of one chromosome come the other way round; where
 -- both lists are in order, the two have one start
 pub record AreExchanged (rs ss : List Feature) : Type 0 where
   pub before : List Feature
@@ -51,7 +51,7 @@ pub record AreExchanged (rs ss : List Feature) : Type 0 where
   pub first : rs ≡ before ++ one ∷ other ∷ after
   pub second : ss ≡ before ++ other ∷ one ∷ after
 
--- the same records, except that one stands there twice
+-- the same records, except that one comes twice
 pub record IsRepeated (rs ss : List Feature) : Type 0 where
   pub before : List Feature
   pub after : List Feature

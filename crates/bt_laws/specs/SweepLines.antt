@@ -6,7 +6,7 @@ use Rattle.bt_sweep.specs.Hits.{hits_among}
 use Rattle.bt_sweep.specs.declared.hit_rule.HitRule.{HitRule}
 use Rattle.bt_sweep.specs.declared.shape.Shape.{Shape}
 use Rattle.bt_sweep.specs.declared.shape.Shape.TheVariants.{Count, Cut, CutAndB, Missing, Once}
-use Rattle.bt_sweep.specs.declared.shape.Shape.TheVariants.{OrigA, OrigBoth, Overlap, Pieces, Whole}
+use Rattle.bt_sweep.specs.declared.shape.Shape.TheVariants.{Pieces, Whole}
 
 -- whether each line begins with a record of the first input, as it lies: without a shape and with
 -- -wb its start and its end are cut, and subtract writes its pieces
@@ -16,7 +16,7 @@ begins_with_a CutAndB = false
 begins_with_a Pieces = false
 begins_with_a _ = true
 
--- how many lines begin so with a record that so many records hit
+-- how many lines begin with a record, by how many records hit it
 abbrev pub line_count : Shape → ℕ → ℕ
 line_count Once zero = 0
 line_count Once (suc n) = 1

@@ -1,10 +1,14 @@
 //! Laws between runs: what the output of one run is as an input of the next, and which runs write the same bytes.
 //!
-//! There is no code here. Each law is the contract of a function that does nothing, and its statement stands in
+//! There is no code here. Each law is the contract of a function that does nothing, and its statement is in
 //! `specs/`, in the words of the report of a run (`report_of` of bt_tool).
 #![tactic(auto)]
 
+pub mod depth_sum;
 pub mod length_laws;
+pub mod mask_laws;
+pub mod pair_sides;
+pub mod part_bases;
 pub mod pipes;
 pub mod same_lines;
 pub mod same_runs;

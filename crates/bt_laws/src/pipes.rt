@@ -12,6 +12,7 @@ ghost use Rattle.bt_laws.specs.Pipes.{
   subtract_is_input,
   whole_subtract_is_input,
 };
+ghost use Rattle.bt_laws.specs.PipesApart.{complement_writes_disjoint, genomecov_writes_disjoint, merge_writes_disjoint};
 
 /// What merge writes is an input, whose records are the runs.
 pub fn merge_goes_on()
@@ -51,4 +52,12 @@ pub fn some_outputs_go_back()
     ensures cuts { cuts_go_back }
     ensures pieces { pieces_go_back }
     ensures blocks { blocks_go_back }
+{}
+
+/// No two records overlap of what merge without -s, complement and genomecov write: so it goes on into intersect
+/// and subtract, and what they write goes on too.
+pub fn runs_and_gaps_dont_overlap()
+    ensures merge { merge_writes_disjoint }
+    ensures complement { complement_writes_disjoint }
+    ensures genomecov { genomecov_writes_disjoint }
 {}
