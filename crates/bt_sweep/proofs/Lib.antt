@@ -17,6 +17,7 @@ pub mod JoinLemmas
 pub mod RelateLemmas
 pub mod StandLemmas
 pub mod GiveLemmas
+pub mod KnownLemmas
 pub mod PlainLemmas
 pub mod QuietLemmas
 pub mod RisingLemmas

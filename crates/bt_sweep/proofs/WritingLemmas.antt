@@ -1,8 +1,6 @@
 -- Lemmas on the lines of a record.
 use Rattle.std.proofs.Common.{◌≡◌, ◌⊎◌, inl, inr, ℕ, ◌<◌, arith, ◌-◌, Bool, true, false, cond, List, [], ◌∷◌, ◌++◌, Result, refl, sym, ap, ◌∙◌, subst, max, min, bytes_eq, decimal, filter, flat_map, length, not, ◌||◌}
 use Rattle.std.specs.List.{list_any}
-use Rattle.bt_sweep.specs.Walking.{gap_lines}
-use Rattle.bt_sweep.proofs.PieceLemmas.{walked_alone}
 use Rattle.bt_lines.specs.Output.{Output}
 use Rattle.bt_lines.specs.Putting.{Adds, Puts}
 use Rattle.bt_lines.specs.declared.fault.Fault.{Fault}
@@ -101,13 +99,3 @@ module _ {A : Type 0} (a : Feature) (bs : List Feature) (out grown : Output) (r 
   -- a line for each hit
   pub hits_adds : (shape ≡ Cut) ⊎ ((shape ≡ OrigA) ⊎ ((shape ≡ CutAndB) ⊎ ((shape ≡ OrigBoth) ⊎ (shape ≡ Overlap)))) → Adds out (flat_map (hit_line shape a) (hits_among rule a bs)) r grown → Adds out (lines_for shape rule a bs) r grown
   hits_adds is adds = subst (λ (l : List ℕ). Adds out l r grown) (sym (each_hit a bs shape rule is)) adds
-
--- if nothing is held nothing hits, and what is left of a record is all of it, if it has a base
-pub none_hits : (rule : HitRule) (a : Feature) (held : List Feature) → length held ≡ 0 → true ≡ not (list_any (hits rule a) held)
-none_hits rule a [] e = refl
-none_hits rule a (b ∷ held) e = absurd (omega arith)
-
-pub left_alone : {T : Type 0} (rule : HitRule) (a : Feature) (held : List Feature) (out grown : Output) (r : Result T Fault) → length held ≡ 0 → Adds out (gap_lines a a.start a.stop) r grown → Adds out (lines_for Pieces rule a held) r grown
-unfolding lines_for
-left_alone rule a [] out grown r e adds = subst (λ (l : List ℕ). Adds out l r grown) (walked_alone a) adds
-left_alone rule a (b ∷ held) out grown r e adds = absurd (omega arith)

@@ -228,6 +228,7 @@ impl<H: Held> State<H> {
         if b.stop() <= a.start() {
             return Ok(());
         }
+        // A copy is borrowed, so that the record itself stays in registers.
         let given = *b;
         if self.hold(a.start(), &given) {
             return Ok(());
@@ -305,6 +306,7 @@ impl<H: Held> State<H> {
                 Unmatched::Counted => {}
             }
         }
+        // A copy is borrowed, so that the record itself stays in registers.
         let given = *a;
         if !self.put_after(firsts.lines(), &given, out) {
             return Err(write_failed());

@@ -62,40 +62,12 @@ pub(crate) fn put_lines<H: Held, K: Sink>(
             put_counted(a, count_started_hits(rule, bed, held, count) as u64, out)
         }
         Shape::Once => put_where(is_any_hit(rule, bed, held), a, out),
-        Shape::Missing | Shape::Whole => put_where(is_unmatched(rule, bed, held), a, out),
+        Shape::Missing | Shape::Whole => put_where(!is_any_hit(rule, bed, held), a, out),
         Shape::Cut | Shape::OrigA | Shape::CutAndB | Shape::OrigBoth | Shape::Overlap => {
             put_hits(shape, rule, a, held, count_started(held, bed.stop), out)
         }
-        Shape::Pieces => put_left(rule, a, held, out),
+        Shape::Pieces => put_pieces(rule, bed, held, count_started(held, bed.stop), out),
     }
-}
-
-// Returns true if none of these hits the record.
-#[inline(always)]
-fn is_unmatched<H: Held>(rule: HitRule, a: &BedRef<'_>, held: &H) -> bool
-    requires { AreOn a.now.chrom.now (H.records held.now) }
-    ensures { AreRising (H.records held.now) → result ≡ not (list_any (hits rule (feature_lent a.now)) (H.records held.now)) }
-{
-    held.len() == 0 || !is_any_hit(rule, a, held)
-}
-
-// Puts what is left of a record by those of these that hit it.
-#[inline(always)]
-fn put_left<H: Held, K: Sink>(
-    rule: HitRule,
-    a: &Written<'_>,
-    held: &H,
-    out: &mut Out<K>,
-) -> Result<(), Fault>
-    requires { AreOn a.now.bed.chrom.now (H.records held.now) }
-    ensures { AreRising (H.records held.now)
-        → Adds out.old.output (lines_for Shape.Pieces rule (feature_lent a.now.bed) (H.records held.now)) result out.new.output }
-{
-    let bed = &a.bed;
-    if held.len() == 0 {
-        return put_where(bed.start < bed.stop, a, out);
-    }
-    put_pieces(rule, bed, held, count_started(held, bed.stop), out)
 }
 
 // Puts a line for each of so many held records from the first that hits the record.

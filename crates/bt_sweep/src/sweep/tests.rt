@@ -513,4 +513,5 @@ fn gives_what_the_plain_program_gives(rt: HostRuntime) -> Result<(), Fail> {
     Ok(())
 }
 
+mod batches;
 mod random;

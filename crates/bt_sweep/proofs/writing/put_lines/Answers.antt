@@ -1,7 +1,7 @@
-use Rattle.std.proofs.Common.{take}
+use Rattle.std.proofs.Common.{ap, not, take}
 use Rattle.bt_bed.specs.Bed.{feature_lent}
 use Rattle.bt_sweep.proofs.HitLemmas.{took_lines}
-use Rattle.bt_sweep.proofs.WritingLemmas.{count_adds, hits_adds, once_adds, unmatched_adds}
+use Rattle.bt_sweep.proofs.WritingLemmas.{count_adds, hits_adds, once_adds, pieces_add, unmatched_adds}
 use Rattle.bt_sweep.proofs.writing.put_lines.Goals as goal
 
 pub returns-in-Count : goal.returns-in-Count
@@ -19,7 +19,7 @@ returns-in-Once g c = λ rises.
 pub returns-in-Missing : goal.returns-in-Missing
 returns-in-Missing g c = λ rises.
     let held = g.H.Held.records c.args.held.now in
-    unmatched_adds (feature_lent c.args.a.now.bed) held _ _ c.put_where-in-Missing.result c.args.shape c.args.rule _ c.in-Missing.is (c.is_unmatched.ensures rises) c.put_where-in-Missing.ensures
+    unmatched_adds (feature_lent c.args.a.now.bed) held _ _ c.put_where-in-Missing.result c.args.shape c.args.rule _ c.in-Missing.is (ap not (c.is_any_hit-in-Missing.ensures rises)) c.put_where-in-Missing.ensures
 
 pub returns-in-Cut : goal.returns-in-Cut
 returns-in-Cut g c = λ rises.
@@ -29,4 +29,8 @@ returns-in-Cut g c = λ rises.
     rw (← took_lines c.args.rule a c.args.shape held n (c.count_started.ensures.rest rises)) (hits_adds a (take n held) _ _ c.put_hits.result c.args.shape c.args.rule c.in-Cut.is c.put_hits.ensures)
 
 pub returns-in-Pieces : goal.returns-in-Pieces
-returns-in-Pieces g c = λ rises. rw c.in-Pieces.is (c.put_left.ensures rises)
+returns-in-Pieces g c = λ rises.
+    let held = g.H.Held.records c.args.held.now in
+    let n = c.count_started-in-Pieces.result in
+    let a = feature_lent c.args.a.now.bed in
+    rw (← took_lines c.args.rule a c.args.shape held n (c.count_started-in-Pieces.ensures.rest rises)) (pieces_add a (take n held) _ _ c.put_pieces.result c.args.shape c.args.rule c.in-Pieces.is (c.put_pieces.ensures rises))

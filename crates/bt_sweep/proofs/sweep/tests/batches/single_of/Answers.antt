@@ -1,0 +1,7 @@
+use Rattle.std.proofs.Common.{ap, sym, ◌∙◌}
+use Rattle.bt_bed.specs.Bed.{feature_lent}
+use Rattle.bt_sweep.proofs.KnownLemmas.{known_single}
+use Rattle.bt_sweep.proofs.sweep.tests.batches.single_of.Goals as goal
+
+pub returns : goal.returns
+returns g c = known_single (g.O.ChromOrder.order c.args.order.now) c.new.result _ c.new.ensures.left (sym c.knows.ensures ∙ c.if-not-knows.false)

@@ -1,0 +1,309 @@
+ghost use Rattle.std.specs.Prelude.{◌≡◌, IfSome};
+ghost use Rattle.bt_bed.specs.Records.{order_in};
+ghost use Rattle.bt_bed.specs.Single.{GivesSingle};
+ghost use Rattle.bt_sweep.specs.Relating.{GivesKnown};
+ghost use Rattle.bt_sweep.specs.SweepView.{order_of};
+
+use super::*;
+use bt_bed::{Records, Single};
+use bt_lines::Source;
+
+// Gives the end of the second input, if that is wanted.
+fn end_second_if_wanted<H: Held, O: ChromOrder, K: Sink>(
+    sweep: &mut Sweep<'_, H, O>,
+    out: &mut Out<K>,
+) -> Result<(), Fault>
+    ensures { order_of sweep.new ≡ order_of sweep.old }
+{
+    match sweep.want() {
+        Want::B => sweep.end_b(out),
+        _ => Ok(()),
+    }
+}
+
+// Gives the end of the first input, if that is wanted.
+fn end_first_if_wanted<H: Held, O: ChromOrder>(sweep: &mut Sweep<'_, H, O>)
+    ensures { order_of sweep.new ≡ order_of sweep.old }
+{
+    match sweep.want() {
+        Want::A => sweep.end_a(),
+        _ => {}
+    }
+}
+
+// Gives a sweep what both cursors have, and the ends of both inputs. Then it takes nothing more.
+fn give_both<A: Cursor, B: Cursor, H: Held, O: ChromOrder, K: Sink>(
+    sweep: &mut Sweep<'_, H, O>,
+    a: &mut A,
+    b: &mut B,
+    out: &mut Out<K>,
+) -> Result<(), Fault>
+    requires known_a { GivesKnown A.gives (order_of sweep.old) a.old }
+    requires known_b { GivesKnown B.gives (order_of sweep.old) b.old }
+{
+    sweep.advance(a, b, out)?;
+    end_second_if_wanted(sweep, out)?;
+    sweep.advance(a, b, out)?;
+    end_first_if_wanted(sweep);
+    sweep.advance(a, b, out)
+}
+
+// Gives a sweep what both readers have buffered, and the ends of both inputs.
+fn give_buffered<A: Source, B: Source, K: Sink>(
+    first: &mut Records<'_, A, Genome>,
+    second: &mut Records<'_, B, Genome>,
+    sweep: &mut Sweep<'_, HeldIndex, Genome>,
+    out: &mut Out<K>,
+) -> Result<(), Fault>
+    requires first { order_of sweep.old ≡ order_in first.old }
+    requires second { order_of sweep.old ≡ order_in second.old }
+{
+    let _ = first.fill()?;
+    let _ = second.fill()?;
+    let mut a = first.buffered();
+    let mut b = second.buffered();
+    give_both(sweep, &mut a, &mut b, out)
+}
+
+// Sweeps two sources of one chromosome each. The fault, if there is one, and whether nothing is wanted then.
+fn sweep_sources<A: Source + Drop, B: Source + Drop, K: Sink>(
+    alloc: Global,
+    genome: &Genome,
+    how: (Shape, Option<u64>),
+    sources: (A, B),
+    out: &mut Out<K>,
+) -> (Result<(), Fault>, bool) {
+    let mut first = Records::new(
+        alloc,
+        LineReader::new(alloc, sources.0, Input::First),
+        genome,
+    );
+    let mut second = Records::new(
+        alloc,
+        LineReader::new(alloc, sources.1, Input::Second),
+        genome,
+    );
+    let rule = HitRule::any_overlap();
+    let mut sweep = Sweep::new(alloc, HeldIndex::new(alloc), how.0, rule, how.1, genome);
+    let given = give_buffered(&mut first, &mut second, &mut sweep, out);
+    let is_done = sweep.want() == Want::Nothing;
+    let _ = first.into_reader().into_source();
+    let _ = second.into_reader().into_source();
+    (given, is_done)
+}
+
+// What was put before, and the texts of both inputs.
+type Texts<'a> = (&'a [u8], &'a [u8], &'a [u8]);
+
+// What a sink takes that fails after so many bytes, and the fault, once a text was put and two texts were swept.
+fn sweep_texts(
+    rt: &HostRuntime,
+    how: (Shape, Option<u64>, Option<usize>),
+    texts: Texts<'_>,
+) -> Result<(Vec<u8>, Option<Fault>), Fail> {
+    let (shape, limit, good) = how;
+    let genome = read_genome(rt.alloc())?;
+    let mut out = Out::new(ScriptSink::new(rt.alloc(), 100, good));
+    let is_put = out.put(texts.0).is_ok();
+    let first = ScriptSource::new(texts.1, 8192, None);
+    let second = ScriptSource::new(texts.2, 8192, None);
+    let (given, is_done) = sweep_sources(
+        rt.alloc(),
+        &genome,
+        (shape, limit),
+        (first, second),
+        &mut out,
+    );
+    if !is_put || !is_done {
+        return Err("a sweep that wants nothing".into());
+    }
+    let fault = match given {
+        Ok(()) => out.flush().err(),
+        Err(fault) => {
+            let _ = out.flush();
+            Some(fault)
+        }
+    };
+    let mut taken = Vec::new(rt.alloc());
+    taken.extend_from_slice(out.into_sink().taken())?;
+    Ok((taken, fault))
+}
+
+// Some are hit, two have lines that aren't what is written, and some end before or after all of the second input.
+const FIRST: &[u8] =
+    b"chr1\t1\t5\nchr1\t2\t6\tn\nchr1\t03\t7\nchr1\t8\t9\nchr1\t20\t30\nchr1\t40\t50\nchr1\t60\t70\r\nchr1\t75\t76\tm\nchr1\t80\t90\n";
+
+const SECOND: &[u8] = b"chr1\t10\t12\nchr1\t25\t26\nchr1\t52\t53\nchr1\t70\t71\n";
+
+// A shape, and what is written in it.
+const WRITTEN: [(Shape, &[u8]); 10] = [
+    (Shape::Cut, b"chr1\t25\t26\n"),
+    (Shape::OrigA, b"chr1\t20\t30\n"),
+    (Shape::CutAndB, b"chr1\t25\t26\tchr1\t25\t26\n"),
+    (Shape::OrigBoth, b"chr1\t20\t30\tchr1\t25\t26\n"),
+    (Shape::Overlap, b"chr1\t20\t30\tchr1\t25\t26\t1\n"),
+    (Shape::Once, b"chr1\t20\t30\n"),
+    (
+        Shape::Missing,
+        b"chr1\t1\t5\nchr1\t2\t6\tn\nchr1\t3\t7\nchr1\t8\t9\nchr1\t40\t50\nchr1\t60\t70\nchr1\t75\t76\tm\nchr1\t80\t90\n",
+    ),
+    (
+        Shape::Count,
+        b"chr1\t1\t5\t0\nchr1\t2\t6\tn\t0\nchr1\t3\t7\t0\nchr1\t8\t9\t0\nchr1\t20\t30\t1\nchr1\t40\t50\t0\nchr1\t60\t70\t0\nchr1\t75\t76\tm\t0\nchr1\t80\t90\t0\n",
+    ),
+    (
+        Shape::Pieces,
+        b"chr1\t1\t5\nchr1\t2\t6\tn\nchr1\t3\t7\nchr1\t8\t9\nchr1\t20\t25\nchr1\t26\t30\nchr1\t40\t50\nchr1\t60\t70\nchr1\t75\t76\tm\nchr1\t80\t90\n",
+    ),
+    (
+        Shape::Whole,
+        b"chr1\t1\t5\nchr1\t2\t6\tn\nchr1\t3\t7\nchr1\t8\t9\nchr1\t40\t50\nchr1\t60\t70\nchr1\t75\t76\tm\nchr1\t80\t90\n",
+    ),
+];
+
+// Whether the bytes are taken, as far as the sink takes them, and it fails only if it doesn't take all.
+fn is_cut(
+    rt: &HostRuntime,
+    shape: Shape,
+    good: usize,
+    texts: Texts<'_>,
+    want: &[u8],
+) -> Result<bool, Fail> {
+    let (taken, fault) = sweep_texts(rt, (shape, None, Some(good)), texts)?;
+    if want.len() <= good {
+        return Ok(fault.is_none() && taken.as_slice() == want);
+    }
+    let kind = fault.map(|fault| fault.kind);
+    Ok(kind == Some(Kind::WriteFailed) && Some(taken.as_slice()) == want.get(..good))
+}
+
+#[test]
+fn buffered_records_in_each_shape(rt: HostRuntime) -> Result<(), Fail> {
+    for (shape, want) in &WRITTEN {
+        for good in 0..want.len().saturating_add(1) {
+            let is_cut = is_cut(&rt, *shape, good, (b"", FIRST, SECOND), want)?;
+            assert!(rt; is_cut);
+        }
+    }
+    Ok(())
+}
+
+// Most of a block of lines.
+fn many_lines(alloc: Global) -> Result<String, Fail> {
+    let mut text = String::new(alloc);
+    for start in 100u32..350 {
+        let line = format!(in alloc; "chr1\t{start}\t{}\tname_{start}\t0\t+\n", start + 5)?;
+        text.push_str(line.as_str())?;
+    }
+    Ok(text)
+}
+
+// The lines that are copied through fill the block, so the sink fails while they are put.
+#[test]
+fn lines_are_cut_where_the_sink_fails(rt: HostRuntime) -> Result<(), Fail> {
+    let text = many_lines(rt.alloc())?;
+    let mut twice = many_lines(rt.alloc())?;
+    twice.push_str(text.as_str())?;
+    let lines = text.as_bytes();
+    for good in [0, 1, 30, 4000, 7000, 8000, 8191, 8192, 10000] {
+        for second in [
+            b"chr1\t10\t20\n".as_slice(),
+            b"chr1\t10\t20\nchr1\t900\t910\n",
+        ] {
+            let texts = (lines, lines, second);
+            let is_cut = is_cut(&rt, Shape::Missing, good, texts, twice.as_bytes())?;
+            assert!(rt; is_cut);
+        }
+    }
+    Ok(())
+}
+
+const BEFORE_TWO: &[u8] = b"chr1\t1\t5\nchr1\t2\t6\nchr1\t20\t30\n";
+
+const TWO: &[u8] = b"chr1\t10\t12\nchr1\t21\t22\nchr1\t23\t24\n";
+
+// Lines that are copied through are put before a fault of a record that comes after them.
+#[test]
+fn lines_are_put_before_a_fault(rt: HostRuntime) -> Result<(), Fail> {
+    let how = (Shape::Missing, Some(1), None);
+    let (taken, fault) = sweep_texts(&rt, how, (b"", BEFORE_TWO, TWO))?;
+    assert_eq!(rt; taken.as_slice(), b"chr1\t1\t5\nchr1\t2\t6\n".as_slice());
+    let fault = fault.ok_or("too many held")?;
+    assert_eq!(rt; fault.kind, Kind::TooManyHeld);
+    let place = fault.place.ok_or("a place")?;
+    assert_eq!(rt; place.line, 3);
+    let block = [b'x'; 8192];
+    let how = (Shape::Missing, Some(1), Some(8191));
+    let (taken, fault) = sweep_texts(&rt, how, (block.as_slice(), BEFORE_TWO, TWO))?;
+    assert_eq!(rt; Some(taken.as_slice()), block.get(..8191));
+    assert_eq!(rt; fault.map(|fault| fault.kind), Some(Kind::WriteFailed));
+    Ok(())
+}
+
+// A record of a line, if it is a record on a known chromosome.
+fn single_of<'a, O: ChromOrder>(order: &O, line: &'a [u8]) -> Option<Single<'a>>
+    ensures { IfSome result (GivesKnown GivesSingle (O.order order.now)) }
+{
+    let Ok(Some(bed)) = parse_bed(line) else {
+        return None;
+    };
+    if !order.knows(bed.chrom) {
+        return None;
+    }
+    Some(Single::new(bed, 1))
+}
+
+// What a sweep writes of one record of each input.
+fn sweep_two(rt: &HostRuntime, shape: Shape, first: &[u8], second: &[u8]) -> Result<Vec<u8>, Fail> {
+    let genome = read_genome(rt.alloc())?;
+    let mut sweep = any_overlap(rt.alloc(), shape, &genome);
+    let mut out = Out::new(ScriptSink::new(rt.alloc(), 100, None));
+    let mut a = single_of(sweep.order, first).ok_or("a record")?;
+    let mut b = single_of(sweep.order, second).ok_or("a record")?;
+    let given = give_both(&mut sweep, &mut a, &mut b, &mut out).is_ok();
+    let is_flushed = given && out.flush().is_ok();
+    let mut taken = Vec::new(rt.alloc());
+    if is_flushed {
+        taken.extend_from_slice(out.into_sink().taken())?;
+    }
+    Ok(taken)
+}
+
+// A shape, a record of each input, and what is written.
+const SINGLES: [(Shape, &[u8], &[u8], &[u8]); 6] = [
+    (
+        Shape::Missing,
+        b"chr1\t1\t5",
+        b"chr1\t7\t9",
+        b"chr1\t1\t5\n",
+    ),
+    (
+        Shape::Pieces,
+        b"chr1\t01\t5\tn",
+        b"chr2\t7\t9",
+        b"chr1\t1\t5\tn\n",
+    ),
+    (
+        Shape::Count,
+        b"chr1\t10\t15",
+        b"chr1\t7\t9",
+        b"chr1\t10\t15\t0\n",
+    ),
+    (Shape::Once, b"chr1\t1\t5", b"chr1\t7\t9", b""),
+    (
+        Shape::Pieces,
+        b"chr1\t1\t5",
+        b"chr1\t2\t3",
+        b"chr1\t1\t2\nchr1\t3\t5\n",
+    ),
+    (Shape::OrigA, b"chr2\t1\t5", b"chr2\t4\t9", b"chr2\t1\t5\n"),
+];
+
+#[test]
+fn one_record_of_each_input(rt: HostRuntime) -> Result<(), Fail> {
+    for (shape, first, second, want) in &SINGLES {
+        let written = sweep_two(&rt, *shape, first, second)?;
+        assert_eq!(rt; written.as_slice(), *want);
+    }
+    Ok(())
+}
