@@ -99,25 +99,25 @@ merge_whole d strand inputs chromosomes well =
     ∙ whole_by (merge_written (order_of chromosomes) d strand) (first_records chromosomes inputs) (bed_good First (order_of chromosomes) inputs.first).fault (well_there (Merge d strand) inputs chromosomes well)
 
 module _ (d : ℕ) (inputs : Inputs) (chromosomes : Option (List Entry)) where
-  abbrev order : Order
-  order = order_of chromosomes
+  abbrev order_used : Order
+  order_used = order_of chromosomes
 
-  abbrev records : List Feature
-  records = first_records chromosomes inputs
+  abbrev merged_records : List Feature
+  merged_records = first_records chromosomes inputs
 
-  total : IsTotal order
+  total : IsTotal order_used
   total = order_total chromosomes
 
-  placed : ArePlaced order (intervals_of records)
-  placed = placed_good First order inputs.first total
+  placed : ArePlaced order_used (intervals_of merged_records)
+  placed = placed_good First order_used inputs.first total
 
-  pooled : (strand : MergeStrand) → RunsWell (Merge d strand) inputs chromosomes → (report_of (Merge d strand) inputs).output ≡ interval_lines (ordered_runs order d strand records)
-      → (runs : List Interval) × ((report_of (Merge d strand) inputs).output ≡ interval_lines runs) × IsInput order (report_of (Merge d strand) inputs).output (map three_columns runs) × (strand ≢ Each → EachPair AreApart runs)
+  pooled : (strand : MergeStrand) → RunsWell (Merge d strand) inputs chromosomes → (report_of (Merge d strand) inputs).output ≡ interval_lines (ordered_runs order_used d strand merged_records)
+      → (runs : List Interval) × ((report_of (Merge d strand) inputs).output ≡ interval_lines runs) × IsInput order_used (report_of (Merge d strand) inputs).output (map three_columns runs) × (strand ≢ Each → EachPair AreApart runs)
   pooled strand well e = (
-    ordered_runs order d strand records,
+    ordered_runs order_used d strand merged_records,
     e,
-    subst (λ text. IsInput order text (map three_columns (ordered_runs order d strand records))) (sym e) (merge_back order total d strand records (good_are_said First order inputs.first) placed),
-    λ other. merge_apart order total d strand records (good_are_said First order inputs.first) placed,
+    subst (λ text. IsInput order_used text (map three_columns (ordered_runs order_used d strand merged_records))) (sym e) (merge_back order_used total d strand merged_records (good_are_said First order_used inputs.first) placed),
+    λ other. merge_apart order_used total d strand merged_records (good_are_said First order_used inputs.first) placed,
   )
 
 pub merge_input : merge_is_input
