@@ -21,7 +21,7 @@ from pathlib import Path
 from compare import COUNTED, NO_OTHERS, PROGRAM, WORKLOADS, check_same, instructions_of, lines_of, prepared, runs_of, time_run
 
 TOP = PROGRAM.parent.parent
-FILE = Path("crates", "bt_tool", "src", "sweeping.rt")
+FILE = Path("crates", "bt_tool", "src", "loops", "sweeping.rt")
 OURS, OTHER = "HeldIndex", "HeldList"
 # Where it is imported, and where the sweep is made.
 PLACES = 2

@@ -16,7 +16,7 @@ from pathlib import Path
 
 TOP = Path(__file__).resolve().parent.parent
 PAGES = [*sorted(TOP.glob("*.md")), *sorted((TOP / "docs").glob("*.md")), *sorted((TOP / "bench").glob("*.md")),
-         *sorted((TOP / "packaging").glob("*.md"))]
+         *sorted((TOP / "packaging").glob("*.md")), *sorted(TOP.glob("crates/*/README.md"))]
 LINK = re.compile(r"\[[^\]]*\]\(([^)\s]+)\)")
 CODE = re.compile(r"`[^`]*`")
 # Definitions that stand in a file: their names, and the link to it.
@@ -36,7 +36,7 @@ VERSIONS = {
 
 # Where PROVED.md says in how many files and lines the report is defined, and the file that names the others.
 DEFINITIONS = re.compile(r"definitions that it names: (\d+) files with about ([\d,]+) lines")
-REPORT = TOP / "crates" / "bt_tool" / "specs" / "Report.antt"
+REPORT = TOP / "crates" / "bt_tool" / "specs" / "model" / "report" / "Report.antt"
 
 # Where ARCHITECTURE.md lists these files: from one line to another.
 LIST_BEGINS = "<!-- docs/links.py --write writes this list -->\n"
@@ -96,7 +96,7 @@ def missing():
         for number, line in enumerate(page.read_text(encoding="utf-8").splitlines(), 1):
             for crate, names in FILES.findall(line):
                 for name in re.findall(r"(\w+)`", names):
-                    if not (TOP / "crates" / crate / "specs" / f"{name}.antt").exists():
+                    if not any((TOP / "crates" / crate / "specs").rglob(f"{name}.antt")):
                         yield page, number, f"{crate}/specs/{name}"
 
 
@@ -111,9 +111,31 @@ def versions():
 
 def named_by(definition):
     """The files of definitions of this repository that one imports from."""
-    names = re.findall(r"^use Rattle\.(\w+)\.specs\.(\w+)", definition.read_text(encoding="utf-8"), re.MULTILINE)
-    files = (TOP / "crates" / crate / "specs" / f"{name}.antt" for crate, name in names)
-    return [file for file in files if file.exists()]
+    text = definition.read_text(encoding="utf-8")
+    names = re.findall(r"^(?:pub )?use Rattle\.(bt_\w+)\.specs\.((?:\w+\.)+)\{", text, re.MULTILINE)
+    files = ((TOP / "crates" / crate / "specs").joinpath(*name.rstrip(".").split(".")) for crate, name in names)
+    return [file.with_suffix(".antt") for file in files if file.with_suffix(".antt").exists()]
+
+
+def model():
+    """The files that one has to believe: the definitions in the folders `model`. Those that only list others aren't among them."""
+    files = set(TOP.glob("crates/*/specs/model/**/*.antt"))
+    return {file for file in files if not file.with_suffix("").is_dir()}
+
+
+def is_model(file):
+    """Whether a file lies in a folder `model`."""
+    return "model" in file.relative_to(TOP).parts
+
+
+def strays():
+    """The files of `model` that name a definition outside of it, and those that the report doesn't name."""
+    for file in sorted(model()):
+        for other in named_by(file):
+            if not is_model(other):
+                yield f"{file.relative_to(TOP)} names {other.relative_to(TOP)}, which isn't of the model"
+    for file in sorted(model() - definitions()):
+        yield f"{file.relative_to(TOP)} is of the model, and the report doesn't name it"
 
 
 def definitions():
@@ -141,8 +163,8 @@ def as_list(files):
     """The list of ARCHITECTURE.md: for each crate the names of its files."""
     crates = {}
     for file in sorted(files):
-        crates.setdefault(file.parent.parent.name, []).append(f"`{file.stem}`")
-    return "".join(f"- `{crate}/specs`: {', '.join(names)}\n" for crate, names in sorted(crates.items()))
+        crates.setdefault(file.relative_to(TOP).parts[1], []).append(f"`{file.stem}`")
+    return "".join(f"- `{crate}/specs/model`: {', '.join(names)}\n" for crate, names in sorted(crates.items()))
 
 
 def is_renewed(page, old, new, is_written):
@@ -179,12 +201,15 @@ def main():
     absent = list(missing())
     for page, number, name in absent:
         print(f"{page.relative_to(TOP)}:{number}: {name} isn't there")
+    outside = list(strays())
+    for line in outside:
+        print(line)
     found = versions()
     if len(set(found.values())) > 1:
         print("versions:", ", ".join(f"{name} {version}" for name, version in found.items()))
     print(f"{len(links)} links, {len(broken)} of them lead nowhere; version {found['README.md']}")
     differ = definitions_differ("--write" in sys.argv[1:])
-    return 1 if broken or elsewhere or absent or differ or len(set(found.values())) > 1 else 0
+    return 1 if broken or elsewhere or absent or outside or differ or len(set(found.values())) > 1 else 0
 
 
 if __name__ == "__main__":

@@ -1,7 +1,7 @@
 -- The lines that the program itself reports, and the exit statuses that go with them.
 use Rattle.std.specs.Prelude.{ℕ, List, [], ◌++◌, ◌≡◌, ◌⊎◌, codes, length}
-use Rattle.bt_tool.specs.Plan.{words_seen}
-use Rattle.bt_tool.specs.Usage.{IsTellable, usage_text}
+use Rattle.bt_tool.specs.calls.words.Plan.{words_seen}
+use Rattle.bt_tool.specs.model.usage.Usage.{IsTellable, usage_text}
 use Rattle.bedtools.specs.declared.message.Obstacle.{Obstacle}
 use Rattle.bedtools.specs.declared.message.Obstacle.TheVariants.{NotUnicode, Usage, ClosedStream}
 use Rattle.bedtools.specs.declared.message.Obstacle.TheVariants.{CannotOpen}

@@ -1,7 +1,7 @@
 //! An input that the program has opened: a file or standard input.
 
 ghost use Rattle.std.specs.Prelude.{◌≡◌, None};
-ghost use Rattle.bt_lines.specs.Device.{TellsFailure};
+ghost use Rattle.bt_lines.specs.calls.Device.{TellsFailure};
 ghost use Rattle.bedtools.specs.Opened.{input_meant, file_named, opened_has_failed, opened_end_told};
 
 use bt_lines::{DeviceFailed, FromRead, Source};

@@ -4,13 +4,7 @@
 //! `specs/`, in the words of the report of a run (`report_of` of bt_tool).
 #![tactic(auto)]
 
-pub mod depth_sum;
-pub mod length_laws;
-pub mod mask_laws;
-pub mod pair_sides;
-pub mod part_bases;
+pub mod counts;
 pub mod pipes;
-pub mod same_lines;
-pub mod same_runs;
-pub mod same_sweeps;
+pub mod same;
 pub mod split_laws;

@@ -1,9 +1,9 @@
 //! Which outputs the next command takes as they are, in the same order of the chromosomes: each law is the contract
 //! of a function that does nothing.
 
-ghost use Rattle.bt_laws.specs.ConvertPipes.{bamtobed_is_input};
-ghost use Rattle.bt_laws.specs.PipeExamples.{blocks_go_back, cuts_go_back, pieces_go_back};
-ghost use Rattle.bt_laws.specs.Pipes.{
+ghost use Rattle.bt_laws.specs.pipes.ConvertPipes.{bamtobed_is_input};
+ghost use Rattle.bt_laws.specs.pipes.PipeExamples.{blocks_go_back, cuts_go_back, pieces_go_back};
+ghost use Rattle.bt_laws.specs.pipes.Pipes.{
   complement_is_input,
   cut_intersect_is_input,
   genomecov_is_input,
@@ -12,7 +12,7 @@ ghost use Rattle.bt_laws.specs.Pipes.{
   subtract_is_input,
   whole_subtract_is_input,
 };
-ghost use Rattle.bt_laws.specs.PipesApart.{complement_writes_disjoint, genomecov_writes_disjoint, merge_writes_disjoint};
+ghost use Rattle.bt_laws.specs.pipes.PipesApart.{complement_writes_disjoint, genomecov_writes_disjoint, merge_writes_disjoint};
 
 /// What merge writes is an input, whose records are the runs.
 pub fn merge_goes_on()

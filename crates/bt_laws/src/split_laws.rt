@@ -1,9 +1,9 @@
 //! When a pipeline may divide its inputs, as by chromosome, run a job for each part and put the outputs one
 //! after another. Each law is the contract of a function that does nothing.
 
-ghost use Rattle.bt_laws.specs.GenomeSplitLaws.{complement_divides, genomecov_divides, merge_genomes_divide};
-ghost use Rattle.bt_laws.specs.MaskSplitLaws.{maskfasta_divides, repeated_names_divide};
-ghost use Rattle.bt_laws.specs.OwnGenomeLaws.{
+ghost use Rattle.bt_laws.specs.parts.GenomeSplitLaws.{complement_divides, genomecov_divides, merge_genomes_divide};
+ghost use Rattle.bt_laws.specs.parts.MaskSplitLaws.{maskfasta_divides, repeated_names_divide};
+ghost use Rattle.bt_laws.specs.parts.OwnGenomeLaws.{
   complement_shards_suffice,
   genomecov_shards_suffice,
   intersect_genomes_divide,
@@ -12,8 +12,8 @@ ghost use Rattle.bt_laws.specs.OwnGenomeLaws.{
   subtract_genomes_divide,
   subtract_shards_suffice,
 };
-ghost use Rattle.bt_laws.specs.Parts.{fronts_begin};
-ghost use Rattle.bt_laws.specs.SplitLaws.{bamtobed_divides, intersect_divides, merge_divides, subtract_divides};
+ghost use Rattle.bt_laws.specs.parts.Parts.{fronts_begin};
+ghost use Rattle.bt_laws.specs.parts.SplitLaws.{bamtobed_divides, intersect_divides, merge_divides, subtract_divides};
 
 /// Alignments may be divided at any line.
 pub fn parts_of_bamtobed_add_up()

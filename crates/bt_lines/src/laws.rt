@@ -1,12 +1,12 @@
 //! What holds of the definitions, each law as the contract of a function that does nothing.
 
 ghost use Rattle.std.specs.Prelude.{◌≡◌, ℕ, [], ◌∷◌, ◌++◌, List, Some, None, codes, flat_map, length, take};
-ghost use Rattle.bt_lines.specs.Lines.{AreNumbered, line_feeds, pieces, spelled, text_lines, whole_lines};
-ghost use Rattle.bt_lines.specs.Output.{block_size};
-ghost use Rattle.bt_lines.specs.Number.{value_of};
+ghost use Rattle.bt_lines.specs.model.Lines.{AreNumbered, line_feeds, pieces, spelled, text_lines, whole_lines};
+ghost use Rattle.bt_lines.specs.calls.Output.{block_size};
+ghost use Rattle.bt_lines.specs.model.Number.{value_of};
 
-use crate::line::LineEnd;
-use crate::read_buffer::BLOCK;
+use crate::reader::line::LineEnd;
+use crate::reader::read_buffer::BLOCK;
 
 /// The lines of a text lose nothing: with their line ends, one after another, they are its bytes.
 pub fn lines_lose_nothing()
@@ -33,7 +33,7 @@ pub fn lines_count_up()
 {}
 
 /// The lines of small texts.
-#[tactic(auto, unfolding(crate::specs::Lines::lines_from))]
+#[tactic(auto, unfolding(crate::specs::model::Lines::lines_from))]
 pub fn lines_of_small_texts()
     ensures empty { text_lines [] ≡ [] }
     ensures line_feed { text_lines (10 ∷ [])
@@ -55,7 +55,7 @@ pub fn lines_of_small_texts()
 {}
 
 /// The columns and the numbers of small texts.
-#[tactic(auto, unfolding(crate::specs::Number::value_of))]
+#[tactic(auto, unfolding(crate::specs::model::Number::value_of))]
 pub fn columns_and_numbers_of_small_texts()
     ensures one_column { pieces 9 [] ≡ [] ∷ [] }
     ensures empty_columns { pieces 9 (codes "a\t\tb\t")

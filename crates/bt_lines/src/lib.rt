@@ -29,60 +29,35 @@
 //! ```
 #![tactic(auto)]
 
-mod buffered_lines;
-mod column_iter;
-mod copying;
 mod device;
 mod fault;
-mod faults;
-mod from_read;
-mod held_back;
 pub mod laws;
-mod line;
-mod line_reader;
-mod newline;
-mod number_column;
 mod numbers;
-mod output;
-mod putting;
-mod read_buffer;
-mod report;
-mod script_sink;
-mod script_source;
-mod spill;
-mod split;
-mod to_write;
-
-pub use buffered_lines::{BufferedLines, ConsumedLines, LineText};
-pub use column_iter::Columns;
-pub use copying::copy_piece;
-pub use device::{DeviceFailed, Sink, Source};
-pub use fault::{Fault, Input, Kind, Place};
-pub use faults::{no_memory, write_failed};
-pub use from_read::FromRead;
-pub use line::{Line, LineEnd};
-pub use line_reader::LineReader;
-pub use newline::length_before;
-pub use number_column::{COLUMN, write_column};
-pub use numbers::{MAX_NUMBER, eight_digits, few_digits, number};
-pub use output::Out;
-pub use putting::{put_both, put_column, put_line, put_number};
-pub use read_buffer::BLOCK;
-pub use report::{Names, fault_line};
-pub use script_sink::ScriptSink;
-pub use script_source::ScriptSource;
-pub use split::{columns, first_tab};
-pub use to_write::ToWrite;
-
-#[cfg(test)]
-mod block_tests;
-#[cfg(test)]
-mod device_tests;
-#[cfg(test)]
-mod drawn;
-#[cfg(test)]
-mod example;
-#[cfg(test)]
-mod output_tests;
+mod reader;
 #[cfg(test)]
 mod tests;
+mod writer;
+
+pub use device::from_read::FromRead;
+pub use device::script_sink::ScriptSink;
+pub use device::script_source::ScriptSource;
+pub use device::to_write::ToWrite;
+pub use device::{DeviceFailed, Sink, Source};
+pub use fault::faults::{no_memory, write_failed};
+pub use fault::report::{Names, fault_line};
+pub use fault::{Fault, Input, Kind, Place};
+pub use numbers::number_column::{COLUMN, write_column};
+pub use numbers::{MAX_NUMBER, eight_digits, few_digits, number};
+pub use reader::buffered_lines::{BufferedLines, ConsumedLines, LineText};
+pub use reader::column_iter::Columns;
+pub use reader::line::{Line, LineEnd};
+pub use reader::line_reader::LineReader;
+pub use reader::newline::length_before;
+pub use reader::read_buffer::BLOCK;
+pub use reader::split::{columns, first_tab};
+pub use writer::copying::copy_piece;
+pub use writer::output::Out;
+pub use writer::putting::{put_both, put_column, put_line, put_number};
+
+#[cfg(test)]
+mod example;

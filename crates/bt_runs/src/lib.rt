@@ -31,42 +31,19 @@
 //! ```
 #![tactic(auto)]
 
-#[cfg(test)]
-mod batch_tests;
-#[cfg(test)]
-mod calls_tests;
 mod complement;
-pub mod complement_laws;
 mod coverage;
-pub mod depth_laws;
-mod depth_line;
-mod depth_rule;
-mod depths;
 mod engine;
 #[cfg(test)]
 mod example;
-mod failure;
-mod gap_cursor;
-mod gap_rule;
-#[cfg(test)]
-mod growth_tests;
 pub mod laws;
-pub mod level_laws;
 mod merge;
-mod merge_strand;
-mod open_ends;
-mod open_records;
-mod pending_runs;
-mod per_strand_merge;
 mod plain;
-mod rule;
-pub mod strand_laws;
 #[cfg(test)]
-mod testing;
-mod unstranded_merge;
+mod tests;
 
 pub use complement::Complement;
 pub use coverage::Coverage;
 pub use engine::Engine;
 pub use merge::Merge;
-pub use merge_strand::MergeStrand;
+pub use merge::merge_strand::MergeStrand;

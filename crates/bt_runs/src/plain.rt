@@ -1,8 +1,8 @@
 //! The merged runs of one chromosome, by a scan of its positions: slow, and plainly what the
 //! definition says. Tests compare the merge with it.
 
-ghost use Rattle.bt_runs.specs.Merged.{runs_of, Bridged};
-ghost use Rattle.bt_runs.specs.PlainRuns.{spans_in, with_next, HasRight};
+ghost use Rattle.bt_runs.specs.model.Merged.{runs_of, Bridged};
+ghost use Rattle.bt_runs.specs.inside.plain.PlainRuns.{spans_in, with_next, HasRight};
 ghost use Rattle.std.specs.List.{list_any};
 ghost use Rattle.std.specs.Prelude.{◌≡◌, ◌↔◌, ◌+◌, ◌<◌, ◌≤◌, ◌&&◌, nat_le, nat_lt, All, IfOk, ◌^◌, IsTrue, OnOk};
 
@@ -103,7 +103,7 @@ pub(crate) fn add_position(runs: &mut Vec<PlainSpan>, position: u64) -> Result<(
 #[cfg(test)]
 mod tests {
     use super::*;
-    use crate::testing::{Bounds, spans_of};
+    use crate::tests::testing::{Bounds, spans_of};
     use std::test::Fail;
 
     // A case: its name, the spans, the gap, and their runs.

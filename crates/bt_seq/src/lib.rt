@@ -32,38 +32,20 @@
 //! ```
 #![tactic(auto)]
 
-mod bam_to_bed;
-mod bed_line;
-mod block_iter;
-mod cigar;
-mod copy_through;
+mod bamtobed;
 #[cfg(test)]
 mod example;
-mod extent;
-mod fields;
-mod first_block;
-mod header_name;
 pub mod laws;
 mod mask;
-mod mask_how;
-mod mask_state;
-mod mask_want;
-mod matching;
-mod operation;
-mod phase;
-mod put_text;
 mod sam;
-mod sam_text;
-mod splitting;
-mod window;
 
-pub use bam_to_bed::BamToBed;
-pub use block_iter::SamBlocks;
+pub use bamtobed::bam_to_bed::BamToBed;
 pub use bt_bed::Taken;
-pub use cigar::cigar_span;
 pub use mask::Mask;
-pub use mask_how::{MaskHow, mask_slice};
-pub use mask_want::MaskWant;
+pub use mask::mask_how::{MaskHow, mask_slice};
+pub use mask::mask_want::MaskWant;
 pub use sam::SamRef;
-pub use sam_text::sam_line;
-pub use splitting::blocks;
+pub use sam::block_iter::SamBlocks;
+pub use sam::cigar::cigar_span;
+pub use sam::sam_text::sam_line;
+pub use sam::splitting::blocks;

@@ -1,15 +1,15 @@
 //! The laws of the definitions, each as the contract of a function that does nothing.
 
-ghost use Rattle.bt_sweep.specs.Deciding.{decided_stays};
-ghost use Rattle.bt_sweep.specs.Hits.{both_of_nothing};
-ghost use Rattle.bt_sweep.specs.IntersectLines.{lines_are_before, lines_stay};
-ghost use Rattle.bt_sweep.specs.Limit.{limit_is_kept, limit_stops};
-ghost use Rattle.bt_sweep.specs.Pieces.{pieces_are, pieces_only};
-ghost use Rattle.bt_sweep.specs.Standing.{taken_are_first};
-ghost use Rattle.bt_sweep.specs.Steps.{quiet_are_taken};
-ghost use Rattle.bt_sweep.specs.Subtract.{left_are_lines, subtract_is_met};
-ghost use Rattle.bt_sweep.specs.Worked.{decided_before_the_limit, fault_behind_undecided, fault_of_first, fault_within_the_limit, first_is_too_many, half_is_taken, limit_before_the_fault, none_is_held, parts_are_left, third_is_too_many, three_are_enough, whole_is_left};
-ghost use Rattle.bt_sweep.specs.SweepMeeting.{faultless_are_all, written_are_a_front};
+ghost use Rattle.bt_sweep.specs.model.Deciding.{decided_stays};
+ghost use Rattle.bt_sweep.specs.model.Hits.{both_of_nothing};
+ghost use Rattle.bt_sweep.specs.model.IntersectLines.{lines_are_before, lines_stay};
+ghost use Rattle.bt_sweep.specs.model.Limit.{limit_is_kept, limit_stops};
+ghost use Rattle.bt_sweep.specs.model.Pieces.{pieces_are, pieces_only};
+ghost use Rattle.bt_sweep.specs.calls.Standing.{taken_are_first};
+ghost use Rattle.bt_sweep.specs.calls.Steps.{quiet_are_taken};
+ghost use Rattle.bt_sweep.specs.model.Subtract.{left_are_lines, subtract_is_met};
+ghost use Rattle.bt_sweep.specs.calls.Worked.{decided_before_the_limit, fault_behind_undecided, fault_of_first, fault_within_the_limit, first_is_too_many, half_is_taken, limit_before_the_fault, none_is_held, parts_are_left, third_is_too_many, three_are_enough, whole_is_left};
+ghost use Rattle.bt_sweep.specs.model.SweepMeeting.{faultless_are_all, written_are_a_front};
 
 /// What is decided stays decided, and its lines stay as they are, whatever comes after in order: the
 /// record that decides it included.

@@ -32,41 +32,22 @@
 //! ```
 #![tactic(auto)]
 
+mod active;
 #[cfg(test)]
 mod example;
-#[cfg(test)]
-mod growth_tests;
-mod held;
-mod held_index;
-mod held_list;
-#[cfg(test)]
-mod held_tests;
-mod hit;
-mod hit_rule;
+mod hits;
 pub mod laws;
-mod pending;
-mod phase;
-mod pieces;
+mod output;
 mod plain;
-mod plain_pieces;
-mod reach;
-mod relation;
-mod shape;
-mod started;
-mod state;
 mod sweep;
-mod unmatched;
-mod want;
 #[cfg(test)]
-mod worked;
-mod writing;
-mod written;
+mod tests;
 
+pub use active::held::Held;
+pub use active::held_index::HeldIndex;
+pub use active::held_list::HeldList;
 pub use bt_bed::Taken;
-pub use held::Held;
-pub use held_index::HeldIndex;
-pub use held_list::HeldList;
-pub use hit_rule::HitRule;
-pub use shape::Shape;
+pub use hits::hit_rule::HitRule;
+pub use output::shape::Shape;
 pub use sweep::Sweep;
-pub use want::Want;
+pub use sweep::want::Want;

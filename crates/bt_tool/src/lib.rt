@@ -29,61 +29,20 @@
 //! ```
 #![tactic(auto)]
 
-mod character;
-mod checking;
-mod converting;
-mod driving;
-mod flushing;
-mod fraction;
-mod given;
-pub mod headline;
-mod item;
-mod masking;
-mod names;
-pub mod option_laws;
-mod options;
-mod outcome;
-mod plan_type;
-mod running;
-mod sweeping;
-mod table;
-mod takes;
-mod tool;
-mod usage;
-
-pub use checking::is_standard_input;
 pub use options::plan;
-pub use outcome::Outcome;
-pub use plan_type::{Command, Plan};
+pub use options::usage::{Refusal, Usage, usage_line};
+pub use planning::checking::is_standard_input;
+pub use planning::plan_type::{Command, Plan};
+pub use planning::tool::Tool;
+pub use running::outcome::Outcome;
 pub use running::{Ended, run};
-pub use tool::Tool;
-pub use usage::{Refusal, Usage, usage_line};
 
-#[cfg(test)]
-mod bamtobed_tests;
-#[cfg(test)]
-mod command_tests;
 #[cfg(test)]
 mod example;
-#[cfg(test)]
-mod failed_before_tests;
-#[cfg(test)]
-mod failing_tests;
-#[cfg(test)]
-mod fault_tests;
-#[cfg(test)]
-mod genomecov_tests;
-#[cfg(test)]
-mod held_tests;
-#[cfg(test)]
-mod hostile_tests;
-#[cfg(test)]
-mod intersect_tests;
-#[cfg(test)]
-mod maskfasta_tests;
-#[cfg(test)]
-mod no_genome_tests;
-#[cfg(test)]
-mod subtract_tests;
+pub mod laws;
+mod loops;
+mod options;
+mod planning;
+mod running;
 #[cfg(test)]
 mod tests;

@@ -1,5 +1,5 @@
 use super::*;
-use crate::testing::{
+use crate::tests::testing::{
     Bounds, Row, check_failing, check_row, check_spans, expect_end, feed_kept, genome, spans_of,
 };
 use bt_lines::ScriptSink;

@@ -1,5 +1,5 @@
 use super::*;
-use crate::testing::{
+use crate::tests::testing::{
     Bounds, Row, check_failing, check_row, check_spans, expect_end, feed_line, feed_row, genome,
     holds, same_answer, spans_of,
 };

@@ -1,6 +1,6 @@
 use super::*;
 use crate::plain::plain_runs;
-use crate::testing::{
+use crate::tests::testing::{
     Bounds, Row, check_failing, check_row, check_spans, expect_end, feed_kept, lines_of, spans_of,
 };
 use bt_bed::Strand;

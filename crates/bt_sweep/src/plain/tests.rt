@@ -1,5 +1,5 @@
 use super::*;
-use crate::worked::{ANY_OVERLAP, FRACTIONS, RuledCase, STRANDS, SUBTRACTED, records_of};
+use crate::tests::worked::{ANY_OVERLAP, FRACTIONS, RuledCase, STRANDS, SUBTRACTED, records_of};
 use std::test::Fail;
 
 // The name of the first case that is written otherwise.

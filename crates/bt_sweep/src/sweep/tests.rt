@@ -1,10 +1,10 @@
 ghost use Rattle.std.specs.Prelude.{◌≡◌, []};
 
 use super::*;
-use crate::held_index::HeldIndex;
-use crate::held_list::HeldList;
+use crate::active::held_index::HeldIndex;
+use crate::active::held_list::HeldList;
 use crate::plain::plain_intersect;
-use crate::worked::{ANY_OVERLAP, FRACTIONS, RuledCase, STRANDS, SUBTRACTED, records_of};
+use crate::tests::worked::{ANY_OVERLAP, FRACTIONS, RuledCase, STRANDS, SUBTRACTED, records_of};
 use bt_bed::{ByteOrder, Genome, parse_bed};
 use bt_lines::{Input, Kind, LineReader, ScriptSink, ScriptSource};
 use std::alloc::AllocError;

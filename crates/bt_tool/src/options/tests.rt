@@ -1,6 +1,6 @@
 use super::*;
-use crate::option_laws::{division, worked_cases};
-use crate::usage::usage_line;
+use crate::laws::option_laws::{division, worked_cases};
+use crate::options::usage::usage_line;
 use std::process::Abort;
 use std::test::Fail;
 

@@ -1,4 +1,4 @@
-use Rattle.bt_laws.proofs.ConvertPipes.{bamtobed_input}
+use Rattle.bt_laws.proofs.lemmas.pipes.ConvertPipes.{bamtobed_input}
 use Rattle.bt_laws.proofs.pipes.bamtobed_goes_on.Goals as goal
 
 pub returns : goal.returns

@@ -1,4 +1,4 @@
-use Rattle.bt_laws.proofs.PipeLaws.{complement_input}
+use Rattle.bt_laws.proofs.lemmas.pipes.PipeLaws.{complement_input}
 use Rattle.bt_laws.proofs.pipes.complement_goes_on.Goals as goal
 
 pub returns : goal.returns

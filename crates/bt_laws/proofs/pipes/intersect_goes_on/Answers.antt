@@ -1,4 +1,4 @@
-use Rattle.bt_laws.proofs.PipeLaws.{cut_intersect_input, intersect_input}
+use Rattle.bt_laws.proofs.lemmas.pipes.PipeLaws.{cut_intersect_input, intersect_input}
 use Rattle.bt_laws.proofs.pipes.intersect_goes_on.Goals as goal
 
 pub returns-clause-kept : goal.returns-clause-kept

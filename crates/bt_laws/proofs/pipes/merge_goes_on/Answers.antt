@@ -1,4 +1,4 @@
-use Rattle.bt_laws.proofs.PipeLaws.{merge_input}
+use Rattle.bt_laws.proofs.lemmas.pipes.PipeLaws.{merge_input}
 use Rattle.bt_laws.proofs.pipes.merge_goes_on.Goals as goal
 
 pub returns : goal.returns

@@ -1,18 +1,18 @@
 use Rattle.std.proofs.Common.{refl}
 use Rattle.std.specs.Fmt.{digits}
-use Rattle.bt_lines.specs.Lines.{lines_from}
-use Rattle.bt_lines.specs.Number.{value_of}
-use Rattle.bt_bed.specs.Good.{good_from}
-use Rattle.bt_bed.specs.GoodBed.{line_says}
-use Rattle.bt_bed.specs.Record.{record_of}
-use Rattle.bt_bed.specs.Stretches.{stretches_from, with_position}
-use Rattle.bt_seq.specs.Alignment.{alignment_of, fields_say}
-use Rattle.bt_seq.specs.AlignmentBlocks.{blocks_of}
-use Rattle.bt_seq.specs.Cigar.{operations_in}
-use Rattle.bt_sweep.specs.Hits.{has_fraction, hits, is_enough, strands_agree}
-use Rattle.bt_sweep.specs.IntersectLines.{lines_for}
-use Rattle.bt_sweep.specs.Pieces.{pieces}
-use Rattle.bt_tool.specs.Report.{report_of}
+use Rattle.bt_lines.specs.model.Lines.{lines_from}
+use Rattle.bt_lines.specs.model.Number.{value_of}
+use Rattle.bt_bed.specs.model.input.Good.{good_from}
+use Rattle.bt_bed.specs.model.input.GoodBed.{line_says}
+use Rattle.bt_bed.specs.model.feature.Record.{record_of}
+use Rattle.bt_bed.specs.model.feature.Stretches.{stretches_from, with_position}
+use Rattle.bt_seq.specs.model.Alignment.{alignment_of, fields_say}
+use Rattle.bt_seq.specs.model.AlignmentBlocks.{blocks_of}
+use Rattle.bt_seq.specs.model.Cigar.{operations_in}
+use Rattle.bt_sweep.specs.model.Hits.{has_fraction, hits, is_enough, strands_agree}
+use Rattle.bt_sweep.specs.model.IntersectLines.{lines_for}
+use Rattle.bt_sweep.specs.model.Pieces.{pieces}
+use Rattle.bt_tool.specs.model.report.Report.{report_of}
 use Rattle.bt_laws.proofs.pipes.some_outputs_go_back.Goals as goal
 
 pub returns-clause-cuts : goal.returns-clause-cuts

@@ -1,4 +1,4 @@
-use Rattle.bt_laws.proofs.PipeLaws.{subtract_input, whole_subtract_input}
+use Rattle.bt_laws.proofs.lemmas.pipes.PipeLaws.{subtract_input, whole_subtract_input}
 use Rattle.bt_laws.proofs.pipes.subtract_goes_on.Goals as goal
 
 pub returns-clause-kept : goal.returns-clause-kept

@@ -1,5 +1,5 @@
-use Rattle.bt_laws.proofs.PartOwnGenomes.{intersect_genome_parts}
-use Rattle.bt_laws.proofs.PartTexts.{intersect_parts}
+use Rattle.bt_laws.proofs.lemmas.parts.order.PartOwnGenomes.{intersect_genome_parts}
+use Rattle.bt_laws.proofs.lemmas.parts.text.PartTexts.{intersect_parts}
 use Rattle.bt_laws.proofs.split_laws.parts_of_intersect_add_up.Goals as goal
 
 pub returns-clause-order : goal.returns-clause-order

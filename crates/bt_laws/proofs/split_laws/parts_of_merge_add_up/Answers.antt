@@ -1,5 +1,5 @@
-use Rattle.bt_laws.proofs.PartShards.{merge_genome_parts}
-use Rattle.bt_laws.proofs.PartTexts.{merge_parts}
+use Rattle.bt_laws.proofs.lemmas.parts.report.PartShards.{merge_genome_parts}
+use Rattle.bt_laws.proofs.lemmas.parts.text.PartTexts.{merge_parts}
 use Rattle.bt_laws.proofs.split_laws.parts_of_merge_add_up.Goals as goal
 
 pub returns-clause-order : goal.returns-clause-order

@@ -1,4 +1,4 @@
-use Rattle.bt_lines.proofs.TextLemmas.{lines_are_numbered, whole_lines_are_numbered}
+use Rattle.bt_lines.proofs.lemmas.reader.lines.TextLemmas.{lines_are_numbered, whole_lines_are_numbered}
 use Rattle.bt_lines.proofs.laws.lines_count_up.Goals as goal
 
 pub returns-clause-lines : goal.returns-clause-lines

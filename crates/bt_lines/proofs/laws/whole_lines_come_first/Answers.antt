@@ -1,4 +1,4 @@
-use Rattle.bt_lines.proofs.TextLemmas.{whole_count, whole_front}
+use Rattle.bt_lines.proofs.lemmas.reader.lines.TextLemmas.{whole_count, whole_front}
 use Rattle.bt_lines.proofs.laws.whole_lines_come_first.Goals as goal
 
 pub returns-clause-count : goal.returns-clause-count

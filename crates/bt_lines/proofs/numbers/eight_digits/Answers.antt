@@ -1,5 +1,5 @@
 use Rattle.std.proofs.Common.{Some, ap, bit_xor, subst, ◌∙◌, ◌≡◌, ℕ}
-use Rattle.bt_lines.proofs.EightLemmas.{are_bytes, digits_by_halves, halves_in, none_by_halves, ones_read, value_of_eight_digits}
+use Rattle.bt_lines.proofs.lemmas.numbers.EightLemmas.{are_bytes, digits_by_halves, halves_in, none_by_halves, ones_read, value_of_eight_digits}
 use Rattle.bt_lines.proofs.numbers.eight_digits.Goals as goal
 
 pub returns-then-ones-ne0 : goal.returns-then-ones-ne0

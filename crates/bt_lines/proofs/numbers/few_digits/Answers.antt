@@ -1,5 +1,5 @@
 use Rattle.std.proofs.Common.{◌≡◌, ◌∙◌, ◌-◌, ◌*◌, ◌%◌, ◌^◌, ℕ, ap, arith, bit_xor}
-use Rattle.bt_lines.proofs.EightLemmas.{are_bytes, few_behind, few_read, ones_in}
+use Rattle.bt_lines.proofs.lemmas.numbers.EightLemmas.{are_bytes, few_behind, few_read, ones_in}
 use Rattle.bt_lines.proofs.numbers.few_digits.Goals as goal
 
 pub joined-requires : goal.joined-requires

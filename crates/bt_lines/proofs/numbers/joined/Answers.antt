@@ -1,4 +1,4 @@
-use Rattle.bt_lines.proofs.EightLemmas.{joined_value}
+use Rattle.bt_lines.proofs.lemmas.numbers.EightLemmas.{joined_value}
 use Rattle.bt_lines.proofs.numbers.joined.Goals as goal
 
 pub returns : goal.returns

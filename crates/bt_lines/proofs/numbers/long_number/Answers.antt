@@ -1,5 +1,5 @@
 use Rattle.std.proofs.Common.{◌+◌, sym, ◌∙◌}
-use Rattle.bt_lines.proofs.NumberLemmas.{value_of_other, value_of_large, value_of_whole, value_more, digits_more}
+use Rattle.bt_lines.proofs.lemmas.numbers.NumberLemmas.{value_of_other, value_of_large, value_of_whole, value_more, digits_more}
 use Rattle.bt_lines.proofs.numbers.long_number.Goals as goal
 
 pub returns-then-not-is_ascii_digit : goal.returns-then-not-is_ascii_digit

@@ -1,5 +1,5 @@
-use Rattle.bt_runs.proofs.NameOrder.{names_in_order}
-use Rattle.bt_runs.proofs.OwnOrder.{distinct_chromosomes}
+use Rattle.bt_runs.proofs.lemmas.order.NameOrder.{names_in_order}
+use Rattle.bt_runs.proofs.lemmas.order.OwnOrder.{distinct_chromosomes}
 use Rattle.bt_runs.proofs.laws.chromosomes_come_in_order.Goals as goal
 
 pub returns : goal.returns

@@ -1,4 +1,4 @@
-use Rattle.bt_runs.proofs.Bridging.{are_runs, only_runs}
+use Rattle.bt_runs.proofs.lemmas.merge.Bridging.{are_runs, only_runs}
 use Rattle.bt_runs.proofs.laws.runs_are_determined.Goals as goal
 
 pub returns : goal.returns

@@ -1,4 +1,4 @@
-use Rattle.bt_runs.proofs.SettledRuns.{runs_stay, runs_begin, one_is_kept}
+use Rattle.bt_runs.proofs.lemmas.merge.SettledRuns.{runs_stay, runs_begin, one_is_kept}
 use Rattle.bt_runs.proofs.laws.settled_runs_are_a_front.Goals as goal
 
 pub returns : goal.returns

@@ -1,4 +1,4 @@
-use Rattle.bt_runs.proofs.StrandSettling.{begin, divide, in_order, stay}
+use Rattle.bt_runs.proofs.lemmas.merge.StrandSettling.{begin, divide, in_order, stay}
 use Rattle.bt_runs.proofs.laws.settled_strand_runs_are_a_front.Goals as goal
 
 pub returns : goal.returns

@@ -1,8 +1,8 @@
 use Rattle.std.proofs.Common.{◌≡◌, ◌++◌, ◌∷◌, [], List, Option, ap, ap₂, sym, ◌∙◌, option_to_list, Vec, Global, arith}
 use Rattle.std.proofs.lemmas.List.{nil_from_length}
 use Rattle.bt_runs.specs.declared.plain.PlainSpan.{PlainSpan}
-use Rattle.bt_runs.specs.PlainRuns.{spans_in, with_next}
-use Rattle.bt_runs.proofs.PlainSpans.{next_joined, next_apart}
+use Rattle.bt_runs.specs.inside.plain.PlainRuns.{spans_in, with_next}
+use Rattle.bt_runs.proofs.lemmas.laws.PlainSpans.{next_joined, next_apart}
 use Rattle.bt_runs.proofs.plain.add_position.Goals as goal
 use Rattle.bt_runs.proofs.plain.add_position.Goals.{in-Some+then-run-position, in-Some+else-run-position+in_ok-push, in_default}
 

@@ -1,6 +1,6 @@
 use Rattle.std.proofs.Common.{◌≡◌, ◌<◌, refl, inl, inr, arith}
 use Rattle.std.proofs.lemmas.Bool.{cases_lt, false≢true}
-use Rattle.bt_runs.proofs.PlainSpans.{covered_at_true, bare_at_false, covered_below}
+use Rattle.bt_runs.proofs.lemmas.laws.PlainSpans.{covered_at_true, bare_at_false, covered_below}
 use Rattle.bt_runs.proofs.plain.has_right.Goals as goal
 use Rattle.bt_runs.proofs.plain.has_right.Goals.{else-is_covered-via-then-is_covered+else-right-left, else-is_covered-via-else-is_covered}
 

@@ -1,8 +1,8 @@
 use Rattle.std.proofs.Common.{◌≡◌, ◌<◌, refl, inl, inr, arith}
 use Rattle.std.proofs.lemmas.Bool.{cases_lt, false≢true}
-use Rattle.bt_runs.specs.PlainRuns.{spans_in}
-use Rattle.bt_runs.proofs.Bridging.{bridged_here}
-use Rattle.bt_runs.proofs.PlainSpans.{covered_at_true, bare_at_false}
+use Rattle.bt_runs.specs.inside.plain.PlainRuns.{spans_in}
+use Rattle.bt_runs.proofs.lemmas.merge.Bridging.{bridged_here}
+use Rattle.bt_runs.proofs.lemmas.laws.PlainSpans.{covered_at_true, bare_at_false}
 use Rattle.bt_runs.proofs.plain.is_bridged.Goals as goal
 use Rattle.bt_runs.proofs.plain.is_bridged.Goals.{else-is_covered-2-via-then-is_covered-2+else-has_right, else-is_covered-2-via-else-is_covered-2}
 

@@ -1,5 +1,5 @@
-use Rattle.bt_sweep.proofs.DecidingLemmas.{stays_decided}
-use Rattle.bt_sweep.proofs.HitLemmas.{before_lines, stay_lines}
+use Rattle.bt_sweep.proofs.lemmas.laws.DecidingLemmas.{stays_decided}
+use Rattle.bt_sweep.proofs.lemmas.laws.HitLemmas.{before_lines, stay_lines}
 use Rattle.bt_sweep.proofs.laws.decided_lines_stay.Goals as goal
 
 pub returns-clause-decided : goal.returns-clause-decided

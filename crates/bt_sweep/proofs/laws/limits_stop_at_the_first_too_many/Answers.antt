@@ -1,4 +1,4 @@
-use Rattle.bt_sweep.proofs.LimitLemmas.{limit_kept, limit_stopped}
+use Rattle.bt_sweep.proofs.lemmas.laws.LimitLemmas.{limit_kept, limit_stopped}
 use Rattle.bt_sweep.proofs.laws.limits_stop_at_the_first_too_many.Goals as goal
 
 pub returns-clause-stops : goal.returns-clause-stops

@@ -1,4 +1,4 @@
-use Rattle.bt_sweep.proofs.RuleLemmas.{of_nothing}
+use Rattle.bt_sweep.proofs.lemmas.laws.RuleLemmas.{of_nothing}
 use Rattle.bt_sweep.proofs.laws.no_fraction_is_that_of_both.Goals as goal
 
 pub returns : goal.returns

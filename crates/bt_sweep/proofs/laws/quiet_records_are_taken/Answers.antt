@@ -1,4 +1,4 @@
-use Rattle.bt_sweep.proofs.QuietLemmas.{quiet_taken}
+use Rattle.bt_sweep.proofs.lemmas.laws.QuietLemmas.{quiet_taken}
 use Rattle.bt_sweep.proofs.laws.quiet_records_are_taken.Goals as goal
 
 pub returns : goal.returns

@@ -1,9 +1,9 @@
 use Rattle.std.proofs.Common.{refl}
 use Rattle.std.specs.Fmt.{digits}
-use Rattle.bt_bed.specs.Stretches.{stretches_from, with_position}
-use Rattle.bt_sweep.specs.Hits.{has_fraction, hits, is_enough, strands_agree}
-use Rattle.bt_sweep.specs.IntersectLines.{lines_for}
-use Rattle.bt_sweep.specs.Pieces.{pieces}
+use Rattle.bt_bed.specs.model.feature.Stretches.{stretches_from, with_position}
+use Rattle.bt_sweep.specs.model.Hits.{has_fraction, hits, is_enough, strands_agree}
+use Rattle.bt_sweep.specs.model.IntersectLines.{lines_for}
+use Rattle.bt_sweep.specs.model.Pieces.{pieces}
 use Rattle.bt_sweep.proofs.laws.small_inputs_meet_within_a_limit.Goals as goal
 
 pub returns-clause-third : goal.returns-clause-third

@@ -1,5 +1,5 @@
 use Rattle.std.proofs.Common.{◌≡◌, take}
-use Rattle.bt_sweep.specs.IntersectLines.{intersect}
+use Rattle.bt_sweep.specs.model.IntersectLines.{intersect}
 use Rattle.bt_sweep.proofs.plain.plain_intersect.Given as goal
 
 abbrev pub invariant-loop-a : goal.invariant-loop-a

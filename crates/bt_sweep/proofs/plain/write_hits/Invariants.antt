@@ -1,7 +1,7 @@
 use Rattle.std.proofs.Common.{◌≡◌, ◌++◌, flat_map, take}
-use Rattle.bt_bed.specs.Bed.{feature_lent}
-use Rattle.bt_sweep.specs.Hits.{hits_among}
-use Rattle.bt_sweep.specs.IntersectLines.{hit_line}
+use Rattle.bt_bed.specs.calls.Bed.{feature_lent}
+use Rattle.bt_sweep.specs.model.Hits.{hits_among}
+use Rattle.bt_sweep.specs.model.IntersectLines.{hit_line}
 use Rattle.bt_sweep.proofs.plain.write_hits.Given as goal
 
 abbrev pub invariant-loop-b : goal.invariant-loop-b

@@ -1,11 +1,11 @@
 use Rattle.std.proofs.Common.{ℕ, List, [], ◌∷◌, ◌++◌, ap, sym, ◌∙◌, append-nil, decimal, flat_map}
 use Rattle.std.proofs.lemmas.Result.{on_ok_weaker}
-use Rattle.bt_bed.specs.Feature.{Feature}
-use Rattle.bt_bed.specs.Record.{bed_text}
-use Rattle.bt_sweep.specs.Hits.{hits_among}
-use Rattle.bt_sweep.specs.IntersectLines.{hit_line, line_with, piece_line}
-use Rattle.bt_sweep.specs.Pieces.{pieces}
-use Rattle.bt_sweep.proofs.PlainLemmas.{all_pieces, count_all, each_hit, missing_none, missing_some, once_none, once_some}
+use Rattle.bt_bed.specs.model.feature.Feature.{Feature}
+use Rattle.bt_bed.specs.model.feature.Record.{bed_text}
+use Rattle.bt_sweep.specs.model.Hits.{hits_among}
+use Rattle.bt_sweep.specs.model.IntersectLines.{hit_line, line_with, piece_line}
+use Rattle.bt_sweep.specs.model.Pieces.{pieces}
+use Rattle.bt_sweep.proofs.lemmas.plain.PlainLemmas.{all_pieces, count_all, each_hit, missing_none, missing_some, once_none, once_some}
 use Rattle.bt_sweep.proofs.plain.write_lines.Goals as goal
 
 pub returns-in-Once : goal.returns-in-Once

@@ -1,9 +1,9 @@
 use Rattle.std.proofs.Common.{[], ◌∷◌, decimal}
 use Rattle.std.proofs.lemmas.Result.{on_ok_weaker}
-use Rattle.bt_bed.specs.Bed.{feature_lent}
-use Rattle.bt_bed.specs.Record.{bed_text}
-use Rattle.bt_sweep.specs.IntersectLines.{line_with}
-use Rattle.bt_sweep.proofs.PlainLemmas.{tabbed}
+use Rattle.bt_bed.specs.calls.Bed.{feature_lent}
+use Rattle.bt_bed.specs.model.feature.Record.{bed_text}
+use Rattle.bt_sweep.specs.model.IntersectLines.{line_with}
+use Rattle.bt_sweep.proofs.lemmas.plain.PlainLemmas.{tabbed}
 use Rattle.bt_sweep.proofs.plain.write_overlap.Goals as goal
 
 pub returns : goal.returns

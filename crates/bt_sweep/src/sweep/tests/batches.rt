@@ -1,8 +1,8 @@
 ghost use Rattle.std.specs.Prelude.{◌≡◌, IfSome};
-ghost use Rattle.bt_bed.specs.Records.{order_in};
-ghost use Rattle.bt_bed.specs.Single.{GivesSingle};
-ghost use Rattle.bt_sweep.specs.Relating.{GivesKnown};
-ghost use Rattle.bt_sweep.specs.SweepView.{order_of};
+ghost use Rattle.bt_bed.specs.calls.Records.{order_in};
+ghost use Rattle.bt_bed.specs.calls.Single.{GivesSingle};
+ghost use Rattle.bt_sweep.specs.inside.Relating.{GivesKnown};
+ghost use Rattle.bt_sweep.specs.calls.SweepView.{order_of};
 
 use super::*;
 use bt_bed::{Records, Single};

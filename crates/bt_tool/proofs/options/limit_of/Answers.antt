@@ -1,7 +1,7 @@
 use Rattle.std.proofs.Common.{sym, subst}
 use Rattle.std.specs.Prelude.{IsTrue}
-use Rattle.bt_tool.specs.Limits.{is_limit}
-use Rattle.bt_tool.proofs.GivenLemmas.{number-is_limit}
+use Rattle.bt_tool.specs.calls.words.Limits.{is_limit}
+use Rattle.bt_tool.proofs.lemmas.options.GivenLemmas.{number-is_limit}
 use Rattle.bt_tool.proofs.options.limit_of.Goals as goal
 
 pub returns-in-Some-clause-limit : goal.returns-in-Some-clause-limit

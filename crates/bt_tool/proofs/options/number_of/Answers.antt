@@ -1,7 +1,7 @@
 use Rattle.std.proofs.Common.{sym, ap, ◌∙◌, ◌≤◌, subst}
 use Rattle.std.specs.Prelude.{unwrap_or}
-use Rattle.bt_lines.specs.Number.{max_number}
-use Rattle.bt_tool.proofs.GivenLemmas.{number-limit-or}
+use Rattle.bt_lines.specs.model.Number.{max_number}
+use Rattle.bt_tool.proofs.lemmas.options.GivenLemmas.{number-limit-or}
 use Rattle.bt_tool.proofs.options.number_of.Goals as goal
 
 pub returns-in-Some-clause-limit : goal.returns-in-Some-clause-limit

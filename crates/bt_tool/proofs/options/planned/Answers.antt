@@ -2,11 +2,11 @@ use Rattle.std.proofs.Common.{Ok, Err, ◌∙◌, ap, sym}
 use Rattle.std.proofs.lemmas.List.{length-map}
 use Rattle.std.specs.Prelude.{is_ok, string_bytes}
 use Rattle.std.proofs.lemmas.Result.{err_from_is_err_and}
-use Rattle.bt_tool.specs.Plan.{words_seen}
-use Rattle.bt_tool.specs.Table.{table_of}
-use Rattle.bt_tool.proofs.Asked.{options-no_command, options-fault, options-tellable}
-use Rattle.bt_tool.proofs.GivenLemmas.{at_table, checked-fault, checked-plan, options-given, same_table, together_at}
-use Rattle.bt_tool.specs.Given.{items_in}
+use Rattle.bt_tool.specs.calls.words.Plan.{words_seen}
+use Rattle.bt_tool.specs.model.usage.Table.{table_of}
+use Rattle.bt_tool.proofs.lemmas.options.Asked.{options-no_command, options-fault, options-tellable}
+use Rattle.bt_tool.proofs.lemmas.options.GivenLemmas.{at_table, checked-fault, checked-plan, options-given, same_table, together_at}
+use Rattle.bt_tool.specs.calls.words.Given.{items_in}
 use Rattle.bt_tool.proofs.options.planned.Goals as goal
 
 pub returns-in_err-tool-clause-refused : goal.returns-in_err-tool-clause-refused

@@ -1,7 +1,7 @@
 use Rattle.std.proofs.Common.{Some, subst, sym}
 use Rattle.std.specs.Prelude.{option_map}
-use Rattle.bt_lines.specs.Names.{told}
-use Rattle.bt_tool.specs.OwnReads.{IsOwnFailure, IsOwnFailureIf, TellsOwnReads}
+use Rattle.bt_lines.specs.calls.Names.{told}
+use Rattle.bt_tool.specs.calls.run.OwnReads.{IsOwnFailure, IsOwnFailureIf, TellsOwnReads}
 use Rattle.bt_tool.proofs.running.mask_both.Goals as goal
 
 pub returns-clause-written : goal.returns-clause-written

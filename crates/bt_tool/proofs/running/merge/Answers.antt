@@ -1,12 +1,12 @@
 use Rattle.std.specs.Prelude.{option_map}
-use Rattle.bt_lines.specs.Names.{told}
-use Rattle.bt_bed.specs.ByteOrder.{byte_order, bytes_total}
-use Rattle.bt_bed.specs.Feature.{intervals_of}
-use Rattle.bt_bed.specs.GenomeTable.{names_of}
-use Rattle.bt_bed.specs.Rank.{rank_order}
-use Rattle.bt_bed.specs.RankTotal.{ranks_total}
-use Rattle.bt_bed.proofs.TogetherLemmas.{placed_together}
-use Rattle.bt_tool.proofs.WriteLemmas.{merge_begins, merge_begins_whole, merge_stays, merge_writes}
+use Rattle.bt_lines.specs.calls.Names.{told}
+use Rattle.bt_bed.specs.model.order.ByteOrder.{byte_order, bytes_total}
+use Rattle.bt_bed.specs.model.feature.Feature.{intervals_of}
+use Rattle.bt_bed.specs.calls.GenomeTable.{names_of}
+use Rattle.bt_bed.specs.model.order.Rank.{rank_order}
+use Rattle.bt_bed.specs.inside.RankTotal.{ranks_total}
+use Rattle.bt_bed.proofs.lemmas.order.TogetherLemmas.{placed_together}
+use Rattle.bt_tool.proofs.lemmas.running.feed.WriteLemmas.{merge_begins, merge_begins_whole, merge_stays, merge_writes}
 use Rattle.bt_tool.proofs.running.merge.Goals as goal
 
 pub drive-requires-clause-nothing : goal.drive-requires-clause-nothing

@@ -1,9 +1,9 @@
 use Rattle.std.proofs.Common.{Some, ap, subst, sym}
-use Rattle.bt_lines.specs.Names.{told}
-use Rattle.bt_tool.specs.Chromosomes.{KnowsChromosomes, LacksChromosomes}
-use Rattle.bt_tool.specs.OwnReads.{IsOwnFailureIf, TellsOwnReads}
-use Rattle.bt_tool.proofs.ChromosomeLemmas.{knows_read, lacks_own, lacks_read}
-use Rattle.bt_tool.proofs.OwnFailureLemmas.{served_of}
+use Rattle.bt_lines.specs.calls.Names.{told}
+use Rattle.bt_tool.specs.calls.run.Chromosomes.{KnowsChromosomes, LacksChromosomes}
+use Rattle.bt_tool.specs.calls.run.OwnReads.{IsOwnFailureIf, TellsOwnReads}
+use Rattle.bt_tool.proofs.lemmas.running.whole.ChromosomeLemmas.{knows_read, lacks_own, lacks_read}
+use Rattle.bt_tool.proofs.lemmas.running.whole.OwnFailureLemmas.{served_of}
 use Rattle.bt_tool.proofs.running.read_genome.Goals as goal
 
 pub returns-in-Ok-clause-read : goal.returns-in-Ok-clause-read

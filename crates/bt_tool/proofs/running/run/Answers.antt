@@ -1,8 +1,8 @@
 use Rattle.std.proofs.Common.{ap}
 use Rattle.std.specs.Prelude.{option_map}
-use Rattle.bt_lines.specs.Names.{told}
-use Rattle.bt_tool.proofs.RunningLemmas.{runs_by}
-use Rattle.bt_tool.proofs.OwnFailureLemmas.{all_own, flushed_no_read, flushed_own, genome_no_read}
+use Rattle.bt_lines.specs.calls.Names.{told}
+use Rattle.bt_tool.proofs.lemmas.running.whole.RunningLemmas.{runs_by}
+use Rattle.bt_tool.proofs.lemmas.running.whole.OwnFailureLemmas.{all_own, flushed_no_read, flushed_own, genome_no_read}
 use Rattle.bt_tool.proofs.running.run.Goals as goal
 
 pub returns-clause-report : goal.returns-clause-report

@@ -1,6 +1,6 @@
-use Rattle.bt_bed.specs.ByteOrder.{bytes_total}
-use Rattle.bt_bed.specs.GenomeTable.{names_of}
-use Rattle.bt_bed.specs.RankTotal.{ranks_total}
+use Rattle.bt_bed.specs.model.order.ByteOrder.{bytes_total}
+use Rattle.bt_bed.specs.calls.GenomeTable.{names_of}
+use Rattle.bt_bed.specs.inside.RankTotal.{ranks_total}
 use Rattle.bt_tool.proofs.running.sweep_both.Goals as goal
 
 pub sweep-requires-clause-total : goal.sweep-requires-clause-total

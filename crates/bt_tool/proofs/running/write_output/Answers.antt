@@ -1,4 +1,4 @@
-use Rattle.bt_tool.proofs.OwnFailureLemmas.{serve_same, serve_same_if}
+use Rattle.bt_tool.proofs.lemmas.running.whole.OwnFailureLemmas.{serve_same, serve_same_if}
 use Rattle.bt_tool.proofs.running.write_output.Goals as goal
 
 pub returns-in-Err-clause-reads : goal.returns-in-Err-clause-reads

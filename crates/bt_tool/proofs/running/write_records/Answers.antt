@@ -1,12 +1,12 @@
 use Rattle.std.proofs.Common.{refl}
 use Rattle.std.specs.Prelude.{option_map}
-use Rattle.bt_lines.specs.Names.{told}
-use Rattle.bt_bed.specs.GenomeTable.{entries}
-use Rattle.bt_tool.specs.Behaviour.{order_of}
-use Rattle.bt_tool.specs.declared.plan_type.Command.TheVariants.{Merge, Complement, Coverage, BamToBed}
-use Rattle.bt_tool.proofs.SubtractLemmas.{subtract_writes}
-use Rattle.bt_tool.proofs.WritingLemmas.{behaves_alone}
-use Rattle.bt_tool.proofs.OwnFailureLemmas.{serve_same_if, tells_first}
+use Rattle.bt_lines.specs.calls.Names.{told}
+use Rattle.bt_bed.specs.calls.GenomeTable.{entries}
+use Rattle.bt_tool.specs.model.report.Behaviour.{order_of}
+use Rattle.bt_tool.specs.declared.planning.plan_type.Command.TheVariants.{Merge, Complement, Coverage, BamToBed}
+use Rattle.bt_tool.proofs.lemmas.running.sweep.SubtractLemmas.{subtract_writes}
+use Rattle.bt_tool.proofs.lemmas.running.feed.WritingLemmas.{behaves_alone}
+use Rattle.bt_tool.proofs.lemmas.running.whole.OwnFailureLemmas.{serve_same_if, tells_first}
 use Rattle.bt_tool.proofs.running.write_records.Goals as goal
 
 pub returns-in-Merge-clause-written : goal.returns-in-Merge-clause-written

@@ -1,5 +1,5 @@
-use Rattle.bt_bed.specs.RawRecord.{text_in}
-use Rattle.bt_bed.proofs.RawRecordLemmas.{text_written}
+use Rattle.bt_bed.specs.calls.RawRecord.{text_in}
+use Rattle.bt_bed.proofs.lemmas.records.RawRecordLemmas.{text_written}
 use Rattle.bt_bed.proofs.record.RawRecordRecord.written.Goals as goal
 
 pub returns-then-is_as_written : goal.returns-then-is_as_written

@@ -1,4 +1,4 @@
-use Rattle.bt_runs.proofs.CallLemmas.{feeds_again, feeds_failed, feeds_fault, feeds_first, feeds_prefix, feeds_settled}
+use Rattle.bt_runs.proofs.lemmas.coverage.CallLemmas.{feeds_again, feeds_failed, feeds_fault, feeds_first, feeds_prefix, feeds_settled}
 use Rattle.bt_runs.proofs.coverage.Coverage.feed.Goals as goal
 
 pub returns-clause-going : goal.returns-clause-going

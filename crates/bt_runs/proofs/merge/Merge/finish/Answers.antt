@@ -1,4 +1,4 @@
-use Rattle.bt_runs.proofs.CallLemmas.{finishes_again, finishes_failed, finishes_left, finishes_prefix}
+use Rattle.bt_runs.proofs.lemmas.coverage.CallLemmas.{finishes_again, finishes_failed, finishes_left, finishes_prefix}
 use Rattle.bt_runs.proofs.merge.Merge.finish.Goals as goal
 
 pub returns-clause-going : goal.returns-clause-going

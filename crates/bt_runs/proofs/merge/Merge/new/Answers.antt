@@ -1,10 +1,10 @@
 use Rattle.std.proofs.Common.{[], None, ap, subst, sym, ◌∙◌}
-use Rattle.bt_runs.specs.MergeKind.{merging_seen}
-use Rattle.bt_runs.specs.Merging.{Apart, StandsNew, Together}
-use Rattle.bt_runs.specs.Stranding.{Stranding}
-use Rattle.bt_runs.specs.Unstranded.{Unstranded}
-use Rattle.bt_runs.specs.declared.rule.Ruled.{Ruled}
-use Rattle.bt_runs.proofs.MergeLemmas.{begun_stands}
+use Rattle.bt_runs.specs.calls.MergeKind.{merging_seen}
+use Rattle.bt_runs.specs.calls.Merging.{Apart, StandsNew, Together}
+use Rattle.bt_runs.specs.calls.Stranding.{Stranding}
+use Rattle.bt_runs.specs.calls.Unstranded.{Unstranded}
+use Rattle.bt_runs.specs.declared.engine.rule.Ruled.{Ruled}
+use Rattle.bt_runs.proofs.lemmas.merge.MergeLemmas.{begun_stands}
 use Rattle.bt_runs.proofs.merge.Merge.new.Goals as goal
 use Rattle.bt_runs.proofs.merge.Merge.new.Goals.{in-Each, in-All, in-One}
 

@@ -1,5 +1,5 @@
-use Rattle.bt_runs.specs.Merging.{Apart, Together}
-use Rattle.bt_runs.proofs.MergeLemmas.{batch_inside, only_apart, only_together}
+use Rattle.bt_runs.specs.calls.Merging.{Apart, Together}
+use Rattle.bt_runs.proofs.lemmas.merge.MergeLemmas.{batch_inside, only_apart, only_together}
 use Rattle.bt_runs.proofs.merge.MergeEngine.feed_batch.Goals as goal
 use Rattle.bt_runs.proofs.merge.MergeEngine.feed_batch.Goals.{in-PerStrand, in-Unstranded}
 

@@ -1,5 +1,5 @@
-use Rattle.bt_runs.specs.Merging.{Apart, Together}
-use Rattle.bt_runs.proofs.MergeLemmas.{finishes_inside, only_apart, only_together}
+use Rattle.bt_runs.specs.calls.Merging.{Apart, Together}
+use Rattle.bt_runs.proofs.lemmas.merge.MergeLemmas.{finishes_inside, only_apart, only_together}
 use Rattle.bt_runs.proofs.merge.MergeEngine.finish.Goals as goal
 
 pub returns-in-Unstranded : goal.returns-in-Unstranded

@@ -1,8 +1,8 @@
 use Rattle.std.proofs.Common.{◌≡◌, ◌∙◌, Bool, Ok, Result, ap, true, false, refl}
 use Rattle.std.proofs.lemmas.Result.{err_from_is_err_and}
 use Rattle.bt_lines.specs.declared.fault.Fault.{Fault}
-use Rattle.bt_seq.specs.MaskState.{Masking}
-use Rattle.bt_seq.proofs.AdvanceLemmas.{both_fail, both_more, nothing_both}
+use Rattle.bt_seq.specs.calls.MaskState.{Masking}
+use Rattle.bt_seq.proofs.lemmas.mask.steps.AdvanceLemmas.{both_fail, both_more, nothing_both}
 use Rattle.bt_seq.proofs.mask.Mask.advance.Goals as goal
 
 pub loop-init : goal.loop-init

@@ -1,6 +1,6 @@
 use Rattle.std.proofs.Common.{◌≡◌, true, Bool, Ok}
-use Rattle.bt_seq.specs.MaskAdvance.{GivesBoth, Stays, left_to_give}
-use Rattle.bt_seq.specs.declared.mask_want.MaskWant.TheVariants.{Nothing}
+use Rattle.bt_seq.specs.calls.MaskAdvance.{GivesBoth, Stays, left_to_give}
+use Rattle.bt_seq.specs.declared.mask.mask_want.MaskWant.TheVariants.{Nothing}
 use Rattle.bt_seq.proofs.mask.Mask.advance.Given as goal
 
 -- lines and records were given, one after another

@@ -1,8 +1,8 @@
 use Rattle.std.proofs.Common.{true, subst, sym}
-use Rattle.bt_seq.proofs.BedStepLemmas.{ends_bed, kept_is, stops_end}
+use Rattle.bt_seq.proofs.lemmas.mask.steps.BedStepLemmas.{ends_bed, kept_is, stops_end}
 use Rattle.bt_seq.proofs.mask.Mask.end_bed.Goals as goal
-use Rattle.bt_seq.specs.MaskStanding.{MaskStandsAt, kept_line}
-use Rattle.bt_seq.specs.MaskState.{Masking}
+use Rattle.bt_seq.specs.calls.MaskStanding.{MaskStandsAt, kept_line}
+use Rattle.bt_seq.specs.calls.MaskState.{Masking}
 
 pub returns-clause-waits : goal.returns-clause-waits
 returns-clause-waits g c = λ how full stage waiting stands is.

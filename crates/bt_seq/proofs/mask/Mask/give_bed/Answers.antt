@@ -1,10 +1,10 @@
 use Rattle.std.proofs.Common.{◌∙◌, ap, subst, sym}
 use Rattle.std.proofs.lemmas.Result.{err_from_is_err_and}
-use Rattle.bt_bed.specs.Bed.{feature_lent}
-use Rattle.bt_seq.proofs.BedStepLemmas.{checks_bed, gives_bed, kept_is, lacks_sequence, leaves_bed, stops_bed}
+use Rattle.bt_bed.specs.calls.Bed.{feature_lent}
+use Rattle.bt_seq.proofs.lemmas.mask.steps.BedStepLemmas.{checks_bed, gives_bed, kept_is, lacks_sequence, leaves_bed, stops_bed}
 use Rattle.bt_seq.proofs.mask.Mask.give_bed.Goals as goal
-use Rattle.bt_seq.specs.MaskStanding.{MaskStandsAt, kept_line}
-use Rattle.bt_seq.specs.MaskState.{Masking}
+use Rattle.bt_seq.specs.calls.MaskStanding.{MaskStandsAt, kept_line}
+use Rattle.bt_seq.specs.calls.MaskState.{Masking}
 
 pub returns-then-waits-clause-waits : goal.returns-then-waits-clause-waits
 returns-then-waits-clause-waits g c = λ how full stage waiting stands is next.

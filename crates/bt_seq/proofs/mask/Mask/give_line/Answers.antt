@@ -1,9 +1,9 @@
 use Rattle.std.proofs.Common.{◌∙◌, ap, subst, sym}
-use Rattle.bt_lines.specs.LentLine.{line_seen}
-use Rattle.bt_seq.proofs.LineStepLemmas.{gives_line}
+use Rattle.bt_lines.specs.calls.LentLine.{line_seen}
+use Rattle.bt_seq.proofs.lemmas.mask.steps.LineStepLemmas.{gives_line}
 use Rattle.bt_seq.proofs.mask.Mask.give_line.Goals as goal
-use Rattle.bt_seq.specs.MaskStanding.{MaskStandsAt}
-use Rattle.bt_seq.specs.MaskState.{Masking}
+use Rattle.bt_seq.specs.calls.MaskStanding.{MaskStandsAt}
+use Rattle.bt_seq.specs.calls.MaskState.{Masking}
 
 pub returns-clause-gives : goal.returns-clause-gives
 returns-clause-gives g c = λ how full stage stands.

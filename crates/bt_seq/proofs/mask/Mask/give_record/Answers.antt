@@ -1,8 +1,8 @@
 use Rattle.std.proofs.Common.{◌∷◌, [], sym, subst, inl, inr, refl}
 use Rattle.std.proofs.lemmas.Result.{err_from_is_err_and}
-use Rattle.bt_bed.specs.Bed.{feature_lent}
-use Rattle.bt_bed.specs.Feature.{Feature}
-use Rattle.bt_seq.proofs.AdvanceLemmas.{failed_record, gave_left, gave_none, gave_taken}
+use Rattle.bt_bed.specs.calls.Bed.{feature_lent}
+use Rattle.bt_bed.specs.model.feature.Feature.{Feature}
+use Rattle.bt_seq.proofs.lemmas.mask.steps.AdvanceLemmas.{failed_record, gave_left, gave_none, gave_taken}
 use Rattle.bt_seq.proofs.mask.Mask.give_record.Goals as goal
 
 pub returns-in_default-clause-gives : goal.returns-in_default-clause-gives

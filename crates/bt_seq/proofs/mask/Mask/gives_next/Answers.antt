@@ -1,8 +1,8 @@
 use Rattle.std.proofs.Common.{◌∙◌, sym, subst}
-use Rattle.bt_seq.proofs.AdvanceLemmas.{line_shrinks, lines_both, nothing_both, record_both, record_shrinks}
-use Rattle.bt_seq.specs.MaskAdvance.{GivesLines, StopsAt}
-use Rattle.bt_seq.specs.MaskState.{Masking}
-use Rattle.bt_seq.specs.declared.mask_want.MaskWant.{MaskWant}
+use Rattle.bt_seq.proofs.lemmas.mask.steps.AdvanceLemmas.{line_shrinks, lines_both, nothing_both, record_both, record_shrinks}
+use Rattle.bt_seq.specs.calls.MaskAdvance.{GivesLines, StopsAt}
+use Rattle.bt_seq.specs.calls.MaskState.{Masking}
+use Rattle.bt_seq.specs.declared.mask.mask_want.MaskWant.{MaskWant}
 use Rattle.bt_seq.proofs.mask.Mask.gives_next.Goals as goal
 
 pub returns-in-Line-clause-gives : goal.returns-in-Line-clause-gives

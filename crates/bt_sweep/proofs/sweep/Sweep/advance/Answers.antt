@@ -1,7 +1,7 @@
 use Rattle.std.proofs.Common.{sym, ◌∙◌}
-use Rattle.bt_lines.specs.Names.{told}
-use Rattle.bt_sweep.specs.SweepView.{order_of, state_of}
-use Rattle.bt_sweep.proofs.GiveLemmas.{goes_on, lifts_fault, lifts_left, none_waits}
+use Rattle.bt_lines.specs.calls.Names.{told}
+use Rattle.bt_sweep.specs.calls.SweepView.{order_of, state_of}
+use Rattle.bt_sweep.proofs.lemmas.sweep.GiveLemmas.{goes_on, lifts_fault, lifts_left, none_waits}
 use Rattle.bt_sweep.proofs.sweep.Sweep.advance.Goals as goal
 
 pub go_on-requires-clause-none : goal.go_on-requires-clause-none

@@ -1,7 +1,7 @@
 use Rattle.std.proofs.Common.{ap}
-use Rattle.bt_bed.specs.Feature.{Feature}
-use Rattle.bt_sweep.specs.SweepView.{order_of, state_of}
-use Rattle.bt_sweep.proofs.RelateLemmas.{decides_after, decides_before, decides_beside, decides_none}
+use Rattle.bt_bed.specs.model.feature.Feature.{Feature}
+use Rattle.bt_sweep.specs.calls.SweepView.{order_of, state_of}
+use Rattle.bt_sweep.proofs.lemmas.sweep.RelateLemmas.{decides_after, decides_before, decides_beside, decides_none}
 use Rattle.bt_sweep.proofs.sweep.Sweep.decide.Goals as goal
 
 pub join-requires-clause-beside : goal.join-requires-clause-beside

@@ -1,9 +1,9 @@
 use Rattle.std.proofs.Common.{◌≡◌, Some, ap, ◌∙◌}
-use Rattle.bt_bed.specs.Bed.{feature_lent}
-use Rattle.bt_sweep.specs.SweepState.{Sweeping}
-use Rattle.bt_sweep.specs.SweepView.{order_of, state_of}
-use Rattle.bt_sweep.specs.declared.phase.Phase.TheVariants.{First}
-use Rattle.bt_sweep.proofs.GiveLemmas.{ends_b, same_one, stop_wants}
+use Rattle.bt_bed.specs.calls.Bed.{feature_lent}
+use Rattle.bt_sweep.specs.calls.SweepState.{Sweeping}
+use Rattle.bt_sweep.specs.calls.SweepView.{order_of, state_of}
+use Rattle.bt_sweep.specs.declared.sweep.phase.Phase.TheVariants.{First}
+use Rattle.bt_sweep.proofs.lemmas.sweep.GiveLemmas.{ends_b, same_one, stop_wants}
 use Rattle.bt_sweep.proofs.sweep.Sweep.end_b.Goals as goal
 
 pub returns-clause-gives : goal.returns-clause-gives

@@ -1,8 +1,8 @@
 use Rattle.std.proofs.Common.{sym, ap, ◌∙◌}
-use Rattle.bt_bed.specs.Bed.{feature_lent}
-use Rattle.bt_sweep.specs.SweepState.{Sweeping}
-use Rattle.bt_sweep.specs.SweepView.{order_of, state_of}
-use Rattle.bt_sweep.proofs.GiveLemmas.{gives_waiting, gives_written}
+use Rattle.bt_bed.specs.calls.Bed.{feature_lent}
+use Rattle.bt_sweep.specs.calls.SweepState.{Sweeping}
+use Rattle.bt_sweep.specs.calls.SweepView.{order_of, state_of}
+use Rattle.bt_sweep.proofs.lemmas.sweep.GiveLemmas.{gives_waiting, gives_written}
 use Rattle.bt_sweep.proofs.sweep.Sweep.give_a.Goals as goal
 
 pub returns-in-First-clause-gives : goal.returns-in-First-clause-gives

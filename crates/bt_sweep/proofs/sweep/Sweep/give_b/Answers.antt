@@ -1,18 +1,18 @@
 use Rattle.std.proofs.Common.{◌≡◌, Option, Some, Ok, Err, ap, refl, subst, sym, ◌∙◌}
 use Rattle.std.proofs.lemmas.Bool.{false≢true}
 use Rattle.std.proofs.lemmas.Result.{err_from_is_err_and}
-use Rattle.bt_lines.specs.Names.{told}
-use Rattle.bt_bed.specs.Bed.{feature_lent}
-use Rattle.bt_bed.specs.Feature.{Feature}
-use Rattle.bt_lines.specs.Putting.{FailsToAdd, Grown}
-use Rattle.bt_sweep.specs.Held.{AreRising}
-use Rattle.bt_sweep.specs.IntersectLines.{lines_for}
-use Rattle.bt_sweep.specs.Reaching.{IsReach}
-use Rattle.bt_sweep.specs.declared.reach.Reach.TheVariants.{Before, Past, Within}
-use Rattle.bt_sweep.specs.StateSteps.{Takes, has_room_in, holding}
-use Rattle.bt_sweep.specs.SweepState.{Sweeping}
-use Rattle.bt_sweep.specs.SweepView.{order_of, state_of}
-use Rattle.bt_sweep.proofs.GiveLemmas.{cuts_b, holds_none, same_one, stops_taking, takes_b, writes_b}
+use Rattle.bt_lines.specs.calls.Names.{told}
+use Rattle.bt_bed.specs.calls.Bed.{feature_lent}
+use Rattle.bt_bed.specs.model.feature.Feature.{Feature}
+use Rattle.bt_lines.specs.calls.Putting.{FailsToAdd, Grown}
+use Rattle.bt_sweep.specs.calls.Held.{AreRising}
+use Rattle.bt_sweep.specs.model.IntersectLines.{lines_for}
+use Rattle.bt_sweep.specs.inside.Reaching.{IsReach}
+use Rattle.bt_sweep.specs.declared.sweep.reach.Reach.TheVariants.{Before, Past, Within}
+use Rattle.bt_sweep.specs.inside.StateSteps.{Takes, has_room_in, holding}
+use Rattle.bt_sweep.specs.calls.SweepState.{Sweeping}
+use Rattle.bt_sweep.specs.calls.SweepView.{order_of, state_of}
+use Rattle.bt_sweep.proofs.lemmas.sweep.GiveLemmas.{cuts_b, holds_none, same_one, stops_taking, takes_b, writes_b}
 use Rattle.bt_sweep.proofs.sweep.Sweep.give_b.Goals as goal
 
 pub returns-in_err-take-in-Within-clause-gives : goal.returns-in_err-take-in-Within-clause-gives

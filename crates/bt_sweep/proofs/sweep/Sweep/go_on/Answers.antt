@@ -1,12 +1,12 @@
 use Rattle.std.proofs.Common.{◌≡◌, [], ◌∷◌, Option, None, ap, subst, sym, ◌∙◌}
 use Rattle.std.proofs.lemmas.Bool.{false≢true}
 use Rattle.std.proofs.lemmas.Result.{err_from_is_err_and}
-use Rattle.bt_lines.specs.Names.{told}
-use Rattle.bt_bed.specs.Feature.{Feature}
-use Rattle.bt_sweep.specs.Relating.{EndsWhile}
-use Rattle.bt_sweep.specs.SweepState.{Sweeping}
-use Rattle.bt_sweep.specs.SweepView.{order_of, state_of}
-use Rattle.bt_sweep.proofs.StandLemmas.{advances_from, advances_none, fails_from, keeps_entered, kept_or_not, pre_next, stops_a, stops_nothing, want_a, want_over}
+use Rattle.bt_lines.specs.calls.Names.{told}
+use Rattle.bt_bed.specs.model.feature.Feature.{Feature}
+use Rattle.bt_sweep.specs.inside.Relating.{EndsWhile}
+use Rattle.bt_sweep.specs.calls.SweepState.{Sweeping}
+use Rattle.bt_sweep.specs.calls.SweepView.{order_of, state_of}
+use Rattle.bt_sweep.proofs.lemmas.sweep.StandLemmas.{advances_from, advances_none, fails_from, keeps_entered, kept_or_not, pre_next, stops_a, stops_nothing, want_a, want_over}
 use Rattle.bt_sweep.proofs.sweep.Sweep.go_on.Goals as goal
 
 pub returns-in-Over-clause-advances : goal.returns-in-Over-clause-advances

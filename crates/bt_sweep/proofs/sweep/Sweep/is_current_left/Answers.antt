@@ -2,16 +2,16 @@ use Rattle.std.proofs.Common.{◌≡◌, List, [], ◌∷◌, Option, Some, None
 use Rattle.std.specs.Prelude.{All, is_some, ⊤}
 use Rattle.std.proofs.lemmas.Bool.{false≢true}
 use Rattle.std.proofs.lemmas.Result.{err_from_is_err_and}
-use Rattle.bt_lines.specs.Names.{told}
-use Rattle.bt_bed.specs.Bed.{feature_lent}
-use Rattle.bt_bed.specs.Feature.{Feature}
-use Rattle.bt_bed.specs.Single.{GivesSingle, HasNone, single_left}
-use Rattle.bt_sweep.specs.Advancing.{AdvancesSo, NoneGiven}
-use Rattle.bt_sweep.specs.Held.{CanHit}
-use Rattle.bt_sweep.specs.Relating.{EndsWhile}
-use Rattle.bt_sweep.specs.SweepState.{Sweeping}
-use Rattle.bt_sweep.specs.SweepView.{order_of, state_of}
-use Rattle.bt_sweep.proofs.StandLemmas.{advances_from, advances_none, fails_from, keeps_current, only_first, pre_current, single_none, want_b}
+use Rattle.bt_lines.specs.calls.Names.{told}
+use Rattle.bt_bed.specs.calls.Bed.{feature_lent}
+use Rattle.bt_bed.specs.model.feature.Feature.{Feature}
+use Rattle.bt_bed.specs.calls.Single.{GivesSingle, HasNone, single_left}
+use Rattle.bt_sweep.specs.calls.Advancing.{AdvancesSo, NoneGiven}
+use Rattle.bt_sweep.specs.calls.Held.{CanHit}
+use Rattle.bt_sweep.specs.inside.Relating.{EndsWhile}
+use Rattle.bt_sweep.specs.calls.SweepState.{Sweeping}
+use Rattle.bt_sweep.specs.calls.SweepView.{order_of, state_of}
+use Rattle.bt_sweep.proofs.lemmas.sweep.StandLemmas.{advances_from, advances_none, fails_from, keeps_current, only_first, pre_current, single_none, want_b}
 use Rattle.bt_sweep.proofs.sweep.Sweep.is_current_left.Goals as goal
 
 pub returns-in_default-clause-decides : goal.returns-in_default-clause-decides

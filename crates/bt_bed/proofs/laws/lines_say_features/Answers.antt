@@ -1,5 +1,0 @@
-use Rattle.bt_bed.proofs.RoundTrip.{said_feature}
-use Rattle.bt_bed.proofs.laws.lines_say_features.Goals as goal
-
-pub returns : goal.returns
-returns c = said_feature

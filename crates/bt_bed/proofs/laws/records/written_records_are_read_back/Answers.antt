@@ -1,0 +1,8 @@
+use Rattle.bt_bed.proofs.lemmas.write.RoundTrip.{rewritten_feature, written_feature}
+use Rattle.bt_bed.proofs.laws.records.written_records_are_read_back.Goals as goal
+
+pub returns-clause-read_back : goal.returns-clause-read_back
+returns-clause-read_back c = written_feature
+
+pub returns-clause-rewritten : goal.returns-clause-rewritten
+returns-clause-rewritten c = rewritten_feature

@@ -1,0 +1,7 @@
+-- Lemmas on laws.
+pub mod Apart
+pub mod BaseLemmas
+pub mod GoodBedLemmas
+pub mod GoodBlocksLemmas
+pub mod MeetingLemmas
+pub mod Scan

@@ -1,0 +1,89 @@
+-- Lemmas on the meeting of two inputs.
+use Rattle.std.proofs.Common.{◌≡◌, Bool, true, false, ◌&&◌, cond, List, [], ◌∷◌, ◌++◌, Option, refl, sym, ap, ◌∙◌, append_assoc, flat_map}
+use Rattle.std.specs.Prelude.{if◌then◌else◌}
+use Rattle.std.specs.List.{list_all, take_while, AllByRecursion}
+use Rattle.std.proofs.lemmas.Bool.{false≢true, and_parts, and_left, and_right}
+use Rattle.std.proofs.lemmas.List.Folds.{list_all-append}
+use Rattle.std.specs.Option.{option_or}
+use Rattle.std.proofs.lemmas.List.Sums.{take_while-cons}
+use Rattle.bt_bed.specs.model.input.Meeting.{Rule, Met, meet, written, StaysDecided}
+
+met_either : {L F : Type 0} (b : Bool) (x y : Met L F) (lines : List L) → (b ≡ true → x.lines ≡ lines) → y.lines ≡ lines → (if b then x else y).lines ≡ lines
+met_either true x y lines first second = first refl
+met_either false x y lines first second = second
+
+fault_yes : {L F : Type 0} (b : Bool) (x y : Met L F) → b ≡ true → (if b then x else y).fault ≡ x.fault
+fault_yes true x y e = refl
+fault_yes false x y e = absurd (false≢true e)
+
+fault_no : {L F : Type 0} (b : Bool) (x y : Met L F) → b ≡ false → (if b then x else y).fault ≡ y.fault
+fault_no true x y e = absurd (false≢true (sym e))
+fault_no false x y e = refl
+
+module _ {A L F : Type 0} where
+  pub written_at : (rule : Rule A L F) (a : A) (members : List A) (d : Bool) → rule.decided a ≡ d → written rule (a ∷ members) ≡ cond d (rule.lines a ++ written rule members) []
+  written_at rule a members true e = ap (flat_map rule.lines) (take_while-cons rule.decided a members ∙ ap (λ b. cond b (a ∷ take_while rule.decided members) []) e)
+  written_at rule a members false e = ap (flat_map rule.lines) (take_while-cons rule.decided a members ∙ ap (λ b. cond b (a ∷ take_while rule.decided members) []) e)
+
+  all_at : (rule : Rule A L F) (a : A) (members : List A) (d : Bool) → rule.decided a ≡ d → (d && list_all rule.decided members) ≡ true → (list_all rule.decided members ≡ true → flat_map rule.lines members ≡ written rule members)
+      → flat_map rule.lines (a ∷ members) ≡ written rule (a ∷ members)
+  all_at rule a members true e some rest = ap (λ l. rule.lines a ++ l) (rest some) ∙ sym (written_at rule a members true e)
+  all_at rule a members false e some rest = absurd (false≢true some)
+
+  -- if each member is decided, the lines of all are those before the first that isn't
+  pub all_written : (rule : Rule A L F) (members : List A) → list_all rule.decided members ≡ true → flat_map rule.lines members ≡ written rule members
+  all_written rule [] e = refl
+  all_written rule (a ∷ members) e = all_at rule a members (rule.decided a) refl e (all_written rule members)
+
+  -- the lines that are written are those of the members before the first that isn't decided
+  pub met_lines : (rule : Rule A L F) (members : List A) (fault : Option F) → (meet rule members fault).lines ≡ written rule members
+  met_lines rule members fault = met_either (list_all rule.decided members) _ _ _ (all_written rule members) refl
+
+  begin_at : (early late : Rule A L F) (a : A) (members more : List A) (d : Bool) → early.decided a ≡ d → StaysDecided early late a
+      → (rest : List L) × (written late (members ++ more) ≡ written early members ++ rest)
+      → (rest : List L) × (written late (a ∷ members ++ more) ≡ written early (a ∷ members) ++ rest)
+  begin_at early late a members more true e stays rest =
+      let now = stays e in (
+        rest.0,
+        written_at late a (members ++ more) true now.0
+            ∙ ap (λ l. l ++ written late (members ++ more)) (sym now.1)
+            ∙ ap (λ l. early.lines a ++ l) rest.1
+            ∙ sym (append_assoc (early.lines a) (written early members) rest.0)
+            ∙ ap (λ l. l ++ rest.0) (sym (written_at early a members true e)),
+      )
+  begin_at early late a members more false e stays rest =
+      (written late (a ∷ members ++ more), ap (λ l. l ++ written late (a ∷ members ++ more)) (sym (written_at early a members false e)))
+
+  begins : (early late : Rule A L F) (members more : List A) → AllByRecursion (StaysDecided early late) members
+      → (rest : List L) × (written late (members ++ more) ≡ written early members ++ rest)
+  begins early late [] more stays = (written late more, refl)
+  begins early late (a ∷ members) more stays = begin_at early late a members more (early.decided a) refl stays.0 (begins early late members more stays.1)
+
+  pub written_begins : (early late : Rule A L F) (members more : List A) (fault : Option F) → AllByRecursion (StaysDecided early late) members
+      → (rest : List L) × ((meet late (members ++ more) fault).lines ≡ written early members ++ rest)
+  written_begins early late members more fault stays =
+      let rest = begins early late members more stays in
+      (rest.0, met_lines late (members ++ more) fault ∙ rest.1)
+
+  pub met_fault_all : (rule : Rule A L F) (members : List A) (fault : Option F) → list_all rule.decided members ≡ true → (meet rule members fault).fault ≡ option_or fault rule.last
+  met_fault_all rule members fault e = fault_yes (list_all rule.decided members) _ _ e
+
+  pub met_fault_stop : (rule : Rule A L F) (members : List A) (fault : Option F) → list_all rule.decided members ≡ false → (meet rule members fault).fault ≡ rule.fault
+  met_fault_stop rule members fault e = fault_no (list_all rule.decided members) _ _ e
+
+  -- up to the first that isn't decided
+  pub written_stop : (rule : Rule A L F) (xs : List A) (a : A) (ys : List A) → list_all rule.decided xs ≡ true → rule.decided a ≡ false → written rule (xs ++ a ∷ ys) ≡ flat_map rule.lines xs
+  written_stop rule [] a ys all e = written_at rule a ys false e
+  written_stop rule (x ∷ xs) a ys all e =
+      let parts = and_parts (rule.decided x) (list_all rule.decided xs) all in
+      written_at rule x (xs ++ a ∷ ys) true parts.0 ∙ ap (λ l. rule.lines x ++ l) (written_stop rule xs a ys parts.1 e)
+
+  pub all_stop : (rule : Rule A L F) (xs : List A) (a : A) (ys : List A) → rule.decided a ≡ false → list_all rule.decided (xs ++ a ∷ ys) ≡ false
+  all_stop rule xs a ys e = list_all-append rule.decided xs (a ∷ ys) ∙ and_right (list_all rule.decided xs) (rule.decided a && list_all rule.decided ys) (and_left (rule.decided a) (list_all rule.decided ys) e)
+
+  -- what is written of decided members comes first
+  pub written_past : (rule : Rule A L F) (xs ys : List A) → list_all rule.decided xs ≡ true → written rule (xs ++ ys) ≡ flat_map rule.lines xs ++ written rule ys
+  written_past rule [] ys all = refl
+  written_past rule (x ∷ xs) ys all =
+      let parts = and_parts (rule.decided x) (list_all rule.decided xs) all in
+      written_at rule x (xs ++ ys) true parts.0 ∙ ap (λ l. rule.lines x ++ l) (written_past rule xs ys parts.1) ∙ sym (append_assoc (rule.lines x) (flat_map rule.lines xs) (written rule ys))

@@ -1,0 +1,10 @@
+-- Lemmas on order.
+pub mod ByteOrderLemmas
+pub mod GenomeLemmas
+pub mod HandsLemmas
+pub mod KnownChromLemmas
+pub mod RankLemmas
+pub mod ResultLemmas
+pub mod SortingLemmas
+pub mod TableLemmas
+pub mod TogetherLemmas

@@ -1,0 +1,387 @@
+-- Lemmas on a table of chromosomes and on reading one.
+use Rattle.std.proofs.Common.{◌≡◌, ℕ, zero, suc, ◌+◌, ◌-◌, Bool, true, false, cond, List, [], ◌∷◌, ◌++◌, map, length, take, Option, Some, None, Result, Ok, Err, refl, sym, ap, ◌∙◌, subst, append_assoc, append-nil, add-zero, length-append, inl, inr, arith}
+use Rattle.std.proofs.lemmas.List.Elements.{All-push, All-head, All-tail}
+use Rattle.std.specs.Prelude.{◌⊎◌, ◌==◌, ◌<◌, All, IfSome, Vec, bytes_eq, option_map, position, slice_get}
+use Rattle.std.specs.Option.{option_to_list}
+use Rattle.std.proofs.lemmas.List.{map-append}
+use Rattle.std.proofs.lemmas.Option.{slice_get-map}
+use Rattle.std.proofs.Math.Seq.{take-append_seam}
+use Rattle.bt_lines.specs.model.Fault.{Told, read_failed, no_memory}
+use Rattle.bt_lines.specs.calls.LentLine.{GivesFirst}
+use Rattle.bt_lines.specs.model.Lines.{TextLine, pieces}
+use Rattle.bt_lines.specs.model.Number.{value_of}
+use Rattle.bt_lines.specs.calls.Reader.{Hands, IsSound, end_told, GivesLine, GivesEnd, GivesFault, FailsToRead, source_of, input_of, lines_given, fault_kept, lines_left}
+use Rattle.bt_lines.specs.declared.fault.Input.{Input}
+use Rattle.bt_lines.specs.declared.fault.Kind.{Kind}
+use Rattle.bt_lines.specs.declared.fault.Kind.TheVariants.{TooFewColumns, EmptyName, BadLength, RepeatedChrom}
+use Rattle.bt_lines.specs.declared.fault.Place.{Place}
+use Rattle.bt_lines.specs.declared.reader.line_reader.LineReader.{LineReader}
+use Rattle.bt_bed.proofs.lemmas.order.GenomeLemmas.{before_err, before_ok, distinct_push, is_new, says_then}
+use Rattle.bt_bed.proofs.lemmas.parse.NameLemmas.{name_eq-sym}
+use Rattle.std.specs.List.{position_from}
+use Rattle.std.specs.Map.{keys_of}
+use Rattle.std.specs.declared.alloc.Global.{Global}
+use Rattle.std.proofs.lemmas.Iterator.Adapters.{position_from-zero}
+use Rattle.std.proofs.lemmas.Bool.{or_parts}
+use Rattle.bt_lines.proofs.lemmas.reader.lines.ReaderLemmas.{not_told}
+use Rattle.indexmap.specs.IndexMap.{insert_entry}
+use Rattle.bt_bed.specs.model.order.Genome.{Entry, is_skipped, genome_names, genome_from, genome_of, new_entry, entry_of, entry_from, columns_give}
+use Rattle.bt_bed.specs.model.feature.LineKind.{fault_at_line, is_genome_kind}
+use Rattle.bt_bed.specs.model.order.Rank.{is_among, rank_of, AreDistinct}
+use Rattle.bt_bed.proofs.lemmas.order.HandsLemmas.{Passed, cut_fault, hands_both, near_fault, near_line, passed_line, passed_none}
+use Rattle.bt_bed.specs.model.feature.Record.{not_skipped}
+use Rattle.bt_bed.specs.calls.GenomeTable.{entries, names_of, entry_seen, IsToldFirst, LineAdded, LineRefused, LineUnkept, ReadsAll, EntryIsWrong, ReadingStops, StopCause}
+use Rattle.bt_bed.specs.declared.order.genome.Genome.{Genome}
+
+-- the kind of a result is of a line if the kind that it was is
+pub same_place : {T : Type 0} (was : Result T Kind) (a kind : Kind) → was ≡ Err a → was ≡ Err kind → is_genome_kind a ≡ true → is_genome_kind kind ≡ true
+same_place was a kind p q placed = let is : a ≡ kind = cc in subst (λ k. is_genome_kind k ≡ true) is placed
+
+place_of_length : (b : Bool) (entry : Entry) (kind : Kind) → cond b (Err BadLength) (Ok entry) ≡ Err kind → is_genome_kind kind ≡ true
+place_of_length true entry kind e = same_place {T = Entry} (Err BadLength) BadLength kind refl e refl
+place_of_length false entry kind e = cc
+
+place_of_entry : (name : List ℕ) (size : Option ℕ) (kind : Kind) → entry_from name size ≡ Err kind → is_genome_kind kind ≡ true
+place_of_entry [] size kind e = same_place {T = Entry} (Err EmptyName) EmptyName kind refl e refl
+place_of_entry (byte ∷ bytes) None kind e = same_place {T = Entry} (Err BadLength) BadLength kind refl e refl
+place_of_entry (byte ∷ bytes) (Some n) kind e = place_of_length (n == 0) (record { name = byte ∷ bytes; length = n }) kind e
+
+place_of_columns : (columns : List (List ℕ)) (kind : Kind) → columns_give columns ≡ Err kind → is_genome_kind kind ≡ true
+place_of_columns [] kind e = same_place {T = Entry} (Err TooFewColumns) TooFewColumns kind refl e refl
+place_of_columns (name ∷ []) kind e = same_place {T = Entry} (Err TooFewColumns) TooFewColumns kind refl e refl
+place_of_columns (name ∷ size ∷ rest) kind e = place_of_entry name (value_of size) kind e
+
+place_of_said : (said : Result Entry Kind) (kind : Kind) → not_skipped said ≡ Err kind → ((k : Kind) → said ≡ Err k → is_genome_kind k ≡ true) → is_genome_kind kind ≡ true
+place_of_said (Ok entry) kind e h = cc
+place_of_said (Err k) kind e h = same_place {T = Option Entry} (Err k) k kind refl e (h k refl)
+
+place_of_line : (b : Bool) (columns : List (List ℕ)) (kind : Kind) → cond b (Ok None) (not_skipped (columns_give columns)) ≡ Err kind → is_genome_kind kind ≡ true
+place_of_line true columns kind e = cc
+place_of_line false columns kind e = place_of_said (columns_give columns) kind e (place_of_columns columns)
+
+place_of_text : (text : List ℕ) (kind : Kind) → entry_of text ≡ Err kind → is_genome_kind kind ≡ true
+unfolding entry_of
+place_of_text text kind e = place_of_line (is_skipped text) (pieces 9 text) kind e
+
+place_of_repeated : (b : Bool) (entry : Entry) (kind : Kind) → cond b (Err RepeatedChrom) (Ok (Some entry)) ≡ Err kind → is_genome_kind kind ≡ true
+place_of_repeated true entry kind e = same_place {T = Option Entry} (Err RepeatedChrom) RepeatedChrom kind refl e refl
+place_of_repeated false entry kind e = cc
+
+place_of_new : (names : List (List ℕ)) (said : Result (Option Entry) Kind) (kind : Kind) → new_entry names said ≡ Err kind → ((k : Kind) → said ≡ Err k → is_genome_kind k ≡ true) → is_genome_kind kind ≡ true
+place_of_new names (Err k) kind e h = same_place {T = Option Entry} (Err k) k kind refl e (h k refl)
+place_of_new names (Ok None) kind e h = cc
+place_of_new names (Ok (Some entry)) kind e h = place_of_repeated (is_among names entry.name) entry kind e
+
+-- what is wrong with a line is of a line
+pub refused_at_place : (names : List (List ℕ)) (text : List ℕ) (kind : Kind) → new_entry names (entry_of text) ≡ Err kind → is_genome_kind kind ≡ true
+refused_at_place names text kind e = place_of_new names (entry_of text) kind e (place_of_text text)
+
+-- a rank is counted from n
+plus : ℕ → Option ℕ → Option ℕ
+plus n o = option_map (λ k. n + k) o
+
+plus_suc : (n : ℕ) (o : Option ℕ) → plus (n + 1) o ≡ plus n (option_map (λ k. suc k) o)
+unfolding plus
+plus_suc n None = refl
+plus_suc n (Some k) = let same : (n + 1) + k ≡ n + suc k = omega arith in ap Some same
+
+plus_none : (o : Option ℕ) → plus 0 o ≡ o
+unfolding plus
+plus_none None = refl
+plus_none (Some k) = let same : 0 + k ≡ k = omega arith in ap Some same
+
+plus_cond : (n : ℕ) (b : Bool) (o : Option ℕ) → cond b (Some n) (plus (n + 1) o) ≡ plus n (cond b (Some 0) (option_map (λ k. suc k) o))
+unfolding plus
+plus_cond n true o = let same : n ≡ n + 0 = omega arith in ap Some same
+plus_cond n false o = plus_suc n o
+
+-- the position of a name among the keys, counted from n, is its rank counted from n
+placed_from : (chromosomes : List (Vec ℕ Global × ℕ)) (name : List ℕ) (n : ℕ)
+    → position_from (λ key. bytes_eq name key.items) n (keys_of chromosomes) ≡ plus n (rank_of (genome_names (map entry_seen chromosomes)) name)
+unfolding plus
+placed_from [] name n = refl
+placed_from (chromosome ∷ more) name n =
+    rw (name_eq-sym name chromosome.0.items, placed_from more name (n + 1))
+    (plus_cond n (bytes_eq chromosome.0.items name) (rank_of (genome_names (map entry_seen more)) name))
+
+-- the index of a name among the keys is its rank
+pub placed_by_rank : (chromosomes : List (Vec ℕ Global × ℕ)) (name : List ℕ)
+    → position (λ key. bytes_eq name key.items) (keys_of chromosomes) ≡ rank_of (genome_names (map entry_seen chromosomes)) name
+placed_by_rank chromosomes name =
+    position_from-zero (λ key. bytes_eq name key.items) (keys_of chromosomes)
+    ∙ placed_from chromosomes name 0
+    ∙ plus_none (rank_of (genome_names (map entry_seen chromosomes)) name)
+
+inserted_last : (chromosomes : List (Vec ℕ Global × ℕ)) (name : Vec ℕ Global) (size : ℕ) → is_among (genome_names (map entry_seen chromosomes)) name.items ≡ false
+    → insert_entry (λ a b. bytes_eq a.items b.items) chromosomes name size ≡ chromosomes ++ (name, size) ∷ []
+inserted_last [] name size e = refl
+inserted_last (chromosome ∷ more) name size e =
+    let parts = or_parts (bytes_eq chromosome.0.items name.items) (is_among (genome_names (map entry_seen more)) name.items) e in
+    rw (name_eq-sym name.items chromosome.0.items, parts.0, inserted_last more name size parts.1) refl
+
+-- a name that isn't among the chromosomes goes last
+pub entries_push : (chromosomes : List (Vec ℕ Global × ℕ)) (name : Vec ℕ Global) (size : ℕ) (text : List ℕ) → name.items ≡ text → is_among (genome_names (map entry_seen chromosomes)) text ≡ false
+    → map entry_seen (insert_entry (λ a b. bytes_eq a.items b.items) chromosomes name size) ≡ map entry_seen chromosomes ++ record { name = text; length = size } ∷ []
+entries_push chromosomes name size text is new =
+    ap (map entry_seen) (inserted_last chromosomes name size (rw is new))
+    ∙ map-append entry_seen chromosomes ((name, size) ∷ [])
+    ∙ ap (λ n. map entry_seen chromosomes ++ record { name = n; length = size } ∷ []) is
+
+seen_name : (o : Option (Vec ℕ Global × ℕ)) → option_map (λ entry. entry.name) (option_map entry_seen o) ≡ option_map (λ chromosome. chromosome.0.items) o
+seen_name None = refl
+seen_name (Some chromosome) = refl
+
+seen_length : (o : Option (Vec ℕ Global × ℕ)) → option_map (λ entry. entry.length) (option_map entry_seen o) ≡ option_map (λ chromosome. chromosome.1) o
+seen_length None = refl
+seen_length (Some chromosome) = refl
+
+-- the name at a rank is that of the chromosome there
+pub name_at : (chromosomes : List (Vec ℕ Global × ℕ)) (rank : ℕ) → slice_get (genome_names (map entry_seen chromosomes)) rank ≡ option_map (λ chromosome. chromosome.0.items) (slice_get chromosomes rank)
+name_at chromosomes rank =
+    slice_get-map (λ entry. entry.name) (map entry_seen chromosomes) rank
+    ∙ ap (option_map (λ entry. entry.name)) (slice_get-map entry_seen chromosomes rank)
+    ∙ seen_name (slice_get chromosomes rank)
+
+-- and so is the length
+pub length_at : (chromosomes : List (Vec ℕ Global × ℕ)) (rank : ℕ) → option_map (λ entry. entry.length) (slice_get (map entry_seen chromosomes) rank) ≡ slice_get (map (λ chromosome. chromosome.1) chromosomes) rank
+length_at chromosomes rank =
+    ap (option_map (λ entry. entry.length)) (slice_get-map entry_seen chromosomes rank)
+    ∙ seen_length (slice_get chromosomes rank)
+    ∙ sym (slice_get-map (λ chromosome. chromosome.1) chromosomes rank)
+
+-- the lines before those left were given, and have these entries
+abbrev Continues : Input → Option (List TextLine) → ℕ → List Entry → Option (List TextLine) → ℕ → Type 0
+Continues input None from front new to = Unit {0}
+Continues input (Some old) from front None to = ⊥
+Continues input (Some old) from front (Some new) to = (given : List TextLine) × (old ≡ given ++ new) × (from + length given ≡ to) × (genome_of input given ≡ Ok front)
+
+continues_start : (input : Input) (lines : Option (List TextLine)) (n : ℕ) → Continues input lines n [] lines n
+unfolding genome_from
+continues_start input None n = tt
+continues_start input (Some lines) n = ([], refl, add-zero n, refl)
+
+says_more : (input : Input) (names : List (List ℕ)) (line : TextLine) (entry : Option Entry) → new_entry names (entry_of line.text) ≡ Ok entry → genome_from input names (line ∷ []) ≡ Ok (option_to_list entry)
+unfolding genome_from
+says_more input names line None e = rw e refl
+says_more input names line (Some entry) e = rw e refl
+
+says_wrong : (input : Input) (names : List (List ℕ)) (line : TextLine) (lines : List TextLine) (kind : Kind) → new_entry names (entry_of line.text) ≡ Err kind → genome_from input names (line ∷ lines) ≡ Err (fault_at_line input line.number kind)
+unfolding genome_from
+says_wrong input names line lines kind e = rw e refl
+
+continues_line : (input : Input) (old now next : Option (List TextLine)) (from to further : ℕ) (front : List Entry) (line : TextLine) (entry : Option Entry) → Continues input old from front now to → GivesFirst now line next → further ≡ suc to
+    → new_entry (genome_names front) (entry_of line.text) ≡ Ok entry → Continues input old from (front ++ option_to_list entry) next further
+continues_line input None now next from to further front line entry c g n e = tt
+continues_line input (Some old) None next from to further front line entry c g n e = absurd c
+continues_line input (Some old) (Some now) None from to further front line entry c g n e = absurd g
+continues_line input (Some old) (Some now) (Some next) from to further front line entry c g n e = (
+  c.0 ++ line ∷ [],
+  c.1 ∙ ap (λ lines. c.0 ++ lines) g ∙ sym (append_assoc c.0 (line ∷ []) next),
+  omega (arith, c.2, n, length-append c.0 (line ∷ [])),
+  says_then input [] c.0 (line ∷ []) front c.3 ∙ before_ok front (option_to_list entry) (genome_from input (genome_names front) (line ∷ [])) (says_more input (genome_names front) line entry e),
+)
+
+continues_end : (input : Input) (old now : Option (List TextLine)) (from to : ℕ) (front : List Entry) → Continues input old from front now to → IfSome now (λ lines. lines ≡ []) → IfSome old (λ lines. genome_of input lines ≡ Ok front)
+continues_end input None now from to front c e = tt
+continues_end input (Some old) None from to front c e = absurd c
+continues_end input (Some old) (Some now) from to front c e =
+    let all : old ≡ c.0 = c.1 ∙ ap (λ lines. c.0 ++ lines) e ∙ append-nil c.0 in
+    ap (λ lines. genome_of input lines) all ∙ c.3
+
+-- a line that is at fault after those given
+fault_behind : (input : Input) (given : List TextLine) (front : List Entry) (line : TextLine) (lines : List TextLine) (kind : Kind) → genome_of input given ≡ Ok front
+    → new_entry (genome_names front) (entry_of line.text) ≡ Err kind → genome_of input (given ++ line ∷ lines) ≡ Err (fault_at_line input line.number kind)
+fault_behind input given front line lines kind good e =
+    says_then input [] given (line ∷ lines) front good
+    ∙ before_err front (fault_at_line input line.number kind) (genome_from input (genome_names front) (line ∷ lines)) (says_wrong input (genome_names front) line lines kind e)
+
+continues_fault : (input : Input) (old now next : Option (List TextLine)) (from to : ℕ) (front : List Entry) (line : TextLine) (kind : Kind) → Continues input old from front now to → GivesFirst now line next
+    → new_entry (genome_names front) (entry_of line.text) ≡ Err kind → IfSome old (λ lines. genome_of input lines ≡ Err (fault_at_line input line.number kind))
+continues_fault input None now next from to front line kind c g e = tt
+continues_fault input (Some old) None next from to front line kind c g e = absurd c
+continues_fault input (Some old) (Some now) None from to front line kind c g e = absurd g
+continues_fault input (Some old) (Some now) (Some next) from to front line kind c g e =
+    ap (λ lines. genome_of input lines) (c.1 ∙ ap (λ lines. c.0 ++ lines) g) ∙ fault_behind input c.0 front line next kind c.3 e
+
+first_lines : (old given new : List TextLine) (from to : ℕ) → old ≡ given ++ new → from + length given ≡ to → take (to - from) old ≡ given
+first_lines old given new from to e n =
+    let count : to - from ≡ length given = omega arith in
+    rw (e, count) (take-append_seam given new)
+
+-- no line given is at fault
+none_wrong : (input : Input) (old now : Option (List TextLine)) (from to : ℕ) (front : List Entry) (fault : Told) → Continues input old from front now to → IsToldFirst input old (to - from) fault
+none_wrong input None now from to front fault c = tt
+none_wrong input (Some old) None from to front fault c = absurd c
+none_wrong input (Some old) (Some now) from to front fault c = λ other e.
+    let good : genome_of input (take (to - from) old) ≡ Ok front = ap (λ lines. genome_of input lines) (first_lines old c.0 now from to c.1 c.2) ∙ c.3 in
+    cc
+
+-- the last line given is
+last_wrong : (input : Input) (old now next : Option (List TextLine)) (from to further : ℕ) (front : List Entry) (line : TextLine) (kind : Kind) → Continues input old from front now to → GivesFirst now line next → further ≡ suc to
+    → new_entry (genome_names front) (entry_of line.text) ≡ Err kind → IsToldFirst input old (further - from) (fault_at_line input line.number kind)
+last_wrong input None now next from to further front line kind c g n e = tt
+last_wrong input (Some old) None next from to further front line kind c g n e = absurd c
+last_wrong input (Some old) (Some now) None from to further front line kind c g n e = absurd g
+last_wrong input (Some old) (Some now) (Some next) from to further front line kind c g n e = λ other f.
+    let whole : old ≡ (c.0 ++ line ∷ []) ++ next = c.1 ∙ ap (λ lines. c.0 ++ lines) g ∙ sym (append_assoc c.0 (line ∷ []) next) in
+    let count : from + length (c.0 ++ line ∷ []) ≡ further = omega (arith, c.2, n, length-append c.0 (line ∷ [])) in
+    let wrong : genome_of input (take (further - from) old) ≡ Err (fault_at_line input line.number kind) =
+    ap (λ lines. genome_of input lines) (first_lines old (c.0 ++ line ∷ []) next from further whole count) ∙ fault_behind input c.0 front line [] kind c.3 e in
+    cc
+
+distinct_more : (front : List Entry) (said : Result (Option Entry) Kind) (entry : Option Entry) → AreDistinct (genome_names front) → new_entry (genome_names front) said ≡ Ok entry → AreDistinct (genome_names (front ++ option_to_list entry))
+distinct_more front said None d e = rw append-nil d
+distinct_more front said (Some entry) d e =
+    rw (map-append (λ it. it.name) front (entry ∷ [])) (distinct_push (genome_names front) entry.name d (is_new (genome_names front) said entry e))
+
+-- the lines given made entries
+given_entries : (input : Input) (old now : Option (List TextLine)) (from to : ℕ) (front : List Entry) → Continues input old from front now to → IfSome old (λ lines. (entries : List Entry) × (genome_of input (take (to - from) lines) ≡ Ok entries))
+given_entries input None now from to front c = tt
+given_entries input (Some old) None from to front c = absurd c
+given_entries input (Some old) (Some now) from to front c = (front, ap (λ lines. genome_of input lines) (first_lines old c.0 now from to c.1 c.2) ∙ c.3)
+
+-- how far the reading of a genome file is: nothing was read by a reader that had a fault
+pub record Going {S : Type 0} (left : S → Option (List ℕ)) (failed end : S → Bool) (old now : LineReader S) (genome : Genome) : Type 0 where
+  pub continues : Continues (input_of old) (lines_left left old) (lines_given old) (entries genome) (lines_left left now) (lines_given now)
+  pub distinct : AreDistinct (names_of genome)
+  pub stays : (before : Told) → fault_kept old ≡ Some before → now ≡ old
+  pub going : fault_kept old ≡ None → fault_kept now ≡ None
+  pub served : failed (source_of now) ≡ failed (source_of old)
+  pub passed : Passed left end old now
+
+module _ {S : Type 0} (left : S → Option (List ℕ)) (failed end : S → Bool) (old : LineReader S) where
+  pub going_start : (genome : Genome) → entries genome ≡ [] → Going left failed end old old genome
+  going_start genome none = record {
+    continues = rw none (continues_start (input_of old) (lines_left left old) (lines_given old));
+    distinct = rw none tt;
+    stays = λ before e. refl;
+    going = λ e. e;
+    served = refl;
+    passed = passed_none left end old;
+  }
+
+  -- a reader that returns anything but a fault had none from the start
+  had_none : (now : LineReader S) (genome : Genome) → Going left failed end old now genome → fault_kept now ≡ None → fault_kept old ≡ None
+  had_none now genome g none = by (fault_kept old) refl
+    where
+      by : (kept : Option Told) → fault_kept old ≡ kept → kept ≡ None
+      by None e = refl
+      by (Some before) e =
+          let same : fault_kept now ≡ fault_kept old = ap fault_kept (g.stays before e) in
+          cc
+
+  distinct_line : (text : List ℕ) (genome grown : Genome) → AreDistinct (names_of genome) → LineAdded text genome grown → AreDistinct (names_of grown)
+  distinct_line text genome grown d added = rw added.added (distinct_more (entries genome) (entry_of text) added.entry d added.says)
+
+  both : (now next : LineReader S) → (bytes : List ℕ) × Hands left old bytes now → (bytes : List ℕ) × Hands left now bytes next → (bytes : List ℕ) × Hands left old bytes next
+  both now next h more = (h.0 ++ more.0, hands_both left old now next h.0 more.0 h.1 more.1)
+
+  same_input : (now : LineReader S) (genome : Genome) → Going left failed end old now genome → input_of now ≡ input_of old
+  same_input now genome g = g.passed.bytes.1.same_input
+
+  pub going_line : (now next : LineReader S) (line : TextLine) (genome grown : Genome) → Going left failed end old now genome → GivesLine left failed now line next → (IsSound left end now → IsSound left end next) → LineAdded line.text genome grown → Going left failed end old next grown
+  going_line now next line genome grown g gives sound added = record {
+    continues = rw added.added (continues_line (input_of old) (lines_left left old) (lines_left left now) (lines_left left next) (lines_given old) (lines_given now) (lines_given next) (entries genome) line added.entry g.continues gives.first gives.counted added.says);
+    distinct = distinct_line line.text genome grown g.distinct added;
+    stays = λ before e. let none = had_none now genome g gives.was_going.0 in cc;
+    going = λ e. gives.goes;
+    served = gives.served ∙ g.served;
+    passed = passed_line left end failed old now next g.passed line gives sound;
+  }
+
+  pub going_end : (now new : LineReader S) (genome : Genome) → Going left failed end old now genome → GivesEnd left failed now new → ReadsAll left failed old new genome
+  going_end now new genome g gives = record {
+    was_going = had_none now genome g gives.was_going;
+    is = continues_end (input_of old) (lines_left left old) (lines_left left now) (lines_given old) (lines_given now) (entries genome) g.continues gives.none_left;
+    distinct = g.distinct;
+    ended = gives.ends;
+    told = gives.told;
+    going = gives.goes;
+    served = gives.served ∙ g.served;
+    bytes = both now new g.passed.bytes (gives.bytes.0, gives.bytes.1);
+  }
+
+  pub going_refused : (now next : LineReader S) (line : TextLine) (genome : Genome) (place : Place) (fault : Told) → Going left failed end old now genome → GivesLine left failed now line next
+      → place ≡ record { input = input_of old; line = line.number } → LineRefused place line.text genome fault → EntryIsWrong left failed old next fault
+  going_refused now next line genome place fault g gives at refused =
+      let is : fault ≡ fault_at_line (input_of old) line.number refused.kind = refused.is ∙ ap (λ (p : Place). fault_at_line p.input p.line refused.kind) at in
+      let counted : line.number ≡ lines_given next = gives.number ∙ sym gives.counted in
+      record {
+        is = rw is (continues_fault (input_of old) (lines_left left old) (lines_left left now) (lines_left left next) (lines_given old) (lines_given now) (entries genome) line refused.kind g.continues gives.first refused.says);
+        kind = refused.kind;
+        names = names_of genome;
+        text = line.text;
+        says = refused.says;
+        of_line = refused_at_place (names_of genome) line.text refused.kind refused.says;
+        place = is ∙ ap (λ n. fault_at_line (input_of old) n refused.kind) counted;
+        going = gives.goes;
+        served = gives.served ∙ g.served;
+      }
+
+  stops_by : (now new : LineReader S) (genome : Genome) (fault : Told) → Going left failed end old now genome → GivesFault left failed now fault new → fault_kept now ≡ None → FailsToRead left failed now fault new ⊎ (fault ≡ no_memory) → StopCause left failed end old new fault
+  stops_by now new genome fault g gives going (inl fails) = inr (inl (record {
+    fails = record {
+      is = fails.is ∙ ap (λ i. read_failed i (suc (lines_given now))) (same_input now genome g) ∙ ap (λ n. read_failed (input_of old) (suc n)) (sym gives.counted);
+      cause = fails.cause;
+      before_end = not_told (end_told old) (end_told now) g.passed.bytes.1.told_stays (gives.before_end going);
+      cut = λ kept. cut_fault left end failed old now new g.passed fault gives going fails.is;
+    };
+    passed = rw gives.counted (given_entries (input_of old) (lines_left left old) (lines_left left now) (lines_given old) (lines_given now) (entries genome) g.continues);
+  }))
+  stops_by now new genome fault g gives going (inr is) = inr (inr (record { is = is; served = gives.served is ∙ g.served }))
+
+  pub going_fault : (now new : LineReader S) (genome : Genome) (fault : Told) → Going left failed end old now genome → GivesFault left failed now fault new → ReadingStops left failed end old new fault
+  going_fault now new genome fault g gives = record {
+    again = λ before e.
+        let same = g.stays before e in
+        let told = gives.again before (ap fault_kept same ∙ e) in
+        (told.0, told.1 ∙ same);
+    first = λ none. stops_by now new genome fault g gives (g.going none) (gives.first (g.going none));
+    checked = rw gives.counted (none_wrong (input_of old) (lines_left left old) (lines_left left now) (lines_given old) (lines_given now) (entries genome) fault g.continues);
+    bytes = both now new g.passed.bytes gives.bytes;
+    near = λ none sound. near_fault left end failed old now new g.passed fault gives (g.going none);
+  }
+
+  -- a line was refused, or had no room
+  going_wrong : (now next : LineReader S) (line : TextLine) (genome : Genome) (place : Place) (fault : Told) → Going left failed end old now genome → GivesLine left failed now line next → (IsSound left end now → IsSound left end next)
+      → place ≡ record { input = input_of old; line = line.number } → LineRefused place line.text genome fault → ReadingStops left failed end old next fault
+  going_wrong now next line genome place fault g gives sound at refused =
+      let none = had_none now genome g gives.was_going.0 in
+      let is : fault ≡ fault_at_line (input_of old) line.number refused.kind = refused.is ∙ ap (λ (p : Place). fault_at_line p.input p.line refused.kind) at in
+      record {
+        again = λ before e. cc;
+        first = λ going. inl (going_refused now next line genome place fault g gives at refused);
+        checked = rw is (last_wrong (input_of old) (lines_left left old) (lines_left left now) (lines_left left next) (lines_given old) (lines_given now) (lines_given next) (entries genome) line refused.kind g.continues gives.first gives.counted refused.says);
+        bytes = both now next g.passed.bytes (gives.bytes.0, gives.bytes.1);
+        near = λ none was. near_line left end old next (passed_line left end failed old now next g.passed line gives sound) gives.goes was;
+      }
+
+  going_unkept : (now next : LineReader S) (line : TextLine) (genome : Genome) (fault : Told) → Going left failed end old now genome → GivesLine left failed now line next → (IsSound left end now → IsSound left end next) → LineUnkept line.text genome fault → ReadingStops left failed end old next fault
+  going_unkept now next line genome fault g gives sound unkept =
+      let none = had_none now genome g gives.was_going.0 in
+      let more = continues_line (input_of old) (lines_left left old) (lines_left left now) (lines_left left next) (lines_given old) (lines_given now) (lines_given next) (entries genome) line (Some unkept.entry) g.continues gives.first gives.counted unkept.says in
+      record {
+        again = λ before e. cc;
+        first = λ going. inr (inr (record { is = unkept.is; served = gives.served ∙ g.served }));
+        checked = none_wrong (input_of old) (lines_left left old) (lines_left left next) (lines_given old) (lines_given next) (entries genome ++ unkept.entry ∷ []) fault more;
+        bytes = both now next g.passed.bytes (gives.bytes.0, gives.bytes.1);
+        near = λ none was. near_line left end old next (passed_line left end failed old now next g.passed line gives sound) gives.goes was;
+      }
+
+  -- a line could not be added
+  pub going_err : (now next : LineReader S) (line : TextLine) (genome : Genome) (place : Place) (fault : Told) → Going left failed end old now genome → GivesLine left failed now line next → (IsSound left end now → IsSound left end next)
+      → place ≡ record { input = input_of old; line = line.number } → LineRefused place line.text genome fault ⊎ LineUnkept line.text genome fault → ReadingStops left failed end old next fault
+  going_err now next line genome place fault g gives sound at (inl refused) = going_wrong now next line genome place fault g gives sound at refused
+  going_err now next line genome place fault g gives sound at (inr unkept) = going_unkept now next line genome fault g gives sound unkept
+
+-- a length at a rank is that of a chromosome
+pub some_length : (chromosomes : List (Vec ℕ Global × ℕ)) (rank size : ℕ) → All (λ chromosome. 0 < chromosome.1) chromosomes → slice_get (map (λ chromosome. chromosome.1) chromosomes) rank ≡ Some size → 0 < size
+some_length [] rank size all e = cc
+some_length (first ∷ others) zero size all e = let is : first.1 ≡ size = cc in subst (λ n. 0 < n) is (All-head (λ (chromosome : Vec ℕ Global × ℕ). 0 < chromosome.1) first others all)
+some_length (first ∷ others) (suc rank) size all e = some_length others rank size (All-tail (λ (chromosome : Vec ℕ Global × ℕ). 0 < chromosome.1) first others all) e
+
+-- a chromosome after others that have bases
+pub entries_non_empty : (chromosomes : List (Vec ℕ Global × ℕ)) (name : Vec ℕ Global) (size : ℕ) (text : List ℕ) → name.items ≡ text → is_among (genome_names (map entry_seen chromosomes)) text ≡ false → All (λ chromosome. 0 < chromosome.1) chromosomes → 0 < size
+    → All (λ chromosome. 0 < chromosome.1) (insert_entry (λ a b. bytes_eq a.items b.items) chromosomes name size)
+entries_non_empty chromosomes name size text is new all some =
+    rw (inserted_last chromosomes name size (rw is new)) (All-push (λ (chromosome : Vec ℕ Global × ℕ). 0 < chromosome.1) chromosomes (name, size) all some)

@@ -1,0 +1,134 @@
+-- Lemmas on contiguous records, and on records in a total order of their chromosomes.
+use Rattle.std.proofs.Common.{◌≡◌, ℕ, ◌≤◌, ◌⊎◌, inl, inr, List, [], ◌∷◌, ◌++◌, refl, sym, ap, ◌∙◌, subst, true, false, bytes_eq, Some}
+use Rattle.std.specs.Prelude.{IsTrue}
+use Rattle.std.specs.declared.cmp.Ordering.TheVariants.{Less, Equal}
+use Rattle.std.proofs.lemmas.Bool.{or_parts, or_from, or_left, or_right, false≢true}
+use Rattle.bt_bed.specs.model.feature.Interval.{last_from, last_of, Interval}
+use Rattle.bt_bed.specs.model.order.Order.{Order, IsTotal}
+use Rattle.bt_bed.specs.model.order.Locus.{locus_of, IsUpTo, ArePlaced, placed_grows, fronts_are_placed}
+use Rattle.bt_bed.specs.model.order.Together.{has_records, IsFollowed, AreTogether, placed_are_together, together_grows, fronts_stand_together}
+use Rattle.bt_bed.proofs.lemmas.parse.NameLemmas.{name_eq, name_ne, other_name, name_ne-sym}
+
+pub has_records-append : (name : List ℕ) (xs ys : List Interval) → has_records name (xs ++ ys) ≡ false → (has_records name xs ≡ false) × (has_records name ys ≡ false)
+has_records-append name [] ys f = (refl, f)
+has_records-append name (x ∷ xs) ys f =
+    let parts = or_parts (bytes_eq x.chrom name) (has_records name (xs ++ ys)) f in
+    let rest = has_records-append name xs ys parts.1 in
+    (or_from (bytes_eq x.chrom name) (has_records name xs) parts.0 rest.0, rest.1)
+
+-- records in order: the last of them, and one more
+pub together_front : fronts_stand_together
+together_front [] ys t = tt
+together_front (x ∷ []) ys t = (tt, tt)
+together_front (x ∷ y ∷ zs) ys t =
+    let rest = together_front (y ∷ zs) ys t.1 in
+    let next : IsFollowed x (y ∷ zs) = elim t.0 [
+      | inl same ↦ inl same
+      | inr gone ↦ inr (has_records-append x.chrom (y ∷ zs) ys gone).0
+    ] in
+    (next, rest)
+
+pub next_place : (q : Interval) (qs : List Interval) (r : Interval) → AreTogether (q ∷ qs ++ r ∷ []) → ((r.chrom ≡ (last_from q qs).chrom) × ((last_from q qs).start ≤ r.start)) ⊎ (has_records r.chrom (q ∷ qs) ≡ false)
+next_place q [] r t = elim t.0 [
+  | inl same ↦ inl same
+  | inr gone ↦ inr (or_from (bytes_eq q.chrom r.chrom) false (name_ne-sym r.chrom q.chrom (or_parts (bytes_eq r.chrom q.chrom) false gone).0) refl)
+]
+next_place q (s ∷ ss) r t = elim (next_place s ss r t.1) [
+  | inl same ↦ inl same
+  | inr gone ↦
+      let parts = or_parts (bytes_eq s.chrom r.chrom) (has_records r.chrom ss) gone in
+      let miss : bytes_eq q.chrom r.chrom ≡ false = elim t.0 [
+        | inl same ↦ name_ne q.chrom r.chrom (λ e. other_name s.chrom r.chrom parts.0 (same.0 ∙ e))
+        | inr away ↦
+            let behind = has_records-append q.chrom (s ∷ ss) (r ∷ []) away in
+            name_ne-sym r.chrom q.chrom (or_parts (bytes_eq r.chrom q.chrom) false behind.1).0
+      ] in
+      inr (or_from (bytes_eq q.chrom r.chrom) (has_records r.chrom (s ∷ ss)) miss gone)
+]
+
+pub last_of-push : (past : List Interval) (r : Interval) → last_of (past ++ r ∷ []) ≡ Some r
+last_of-push [] r = refl
+last_of-push (q ∷ []) r = refl
+last_of-push (q ∷ s ∷ ss) r = last_of-push (s ∷ ss) r
+
+-- the last record's chromosome has records
+pub has_records-last : (q : Interval) (qs : List Interval) → has_records (last_from q qs).chrom (q ∷ qs) ≡ true
+has_records-last q [] = or_left (bytes_eq q.chrom q.chrom) false (name_eq q.chrom q.chrom refl)
+has_records-last q (s ∷ ss) = or_right (bytes_eq q.chrom (last_from s ss).chrom) (has_records (last_from s ss).chrom (s ∷ ss)) (has_records-last s ss)
+
+has_records-push : (name : List ℕ) (xs : List Interval) (r : Interval) → has_records name xs ≡ false → bytes_eq r.chrom name ≡ false → has_records name (xs ++ r ∷ []) ≡ false
+has_records-push name [] r f g = or_from (bytes_eq r.chrom name) false g refl
+has_records-push name (x ∷ xs) r f g =
+    let parts = or_parts (bytes_eq x.chrom name) (has_records name xs) f in
+    or_from (bytes_eq x.chrom name) (has_records name (xs ++ r ∷ [])) parts.0 (has_records-push name xs r parts.1 g)
+
+-- the next of a past in order: what the last record asks of it, it asks of all
+grows_from : (q : Interval) (qs : List Interval) (r : Interval) → AreTogether (q ∷ qs) → ((r.chrom ≡ (last_from q qs).chrom) × ((last_from q qs).start ≤ r.start)) ⊎ (has_records r.chrom (q ∷ qs) ≡ false) → AreTogether (q ∷ qs ++ r ∷ [])
+grows_from q [] r t next = (
+  elim next [
+    | inl same ↦ inl same
+    | inr new ↦ inr (or_from (bytes_eq r.chrom q.chrom) false (name_ne-sym q.chrom r.chrom (or_parts (bytes_eq q.chrom r.chrom) false new).0) refl)
+  ],
+  (tt, tt),
+)
+grows_from q (s ∷ ss) r t next =
+    let later : ((r.chrom ≡ (last_from s ss).chrom) × ((last_from s ss).start ≤ r.start)) ⊎ (has_records r.chrom (s ∷ ss) ≡ false) = elim next [
+      | inl same ↦ inl same
+      | inr new ↦ inr (or_parts (bytes_eq q.chrom r.chrom) (has_records r.chrom (s ∷ ss)) new).1
+    ] in
+    let first : IsFollowed q (s ∷ ss ++ r ∷ []) = elim t.0 [
+      | inl same ↦ inl same
+      | inr gone ↦ inr (has_records-push q.chrom (s ∷ ss) r gone (elim next [
+        | inl same ↦ name_ne r.chrom q.chrom (λ e. false≢true (sym gone ∙ ap (λ name. has_records name (s ∷ ss)) (sym e ∙ same.0) ∙ has_records-last s ss))
+        | inr new ↦ name_ne-sym q.chrom r.chrom (or_parts (bytes_eq q.chrom r.chrom) (has_records r.chrom (s ∷ ss)) new).0
+      ]))
+    ] in
+    (first, grows_from s ss r t.1 later)
+
+pub grows_together : together_grows
+grows_together [] r t next = (tt, tt)
+grows_together (q ∷ qs) r t next = grows_from q qs r t next
+
+-- a name that comes before another isn't that one
+lower_is_other : (order : Order) (a b : List ℕ) → IsTotal order → IsTrue (order.knows a) → order.compare a b ≡ Less → b ≡ a → ⊥
+lower_is_other order a b total known lower e =
+    let same = total.same a known in
+    let it : order.compare a a ≡ Less = subst (λ (c : List ℕ). order.compare a c ≡ Less) e lower in
+    absurd (let apart : Less ≡ Equal = sym it ∙ same in cc)
+
+-- a chromosome that comes before the first record's has no records
+lower_is_absent : (order : Order) (name : List ℕ) (s : Interval) (ss : List Interval) → IsTotal order → IsTrue (order.knows name) → ArePlaced order (s ∷ ss) → order.compare name s.chrom ≡ Less → has_records name (s ∷ ss) ≡ false
+lower_is_absent order name s [] total known placed lower =
+    or_from (bytes_eq s.chrom name) false (name_ne s.chrom name (lower_is_other order name s.chrom total known lower)) refl
+lower_is_absent order name s (t ∷ ts) total known placed lower =
+    let further : order.compare name t.chrom ≡ Less = elim placed.1 [
+      | inl less ↦ total.ascends name s.chrom t.chrom known placed.0 placed.2.0 lower less
+      | inr same ↦ subst (λ (c : List ℕ). order.compare name c ≡ Less) same.0 lower
+    ] in
+    or_from (bytes_eq s.chrom name) (has_records name (t ∷ ts)) (name_ne s.chrom name (lower_is_other order name s.chrom total known lower)) (lower_is_absent order name t ts total known placed.2 further)
+
+-- what comes next is on the same chromosome, or has none of it
+followed : (order : Order) (r : Interval) (rs : List Interval) → IsTotal order → ArePlaced order (r ∷ rs) → IsFollowed r rs
+followed order r [] total placed = tt
+followed order r (s ∷ ss) total placed =
+    elim placed.1 [
+      | inl lower ↦ inr (lower_is_absent order r.chrom s ss total placed.0 placed.2 lower)
+      | inr same ↦ inl (sym same.0, same.1)
+    ]
+
+pub placed_together : placed_are_together
+placed_together order [] total placed = tt
+placed_together order (r ∷ rs) total placed = (followed order r rs total placed, placed_together order rs total placed.2)
+
+pub placed_front : fronts_are_placed
+placed_front order [] ys placed = tt
+placed_front order (x ∷ []) ys placed = (placed.0, tt, tt)
+placed_front order (x ∷ y ∷ zs) ys placed = (placed.0, placed.1, placed_front order (y ∷ zs) ys placed.2)
+
+placed_from : (order : Order) (q : Interval) (qs : List Interval) (r : Interval) → ArePlaced order (q ∷ qs) → IsTrue (order.knows r.chrom) → IsUpTo order (locus_of (last_from q qs)) (locus_of r) → ArePlaced order (q ∷ qs ++ r ∷ [])
+placed_from order q [] r placed known next = (placed.0, next, (known, tt, tt))
+placed_from order q (s ∷ ss) r placed known next = (placed.0, placed.1, placed_from order s ss r placed.2 known next)
+
+pub grows_placed : placed_grows
+grows_placed order [] r placed known next = (known, tt, tt)
+grows_placed order (q ∷ qs) r placed known next = placed_from order q qs r placed known next

@@ -1,0 +1,161 @@
+-- Lemmas on the feature that a line says.
+use Rattle.std.proofs.Common.{◌≡◌, ℕ, ◌+◌, ◌-◌, ◌<◌, ◌≤◌, Bool, true, false, ◌&&◌, cond, List, [], ◌∷◌, ◌++◌, length, drop, Option, Some, None, Result, Ok, Err, refl, sym, ap, ◌∙◌, subst, arith, ltb, leb}
+use Rattle.std.proofs.lemmas.Bool.{leb-true, ltb-true, and_parts}
+use Rattle.std.proofs.lemmas.List.{length-append, drop_at}
+use Rattle.std.specs.List.{AllByRecursion, list_all}
+use Rattle.std.specs.Char.{is_ascii_digit}
+use Rattle.std.specs.Str.Parse.{digits_value}
+use Rattle.bt_lines.specs.model.Lines.{pieces}
+use Rattle.bt_lines.specs.model.Number.{value_of, is_number}
+use Rattle.bt_lines.specs.declared.fault.Kind.{Kind}
+use Rattle.bt_lines.specs.declared.fault.Kind.TheVariants.{EmptyFeature}
+use Rattle.bt_bed.specs.calls.Bed.{EndsWith, feature_between}
+use Rattle.bt_bed.specs.model.feature.Feature.{Feature}
+use Rattle.bt_bed.specs.model.feature.Header.{is_header}
+use Rattle.bt_bed.specs.model.feature.Record.{IsFeature, IsName, is_kept, record_of, not_skipped, columns_in, columns_say, feature_of, kept_columns, strand_of}
+use Rattle.bt_bed.specs.declared.record.strand.Strand.{Strand}
+use Rattle.bt_bed.proofs.lemmas.parse.Kept.{three_columns, kept_is_cut, pieces_are_columns, rest_of_three}
+use Rattle.bt_lines.proofs.lemmas.reader.lines.ColumnLemmas.{IsColumn}
+
+some_of : (b : Bool) (v n : ℕ) → (b ≡ true → v ≤ 999999999999) → cond b (Some v) None ≡ Some n → n ≤ 999999999999
+some_of true v n h e = let same : v ≡ n = cc in subst (λ k. k ≤ 999999999999) same (h refl)
+some_of false v n h e = cc
+
+-- a number that a text denotes has at most twelve digits
+value_at_most : (text : List ℕ) (n : ℕ) → value_of text ≡ Some n → n ≤ 999999999999
+unfolding value_of
+value_at_most text n e =
+    some_of (is_number text) (digits_value 10 text) n
+    (λ yes. leb-true (digits_value 10 text) 999999999999 ((and_parts (ltb 0 (length text) && list_all is_ascii_digit text) (leb (digits_value 10 text) 999999999999) yes).1)) e
+
+kept_is_kept : (columns : List (List ℕ)) → is_kept (kept_columns columns) ≡ true
+kept_is_kept [] = refl
+kept_is_kept (x ∷ xs) = refl
+
+-- kept columns are the columns of what is kept
+pub columns_in_kept : (columns : List (List ℕ)) → AllByRecursion IsColumn columns → columns_in (kept_columns columns) ≡ columns
+columns_in_kept [] h = refl
+columns_in_kept (x ∷ xs) h = kept_is_cut x xs h.0 h.1
+
+-- the feature of a name, a start, an end and the columns after them
+abbrev pub whole : List ℕ → ℕ → ℕ → List (List ℕ) → Feature
+whole chrom start stop rest = record { chrom = chrom; start = start; stop = stop; strand = strand_of rest; rest = kept_columns rest }
+
+-- what was found in three columns, if they say a feature
+pub record IsWhole (chrom : List ℕ) (start stop : Option ℕ) (rest : List (List ℕ)) (f : Feature) : Type 0 where
+  pub some : 0 < length chrom
+  pub start_is : start ≡ Some f.start
+  pub stop_is : stop ≡ Some f.stop
+  pub below : f.start < f.stop
+  pub same : whole chrom f.start f.stop rest ≡ f
+
+chosen_whole : (test : Bool) (chrom : List ℕ) (start stop : ℕ) (rest : List (List ℕ)) (f : Feature) → 0 < length chrom → ltb start stop ≡ test
+    → cond test (Ok (whole chrom start stop rest)) (Err EmptyFeature) ≡ Ok f → IsWhole chrom (Some start) (Some stop) rest f
+chosen_whole true chrom start stop rest f some below e =
+    let same : whole chrom start stop rest ≡ f = cc in
+    subst (λ g. IsWhole chrom (Some start) (Some stop) rest g) same (record { some = some; start_is = refl; stop_is = refl; below = ltb-true start stop below; same = refl })
+chosen_whole false chrom start stop rest f some below e = cc
+
+pub of_whole : (chrom : List ℕ) (start stop : Option ℕ) (rest : List (List ℕ)) (f : Feature) → feature_of chrom start stop rest ≡ Ok f → IsWhole chrom start stop rest f
+of_whole [] start stop rest f e = cc
+of_whole (byte ∷ bytes) None stop rest f e = cc
+of_whole (byte ∷ bytes) (Some start) None rest f e = cc
+of_whole (byte ∷ bytes) (Some start) (Some stop) rest f e = chosen_whole (ltb start stop) (byte ∷ bytes) start stop rest f (omega arith) refl e
+
+-- the columns of which a feature was made
+pub record Made (columns : List (List ℕ)) (f : Feature) : Type 0 where
+  chrom : List ℕ
+  start : List ℕ
+  stop : List ℕ
+  rest : List (List ℕ)
+  cut : columns ≡ chrom ∷ start ∷ stop ∷ rest
+  whole_is : IsWhole chrom (value_of start) (value_of stop) rest f
+
+columns_made : (columns : List (List ℕ)) (f : Feature) → columns_say columns ≡ Ok f → Made columns f
+columns_made [] f e = cc
+columns_made (chrom ∷ []) f e = cc
+columns_made (chrom ∷ start ∷ []) f e = cc
+columns_made (chrom ∷ start ∷ stop ∷ rest) f e =
+    record { chrom = chrom; start = start; stop = stop; rest = rest; cut = refl; whole_is = of_whole chrom (value_of start) (value_of stop) rest f e }
+
+whole_is_feature : (chrom : List ℕ) (start stop : ℕ) (rest : List (List ℕ)) → IsName chrom → start < stop → stop ≤ 999999999999 → AllByRecursion IsColumn rest → IsFeature (whole chrom start stop rest)
+whole_is_feature chrom start stop rest name below small columns = record {
+  named = name;
+  non_empty = below;
+  in_range = small;
+  kept = kept_is_kept rest;
+  stranded = ap strand_of (sym (columns_in_kept rest columns));
+}
+
+-- a feature that the columns of a text say
+pub said_is_feature : (text : List ℕ) (f : Feature) → columns_say (pieces 9 text) ≡ Ok f → IsFeature f
+said_is_feature text f e =
+    let m = columns_made (pieces 9 text) f e in
+    let columns = subst (λ l. AllByRecursion IsColumn l) m.cut (pieces_are_columns text) in
+    subst IsFeature m.whole_is.same
+    (whole_is_feature m.chrom f.start f.stop m.rest (record { some = m.whole_is.some; one_column = columns.0 }) m.whole_is.below (value_at_most m.stop f.stop m.whole_is.stop_is) columns.1.1.1)
+
+-- a text is the name, what follows its tab, and what is kept
+pub said_stands : (text : List ℕ) (f : Feature) → columns_say (pieces 9 text) ≡ Ok f → (between : List ℕ) × (text ≡ (f.chrom ++ 9 ∷ between) ++ f.rest)
+said_stands text f e =
+    let m = columns_made (pieces 9 text) f e in
+    let chrom : m.chrom ≡ f.chrom = ap (λ g. g.chrom) m.whole_is.same in
+    let rest : kept_columns m.rest ≡ f.rest = ap (λ g. g.rest) m.whole_is.same in
+    let split : text ≡ (m.chrom ++ 9 ∷ (m.start ++ 9 ∷ m.stop)) ++ kept_columns m.rest = three_columns text m.chrom m.start m.stop m.rest m.cut in
+    (m.start ++ 9 ∷ m.stop, split ∙ ap (λ l. (l ++ 9 ∷ (m.start ++ 9 ∷ m.stop)) ++ kept_columns m.rest) chrom ∙ ap (λ l. (f.chrom ++ 9 ∷ (m.start ++ 9 ∷ m.stop)) ++ l) rest)
+
+-- a text that ends with other bytes
+pub ends_with : (text front bytes : List ℕ) → text ≡ front ++ bytes → EndsWith text bytes
+ends_with text front bytes e =
+    let size : length text ≡ length front + length bytes = ap length e ∙ length-append front bytes in
+    record {
+      within = omega arith;
+      same = ap (drop (length text - length bytes)) e ∙ drop_at front bytes (length text - length bytes) (omega arith);
+    }
+
+pub said_ends : (text : List ℕ) (f : Feature) → columns_say (pieces 9 text) ≡ Ok f → EndsWith text f.rest
+said_ends text f e = let s = said_stands text f e in ends_with text (f.chrom ++ 9 ∷ s.0) f.rest s.1
+
+-- a header line says nothing
+pub header_says : (text : List ℕ) → is_header text ≡ true → record_of text ≡ Ok None
+unfolding record_of
+header_says text h = rw h refl
+
+-- another line says what its columns say
+pub columns_of_line : (text : List ℕ) → is_header text ≡ false → record_of text ≡ not_skipped (columns_say (pieces 9 text))
+unfolding record_of
+columns_of_line text h = rw h refl
+
+skipped_or_said : (header : Bool) (said : Result Feature Kind) (f : Feature) → cond header (Ok None) (not_skipped said) ≡ Ok (Some f) → (header ≡ false) × (said ≡ Ok f)
+skipped_or_said true said f e = cc
+skipped_or_said false (Ok g) f e = (refl, cc)
+skipped_or_said false (Err kind) f e = cc
+
+-- a line that says a feature is no header, and its columns say it
+pub record_said : (text : List ℕ) (f : Feature) → record_of text ≡ Ok (Some f) → (is_header text ≡ false) × (columns_say (pieces 9 text) ≡ Ok f)
+unfolding record_of
+record_said text f e = skipped_or_said (is_header text) (columns_say (pieces 9 text)) f e
+
+-- a line that is no header says the feature that its columns say
+pub columns_say_feature : (text : List ℕ) (f : Feature) → is_header text ≡ false → Ok f ≡ columns_say (pieces 9 text) → Ok (Some f) ≡ record_of text
+columns_say_feature text f h e = ap not_skipped e ∙ sym (columns_of_line text h)
+
+-- three columns, the numbers of which were found
+pub three_say : (text a b c : List ℕ) (rest : List (List ℕ)) (bounds : ℕ × ℕ) → pieces 9 text ≡ a ∷ b ∷ c ∷ rest
+    → feature_between a (Ok bounds) rest ≡ feature_of a (value_of b) (value_of c) rest → columns_say (pieces 9 text) ≡ Ok (whole a bounds.0 bounds.1 rest)
+three_say text a b c rest bounds cut found = ap columns_say cut ∙ sym found
+
+-- the feature made of a name, of the start and end that were found, and of what follows their columns is what the text says
+pub made_is_said : (text a b c : List ℕ) (rest : List (List ℕ)) (bounds : ℕ × ℕ) (strand : Strand) (kept : List ℕ) → pieces 9 text ≡ a ∷ b ∷ c ∷ rest
+    → feature_between a (Ok bounds) rest ≡ feature_of a (value_of b) (value_of c) rest → strand ≡ strand_of (columns_in kept) → kept ≡ drop (length a + length b + length c + 2) text
+    → Ok (record { chrom = a; start = bounds.0; stop = bounds.1; strand = strand; rest = kept }) ≡ columns_say (pieces 9 text)
+made_is_said text a b c rest bounds strand kept cut found s k =
+    let same : kept ≡ kept_columns rest = k ∙ rest_of_three text a b c rest cut in
+    let columns = subst (λ l. AllByRecursion IsColumn l) cut (pieces_are_columns text) in
+    let named : strand ≡ strand_of rest = s ∙ ap (λ l. strand_of (columns_in l)) same ∙ ap strand_of (columns_in_kept rest columns.1.1.1) in
+    rw (named, same) (sym (three_say text a b c rest bounds cut found))
+
+pub made_is_feature : (text a b c : List ℕ) (rest : List (List ℕ)) (bounds : ℕ × ℕ) (strand : Strand) (kept : List ℕ) → pieces 9 text ≡ a ∷ b ∷ c ∷ rest
+    → feature_between a (Ok bounds) rest ≡ feature_of a (value_of b) (value_of c) rest → strand ≡ strand_of (columns_in kept) → kept ≡ drop (length a + length b + length c + 2) text
+    → IsFeature (record { chrom = a; start = bounds.0; stop = bounds.1; strand = strand; rest = kept })
+made_is_feature text a b c rest bounds strand kept cut found s k = said_is_feature text _ (sym (made_is_said text a b c rest bounds strand kept cut found s k))

@@ -1,0 +1,89 @@
+-- Lemmas on what a line says after the last place, and on the chromosome of the record ahead.
+use Rattle.std.proofs.Common.{◌≡◌, ℕ, ◌≤◌, Bool, true, false, cond, List, Option, Some, None, Result, Ok, Err, refl, sym, ap, ◌∙◌, subst, arith, bytes_eq}
+use Rattle.std.specs.Prelude.{◌&&◌, IsTrue, is_some, nat_lt}
+use Rattle.bt_lines.specs.declared.fault.Kind.{Kind}
+use Rattle.bt_lines.specs.declared.fault.Kind.TheVariants.{UnknownChrom, OutOfOrder}
+use Rattle.std.proofs.lemmas.Bool.{false≢true}
+use Rattle.std.proofs.lemmas.Bool.Decides.{nat_tests}
+use Rattle.std.proofs.lemmas.Slice.Eq.{bytes_eq-Decides}
+use Rattle.bt_bed.proofs.lemmas.read.good.SaidLemmas.{wrong_is_of_line, wrong_is_of_record, same_kind}
+use Rattle.bt_bed.specs.model.feature.Feature.{Feature}
+use Rattle.bt_bed.specs.model.input.GoodBed.{line_says, said_after, in_order, locus_at, wrong_lines_are_of_bed}
+use Rattle.bt_bed.specs.model.feature.LineKind.{is_bed_kind, is_record_kind}
+use Rattle.bt_bed.specs.inside.Neighbours.{start_after, start_at, start_on}
+use Rattle.bt_bed.specs.model.order.Locus.{Locus}
+use Rattle.bt_bed.specs.model.feature.Record.{record_of}
+use Rattle.bt_bed.specs.model.order.Order.{Order}
+use Rattle.bt_bed.specs.model.order.Sorting.{Sorting, falls_in, sorting_of}
+
+module _ (sorting : Sorting) (last : Option Locus) (text : List ℕ) where
+  pub says_nothing : Ok None ≡ record_of text → line_says sorting last text ≡ Ok None
+  unfolding line_says
+  says_nothing e = ap (said_after sorting last) (sym e)
+
+  pub says_wrong : (kind : Kind) → Err kind ≡ record_of text → line_says sorting last text ≡ Err kind
+  unfolding line_says
+  says_wrong kind e = ap (said_after sorting last) (sym e)
+
+  pub says_misplaced : (r : Feature) (kind : Kind) → Ok (Some r) ≡ record_of text → in_order sorting last r ≡ Err kind → line_says sorting last text ≡ Err kind
+  unfolding line_says
+  says_misplaced r kind e wrong = ap (said_after sorting last) (sym e) ∙ wrong
+
+  pub says_record : (r : Feature) → Ok (Some r) ≡ record_of text → IsTrue (sorting.knows r.chrom) → falls_in sorting last (locus_at r) ≡ false → line_says sorting last text ≡ Ok (Some r)
+  unfolding line_says
+  says_record r e known stays = ap (said_after sorting last) (sym e) ∙ (rw (known, stays) refl)
+
+kind_of_order : (knows falls : Bool) (r : Feature) (kind : Kind) → cond knows (cond falls (Err OutOfOrder) (Ok (Some r))) (Err UnknownChrom) ≡ Err kind → is_bed_kind kind ≡ true
+kind_of_order false falls r kind e = same_kind {T = Option Feature} (Err UnknownChrom) UnknownChrom kind refl e refl
+kind_of_order true true r kind e = same_kind {T = Option Feature} (Err OutOfOrder) OutOfOrder kind refl e refl
+kind_of_order true false r kind e = cc
+
+-- what is wrong with a record after the last place is a fault of a line
+pub misplaced_is_of_line : (sorting : Sorting) (last : Option Locus) (r : Feature) (kind : Kind) → in_order sorting last r ≡ Err kind → is_bed_kind kind ≡ true
+misplaced_is_of_line sorting last r kind e = kind_of_order (sorting.knows r.chrom) (falls_in sorting last (locus_at r)) r kind e
+
+said_is_of_line : (sorting : Sorting) (last : Option Locus) (said : Result (Option Feature) Kind) (kind : Kind) → said_after sorting last said ≡ Err kind → ((k : Kind) → said ≡ Err k → is_bed_kind k ≡ true) → is_bed_kind kind ≡ true
+said_is_of_line sorting last (Ok None) kind e h = cc
+said_is_of_line sorting last (Ok (Some r)) kind e h = misplaced_is_of_line sorting last r kind e
+said_is_of_line sorting last (Err k) kind e h = same_kind {T = Option Feature} (Err k) k kind refl e (h k refl)
+
+-- so is what a line says wrong
+pub says_of_line : (sorting : Sorting) (last : Option Locus) (text : List ℕ) (kind : Kind) → line_says sorting last text ≡ Err kind → is_bed_kind kind ≡ true
+unfolding line_says
+says_of_line sorting last text kind e = said_is_of_line sorting last (record_of text) kind e (λ k h. wrong_is_of_line text k (sym h))
+
+-- an unknown chromosome is one that the order doesn't know
+unknown_by : (b : Bool) (name : List ℕ) (known falls : Bool) (r : Feature) → b ≡ known → cond known (cond falls (Err OutOfOrder) (Ok (Some r))) (Err UnknownChrom) ≡ Err UnknownChrom → b ≡ false
+unknown_by b name false falls r is e = is
+unknown_by b name true true r is e = cc
+unknown_by b name true false r is e = cc
+
+unknown_said : (order : Order) (last : Option Locus) (said : Result (Option Feature) Kind) → said_after (sorting_of order) last said ≡ Err UnknownChrom → ((k : Kind) → said ≡ Err k → is_record_kind k ≡ true) → (name : List ℕ) × (order.knows name ≡ false)
+unknown_said order last (Ok None) e h = cc
+unknown_said order last (Ok (Some r)) e h = (r.chrom, unknown_by (order.knows r.chrom) r.chrom (order.knows r.chrom) (falls_in (sorting_of order) last (locus_at r)) r refl e)
+unknown_said order last (Err k) e h =
+    let is : k ≡ UnknownChrom = cc in
+    absurd (false≢true (subst (λ (kind : Kind). is_record_kind kind ≡ true) is (h k refl)))
+
+pub wrong_of_bed : wrong_lines_are_of_bed
+unfolding line_says
+wrong_of_bed order last text kind e = (
+  says_of_line (sorting_of order) last text kind e,
+  λ is. unknown_said order last (record_of text) (e ∙ ap (λ k. Err k) is) (λ k h. wrong_is_of_record text k (sym h)),
+)
+
+-- ---- the chromosome of the record ahead
+
+-- if it is that of the last record
+pub held_same : (name chrom : List ℕ) (last : Option ℕ) → is_some last && bytes_eq name chrom ≡ true → (name ≡ chrom) × (start_on false last ≡ start_after (start_at name last) chrom)
+held_same name chrom None e = absurd (false≢true e)
+held_same name chrom (Some start) e = ((bytes_eq-Decides name chrom).0 e, rw e refl)
+
+-- a record that fits behind the last one doesn't start below
+pub fits_above : (sorting : Sorting) (last : Option Locus) (r : Feature) → falls_in sorting last (locus_at r) ≡ false → start_after last r.chrom ≤ r.start
+fits_above sorting None r e = omega arith
+fits_above sorting (Some place) r e = by (bytes_eq place.chrom r.chrom) e
+  where
+    by : (b : Bool) → cond b (nat_lt r.start place.start) (sorting.comes_before r.chrom place.chrom) ≡ false → cond b place.start 0 ≤ r.start
+    by true e = grind (arith, nat_tests)
+    by false e = omega arith

@@ -1,0 +1,165 @@
+-- Lemmas on the reader of records.
+use Rattle.std.proofs.Common.{◌≡◌, ℕ, suc, Bool, true, false, List, [], ◌∷◌, Option, Some, None, Ok, Err, take, refl, sym, ap, ◌∙◌, subst}
+use Rattle.std.specs.Prelude.{IfSome, IsSome, IsTrue, IfNone, Result, option_map}
+use Rattle.std.specs.Option.{ForSome}
+use Rattle.std.proofs.lemmas.Bool.{false≢true}
+use Rattle.bt_lines.specs.calls.Reader.{input_of, lines_given, lines_left, fault_kept as line_fault}
+use Rattle.bt_lines.specs.declared.fault.Fault.{Fault}
+use Rattle.bt_lines.specs.declared.reader.line_reader.LineReader.{LineReader}
+use Rattle.bt_bed.proofs.lemmas.laws.GoodBedLemmas.{line_said}
+use Rattle.bt_bed.proofs.lemmas.read.good.ReadingLemmas.{good_at_first}
+use Rattle.bt_bed.proofs.lemmas.read.good.SaidLemmas.{said_features}
+use Rattle.bt_bed.proofs.lemmas.order.SortingLemmas.{sorted_up_to}
+use Rattle.bt_bed.specs.calls.Bed.{feature_lent}
+use Rattle.bt_bed.specs.calls.SortedReader.{IsPlaced, buffered_in as records_in, view_in, view_with}
+use Rattle.bt_bed.specs.model.feature.Feature.{Feature}
+use Rattle.bt_bed.specs.model.input.Good.{Member, good}
+use Rattle.bt_bed.specs.model.input.GoodBed.{bed_format, line_says, locus_at}
+use Rattle.bt_bed.specs.inside.Neighbours.{last_in}
+use Rattle.bt_bed.specs.model.order.Order.{Order, IsTotal}
+use Rattle.bt_bed.specs.model.order.Locus.{Locus, IsUpTo}
+use Rattle.bt_bed.specs.calls.Reading.{Fills, FillAnswers as MembersAnswers, GivesMember, Takes, TellsOwnFailure, first_from, good_coming}
+use Rattle.bt_bed.specs.model.feature.Record.{IsFeature}
+use Rattle.bt_bed.specs.calls.Records.{Answers, FillAnswers, FillsRecords, GivesRecord, PassesRecord, TakesRecords, buffered_in, order_in, view_of}
+use Rattle.bt_bed.specs.calls.Run.{is_some_left}
+use Rattle.bt_bed.specs.model.order.Sorting.{Sorting, sorting_of}
+use Rattle.bt_bed.specs.declared.record.bed.BedRef.{BedRef}
+use Rattle.bt_bed.specs.declared.read.sorted_reader.SortedReader.{SortedReader}
+use Rattle.bt_bed.specs.declared.read.sorted.ByOrder.{ByOrder}
+use Rattle.bt_bed.specs.declared.order.ChromOrder.{Ghosts}
+use Rattle.bt_bed.specs.declared.read.records.Records.{Records}
+
+for_if : {A : Type 0} (o : Option A) (P : A → Type 0) → ForSome o P → IfSome o P
+for_if None P h = tt
+for_if (Some x) P h = h x refl
+
+-- what is known of a record that a line says after the last one
+pub record BehindLast (order : Order) (last : Option Locus) (r : Feature) : Type 0 where
+  pub feature : IsFeature r
+  pub known : IsTrue (order.knows r.chrom)
+  pub in_order : IfSome last (λ place. IsUpTo order place (locus_at r))
+
+pub said_behind : (order : Order) (last : Option Locus) (text : List ℕ) (r : Feature) → IsTotal order → ForSome last (λ place. IsTrue (order.knows place.chrom)) → line_says (sorting_of order) last text ≡ Ok (Some r)
+    → BehindLast order last r
+said_behind order last text r total known says =
+    let said = line_said (sorting_of order) last text r says in
+    record {
+      feature = said_features text r said.says;
+      known = said.known;
+      in_order = sorted_up_to order last (locus_at r) total (for_if last (λ place. IsTrue (order.knows place.chrom)) known) said.known said.stays;
+    }
+
+-- the record ahead is the first of those that are buffered
+pub ahead_is : {A : Type 0} (line : ℕ) (items : List A) (item : A) (more : List A) (m : Member A) → items ≡ item ∷ more → first_from line items ≡ Some m → item ≡ m.item
+ahead_is line [] item more m e h = cc
+ahead_is {A} line (x ∷ xs) item more m e h =
+    let first : record { line = line; item = x } ≡ m = cc in
+    let same : x ≡ item = cc in
+    sym same ∙ ap (λ (m : Member A). m.item) first
+
+pub none_is : {A : Type 0} (line : ℕ) (items : List A) (m : Member A) → items ≡ [] → first_from line items ≡ Some m → ⊥
+none_is line [] m e h = cc
+none_is line (x ∷ xs) m e h = cc
+
+pub some_first : {A : Type 0} (line : ℕ) (items : List A) → IsSome (option_map (λ m. m.line) (first_from line items)) → (item : A) × (more : List A) × (items ≡ item ∷ more)
+some_first line [] some = absurd (false≢true some)
+some_first line (x ∷ xs) some = (x, xs, refl)
+
+module _ {S O : Type 0} {g : Ghosts O} (left : S → Option (List ℕ)) (failed end : S → Bool) where
+  given : (old new : Records S O g) (m : Member Feature) → IsTotal (order_in old) → GivesMember left failed (view_of old) m (view_of new) → GivesRecord left failed old m.item new
+  unfolding view_of view_with order_in
+  given old new m total gives =
+      let behind = said_behind (order_in old) (view_of old).state gives.said.0.text m.item total old.placed.last gives.said.1 in
+      record { line = m.line; read = gives; feature = behind.feature; known = behind.known; in_order = behind.in_order }
+
+  -- what `fill` of the reader below returns
+  pub filled : (old new : Records S O g) (result : Result Bool Fault) → IsTotal (order_in old) → MembersAnswers left failed end (view_of old) result (view_of new) → FillAnswers left failed end old result new
+  filled old new (Ok true) total makes = (makes.m.item, given old new makes.m total makes.gives)
+  filled old new (Ok false) total ends = ends
+  filled old new (Err fault) total answers = answers
+
+  -- the first buffered record is returned
+  pub peeked : (old new : Records S O g) (done : Bool) (lent : Option BedRef) → FillAnswers left failed end old (Ok done) new
+      → IfSome lent (λ bed. (more : List Feature) × (buffered_in new ≡ feature_lent bed ∷ more)) → IfNone lent (buffered_in new ≡ []) → Answers left failed end old (Ok lent) new
+  peeked old new true None answers some none = absurd (none_is (suc (lines_given (view_of new).below)) (buffered_in new) _ none answers.1.read.ahead)
+  peeked old new true (Some bed) answers some none =
+      let same = ahead_is (suc (lines_given (view_of new).below)) (buffered_in new) (feature_lent bed) some.0 _ some.1 answers.1.read.ahead in
+      subst (λ (r : Feature). GivesRecord left failed old r new) (sym same) answers.1
+  peeked old new false None answers some none = answers
+  peeked old new false (Some bed) answers some none = absurd (no_both (buffered_in new) (feature_lent bed) some.0 some.1 answers.none_buffered)
+    where
+      no_both : (items : List Feature) (r : Feature) (more : List Feature) → items ≡ r ∷ more → items ≡ [] → ⊥
+      no_both items r more e h = cc
+
+module _ {S Q : Type 0} (left : S → Option (List ℕ)) (failed end : S → Bool) (sorting : Sorting) (sorted : SortedReader S Q) where
+  -- a reader that has given no record has all of the good ones left
+  pub good_at_start : (reader : LineReader S) → sorted.reader ≡ reader → sorted.fault ≡ None → last_in sorted.neighbours ≡ None → line_fault reader ≡ None
+      → good_coming left (view_in sorting sorted) ≡ option_map (good (bed_format sorting) (input_of reader)) (lines_left left reader)
+  unfolding view_with
+  good_at_start reader same own last going =
+      let fault : (view_in sorting sorted).fault ≡ None = rw (own, same) going in
+      good_at_first left failed end (view_in sorting sorted) fault last
+      ∙ ap (λ r. option_map (good (bed_format sorting) (input_of r)) (lines_left left r)) same
+
+  pub placed_at_start : records_in sorted ≡ [] → last_in sorted.neighbours ≡ None → IsPlaced sorting (view_in sorting sorted)
+  unfolding view_with
+  placed_at_start none last = record {
+    last = λ place e. cc;
+    in_order = rw none refl;
+    going = λ e. absurd (false≢true (sym (ap is_some_left none) ∙ e));
+  }
+
+module _ {S O : Type 0} (g : Ghosts O) where
+  -- how the records of a reader are sorted
+  abbrev pub sorting_at : SortedReader S (ByOrder O) → Sorting
+  sorting_at sorted = sorting_of (g.order sorted.neighbours.rule.order.now)
+
+module _ {S O : Type 0} (g : Ghosts O) (old new : SortedReader S (ByOrder O)) (rule : new.neighbours.rule ≡ old.neighbours.rule) where
+  -- the order stays with the rule
+  pub placed_by : IsPlaced (sorting_at g old) (view_in (sorting_at g old) new) → IsPlaced (sorting_at g new) (view_in (sorting_at g new) new)
+  placed_by placed = subst (λ (by : ByOrder O). IsPlaced (sorting_of (g.order by.order.now)) (view_in (sorting_of (g.order by.order.now)) new)) (sym rule) placed
+
+module _ {S O : Type 0} {g : Ghosts O} (left : S → Option (List ℕ)) (failed end : S → Bool) (old new : Records S O g) (rule : new.sorted.neighbours.rule ≡ old.sorted.neighbours.rule) where
+  same_order : order_in new ≡ order_in old
+  unfolding order_in
+  same_order = ap (λ (by : ByOrder O). g.order by.order.now) rule
+
+  same_view : view_of new ≡ view_in (sorting_at g old.sorted) new.sorted
+  unfolding view_of
+  same_view = ap (λ (by : ByOrder O). view_in (sorting_of (g.order by.order.now)) new.sorted) rule
+
+  was_view : view_in (sorting_at g old.sorted) old.sorted ≡ view_of old
+  unfolding view_of
+  was_view = refl
+
+  -- `fill` of the reader below
+  pub fills_records : (IsRead : S → Option ℕ → S → Type 0) (result : Result Bool Fault) → IsTotal (order_in old) → Fills left failed end (view_in (sorting_at g old.sorted) old.sorted) result (view_in (sorting_at g old.sorted) new.sorted)
+      → TellsOwnFailure IsRead (view_in (sorting_at g old.sorted) old.sorted).fault old.sorted.reader result new.sorted.reader → FillsRecords left failed end IsRead old result new
+  unfolding view_of view_with
+  fills_records IsRead result total fills own =
+      let there : Fills left failed end (view_of old) result (view_of new) = rw (same_view, ← was_view) fills in
+      record {
+        answers = filled left failed end old new result total there.answers;
+        own_failure = own;
+        kept = there.kept;
+        order = same_order;
+      }
+
+  -- `consume` of the reader below
+  pub takes_records : (count : ℕ) → Takes left end (view_in (sorting_at g old.sorted) old.sorted) (take count (records_in old.sorted)) (view_in (sorting_at g old.sorted) new.sorted) → TakesRecords left end old count new
+  unfolding view_of view_with
+  takes_records count takes = record { takes = rw (← same_view) at takes; order = same_order }
+
+  last_one : (items : List Feature) (line : ℕ) (item : Feature) (more : List Feature) (state : Option Locus) → items ≡ item ∷ more → state ≡ Some (locus_at item) → state ≡ option_map locus_at (option_map (λ m. m.item) (first_from line items))
+  last_one [] line item more state e s = cc
+  last_one (x ∷ xs) line item more state e s = let same : x ≡ item = cc in s ∙ ap (λ (f : Feature). Some (locus_at f)) (sym same)
+
+  pub passes_record : (item : Feature) (more : List Feature) → records_in old.sorted ≡ item ∷ more → Takes left end (view_in (sorting_at g old.sorted) old.sorted) (take 1 (records_in old.sorted)) (view_in (sorting_at g old.sorted) new.sorted) → PassesRecord left end old new
+  unfolding view_of view_with
+  passes_record item more is takes =
+      let all = takes_records 1 takes in
+      record {
+        last = last_one (records_in old.sorted) _ item more (view_of new).state is (all.takes.state ∙ rw is refl);
+        takes = all.takes;
+        order = same_order;
+      }

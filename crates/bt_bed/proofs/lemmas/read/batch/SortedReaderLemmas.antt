@@ -1,0 +1,306 @@
+-- Lemmas on a reader of sorted records.
+use Rattle.std.proofs.Common.{◌≡◌, ℕ, suc, ◌+◌, ◌-◌, ◌<◌, ◌≤◌, Bool, true, false, List, [], ◌∷◌, ◌++◌, length, take, drop, Option, Some, None, Ok, refl, sym, ap, ◌∙◌, subst, arith, length-take, take-append-drop}
+use Rattle.std.specs.Prelude.{if◌then◌else◌, IfSome, IsTrue, is_some, option_map}
+use Rattle.std.specs.Option.{ForSome}
+use Rattle.std.proofs.lemmas.Bool.{false≢true}
+use Rattle.bt_lines.proofs.lemmas.reader.lines.TakingLemmas.{is_prefix}
+use Rattle.bt_lines.specs.calls.Buffered.{buffered_lines}
+use Rattle.bt_lines.specs.model.Lines.{AreNumbered, TextLine, lines_from}
+use Rattle.bt_lines.specs.calls.Names.{told}
+use Rattle.bt_lines.specs.calls.Reader.{DropsLines, TakesLines, bytes_left, buffered_bytes, buffered_in as lines_buffered, end_told, fault_kept as line_fault, held, input_of, is_open, left_at, lines_given, lines_left, source_of}
+use Rattle.bt_lines.specs.declared.fault.Input.{Input}
+use Rattle.bt_lines.specs.declared.reader.line_reader.LineReader.{LineReader}
+use Rattle.bt_bed.proofs.lemmas.read.good.CameLemmas.{drops_pass, left_numbered, some_bytes}
+use Rattle.bt_bed.proofs.lemmas.laws.GoodBedLemmas.{line_said}
+use Rattle.bt_bed.proofs.lemmas.read.batch.NeighbourLemmas.{fits_above}
+use Rattle.bt_bed.proofs.lemmas.read.batch.RunLemmas.{placed_there, run_some}
+use Rattle.bt_bed.proofs.lemmas.read.good.SaidRuns.{LinesSay, good_said, order_behind, order_is_said, place_behind, run_behind, run_is_said, run_says, said_fewer, said_in_order, say_fewer, say_front}
+use Rattle.bt_bed.specs.model.feature.Feature.{Feature}
+use Rattle.bt_bed.specs.model.input.Good.{Format, Good, Member, good_from, or_else}
+use Rattle.bt_bed.specs.model.input.GoodBed.{bed_format, line_says, locus_at}
+use Rattle.bt_bed.specs.model.order.Locus.{Locus}
+use Rattle.bt_bed.specs.inside.Neighbours.{HoldsChrom, LineTaken, MakesLast, last_in, name_in, start_in}
+use Rattle.bt_bed.specs.calls.Reading.{AreSaid, BeginsComing, MemberReader, Takes, good_behind, good_coming, members_from, state_behind, with_members}
+use Rattle.bt_bed.specs.calls.Run.{is_some_left, last_start, run_of}
+use Rattle.bt_bed.specs.model.order.Sorting.{Sorting}
+use Rattle.bt_bed.specs.inside.Ahead.{ahead_of}
+use Rattle.bt_bed.specs.calls.SortedReader.{IsPlaced, IsTaken, are_in_order, buffered_in, count_in, view_in, view_with}
+use Rattle.bt_bed.specs.declared.read.batch.Consumed.{Consumed}
+use Rattle.bt_bed.specs.declared.read.neighbours.Neighbours.{Neighbours}
+use Rattle.bt_bed.specs.declared.read.sorted_reader.SortedReader.{SortedReader}
+
+none_by : (told : Bool) (held : List ℕ) (number : ℕ) → option_map (lines_from number) (left_at told held None) ≡ None
+none_by true held number = refl
+none_by false held number = refl
+
+some_by : (told : Bool) (held : List ℕ) (number : ℕ) (rest : List ℕ) → option_map (lines_from number) (left_at told held (Some rest)) ≡ None → ⊥
+some_by true held number rest e = cc
+some_by false held number rest e = cc
+
+unknown_by : (a b : Option (List ℕ)) (t u : Bool) (h k : List ℕ) (n m : ℕ) → b ≡ a → option_map (lines_from n) (left_at t h a) ≡ None → option_map (lines_from m) (left_at u k b) ≡ None
+unknown_by None b t u h k n m e none = ap (λ o. option_map (lines_from m) (left_at u k o)) e ∙ none_by u k m
+unknown_by (Some rest) b t u h k n m e none = absurd (some_by t h n rest none)
+
+-- if no bytes are known, none are once lines were taken
+still_unknown : {S : Type 0} (left : S → Option (List ℕ)) (old new : LineReader S) → source_of new ≡ source_of old → lines_left left old ≡ None → lines_left left new ≡ None
+unfolding bytes_left
+still_unknown left old new same none =
+    unknown_by (left (source_of old)) (left (source_of new)) (end_told old) (end_told new) (held old) (held new) (suc (lines_given old)) (suc (lines_given new)) (ap left same) none
+
+-- what is good after items that were taken
+taken_good : {A State : Type 0} (format : Format A State) (input : Input) (state : State) (number : ℕ) (items : List A) (a b : Option (List TextLine)) → IfSome a (AreNumbered number) → IfSome a (λ all. LinesSay format state all items)
+    → (a ≡ None → b ≡ None) → DropsLines a (length items) b
+    → option_map (with_members (members_from number items)) (option_map (good_behind format input None (state_behind format state items)) b) ≡ option_map (good_behind format input None state) a
+taken_good {A} {State} format input state number items None b n say none drops =
+    ap (λ o. option_map (with_members (members_from number items)) (option_map (good_behind format input None (state_behind format state items)) o)) (none refl)
+taken_good {A} {State} format input state number items (Some all) b n say none drops =
+    ap (λ o. option_map (with_members (members_from number items)) (option_map (good_behind format input None (state_behind format state items)) o)) drops
+    ∙ ap Some (good_said format input number state all items n say)
+
+say_all : {A State : Type 0} (format : Format A State) (state : State) (front : List TextLine) (items : List A) (all : Option (List TextLine)) → IfSome all (λ lines. take (length front) lines ≡ front) → LinesSay format state front items
+    → IfSome all (λ lines. LinesSay format state lines items)
+say_all format state front items None e say = tt
+say_all format state front items (Some all) e say = say_front format state front all items e say
+
+-- items that lines say are the first of what is good
+begins_good : {A State : Type 0} (format : Format A State) (input : Input) (state : State) (number : ℕ) (items : List A) (a : Option (List TextLine)) → IfSome a (AreNumbered number) → IfSome a (λ all. LinesSay format state all items)
+    → IfSome (option_map (good_behind format input None state) a) (λ good. (rest : List (Member A)) × (good.members ≡ members_from number items ++ rest))
+begins_good format input state number items None n say = tt
+begins_good {A} {State} format input state number items (Some all) n say =
+    ((good_from format input (state_behind format state items) (drop (length items) all)).members, sym (ap (λ (good : Good A). good.members) (good_said format input number state all items n say)))
+
+begins_none : {A : Type 0} (good : Option (Good A)) (number : ℕ) (items : List A) → items ≡ [] → IfSome good (λ good. (rest : List (Member A)) × (good.members ≡ members_from number items ++ rest))
+begins_none None number items none = tt
+begins_none {A} (Some good) number items none = (good.members, ap (λ (l : List A). members_from number l ++ good.members) (sym none))
+
+cond_left : (b : Bool) (run more : List Feature) → b ≡ is_some_left more → run ≡ more → (if b then run else []) ≡ more
+cond_left true run more e same = same
+cond_left false run [] e same = refl
+cond_left false run (r ∷ more) e same = cc
+
+pub is_ahead_by : (b : Bool) (run : List Feature) (r : Feature) (more : List Feature) → (if b then run else []) ≡ r ∷ more → (b ≡ true) × (run ≡ r ∷ more)
+is_ahead_by true run r more e = (refl, e)
+is_ahead_by false run r more e = cc
+
+some_taken : (n : ℕ) (records : List Feature) → 0 < n → n ≤ length records → (r : Feature) × (taken : List Feature) × (take n records ≡ r ∷ taken) × (records ≡ r ∷ (taken ++ drop n records)) × (n ≡ length (r ∷ taken))
+some_taken n [] some within = absurd (omega (arith, some, within))
+some_taken n (r ∷ records) some within =
+    let less : n ≡ suc (n - 1) = omega (arith, some) in (
+      r,
+      take (n - 1) records,
+      ap (λ k. take k (r ∷ records)) less,
+      ap (λ l. r ∷ l) (sym (take-append-drop (n - 1) records)) ∙ ap (λ k. r ∷ (take (n - 1) records ++ drop k (r ∷ records))) (sym less),
+      omega (arith, less, length-take (n - 1) records, within),
+    )
+
+-- a record that is said lies on a known chromosome
+knows_said : (sorting : Sorting) (state : Option Locus) (text : List ℕ) (r : Feature) → line_says sorting state text ≡ Ok (Some r) → IsTrue (sorting.knows r.chrom)
+knows_said sorting state text r e = (line_said sorting state text r e).known
+
+known_last : (sorting : Sorting) (state : Option Locus) (r : Feature) (records more : List Feature) (last : Option Locus) → AreSaid (bed_format sorting) state ((r ∷ records) ++ more) → last ≡ state_behind (bed_format sorting) state (r ∷ records)
+    → ForSome last (λ place. IsTrue (sorting.knows place.chrom))
+known_last sorting state r [] more last said e place is =
+    let same : locus_at r ≡ place = let both : Some (locus_at r) ≡ Some place = sym e ∙ is in cc in
+    subst (λ (p : Locus). IsTrue (sorting.knows p.chrom)) same (knows_said sorting state said.0.0.text r said.0.1)
+known_last sorting state r (x ∷ records) more last said e place is = known_last sorting (Some (locus_at r)) x records more last said.1 e place is
+
+module _ {S Q : Type 0} (left : S → Option (List ℕ)) (end : S → Bool) (sorting : Sorting) (old : SortedReader S Q) (reader : LineReader S) (neighbours : Neighbours Q) (is_ahead : Bool) (consumed : Consumed) (is : IsTaken old consumed) (some : 0 < count_in old consumed)
+    (placed : IsPlaced sorting (view_in sorting old)) (takes : TakesLines left end old.reader consumed.lines reader) (makes : MakesLast old.neighbours consumed.start neighbours)
+    (ahead : is_ahead ≡ consumed.is_ahead) where
+  abbrev pub now : MemberReader S Feature (Option Locus)
+  now = view_with sorting (option_map told old.fault) reader neighbours (ahead_of is_ahead reader neighbours)
+
+  abbrev pub n : ℕ
+  n = count_in old consumed
+
+  abbrev pub taken : List Feature
+  taken = take n (buffered_in old)
+
+  abbrev pub rest : List Feature
+  rest = drop n (buffered_in old)
+
+  split : buffered_in old ≡ taken ++ rest
+  split = sym (take-append-drop n (buffered_in old))
+
+  -- the lines that are buffered then
+  lines_then : lines_buffered reader ≡ drop n (lines_buffered old.reader)
+  unfolding buffered_bytes is_open lines_given
+  lines_then =
+      ap (λ o. buffered_lines o (lines_given reader) (buffered_bytes reader)) takes.open_is
+      ∙ ap (λ k. buffered_lines (is_open old.reader) k (buffered_bytes reader)) takes.given
+      ∙ ap (buffered_lines (is_open old.reader) consumed.lines.lines) takes.bytes
+      ∙ is.lines.left_is
+
+  parts : (r : Feature) × (more : List Feature) × (take n (buffered_in old) ≡ r ∷ more) × (buffered_in old ≡ r ∷ (more ++ drop n (buffered_in old))) × (n ≡ length (r ∷ more))
+  parts = some_taken n (buffered_in old) some is.within
+
+  was : (old.is_ahead ≡ true) × (run_of (name_in old.neighbours) (start_in old.neighbours) (lines_buffered old.reader) ≡ parts.0 ∷ (parts.1 ++ rest))
+  unfolding buffered_in
+  was = is_ahead_by old.is_ahead (run_of (name_in old.neighbours) (start_in old.neighbours) (lines_buffered old.reader)) parts.0 (parts.1 ++ rest) parts.3
+
+  run_then : run_of (name_in neighbours) (start_in neighbours) (lines_buffered reader) ≡ rest
+  run_then =
+      let start : start_in neighbours ≡ last_start (start_in old.neighbours) (parts.0 ∷ parts.1) =
+      makes.start_is ∙ is.start ∙ ap (last_start (start_in old.neighbours)) parts.2 in
+      let lines : lines_buffered reader ≡ drop (length (parts.0 ∷ parts.1)) (lines_buffered old.reader) = lines_then ∙ ap (λ k. drop k (lines_buffered old.reader)) parts.4 in
+      ap (λ m. run_of m (start_in neighbours) (lines_buffered reader)) makes.name_is
+      ∙ ap (λ s. run_of (name_in old.neighbours) s (lines_buffered reader)) start
+      ∙ ap (run_of (name_in old.neighbours) (last_start (start_in old.neighbours) (parts.0 ∷ parts.1))) lines
+      ∙ run_behind (name_in old.neighbours) (start_in old.neighbours) (lines_buffered old.reader) (parts.0 ∷ parts.1) rest was.1
+
+  buffered_then : ahead_of is_ahead reader neighbours ≡ rest
+  buffered_then = cond_left is_ahead (run_of (name_in neighbours) (start_in neighbours) (lines_buffered reader)) rest (ahead ∙ is.ahead) run_then
+
+  going : (view_in sorting old).fault ≡ None
+  unfolding view_with
+  going = placed.going (ap is_some_left parts.3)
+
+  none_kept : or_else (option_map told old.fault) (line_fault old.reader) ≡ None
+  unfolding view_with
+  none_kept = going
+
+  order_all : are_in_order sorting (last_in old.neighbours) (buffered_in old) ≡ true
+  unfolding view_with
+  order_all = placed.in_order
+
+  said_all : AreSaid (bed_format sorting) (last_in old.neighbours) (buffered_in old)
+  said_all = order_is_said sorting (last_in old.neighbours) (name_in old.neighbours) (start_in old.neighbours) (lines_buffered old.reader) (buffered_in old) (was.1 ∙ sym parts.3) order_all
+
+  say_those : LinesSay (bed_format sorting) (last_in old.neighbours) (lines_buffered old.reader) taken
+  say_those =
+      say_fewer (bed_format sorting) (last_in old.neighbours) (lines_buffered old.reader) taken rest
+      (run_says sorting (last_in old.neighbours) (name_in old.neighbours) (start_in old.neighbours) (lines_buffered old.reader) (taken ++ rest)
+      (was.1 ∙ sym parts.3 ∙ split) (subst (AreSaid (bed_format sorting) (last_in old.neighbours)) split said_all))
+
+  count_is : n ≡ length taken
+  count_is = parts.4 ∙ ap length (sym parts.2)
+
+  state_then : last_in neighbours ≡ state_behind (bed_format sorting) (last_in old.neighbours) taken
+  state_then =
+      makes.last ∙ ap (λ s. Some (record { chrom = name_in old.neighbours; start = s })) (is.start ∙ ap (last_start (start_in old.neighbours)) parts.2)
+      ∙ sym (ap (state_behind (bed_format sorting) (last_in old.neighbours)) parts.2
+      ∙ place_behind sorting (last_in old.neighbours) (name_in old.neighbours) (start_in old.neighbours) (lines_buffered old.reader) parts.0 parts.1 rest was.1)
+
+  fault_then : now.fault ≡ (view_in sorting old).fault
+  unfolding view_with
+  fault_then = ap (or_else (option_map told old.fault)) takes.fault_is
+
+  good_then : option_map (with_members (members_from (suc (lines_given old.reader)) taken)) (good_coming left now) ≡ good_coming left (view_in sorting old)
+  unfolding good_coming view_with
+  good_then =
+      let format = bed_format sorting in
+      let state = last_in old.neighbours in
+      let drops : DropsLines (lines_left left old.reader) (length taken) (lines_left left reader) = subst (λ k. DropsLines (lines_left left old.reader) k (lines_left left reader)) (is.lines.feeds ∙ count_is) takes.left_is in
+      rw (ap (or_else (option_map told old.fault)) takes.fault_is ∙ none_kept, none_kept, state_then, takes.input_is)
+      (taken_good format (input_of old.reader) state (suc (lines_given old.reader)) taken (lines_left left old.reader) (lines_left left reader) (left_numbered left end old.reader)
+      (say_all format state (lines_buffered old.reader) taken (lines_left left old.reader) (is_prefix left old.reader) say_those) (still_unknown left old.reader reader takes.source_is) drops)
+
+  pub sorted_takes : Takes left end (view_in sorting old) taken now
+  unfolding view_with
+  sorted_takes = record {
+    buffered = split ∙ ap (λ l. taken ++ l) (sym buffered_then);
+    said = said_fewer (bed_format sorting) (last_in old.neighbours) taken rest (subst (AreSaid (bed_format sorting) (last_in old.neighbours)) split said_all);
+    state = state_then;
+    good = good_then;
+    goes = fault_then;
+    format = refl;
+    given = takes.given ∙ is.lines.given ∙ ap (λ k. lines_given old.reader + k) count_is;
+    below = takes.below;
+    hands = takes.hands;
+    source = takes.source_is;
+    lines = drops_pass (lines_left left old.reader) (lines_left left reader) _ (lines_given reader - lines_given old.reader) takes.left_is (omega (arith, takes.given, is.lines.given, is.lines.feeds));
+    kept = takes.kept;
+    near = λ h. takes.near (some_bytes consumed.lines.bytes (buffered_bytes old.reader) (omega (arith, is.lines.feeds, some)));
+    shrinks = omega (arith, takes.taken_is, takes.shrinks, is.lines.feeds, count_is);
+  }
+
+  known_then : ForSome (last_in neighbours) (λ place. IsTrue (sorting.knows place.chrom))
+  known_then = known_last sorting (last_in old.neighbours) parts.0 parts.1 rest (last_in neighbours) (subst (AreSaid (bed_format sorting) (last_in old.neighbours)) (split ∙ ap (λ l. l ++ rest) parts.2) said_all) (state_then ∙ ap (state_behind (bed_format sorting) (last_in old.neighbours)) parts.2)
+
+  pub sorted_placed : IsPlaced sorting now
+  unfolding view_with
+  sorted_placed = record {
+    last = known_then;
+    in_order = ap (are_in_order sorting (last_in neighbours)) buffered_then
+        ∙ ap (λ s. are_in_order sorting s rest) state_then ∙ order_behind sorting (last_in old.neighbours) taken rest (ap (are_in_order sorting (last_in old.neighbours)) (sym split) ∙ order_all);
+    going = λ e. fault_then ∙ going;
+  }
+
+  pub sorted_ahead : is_ahead ≡ true → is_some_left (ahead_of is_ahead reader neighbours) ≡ true
+  sorted_ahead e = ap is_some_left buffered_then ∙ sym (ahead ∙ is.ahead) ∙ e
+
+  pub was_ahead : old.is_ahead ≡ true
+  was_ahead = was.0
+
+-- the records that are buffered are the first of those still to come
+module _ {S Q : Type 0} (left : S → Option (List ℕ)) (end : S → Bool) (sorting : Sorting) (sorted : SortedReader S Q) (placed : IsPlaced sorting (view_in sorting sorted)) where
+  some_comes : (r : Feature) (more : List Feature) → buffered_in sorted ≡ r ∷ more → BeginsComing left (view_in sorting sorted)
+  unfolding good_coming view_with buffered_in
+  some_comes r more e =
+      let format = bed_format sorting in
+      let reader = sorted.reader in
+      let state = last_in sorted.neighbours in
+      let run = is_ahead_by sorted.is_ahead (run_of (name_in sorted.neighbours) (start_in sorted.neighbours) (lines_buffered reader)) r more e in
+      let is : run_of (name_in sorted.neighbours) (start_in sorted.neighbours) (lines_buffered reader) ≡ buffered_in sorted = run.1 ∙ sym e in
+      let said = order_is_said sorting state (name_in sorted.neighbours) (start_in sorted.neighbours) (lines_buffered reader) (buffered_in sorted) is placed.in_order in
+      let say = run_says sorting state (name_in sorted.neighbours) (start_in sorted.neighbours) (lines_buffered reader) (buffered_in sorted) is said in
+      let all = say_all format state (lines_buffered reader) (buffered_in sorted) (lines_left left reader) (is_prefix left reader) say in
+      subst (λ own. IfSome (option_map (good_behind format (input_of reader) own state) (lines_left left reader))
+      (λ good. (rest : List (Member Feature)) × (good.members ≡ members_from (suc (lines_given reader)) (buffered_in sorted) ++ rest)))
+      (sym (placed.going (ap is_some_left e)))
+      (begins_good format (input_of reader) state (suc (lines_given reader)) (buffered_in sorted) (lines_left left reader) (left_numbered left end reader) all)
+
+  comes_by : (items : List Feature) → buffered_in sorted ≡ items → BeginsComing left (view_in sorting sorted)
+  unfolding view_with
+  comes_by [] e = begins_none (good_coming left (view_in sorting sorted)) (suc (lines_given sorted.reader)) (buffered_in sorted) e
+  comes_by (r ∷ more) e = some_comes r more e
+
+  pub sorted_comes : BeginsComing left (view_in sorting sorted)
+  sorted_comes = comes_by (buffered_in sorted) refl
+
+-- a line that says a record which fits begins the records that are buffered then
+module _ {Q : Type 0} (sorting : Sorting) (old new : Neighbours Q) (line : TextLine) (more : List TextLine) (r : Feature) (says : line_says sorting (last_in old) line.text ≡ Ok (Some r)) (holds : HoldsChrom old r.chrom new) where
+  pub found_run : run_of (name_in new) (start_in new) (line ∷ more) ≡ r ∷ run_of (name_in new) r.start more
+  found_run =
+      let said = line_said sorting (last_in old) line.text r says in
+      let above : start_in new ≤ r.start = subst (λ (n : ℕ). n ≤ r.start) (sym holds.start_is) (fits_above sorting (last_in old) r said.stays) in
+      run_some (name_in new) (start_in new) line more r (placed_there (name_in new) (start_in new) line.text r said.says (sym holds.name_is) above)
+
+  pub found_said : AreSaid (bed_format sorting) (last_in old) (run_of (name_in new) (start_in new) (line ∷ more))
+  found_said =
+      let said = line_said sorting (last_in old) line.text r says in
+      let place : ◌≡◌ {A = Locus} (record { chrom = name_in new; start = r.start }) (locus_at r) = ap (λ (n : List ℕ). record { chrom = n; start = r.start }) holds.name_is in
+      let known : IsTrue (sorting.knows (name_in new)) = subst (λ n. IsTrue (sorting.knows n)) (sym holds.name_is) said.known in
+      subst (AreSaid (bed_format sorting) (last_in old)) (sym found_run)
+      ((line, says), subst (λ (p : Locus). AreSaid (bed_format sorting) (Some p) (run_of (name_in new) r.start more)) place (run_is_said sorting (name_in new) r.start more (run_of (name_in new) r.start more) known refl))
+
+  pub found_buffered : (lines : List TextLine) → lines ≡ line ∷ more → run_of (name_in new) (start_in new) lines ≡ r ∷ run_of (name_in new) r.start more
+  found_buffered lines e = ap (run_of (name_in new) (start_in new)) e ∙ found_run
+
+  pub found_in_order : (lines : List TextLine) → lines ≡ line ∷ more → are_in_order sorting (last_in old) (run_of (name_in new) (start_in new) lines) ≡ true
+  found_in_order lines e =
+      ap (λ l. are_in_order sorting (last_in old) (run_of (name_in new) (start_in new) l)) e ∙ said_in_order sorting (last_in old) (run_of (name_in new) (start_in new) (line ∷ more)) found_said
+
+  pub found_some : (lines : List TextLine) → lines ≡ line ∷ more → is_some_left (run_of (name_in new) (start_in new) lines) ≡ true
+  found_some lines e = ap is_some_left (found_buffered lines e)
+
+-- a line that was taken as a record says one
+pub record Found {Q : Type 0} (sorting : Sorting) (old new : Neighbours Q) (text : List ℕ) : Type 0 where
+  pub r : Feature
+  pub says : line_says sorting (last_in old) text ≡ Ok (Some r)
+  pub holds : HoldsChrom old r.chrom new
+
+found_by : {Q : Type 0} (sorting : Sorting) (old new : Neighbours Q) (text : List ℕ) (said : Option Feature) → line_says sorting (last_in old) text ≡ Ok said → true ≡ is_some said → IfSome said (λ r. HoldsChrom old r.chrom new) → Found sorting old new text
+found_by sorting old new text None says e holds = absurd (false≢true (sym e))
+found_by sorting old new text (Some r) says e holds = record { r = r; says = says; holds = holds }
+
+pub found_of : {Q : Type 0} (sorting : Sorting) (old new : Neighbours Q) (text : List ℕ) → LineTaken sorting text old true new → Found sorting old new text
+found_of sorting old new text taken = found_by sorting old new text taken.said taken.says taken.is taken.ahead
+
+said_none : (said : Option Feature) → false ≡ is_some said → said ≡ None
+said_none None e = refl
+said_none (Some r) e = absurd (false≢true e)
+
+-- one that wasn't says nothing
+pub skipped_of : {Q : Type 0} (sorting : Sorting) (old new : Neighbours Q) (text : List ℕ) → LineTaken sorting text old false new → line_says sorting (last_in old) text ≡ Ok None
+skipped_of sorting old new text taken = taken.says ∙ ap (λ o. Ok o) (said_none taken.said taken.is)

@@ -1,0 +1,461 @@
+-- Lemmas on a step of a reader of members, whatever the lines say.
+use Rattle.std.proofs.Common.{◌≡◌, ℕ, suc, ◌-◌, ◌^◌, ◌<◌, ◌≤◌, Bool, true, false, List, [], ◌∷◌, ◌++◌, drop, take, length, Option, Some, None, Ok, Err, refl, sym, ap, ◌∙◌, subst, arith, inl, inr}
+use Rattle.std.specs.Prelude.{◌⊎◌, IsSome, IfSome, option_map}
+use Rattle.std.proofs.lemmas.Bool.{false≢true}
+use Rattle.bt_lines.proofs.lemmas.reader.lines.ReaderLemmas.{not_told}
+use Rattle.bt_lines.specs.model.Fault.{Told, read_failed, no_memory}
+use Rattle.bt_lines.specs.calls.LentLine.{GivesFirst}
+use Rattle.bt_lines.specs.model.Lines.{TextLine, AreNumbered}
+use Rattle.bt_lines.specs.calls.Reader.{Hands, IsKept, MakesLine, SameLines, FailsToRead, GivesEnd, GivesFault, buffered_bytes, buffered_in, source_of, input_of, lines_given, end_told, has_ended, lines_left, room as line_room, fault_kept as line_fault}
+use Rattle.bt_lines.specs.declared.fault.Input.{Input}
+use Rattle.bt_lines.specs.declared.fault.Kind.{Kind}
+use Rattle.bt_lines.specs.declared.reader.line_reader.LineReader.{LineReader}
+use Rattle.bt_bed.proofs.lemmas.read.good.GoodLemmas.{beyond_from}
+use Rattle.bt_lines.proofs.lemmas.reader.lines.ReaderLemmas.{hands_none, hands_both}
+use Rattle.bt_bed.proofs.lemmas.read.good.CameLemmas.{Came, LineCame, came_line, came_made, came_none, cut_fault, front_line, left_numbered, near_came, near_fault, same_room}
+use Rattle.bt_lines.proofs.lemmas.reader.lines.TakingLemmas.{given_below, is_prefix, next_below}
+use Rattle.bt_bed.specs.model.input.Good.{with_member, Format, Good, Member, ends_with, good, good_from}
+use Rattle.bt_bed.specs.model.input.GoodLines.{IsBeyond}
+use Rattle.bt_bed.specs.model.feature.LineKind.{fault_at_line, is_of_line}
+use Rattle.bt_bed.specs.calls.Reading.{MemberReader, Remains, first_from, good_behind, good_coming, with_members, Stays, Takes, GivesMember, EndsMembers, LineIsWrong, RunsOut, Cause, AnswersFault}
+
+pub remains_same : {A : Type 0} (a : Option (Good A)) → Remains a a
+remains_same None = tt
+remains_same (Some good) = refl
+
+remains_further : {A : Type 0} (a b c : Option (Good A)) → Remains a b → Remains b c → Remains a c
+remains_further None b c p q = tt
+remains_further (Some good) None c p q = absurd p
+remains_further (Some good) (Some mid) None p q = absurd q
+remains_further (Some good) (Some mid) (Some new) p q = q ∙ p
+
+remains_if : {A : Type 0} (a b : Option (Good A)) (P : Good A → Type 0) → Remains a b → IfSome b P → IfSome a P
+remains_if None b P r h = tt
+remains_if (Some good) None P r h = absurd r
+remains_if (Some good) (Some new) P r h = subst P r h
+
+module _ {A State : Type 0} (format : Format A State) (input : Input) (state : State) where
+  said_none : (line : TextLine) (lines : List TextLine) → format.says state line ≡ Ok None → good_from format input state lines ≡ good_from format input state (line ∷ lines)
+  unfolding good_from
+  said_none line lines e = rw e refl
+
+  said_some : (line : TextLine) (lines : List TextLine) (item : A) → format.says state line ≡ Ok (Some item)
+      → good_from format input state (line ∷ lines) ≡ with_member (record { line = line.number; item = item }) (good_from format input (format.after state item) lines)
+  unfolding good_from
+  said_some line lines item e = rw e refl
+
+  -- after a line that says nothing what was to come still comes
+  good_line : (line : TextLine) (a b : Option (List TextLine)) → GivesFirst a line b → format.says state line ≡ Ok None
+      → Remains (option_map (good_behind format input None state) a) (option_map (good_behind format input None state) b)
+  good_line line None b g e = tt
+  good_line line (Some xs) None g e = absurd g
+  good_line line (Some xs) (Some ys) g e = said_none line ys e ∙ ap (good_from format input state) (sym g)
+
+  -- the member that a line says comes first
+  good_first : (line : TextLine) (item : A) (a : Option (List TextLine)) → IfSome a (λ lines. (rest : List TextLine) × (lines ≡ line ∷ rest)) → format.says state line ≡ Ok (Some item)
+      → IfSome (option_map (good_behind format input None state) a) (λ good. (rest : List (Member A)) × (good.members ≡ record { line = line.number; item = item } ∷ rest))
+  good_first line item None h e = tt
+  good_first line item (Some lines) h e =
+      ((good_from format input (format.after state item) h.0).members, ap (λ l. (good_from format input state l).members) h.1 ∙ ap (λ g. g.members) (said_some line h.0 item e))
+
+  wrong_good : (line : TextLine) (lines : List TextLine) (kind : Kind) → format.says state line ≡ Err kind
+      → good_from format input state (line ∷ lines) ≡ ends_with (Some (fault_at_line input line.number kind))
+  unfolding good_from
+  wrong_good line lines kind e = rw e refl
+
+  -- a line at fault is all that was to come
+  good_fault : (line : TextLine) (a b : Option (List TextLine)) (kind : Kind) → GivesFirst a line b → format.says state line ≡ Err kind
+      → IfSome (option_map (good_behind format input None state) a) (λ good. good ≡ ends_with (Some (fault_at_line input line.number kind)))
+  good_fault line None b kind g e = tt
+  good_fault line (Some xs) None kind g e = absurd g
+  good_fault line (Some xs) (Some ys) kind g e = ap (good_from format input state) g ∙ wrong_good line ys kind e
+
+  -- if no line is left, no member is
+  good_end : (a : Option (List TextLine)) → IfSome a (λ lines. lines ≡ [])
+      → IfSome (option_map (good_behind format input None state) a) (λ good. good ≡ ends_with None)
+  unfolding good_from
+  good_end None h = tt
+  good_end (Some xs) h = ap (good_from format input state) h
+
+remains_lines : {A State : Type 0} (format : Format A State) (input : Input) (state : State) (a b : Option (List TextLine)) → SameLines a b
+    → Remains (option_map (good_behind format input None state) a) (option_map (good_behind format input None state) b)
+remains_lines format input state None b s = tt
+remains_lines format input state (Some xs) None s = cc
+remains_lines format input state (Some xs) (Some ys) s = let same : ys ≡ xs = cc in ap (good_from format input state) same
+
+buffered_below : {S : Type 0} (reader : LineReader S) → 0 < length (buffered_bytes reader) → suc (lines_given reader) < 2 ^ 63
+unfolding buffered_bytes
+buffered_below reader some = next_below reader some
+
+none_ahead : {A : Type 0} (line : ℕ) (items : List A) → items ≡ [] → IsSome (first_from line items) → ⊥
+none_ahead line [] e some = false≢true some
+none_ahead line (x ∷ xs) e some = cc
+
+all_given : (a b : Option (List TextLine)) (i k : ℕ) → IfSome a (λ all. b ≡ Some (drop i all)) → IfSome b (λ lines. lines ≡ []) → k ≡ i → IfSome a (λ all. drop k all ≡ [])
+all_given None b i k p q e = tt
+all_given (Some all) None i k p q e = cc
+all_given (Some all) (Some some) i k p q e = let same : some ≡ drop i all = cc in ap (λ n. drop n all) e ∙ sym same ∙ q
+
+beyond_lines : {A State : Type 0} (format : Format A State) (input : Input) (state : State) (count : ℕ) (lines : Option (List TextLine)) → IfSome lines (AreNumbered (suc count)) → IfSome (option_map (good_behind format input None state) lines) (IsBeyond count)
+beyond_lines format input state count None n = tt
+beyond_lines format input state count (Some lines) n = beyond_from format input count state lines n
+
+module _ {S A State : Type 0} (left : S → Option (List ℕ)) (failed end : S → Bool) where
+  -- what is still to come, without a fault
+  pub good_is : (reader : MemberReader S A State) → reader.fault ≡ None
+      → good_coming left reader ≡ option_map (good_behind reader.format (input_of reader.below) None reader.state) (lines_left left reader.below)
+  unfolding good_coming
+  good_is reader going = rw going refl
+
+  stays_same : (reader : MemberReader S A State) → Stays left reader reader
+  stays_same reader = record { bytes = ([], hands_none left reader.below); format = refl }
+
+  -- a fault that is kept is returned
+  pub fault_again : (old : MemberReader S A State) (fault : Told) → old.fault ≡ Some fault → old.buffered ≡ [] → AnswersFault left failed end old fault old
+  fault_again old fault kept none = record {
+    kept = kept;
+    was_none = none;
+    none_buffered = none;
+    state = refl;
+    again = λ before was. (let both : Some fault ≡ Some before = sym kept ∙ was in cc, refl);
+    first = λ was. absurd (let apart : None ≡ Some fault = sym was ∙ kept in cc);
+    stays = stays_same old;
+    rises = omega arith;
+    lines = λ none. (came_none left end old.below).lines;
+    near = λ going. cc;
+  }
+
+  -- lines were read from the reader
+  pub record Begun (old : MemberReader S A State) : Type 0 where
+    pub was_going : old.fault ≡ None
+    pub not_told : has_ended old.below ≡ false
+
+  -- how far a step is: no member has come yet, and no fault but one of the reader of lines
+  pub record Going (old now : MemberReader S A State) : Type 0 where
+    pub good : Remains (good_coming left old) (good_coming left now)
+    pub was_none : old.buffered ≡ []
+    pub none_buffered : now.buffered ≡ []
+    pub begun : (now ≡ old) ⊎ Begun old
+    pub rest : now.fault ≡ line_fault now.below
+    pub going : old.fault ≡ None → now.fault ≡ None
+    pub state : now.state ≡ old.state
+    pub format : now.format ≡ old.format
+    pub passed : Came left end old.below now.below
+    pub served : failed (source_of now.below) ≡ failed (source_of old.below)
+    pub shrinks : line_room now.below ≤ line_room old.below
+
+  -- the reader of lines moved, and nothing more is known after it
+  pub record Follows (now new : MemberReader S A State) : Type 0 where
+    pub state : new.state ≡ now.state
+    pub format : new.format ≡ now.format
+
+  module _ (old : MemberReader S A State) where
+    pub going_start : old.buffered ≡ [] → old.fault ≡ line_fault old.below → Going old old
+    going_start none rest = record {
+      good = remains_same (good_coming left old);
+      was_none = none;
+      none_buffered = none;
+      begun = inl refl;
+      rest = rest;
+      going = λ going. going;
+      state = refl;
+      format = refl;
+      passed = came_none left end old.below;
+      served = refl;
+      shrinks = omega arith;
+    }
+
+    begun_by : (now : MemberReader S A State) (line : TextLine) (reader : LineReader S) → (now ≡ old) ⊎ Begun old → now.fault ≡ line_fault now.below → LineCame left failed now.below line reader → Begun old
+    begun_by now line reader (inl same) rest gives = record { was_going = ap (λ r. r.fault) (sym same) ∙ rest ∙ gives.was_going.0; not_told = ap (λ r. has_ended r.below) (sym same) ∙ gives.was_going.1 }
+    begun_by now line reader (inr begun) rest gives = record { was_going = begun.was_going; not_told = begun.not_told }
+
+    -- the old reader had no fault
+    was_faultless : (now : MemberReader S A State) → Going old now → line_fault now.below ≡ None → old.fault ≡ None
+    was_faultless now g going = elim g.begun [
+      | inl same ↦ ap (λ r. r.fault) (sym same) ∙ g.rest ∙ going
+      | inr begun ↦ begun.was_going
+    ]
+
+    more_bytes : (now : MemberReader S A State) (reader : LineReader S) → Going old now → (bytes : List ℕ) × Hands left now.below bytes reader → (bytes : List ℕ) × Hands left old.below bytes reader
+    more_bytes now reader g more = (g.passed.bytes.0 ++ more.0, hands_both left old.below now.below reader g.passed.bytes.0 more.0 g.passed.bytes.1 more.1)
+
+    stays_more : (now new : MemberReader S A State) → Going old now → (bytes : List ℕ) × Hands left now.below bytes new.below → Follows now new → Stays left old new
+    stays_more now new g more follows = record { bytes = more_bytes now new.below g more; format = follows.format ∙ g.format }
+
+    -- the lines consumed and the one given
+    passed_more : (now new : MemberReader S A State) (line : TextLine) → Going old now → LineCame left failed now.below line new.below → (IsKept left end now.below → IsKept left end new.below) → Came left end old.below new.below
+    passed_more now new line g gives sound = came_line left end failed old.below now.below new.below g.passed line gives sound
+
+    -- what is still to come lies after the lines given
+    beyond : (now : MemberReader S A State) → Going old now → line_fault now.below ≡ None → IfSome (good_coming left old) (IsBeyond (lines_given now.below))
+    beyond now g going =
+        remains_if (good_coming left old) (good_coming left now) (IsBeyond (lines_given now.below)) g.good
+        (rw (good_is now (g.rest ∙ going)) (beyond_lines now.format (input_of now.below) now.state (lines_given now.below) (lines_left left now.below) (left_numbered left end now.below)))
+
+    same_input : (now : MemberReader S A State) → Going old now → input_of now.below ≡ input_of old.below
+    same_input now g = g.passed.bytes.1.same_input
+
+    -- what is to come, once a line said nothing
+    good_taken : (now new : MemberReader S A State) (line : TextLine) → Going old now → LineCame left failed now.below line new.below
+        → now.format.says now.state line ≡ Ok None → new.fault ≡ None → Follows now new → Remains (good_coming left old) (good_coming left new)
+    good_taken now new line g gives says none follows =
+        let going : now.fault ≡ None = g.rest ∙ gives.was_going.0 in
+        let step = good_line now.format (input_of now.below) now.state line (lines_left left now.below) (lines_left left new.below) gives.first says in
+        let further : Remains (good_coming left now) (good_coming left new) = rw (good_is now going, good_is new none, gives.bytes.1.same_input, follows.state, follows.format) step in
+        remains_further (good_coming left old) (good_coming left now) (good_coming left new) g.good further
+
+    -- a line said nothing
+    pub going_more : (now new : MemberReader S A State) (line : TextLine) → Going old now → LineCame left failed now.below line new.below
+        → (IsKept left end now.below → IsKept left end new.below) → now.format.says now.state line ≡ Ok None → new.buffered ≡ [] → new.fault ≡ line_fault new.below → Follows now new → Going old new
+    going_more now new line g gives sound says ahead rest follows = record {
+      good = good_taken now new line g gives says (rest ∙ gives.goes) follows;
+      was_none = g.was_none;
+      none_buffered = ahead;
+      begun = inr (begun_by now line new.below g.begun g.rest gives);
+      rest = rest;
+      going = λ none. rest ∙ gives.goes;
+      state = follows.state ∙ g.state;
+      format = follows.format ∙ g.format;
+      passed = passed_more now new line g gives sound;
+      served = gives.served ∙ g.served;
+      shrinks = omega (arith, gives.shrinks, g.shrinks);
+    }
+
+    lines_first : (a b : Option (List TextLine)) (line : TextLine) (more buffered : List TextLine) → IfSome b (λ all. take (length buffered) all ≡ buffered) → buffered ≡ line ∷ more → IfSome b (λ lines. (rest : List TextLine) × (lines ≡ line ∷ rest))
+    lines_first a None line more buffered p is = tt
+    lines_first a (Some all) line more buffered p is =
+        (drop 1 all, front_line all line more (subst (λ (l : List TextLine). take (length l) all ≡ l) is p))
+
+    good_same : (now new : MemberReader S A State) → now.fault ≡ None → new.fault ≡ None → MakesLine left failed now.below new.below → Follows now new → Remains (good_coming left now) (good_coming left new)
+    good_same now new going goes makes follows =
+        rw (good_is now going, good_is new goes, makes.bytes.1.same_input, follows.state, follows.format)
+        (remains_lines now.format (input_of now.below) now.state (lines_left left now.below) (lines_left left new.below) makes.same)
+
+    -- a line was made buffered that says a member
+    pub going_member : (now new : MemberReader S A State) (line : TextLine) (more : List TextLine) (item : A) (items : List A) → Going old now → MakesLine left failed now.below new.below
+        → (IsKept left end now.below → IsKept left end new.below) → buffered_in new.below ≡ line ∷ more → line.number ≡ suc (lines_given new.below)
+        → now.format.says now.state line ≡ Ok (Some item) → new.buffered ≡ item ∷ items → new.fault ≡ line_fault new.below → Follows now new
+        → GivesMember left failed old (record { line = line.number; item = item }) new
+    going_member now new line more item items g makes kept first number says buffered rest follows =
+        let m : Member A = record { line = line.number; item = item } in
+        let goes : new.fault ≡ None = rest ∙ makes.goes in
+        let went : now.fault ≡ None = g.rest ∙ makes.was_going.0 in
+        let good = remains_further (good_coming left old) (good_coming left now) (good_coming left new) g.good (good_same now new went goes makes follows) in
+        let came = came_made left end failed old.below now.below new.below g.passed makes kept in
+        let input : input_of new.below ≡ input_of now.below = makes.bytes.1.same_input in
+        let there : IfSome (good_coming left new) (λ good. (rest : List (Member A)) × (good.members ≡ m ∷ rest)) =
+        rw (good_is new goes, follows.state, follows.format)
+        (good_first now.format (input_of new.below) now.state line item (lines_left left new.below) (lines_first (lines_left left now.below) (lines_left left new.below) line more (buffered_in new.below) (is_prefix left new.below) first) says) in
+        record {
+          ahead = ap (first_from (suc (lines_given new.below))) buffered ∙ ap (λ n. Some (record { line = n; item = item })) (sym number);
+          state = follows.state ∙ g.state;
+          good = good;
+          first = remains_if (good_coming left old) (good_coming left new) (λ good. (rest : List (Member A)) × (good.members ≡ m ∷ rest)) good there;
+          said = (line, rw (g.format, g.state) at says);
+          again = λ some. absurd (none_ahead (suc (lines_given old.below)) old.buffered g.was_none some);
+          at = number;
+          rises = came.least;
+          below = omega (arith, number, buffered_below new.below makes.some);
+          served = makes.served ∙ g.served;
+          was_going = was_faultless now g makes.was_going.0;
+          goes = goes ∙ sym (was_faultless now g makes.was_going.0);
+          stays = stays_more now new g (makes.bytes.0, makes.bytes.1) follows;
+          lines = came.lines;
+          near = near_came left end old.below new.below came;
+          shrinks = omega (arith, same_room left failed end now.below new.below new.below makes, g.shrinks);
+        }
+
+    -- a line is at fault
+    wrong_cause : (now new : MemberReader S A State) (line : TextLine) (fault : Told) (kind : Kind) → Going old now → LineCame left failed now.below line new.below
+        → now.format.says now.state line ≡ Err kind → is_of_line kind ≡ true → fault ≡ fault_at_line (input_of old.below) line.number kind → LineIsWrong left failed old fault new
+    wrong_cause now new line fault kind g gives says of_line is =
+        let counted : line.number ≡ lines_given new.below = gives.number ∙ sym gives.counted in
+        let before = good_is now (g.rest ∙ gives.was_going.0) in
+        let none : IfSome (good_coming left now) (λ good. good ≡ ends_with (Some (fault_at_line (input_of now.below) line.number kind))) =
+        rw before (good_fault now.format (input_of now.below) now.state line (lines_left left now.below) (lines_left left new.below) kind gives.first says) in
+        let none_at : IfSome (good_coming left now) (λ good. good ≡ ends_with (Some fault)) = rw is (rw (same_input now g) at none) in
+        record {
+          none_left = remains_if (good_coming left old) (good_coming left now) (λ good. good ≡ ends_with (Some fault)) g.good none_at;
+          kind = kind;
+          line = line;
+          says = rw (g.format, g.state) at says;
+          of_line = of_line;
+          place = is ∙ ap (λ n. fault_at_line (input_of old.below) n kind) counted;
+          rises = omega (arith, g.passed.least, gives.counted);
+          going = gives.goes;
+          served = gives.served ∙ g.served;
+          near = gives.near;
+        }
+
+    first_came : (a b : Option (List TextLine)) (line : TextLine) → GivesFirst a line b → IfSome a (λ lines. (rest : List TextLine) × (lines ≡ line ∷ rest))
+    first_came None b line g = tt
+    first_came (Some xs) None line g = absurd g
+    first_came (Some xs) (Some ys) line g = (ys, g)
+
+    told_first : (good : Option (Good A)) (n line : ℕ) (item : A) → line ≡ n → IfSome good (λ good. (rest : List (Member A)) × (good.members ≡ record { line = line; item = item } ∷ rest))
+        → IfSome good (λ good. (first : A) × (rest : List (Member A)) × (good.members ≡ record { line = n; item = first } ∷ rest))
+    told_first None n line item e h = tt
+    told_first (Some good) n line item e h = (item, h.0, h.1 ∙ ap (λ (k : ℕ). record { line = k; item = item } ∷ h.0) e)
+
+    -- a member that couldn't be kept was good
+    unkept_cause : (now new : MemberReader S A State) (line : TextLine) (fault : Told) (item : A) → Going old now → LineCame left failed now.below line new.below
+        → now.format.says now.state line ≡ Ok (Some item) → fault ≡ no_memory → RunsOut left failed old fault new
+    unkept_cause now new line fault item g gives says is =
+        let IsGood : Good A → Type 0 = λ good. (item : A) × (rest : List (Member A)) × (good.members ≡ record { line = lines_given new.below; item = item } ∷ rest) in
+        let counted : line.number ≡ lines_given new.below = gives.number ∙ sym gives.counted in
+        let first = good_first now.format (input_of now.below) now.state line item (lines_left left now.below) (first_came (lines_left left now.below) (lines_left left new.below) line gives.first) says in
+        let here : IfSome (good_coming left now) IsGood = rw (good_is now (g.rest ∙ gives.was_going.0)) (told_first _ (lines_given new.below) line.number item counted first) in
+        record { is = is; checked = inr (record { first = remains_if (good_coming left old) (good_coming left now) IsGood g.good here; rises = omega (arith, g.passed.least, gives.counted); going = gives.goes; near = gives.near }); served = gives.served ∙ g.served }
+
+    lost_by : (now new : MemberReader S A State) (line : TextLine) (fault : Told) → Going old now → LineCame left failed now.below line new.below → new.fault ≡ Some fault → new.buffered ≡ [] → Follows now new → (IsKept left end now.below → IsKept left end new.below)
+        → Cause left failed end old fault new → AnswersFault left failed end old fault new
+    lost_by now new line fault g gives kept ahead follows sound cause = record {
+      kept = kept;
+      was_none = g.was_none;
+      none_buffered = ahead;
+      state = follows.state ∙ g.state;
+      again = λ before was. absurd (let apart : None ≡ Some before = sym (was_faultless now g gives.was_going.0) ∙ was in cc);
+      first = λ none. cause;
+      stays = stays_more now new g (gives.bytes.0, gives.bytes.1) follows;
+      rises = omega (arith, g.passed.least, gives.counted);
+      lines = λ none. (passed_more now new line g gives sound).lines;
+      near = λ none was. near_came left end old.below new.below (passed_more now new line g gives sound);
+    }
+
+    -- a line was wrong
+    pub going_wrong : (now new : MemberReader S A State) (line : TextLine) (fault : Told) (kind : Kind) → Going old now → LineCame left failed now.below line new.below → new.fault ≡ Some fault → new.buffered ≡ [] → Follows now new → (IsKept left end now.below → IsKept left end new.below)
+        → now.format.says now.state line ≡ Err kind → is_of_line kind ≡ true → fault ≡ fault_at_line (input_of old.below) line.number kind → AnswersFault left failed end old fault new
+    going_wrong now new line fault kind g gives kept ahead follows sound says of_line is =
+        lost_by now new line fault g gives kept ahead follows sound (inl (wrong_cause now new line fault kind g gives says of_line is))
+
+    -- a member had no room
+    pub going_unkept : (now new : MemberReader S A State) (line : TextLine) (fault : Told) (item : A) → Going old now → LineCame left failed now.below line new.below → new.fault ≡ Some fault → new.buffered ≡ [] → Follows now new → (IsKept left end now.below → IsKept left end new.below)
+        → now.format.says now.state line ≡ Ok (Some item) → fault ≡ no_memory → AnswersFault left failed end old fault new
+    going_unkept now new line fault item g gives kept ahead follows sound says is =
+        lost_by now new line fault g gives kept ahead follows sound (inr (inr (unkept_cause now new line fault item g gives says is)))
+
+    -- the line couldn't be read
+    read_cause : (now new : MemberReader S A State) (fault : Told) → Going old now → GivesFault left failed now.below fault new.below → line_fault now.below ≡ None → FailsToRead left failed now.below fault new.below ⊎ (fault ≡ no_memory) → Cause left failed end old fault new
+    read_cause now new fault g gives going (inl fails) =
+        let said = rw (sym gives.counted) at (beyond now g going) in
+        inr (inl (record {
+          fails = record {
+            is = fails.is ∙ ap (λ i. read_failed i (suc (lines_given now.below))) (same_input now g) ∙ ap (λ n. read_failed (input_of old.below) (suc n)) (sym gives.counted);
+            cause = fails.cause;
+            before_end = not_told (end_told old.below) (end_told now.below) g.passed.bytes.1.told_stays (gives.before_end going);
+            cut = cut_fault left end failed old.below now.below new.below g.passed fault gives going fails.is;
+          };
+          passed = said;
+        }))
+    read_cause now new fault g gives going (inr is) =
+        let said = rw (sym gives.counted) at (beyond now g going) in
+        inr (inr (record { is = is; checked = inl (gives.kept ∙ ap Some is, said); served = gives.served is ∙ g.served }))
+
+    again_by : (now new : MemberReader S A State) (fault : Told) → Going old now → GivesFault left failed now.below fault new.below → new.fault ≡ Some fault → (new.below ≡ now.below → new.fault ≡ now.fault → new ≡ now) → (now ≡ old) ⊎ Begun old → (before : Told) → old.fault ≡ Some before
+        → (fault ≡ before) × (new ≡ old)
+    again_by now new fault g gives is track (inl same) before kept =
+        let line_kept : line_fault now.below ≡ Some before = sym g.rest ∙ ap (λ r. r.fault) same ∙ kept in
+        let again = gives.again before line_kept in
+        (again.0, track again.1 (is ∙ ap Some again.0 ∙ sym line_kept ∙ sym g.rest) ∙ same)
+    again_by now new fault g gives is track (inr begun) before kept =
+        absurd (let apart : None ≡ Some before = sym begun.was_going ∙ kept in cc)
+
+    pub going_unread : (now new : MemberReader S A State) (fault : Told) → Going old now → GivesFault left failed now.below fault new.below → new.fault ≡ Some fault → new.buffered ≡ [] → Follows now new → (new.below ≡ now.below → new.fault ≡ now.fault → new ≡ now)
+        → AnswersFault left failed end old fault new
+    going_unread now new fault g gives kept ahead follows track = record {
+      kept = kept;
+      was_none = g.was_none;
+      none_buffered = ahead;
+      state = follows.state ∙ g.state;
+      again = again_by now new fault g gives kept track g.begun;
+      first = λ none. let going = sym g.rest ∙ g.going none in read_cause now new fault g gives going (gives.first going);
+      stays = stays_more now new g gives.bytes follows;
+      rises = omega (arith, g.passed.least, gives.counted);
+      lines = λ none. absurd (let apart : None ≡ Some fault = sym none ∙ gives.kept in cc);
+      near = λ none sound. near_fault left end failed old.below now.below new.below g.passed fault gives (sym g.rest ∙ g.going none);
+    }
+
+    -- no line was left
+    end_again : (now new : MemberReader S A State) → Going old now → GivesEnd left failed now.below new.below → new.fault ≡ line_fault new.below → (new.below ≡ now.below → new.fault ≡ now.fault → new ≡ now) → (now ≡ old) ⊎ Begun old → has_ended old.below ≡ true → new ≡ old
+    end_again now new g gives rest track (inl same) ended =
+        let reader = gives.again (ap (λ r. has_ended r.below) same ∙ ended) in
+        track reader (rest ∙ ap line_fault reader ∙ sym g.rest) ∙ same
+    end_again now new g gives rest track (inr begun) ended = absurd (false≢true (sym begun.not_told ∙ ended))
+
+    room_at_end : (now : LineReader S) (reader : LineReader S) → GivesEnd left failed now reader → line_room reader ≤ line_room now
+    room_at_end now reader gives = let counted = gives.bytes.1.counted in rw gives.nothing_held (omega arith)
+
+    pub going_end : (now new : MemberReader S A State) → Going old now → GivesEnd left failed now.below new.below → new.buffered ≡ [] → new.fault ≡ line_fault new.below → Follows now new → (new.below ≡ now.below → new.fault ≡ now.fault → new ≡ now)
+        → EndsMembers left failed old new
+    going_end now new g gives ahead rest follows track =
+        let none : IfSome (good_coming left now) (λ good. good ≡ ends_with None) =
+        rw (good_is now (g.rest ∙ gives.was_going)) (good_end now.format (input_of now.below) now.state (lines_left left now.below) gives.none_left) in
+        let falls = room_at_end now.below new.below gives in
+        record {
+          none_left = remains_if (good_coming left old) (good_coming left now) (λ good. good ≡ ends_with None) g.good none;
+          none_comes = rw (good_is new (rest ∙ gives.goes)) (good_end new.format (input_of new.below) new.state (lines_left left new.below) gives.none_comes);
+          was_none = g.was_none;
+          none_buffered = ahead;
+          state = follows.state ∙ g.state;
+          ends = gives.ends;
+          told = gives.told;
+          rises = omega (arith, g.passed.least, gives.counted);
+          lines = all_given (lines_left left old.below) (lines_left left now.below) (lines_given now.below - lines_given old.below) (lines_given new.below - lines_given old.below) g.passed.lines gives.none_left (ap (λ n. n - lines_given old.below) gives.counted);
+          again = end_again now new g gives rest track g.begun;
+          served = gives.served ∙ g.served;
+          was_going = was_faultless now g gives.was_going;
+          goes = rest ∙ gives.goes;
+          stays = stays_more now new g (gives.bytes.0, gives.bytes.1) follows;
+          shrinks = omega (arith, falls, g.shrinks);
+        }
+
+  -- a reader that has given no member has all of the good ones left
+  pub good_at_first : (reader : MemberReader S A State) → reader.fault ≡ None → reader.state ≡ reader.format.begin
+      → good_coming left reader ≡ option_map (good reader.format (input_of reader.below)) (lines_left left reader.below)
+  good_at_first reader going begin = good_is reader going ∙ (rw begin refl)
+
+  -- the member ahead is given again
+  pub gives_again : (old : MemberReader S A State) (line : TextLine) (more : List TextLine) (item : A) (items : List A) → old.fault ≡ None → 0 < length (buffered_bytes old.below) → buffered_in old.below ≡ line ∷ more
+      → line.number ≡ suc (lines_given old.below) → old.format.says old.state line ≡ Ok (Some item) → old.buffered ≡ item ∷ items → GivesMember left failed old (record { line = line.number; item = item }) old
+  gives_again old line more item items going some first number says buffered = record {
+    ahead = ap (first_from (suc (lines_given old.below))) buffered ∙ ap (λ n. Some (record { line = n; item = item })) (sym number);
+    state = refl;
+    good = remains_same (good_coming left old);
+    first = rw (good_is old going)
+        (good_first old.format (input_of old.below) old.state line item (lines_left left old.below) (lines_first old (lines_left left old.below) (lines_left left old.below) line more (buffered_in old.below) (is_prefix left old.below) first) says);
+    said = (line, says);
+    again = λ some. refl;
+    at = number;
+    rises = omega arith;
+    below = omega (arith, number, buffered_below old.below some);
+    served = refl;
+    was_going = going;
+    goes = refl;
+    stays = stays_same old;
+    lines = (came_none left end old.below).lines;
+    near = near_came left end old.below old.below (came_none left end old.below);
+    shrinks = omega arith;
+  }
+
+with_none : {A : Type 0} (good : Option (Good A)) → option_map (with_members []) good ≡ good
+with_none None = refl
+with_none (Some good) = refl
+
+-- no member was taken
+pub takes_none : {S A State : Type 0} (left : S → Option (List ℕ)) (end : S → Bool) (reader : MemberReader S A State) → Takes left end reader [] reader
+takes_none left end reader = record {
+  buffered = refl;
+  said = tt;
+  state = refl;
+  good = with_none (good_coming left reader);
+  goes = refl;
+  format = refl;
+  given = omega arith;
+  below = given_below reader.below;
+  hands = hands_none left reader.below;
+  source = refl;
+  lines = (came_none left end reader.below).lines;
+  kept = λ was. was;
+  near = λ some. absurd (omega (arith, some));
+  shrinks = omega arith;
+}

@@ -1,0 +1,229 @@
+-- Lemmas on records that lines say one after another, and on what is good of such lines.
+use Rattle.std.proofs.Common.{◌≡◌, ℕ, suc, ◌≤◌, Bool, true, false, cond, List, [], ◌∷◌, ◌++◌, length, take, drop, Option, Some, None, Result, Ok, Err, refl, sym, ap, ◌∙◌, subst, arith, bytes_eq, nat_lt}
+use Rattle.std.specs.Prelude.{⊤, ◌&&◌, not, IsTrue}
+use Rattle.bt_bed.specs.calls.SortedReader.{are_in_order}
+use Rattle.std.proofs.lemmas.Bool.{false≢true}
+use Rattle.std.proofs.lemmas.Bool.Decides.{nat_tests}
+use Rattle.std.proofs.lemmas.Slice.Eq.{bytes_eq-Decides}
+use Rattle.bt_lines.specs.model.Lines.{AreNumbered, TextLine}
+use Rattle.bt_lines.specs.declared.fault.Input.{Input}
+use Rattle.bt_lines.specs.declared.fault.Kind.{Kind}
+use Rattle.bt_lines.specs.declared.fault.Kind.TheVariants.{OutOfOrder, UnknownChrom}
+use Rattle.bt_bed.proofs.lemmas.laws.GoodBedLemmas.{line_said}
+use Rattle.bt_bed.specs.model.feature.Feature.{Feature}
+use Rattle.bt_bed.specs.model.input.Good.{Format, good_from}
+use Rattle.bt_bed.specs.model.input.GoodBed.{bed_format, line_says, locus_at, said_after}
+use Rattle.bt_bed.specs.model.order.Locus.{Locus}
+use Rattle.bt_bed.specs.calls.Reading.{AreSaid, members_from, state_behind, with_members}
+use Rattle.bt_bed.specs.model.feature.Record.{record_of}
+use Rattle.bt_bed.specs.calls.Run.{last_start, placed_on, record_on, run_of, run_then}
+use Rattle.bt_bed.specs.model.order.Sorting.{Sorting, falls_in}
+
+-- the first of these lines say the items, one after another
+abbrev pub LinesSay : {A State : Type 0} → Format A State → State → List TextLine → List A → Type 0
+LinesSay format state lines [] = ⊤
+LinesSay format state [] (item ∷ items) = ⊥
+LinesSay format state (line ∷ lines) (item ∷ items) = (format.says state line ≡ Ok (Some item)) × LinesSay format (format.after state item) lines items
+
+module _ {A State : Type 0} (format : Format A State) (input : Input) where
+  said_one : (state : State) (line : TextLine) (lines : List TextLine) (item : A) → format.says state line ≡ Ok (Some item)
+      → good_from format input state (line ∷ lines) ≡ with_members (record { line = line.number; item = item } ∷ []) (good_from format input (format.after state item) lines)
+  unfolding good_from
+  said_one state line lines item e = rw e refl
+
+  -- the items are the first of what is good
+  pub good_said : (number : ℕ) (state : State) (lines : List TextLine) (items : List A) → AreNumbered number lines → LinesSay format state lines items
+      → with_members (members_from number items) (good_from format input (state_behind format state items) (drop (length items) lines)) ≡ good_from format input state lines
+  good_said number state lines [] n say = refl
+  good_said number state [] (item ∷ items) n say = absurd say
+  good_said number state (line ∷ lines) (item ∷ items) n say =
+      ap (with_members (record { line = number; item = item } ∷ [])) (good_said (suc number) (format.after state item) lines items n.1 say.1)
+      ∙ ap (λ (k : ℕ). with_members (record { line = k; item = item } ∷ []) (good_from format input (format.after state item) lines)) (sym n.0)
+      ∙ sym (said_one state line lines item say.0)
+
+module _ {A State : Type 0} (format : Format A State) where
+  -- what the first lines say, all lines say
+  pub say_front : (state : State) (front all : List TextLine) (items : List A) → take (length front) all ≡ front → LinesSay format state front items → LinesSay format state all items
+  say_front state front all [] e say = tt
+  say_front state [] all (item ∷ items) e say = absurd say
+  say_front state (line ∷ front) [] (item ∷ items) e say = cc
+  say_front state (line ∷ front) (other ∷ all) (item ∷ items) e say =
+      let same : other ≡ line = cc in
+      let rest : take (length front) all ≡ front = cc in
+      (ap (format.says state) same ∙ say.0, say_front (format.after state item) front all items rest say.1)
+
+  -- and they say the first of it
+  pub say_fewer : (state : State) (lines : List TextLine) (items more : List A) → LinesSay format state lines (items ++ more) → LinesSay format state lines items
+  say_fewer state lines [] more say = tt
+  say_fewer state [] (item ∷ items) more say = absurd say
+  say_fewer state (line ∷ lines) (item ∷ items) more say = (say.0, say_fewer (format.after state item) lines items more say.1)
+
+  pub said_fewer : (state : State) (items more : List A) → AreSaid format state (items ++ more) → AreSaid format state items
+  said_fewer state [] more said = tt
+  said_fewer state (item ∷ items) more said = (said.0, said_fewer (format.after state item) items more said.1)
+
+  pub said_behind : (state : State) (items more : List A) → AreSaid format state (items ++ more) → AreSaid format (state_behind format state items) more
+  said_behind state [] more said = said
+  said_behind state (item ∷ items) more said = said_behind (format.after state item) items more said.1
+
+placed_is_by : (name : List ℕ) (start : ℕ) (said : Result (Option Feature) Kind) (r : Feature) → placed_on name start said ≡ Some r → (said ≡ Ok (Some r)) × (r.chrom ≡ name) × (start ≤ r.start)
+placed_is_by name start (Err kind) r e = cc
+placed_is_by name start (Ok None) r e = cc
+placed_is_by name start (Ok (Some x)) r e = by (bytes_eq x.chrom name) (nat_lt x.start start) refl refl e
+  where
+    by : (b d : Bool) → bytes_eq x.chrom name ≡ b → nat_lt x.start start ≡ d → cond b (cond d None (Some x)) None ≡ Some r → ◌≡◌ {A = Result (Option Feature) Kind} (Ok (Some x)) (Ok (Some r)) × (r.chrom ≡ name) × (start ≤ r.start)
+    by false d p q h = cc
+    by true true p q h = cc
+    by true false p q h =
+        let same : x ≡ r = cc in
+        let above : start ≤ x.start = grind (arith, nat_tests) in
+        (ap (λ (f : Feature). Ok (Some f)) same, ap (λ (f : Feature). f.chrom) (sym same) ∙ (bytes_eq-Decides x.chrom name).0 p, subst (λ (f : Feature). start ≤ f.start) same above)
+
+-- a record of a run is what its line says
+pub record_on_is : (name : List ℕ) (start : ℕ) (text : List ℕ) (r : Feature) → record_on name start text ≡ Some r → (record_of text ≡ Ok (Some r)) × (r.chrom ≡ name) × (start ≤ r.start)
+unfolding record_on
+record_on_is name start text r e = placed_is_by name start (record_of text) r e
+
+-- the head of a run
+run_head : (name : List ℕ) (o : Option Feature) (more : ℕ → List Feature) (r : Feature) (items : List Feature) → run_then o more ≡ r ∷ items → (o ≡ Some r) × (more r.start ≡ items)
+run_head name None more r items e = cc
+run_head name (Some x) more r items e =
+    let same : x ≡ r = cc in
+    (ap Some same, subst (λ (f : Feature). more f.start ≡ items) same (let rest : more x.start ≡ items = cc in rest))
+
+-- the first line of a run
+pub record FirstOfRun (name : List ℕ) (start : ℕ) (lines : List TextLine) (r : Feature) (items : List Feature) : Type 0 where
+  pub line : TextLine
+  pub more : List TextLine
+  pub lines_are : lines ≡ line ∷ more
+  pub says : record_of line.text ≡ Ok (Some r)
+  pub chrom : r.chrom ≡ name
+  pub above : start ≤ r.start
+  pub rest : run_of name r.start more ≡ items
+
+pub first_of_run : (name : List ℕ) (start : ℕ) (lines : List TextLine) (r : Feature) (items : List Feature) → run_of name start lines ≡ r ∷ items → FirstOfRun name start lines r items
+unfolding run_of
+first_of_run name start [] r items e = cc
+first_of_run name start (line ∷ lines) r items e =
+    let head = run_head name (record_on name start line.text) (λ next. run_of name next lines) r items e in
+    let is = record_on_is name start line.text r head.0 in
+    record { line = line; more = lines; lines_are = refl; says = is.0; chrom = is.1; above = is.2; rest = head.1 }
+
+-- what a line says after a place depends on its record alone
+said_after_is : (sorting : Sorting) (state : Option Locus) (said : Result (Option Feature) Kind) (r : Feature) → said_after sorting state said ≡ Ok (Some r) → said ≡ Ok (Some r)
+said_after_is sorting state (Err kind) r e = cc
+said_after_is sorting state (Ok None) r e = cc
+said_after_is sorting state (Ok (Some x)) r e = by (sorting.knows x.chrom) (falls_in sorting state (locus_at x)) e
+  where
+    by : (b d : Bool) → ◌≡◌ {A = Result (Option Feature) Kind} (cond b (cond d (Err OutOfOrder) (Ok (Some x))) (Err UnknownChrom)) (Ok (Some r)) → ◌≡◌ {A = Result (Option Feature) Kind} (Ok (Some x)) (Ok (Some r))
+    by false d h = cc
+    by true true h = cc
+    by true false h = h
+
+pub says_again : (sorting : Sorting) (state : Option Locus) (text other : List ℕ) (r : Feature) → line_says sorting state other ≡ Ok (Some r) → record_of text ≡ Ok (Some r) → line_says sorting state text ≡ Ok (Some r)
+unfolding line_says
+says_again sorting state text other r said e =
+    ap (said_after sorting state) (e ∙ sym (said_after_is sorting state (record_of other) r said)) ∙ said
+
+-- the lines of a run say its records, if each is said after those before it
+pub run_says : (sorting : Sorting) (state : Option Locus) (name : List ℕ) (start : ℕ) (lines : List TextLine) (records : List Feature) → run_of name start lines ≡ records → AreSaid (bed_format sorting) state records
+    → LinesSay (bed_format sorting) state lines records
+run_says sorting state name start lines [] e said = tt
+run_says sorting state name start [] (r ∷ records) e said = let first = first_of_run name start [] r records e in absurd (no_line first.line first.more first.lines_are)
+  where
+    no_line : (line : TextLine) (more : List TextLine) → [] ≡ line ∷ more → ⊥
+    no_line line more h = cc
+run_says sorting state name start (line ∷ lines) (r ∷ records) e said =
+    let first = first_of_run name start (line ∷ lines) r records e in
+    let same : first.line ≡ line = same_line first.line first.more first.lines_are in
+    let more : first.more ≡ lines = same_more first.line first.more first.lines_are in
+    let says : record_of line.text ≡ Ok (Some r) = subst (λ (l : TextLine). record_of l.text ≡ Ok (Some r)) same first.says in (
+      says_again sorting state line.text said.0.0.text r said.0.1 says,
+      run_says sorting (Some (locus_at r)) name r.start lines records (subst (λ l. run_of name r.start l ≡ records) more first.rest) said.1,
+    )
+  where
+    same_line : (x : TextLine) (xs : List TextLine) → line ∷ lines ≡ x ∷ xs → x ≡ line
+    same_line x xs h = cc
+
+    same_more : (x : TextLine) (xs : List TextLine) → line ∷ lines ≡ x ∷ xs → xs ≡ lines
+    same_more x xs h = cc
+
+-- a record on the chromosome of the last place that doesn't start below
+pub says_on : (sorting : Sorting) (name : List ℕ) (start : ℕ) (text : List ℕ) (r : Feature) → IsTrue (sorting.knows name) → record_of text ≡ Ok (Some r) → r.chrom ≡ name → start ≤ r.start
+    → line_says sorting (Some (record { chrom = name; start = start })) text ≡ Ok (Some r)
+unfolding line_says
+says_on sorting name start text r known says on above =
+    let knows : sorting.knows r.chrom ≡ true = subst (λ n. sorting.knows n ≡ true) (sym on) known in
+    let one : bytes_eq name r.chrom ≡ true = (bytes_eq-Decides name r.chrom).1 (sym on) in
+    let test : nat_lt r.start start ≡ false = grind (arith, nat_tests) in
+    ap (said_after sorting (Some (record { chrom = name; start = start }))) says ∙ rw (knows, one, test) refl
+
+-- the records of a run are said after the place that it begins at
+pub run_is_said : (sorting : Sorting) (name : List ℕ) (start : ℕ) (lines : List TextLine) (records : List Feature) → IsTrue (sorting.knows name) → run_of name start lines ≡ records
+    → AreSaid (bed_format sorting) (Some (record { chrom = name; start = start })) records
+run_is_said sorting name start lines [] known e = tt
+run_is_said sorting name start lines (r ∷ records) known e =
+    let first = first_of_run name start lines r records e in
+    let place : ◌≡◌ {A = Locus} (record { chrom = name; start = r.start }) (locus_at r) = ap (λ (n : List ℕ). record { chrom = n; start = r.start }) (sym first.chrom) in (
+      (first.line, says_on sorting name start first.line.text r known first.says first.chrom first.above),
+      subst (λ (p : Locus). AreSaid (bed_format sorting) (Some p) records) place (run_is_said sorting name r.start first.more records known first.rest),
+    )
+
+-- what is left of a run after some of its records
+pub run_behind : (name : List ℕ) (start : ℕ) (lines : List TextLine) (records more : List Feature) → run_of name start lines ≡ records ++ more
+    → run_of name (last_start start records) (drop (length records) lines) ≡ more
+run_behind name start lines [] more e = e
+run_behind name start [] (r ∷ records) more e = let first = first_of_run name start [] r (records ++ more) e in absurd (no_line first.line first.more first.lines_are)
+  where
+    no_line : (line : TextLine) (more : List TextLine) → [] ≡ line ∷ more → ⊥
+    no_line line more h = cc
+run_behind name start (line ∷ lines) (r ∷ records) more e =
+    let first = first_of_run name start (line ∷ lines) r (records ++ more) e in
+    run_behind name r.start lines records more (subst (λ l. run_of name r.start l ≡ records ++ more) (same_more first.line first.more first.lines_are) first.rest)
+  where
+    same_more : (x : TextLine) (xs : List TextLine) → line ∷ lines ≡ x ∷ xs → xs ≡ lines
+    same_more x xs h = cc
+
+-- the place after some records of a run
+pub place_behind : (sorting : Sorting) (state : Option Locus) (name : List ℕ) (start : ℕ) (lines : List TextLine) (r : Feature) (records more : List Feature) → run_of name start lines ≡ r ∷ (records ++ more)
+    → state_behind (bed_format sorting) state (r ∷ records) ≡ Some (record { chrom = name; start = last_start start (r ∷ records) })
+place_behind sorting state name start lines r [] more e =
+    let first = first_of_run name start lines r more e in
+    ap (λ (n : List ℕ). Some (record { chrom = n; start = r.start })) first.chrom
+place_behind sorting state name start lines r (x ∷ records) more e =
+    let first = first_of_run name start lines r (x ∷ (records ++ more)) e in
+    place_behind sorting (Some (locus_at r)) name r.start first.more x records more first.rest
+
+-- what is in order fits, one after another
+pub order_first : (sorting : Sorting) (state : Option Locus) (r : Feature) (records : List Feature) → are_in_order sorting state (r ∷ records) ≡ true
+    → (sorting.knows r.chrom ≡ true) × (falls_in sorting state (locus_at r) ≡ false) × (are_in_order sorting (Some (locus_at r)) records ≡ true)
+order_first sorting state r records e = by (sorting.knows r.chrom) (falls_in sorting state (locus_at r)) (are_in_order sorting (Some (locus_at r)) records) e
+  where
+    by : (a b d : Bool) → (a && not b && d) ≡ true → (a ≡ true) × (b ≡ false) × (d ≡ true)
+    by true false d h = (refl, refl, h)
+    by true true d h = absurd (false≢true h)
+    by false b d h = absurd (false≢true h)
+
+says_in_order : (sorting : Sorting) (state : Option Locus) (text : List ℕ) (r : Feature) → sorting.knows r.chrom ≡ true → falls_in sorting state (locus_at r) ≡ false → record_of text ≡ Ok (Some r) → line_says sorting state text ≡ Ok (Some r)
+unfolding line_says
+says_in_order sorting state text r knows stays says = ap (said_after sorting state) says ∙ rw (knows, stays) refl
+
+-- the records of a run are said if they are in order
+pub order_is_said : (sorting : Sorting) (state : Option Locus) (name : List ℕ) (start : ℕ) (lines : List TextLine) (records : List Feature) → run_of name start lines ≡ records → are_in_order sorting state records ≡ true
+    → AreSaid (bed_format sorting) state records
+order_is_said sorting state name start lines [] e o = tt
+order_is_said sorting state name start lines (r ∷ records) e o =
+    let first = first_of_run name start lines r records e in
+    let fits = order_first sorting state r records o in
+    ((first.line, says_in_order sorting state first.line.text r fits.0 fits.1 first.says), order_is_said sorting (Some (locus_at r)) name r.start first.more records first.rest fits.2)
+
+pub order_behind : (sorting : Sorting) (state : Option Locus) (records more : List Feature) → are_in_order sorting state (records ++ more) ≡ true → are_in_order sorting (state_behind (bed_format sorting) state records) more ≡ true
+order_behind sorting state [] more o = o
+order_behind sorting state (r ∷ records) more o = order_behind sorting (Some (locus_at r)) records more (order_first sorting state r (records ++ more) o).2
+
+-- what is said, one record after another, is in order
+pub said_in_order : (sorting : Sorting) (state : Option Locus) (records : List Feature) → AreSaid (bed_format sorting) state records → are_in_order sorting state records ≡ true
+said_in_order sorting state [] said = refl
+said_in_order sorting state (r ∷ records) said =
+    let first = line_said sorting state said.0.0.text r said.0.1 in
+    rw (first.known, first.stays) (said_in_order sorting (Some (locus_at r)) records said.1)

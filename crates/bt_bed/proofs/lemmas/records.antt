@@ -1,0 +1,2 @@
+-- Lemmas on records.
+pub mod RawRecordLemmas

@@ -1,0 +1,4 @@
+-- Lemmas on write.
+pub mod IntervalLineLemmas
+pub mod RecordLineLemmas
+pub mod RoundTrip

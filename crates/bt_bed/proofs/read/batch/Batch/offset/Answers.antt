@@ -1,0 +1,8 @@
+use Rattle.std.proofs.Common.{◌∙◌, ap, arith, length, sym, take}
+use Rattle.std.proofs.lemmas.List.{length-take-le}
+use Rattle.bt_bed.specs.calls.Batch.{consumed_in}
+use Rattle.bt_bed.proofs.read.batch.Batch.offset.Goals as goal
+
+pub returns : goal.returns
+unfolding consumed_in
+returns c = c.offset.ensures ∙ sym (length-take-le c.args.self.now.lines.at c.args.self.now.lines.all.now c.args.self.now.lines.within)

@@ -1,0 +1,19 @@
+use Rattle.std.proofs.Common.{◌∙◌, ap}
+use Rattle.std.specs.Prelude.{option_map}
+use Rattle.bt_lines.specs.calls.Reader.{input_of, lines_left}
+use Rattle.bt_bed.proofs.lemmas.read.batch.RecordsLemmas.{good_at_start, placed_at_start}
+use Rattle.bt_bed.specs.model.input.Good.{good}
+use Rattle.bt_bed.specs.model.input.GoodBed.{bed_format}
+use Rattle.bt_bed.specs.calls.Records.{view_of}
+use Rattle.bt_bed.specs.model.order.Sorting.{sorting_of}
+use Rattle.bt_bed.specs.declared.read.sorted.ByOrder.{ByOrder}
+use Rattle.bt_bed.proofs.read.records.Records.new.Goals as goal
+
+pub invariant_of-result : goal.invariant_of-result
+invariant_of-result g c = record { placed = placed_at_start g.S.Source.left g.S.Source.has_failed g.S.Source.end_told _ c.new.result c.new.ensures.none c.new.ensures.last }
+
+pub returns-clause-good : goal.returns-clause-good
+unfolding view_of
+returns-clause-good g c = λ going.
+    good_at_start g.S.Source.left g.S.Source.has_failed g.S.Source.end_told _ c.new.result c.args.reader c.new.ensures.reader c.new.ensures.fault c.new.ensures.last going
+    ∙ ap (λ (by : ByOrder _). option_map (good (bed_format (sorting_of (g.O.ChromOrder.order by.order.now))) (input_of c.args.reader)) (lines_left g.S.Source.left c.args.reader)) c.new.ensures.rule

@@ -1,8 +1,0 @@
-use Rattle.bt_bed.proofs.SortedReaderLemmas.{sorted_comes}
-use Rattle.bt_bed.specs.Records.{view_of}
-use Rattle.bt_bed.specs.Sorting.{sorting_of}
-use Rattle.bt_bed.proofs.records.Records.buffered.Goals as goal
-
-pub returns-clause-comes : goal.returns-clause-comes
-unfolding view_of
-returns-clause-comes g c = sorted_comes g.S.Source.left g.S.Source.end_told (sorting_of (g.O.ChromOrder.order c.args.self.now.sorted.neighbours.rule.order.now)) c.args.self.now.sorted c.args.self.now.placed

@@ -1,8 +1,0 @@
-use Rattle.bt_bed.proofs.RecordsLemmas.{placed_by, takes_records}
-use Rattle.bt_bed.proofs.records.Records.consume.Goals as goal
-
-pub invariant_of-self : goal.invariant_of-self
-invariant_of-self g c = record { placed = placed_by g.O.ChromOrder c.args.self.now.sorted c.consume.new.self c.consume.ensures.rule c.consume.ensures.placed }
-
-pub returns : goal.returns
-returns g c = takes_records g.S.Source.left g.S.Source.has_failed g.S.Source.end_told c.args.self.now _ c.consume.ensures.rule _ c.consume.ensures.takes

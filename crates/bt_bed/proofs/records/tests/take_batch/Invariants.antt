@@ -1,8 +1,0 @@
-use Rattle.std.proofs.Common.{List}
-use Rattle.bt_bed.specs.Batch.{Passes}
-use Rattle.bt_bed.specs.Feature.{Feature}
-use Rattle.bt_bed.proofs.records.tests.take_batch.Given as goal
-
--- the batch gave some records so far
-abbrev pub invariant-loop : goal.invariant-loop
-invariant-loop g l = (records : List Feature) × Passes l.initial.batch records l.batch

@@ -1,0 +1,13 @@
+-- What calls do, as contracts say it.
+pub mod Batch
+pub mod Bed
+pub mod Blocks
+pub mod CursorLaws
+pub mod GenomeTable
+pub mod RawRecord
+pub mod Reading
+pub mod Rec
+pub mod Records
+pub mod Run
+pub mod Single
+pub mod SortedReader

@@ -1,0 +1,140 @@
+-- What a table of chromosomes holds, and what reading one does.
+use Rattle.std.specs.Prelude.{◌≡◌, ℕ, ◌-◌, ◌⊎◌, Bool, true, List, ◌++◌, take, map, Option, Some}
+use Rattle.std.specs.Prelude.{None, Result, Ok, Err, IfSome, Vec, option_map}
+use Rattle.std.specs.Option.{option_to_list}
+use Rattle.std.specs.declared.alloc.Global.{Global}
+use Rattle.bt_lines.specs.model.Fault.{Told, no_memory}
+use Rattle.bt_lines.specs.model.Lines.{TextLine}
+use Rattle.bt_lines.specs.calls.Names.{told}
+use Rattle.bt_lines.specs.calls.Reader.{Hands, IsNear, IsSound, end_told, source_of, input_of}
+use Rattle.bt_lines.specs.calls.Reader.{lines_given, fault_kept, has_ended, lines_left}
+use Rattle.bt_lines.specs.declared.fault.Fault.{Fault}
+use Rattle.bt_lines.specs.declared.fault.Input.{Input}
+use Rattle.bt_lines.specs.declared.fault.Kind.{Kind}
+use Rattle.bt_lines.specs.declared.fault.Place.{Place}
+use Rattle.bt_lines.specs.declared.reader.line_reader.LineReader.{LineReader}
+use Rattle.bt_bed.specs.model.order.Genome.{Entry, entry_of, genome_names, genome_of, new_entry}
+use Rattle.bt_bed.specs.model.feature.LineKind.{fault_at_line, is_genome_kind}
+use Rattle.bt_bed.specs.model.order.Rank.{AreDistinct}
+use Rattle.bt_bed.specs.calls.Reading.{ReadingFails, MemoryRanOut, TellsOwnFailure}
+use Rattle.bt_bed.specs.declared.order.entry.EntryRef.{EntryRef}
+use Rattle.bt_bed.specs.declared.order.genome.Genome.{Genome}
+
+-- an entry that is borrowed, as the definitions have it
+abbrev pub entry_lent : EntryRef → Entry
+entry_lent entry = record { name = entry.name.now; length = entry.length }
+
+abbrev pub columns_lent : Result EntryRef Kind → Result Entry Kind
+columns_lent (Ok entry) = Ok (entry_lent entry)
+columns_lent (Err kind) = Err kind
+
+abbrev pub entry_said : Result (Option EntryRef) Kind → Result (Option Entry) Kind
+entry_said (Ok entry) = Ok (option_map entry_lent entry)
+entry_said (Err kind) = Err kind
+
+-- a chromosome of the table, which has its length by its name
+abbrev pub entry_seen : Vec ℕ Global × ℕ → Entry
+entry_seen chromosome = record { name = chromosome.0.items; length = chromosome.1 }
+
+-- the entries of the table, in the order of the genome file
+unfoldable pub entries : Genome → List Entry
+entries genome = map entry_seen genome.lengths.entries
+
+-- the names of its chromosomes, in that order
+abbrev pub names_of : Genome → List (List ℕ)
+names_of genome = genome_names (entries genome)
+
+-- a line was added to the table
+pub record LineAdded (text : List ℕ) (old new : Genome) : Type 0 where
+  pub entry : Option Entry
+  pub says : new_entry (names_of old) (entry_of text) ≡ Ok entry
+  pub added : entries new ≡ entries old ++ option_to_list entry
+
+-- the line is at fault
+pub record LineRefused (place : Place) (text : List ℕ) (old : Genome) (fault : Told) : Type 0 where
+  pub kind : Kind
+  pub says : new_entry (names_of old) (entry_of text) ≡ Err kind
+  pub is : fault ≡ fault_at_line place.input place.line kind
+
+-- the line has an entry, for which memory ran out
+pub record LineUnkept (text : List ℕ) (old : Genome) (fault : Told) : Type 0 where
+  pub entry : Entry
+  pub says : new_entry (names_of old) (entry_of text) ≡ Ok (Some entry)
+  pub is : fault ≡ no_memory
+
+-- if one of the first lines is at fault, its fault is the one reported
+abbrev pub IsToldFirst : Input → Option (List TextLine) → ℕ → Told → Type 0
+IsToldFirst input lines count fault = IfSome lines
+    (λ all. (other : Told) → genome_of input (take count all) ≡ Err other → fault ≡ other)
+
+module _ {S : Type 0} where
+  -- the whole genome file was read
+  pub record ReadsAll (left : S → Option (List ℕ)) (failed : S → Bool) (old new : LineReader S)
+      (genome : Genome) : Type 0 where
+    pub was_going : fault_kept old ≡ None
+    pub is : IfSome (lines_left left old)
+        (λ lines. genome_of (input_of old) lines ≡ Ok (entries genome))
+    pub distinct : AreDistinct (names_of genome)
+    pub ended : has_ended new ≡ true
+    pub told : end_told new ≡ true
+    pub going : fault_kept new ≡ None
+    pub served : failed (source_of new) ≡ failed (source_of old)
+    pub bytes : (bytes : List ℕ) × Hands left old bytes new
+
+  -- a line is at fault: the last one given
+  pub record EntryIsWrong (left : S → Option (List ℕ)) (failed : S → Bool) (old new : LineReader S)
+      (fault : Told) : Type 0 where
+    pub is : IfSome (lines_left left old) (λ lines. genome_of (input_of old) lines ≡ Err fault)
+    -- known or not, it is what is wrong with some text after some names
+    pub kind : Kind
+    pub names : List (List ℕ)
+    pub text : List ℕ
+    pub says : new_entry names (entry_of text) ≡ Err kind
+    pub of_line : is_genome_kind kind ≡ true
+    pub place : fault ≡ fault_at_line (input_of old) (lines_given new) kind
+    pub going : fault_kept new ≡ None
+    pub served : failed (source_of new) ≡ failed (source_of old)
+
+  -- a line couldn't be read, and no line before it was at fault
+  pub record EntryUnread (left : S → Option (List ℕ)) (failed end : S → Bool)
+      (old new : LineReader S) (fault : Told) : Type 0 where
+    pub fails : ReadingFails left failed end old new fault
+    pub passed : IfSome (lines_left left old) (λ lines. (entries : List Entry)
+        × (genome_of (input_of old) (take (lines_given new - lines_given old) lines) ≡ Ok entries))
+
+  -- why the reading stopped
+  abbrev pub StopCause : (S → Option (List ℕ)) → (S → Bool) → (S → Bool) → LineReader S
+      → LineReader S → Told → Type 0
+  StopCause left failed end old new fault =
+      EntryIsWrong left failed old new fault
+      ⊎ (EntryUnread left failed end old new fault ⊎ MemoryRanOut failed old new fault)
+
+  -- the reading stopped at a fault
+  pub record ReadingStops (left : S → Option (List ℕ)) (failed end : S → Bool)
+      (old new : LineReader S) (fault : Told) : Type 0 where
+    -- a fault that the reader had is returned again, and nothing is read
+    pub again : (before : Told) → fault_kept old ≡ Some before → (fault ≡ before) × (new ≡ old)
+    -- a reader that had none meets the first
+    pub first : fault_kept old ≡ None → StopCause left failed end old new fault
+    -- the fault of a line given comes before any other
+    pub checked : IsToldFirst (input_of old) (lines_left left old)
+        (lines_given new - lines_given old) fault
+    pub bytes : (bytes : List ℕ) × Hands left old bytes new
+    -- of known bytes, those after the lines given and one line more are left,
+    -- except at most a block
+    pub near : fault_kept old ≡ None → IsSound left end old → IsNear left old new
+
+  -- what a result says
+  abbrev pub GenomeAnswers : (S → Option (List ℕ)) → (S → Bool) → (S → Bool) → LineReader S
+      → Result Genome Fault → LineReader S → Type 0
+  GenomeAnswers left failed end old (Ok genome) new = ReadsAll left failed old new genome
+  GenomeAnswers left failed end old (Err fault) new = ReadingStops left failed end old new
+      (told fault)
+
+  -- what reading a genome file does
+  pub record ReadsGenome (left : S → Option (List ℕ)) (failed end : S → Bool)
+      (IsRead : S → Option ℕ → S → Type 0) (old : LineReader S)
+      (answer : Result Genome Fault) (new : LineReader S) : Type 0 where
+    pub answers : GenomeAnswers left failed end old answer new
+    pub own_failure : TellsOwnFailure IsRead (fault_kept old) old answer new
+    pub sound : IsSound left end old → IsSound left end new

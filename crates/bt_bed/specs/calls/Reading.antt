@@ -1,0 +1,294 @@
+-- What a reader of the members of an input holds, and what its calls do.
+use Rattle.std.specs.Prelude.{◌≡◌, ℕ, suc, ◌+◌, ◌-◌, ◌^◌, ◌<◌, ◌≤◌, ◌⊎◌, Bool, true, false, List}
+use Rattle.std.specs.Prelude.{[], ◌∷◌, ◌++◌, drop, length, Option, Some, None, option_map, Result, Ok}
+use Rattle.std.specs.Prelude.{Err, IsSome, IfSome, ⊤}
+use Rattle.bt_lines.specs.model.Fault.{Told, read_failed, no_memory}
+use Rattle.bt_lines.specs.model.Lines.{TextLine}
+use Rattle.bt_lines.specs.calls.Names.{told}
+use Rattle.bt_lines.specs.calls.Output.{block_size}
+use Rattle.bt_lines.specs.calls.Reader.{CutsOff, Hands, HasRead, IsKept, IsNear, TellsReads}
+use Rattle.bt_lines.specs.calls.Reader.{end_told, held, input_of, source_of}
+use Rattle.bt_lines.specs.calls.Reader.{lines_given, bytes_taken, has_ended, lines_left}
+use Rattle.bt_lines.specs.calls.Reader.{room as line_room, fault_kept as line_fault}
+use Rattle.bt_lines.specs.declared.fault.Fault.{Fault}
+use Rattle.bt_lines.specs.declared.fault.Input.{Input}
+use Rattle.bt_lines.specs.declared.fault.Kind.{Kind}
+use Rattle.bt_lines.specs.declared.reader.line_reader.LineReader.{LineReader}
+use Rattle.bt_bed.specs.model.input.Good.{Format, Good, Member, ends_with, good_from}
+use Rattle.bt_bed.specs.model.input.GoodLines.{IsBeyond}
+use Rattle.bt_bed.specs.model.feature.LineKind.{fault_at_line, is_of_line}
+
+-- what a reader of members holds
+pub record MemberReader (S A State : Type 0) : Type 0 where
+  pub format : Format A State
+  -- the reader of lines below
+  pub below : LineReader S
+  -- what is known after the member that was consumed last
+  pub state : State
+  -- the members that are known to come next, on the lines that follow those given
+  pub buffered : List A
+  -- the fault that is kept
+  pub fault : Option Told
+
+-- what is good after the last member: nothing but the fault, if one is kept
+abbrev pub good_behind : {A State : Type 0} → Format A State → Input → Option Told → State
+    → List TextLine → Good A
+good_behind format input (Some fault) state lines = ends_with (Some fault)
+good_behind format input None state lines = good_from format input state lines
+
+-- what was known stays what is still to come
+abbrev pub Remains : {A : Type 0} → Option (Good A) → Option (Good A) → Type 0
+Remains None new = ⊤
+Remains (Some good) None = ⊥
+Remains (Some good) (Some new) = new ≡ good
+
+-- a line says the item, by what is known before it
+abbrev pub IsSaidBehind : {A State : Type 0} → Format A State → State → A → Type 0
+IsSaidBehind format state item = (line : TextLine) × (format.says state line ≡ Ok (Some item))
+
+-- each of these items is what a line says after those before it
+abbrev pub AreSaid : {A State : Type 0} → Format A State → State → List A → Type 0
+AreSaid format state [] = ⊤
+AreSaid format state (item ∷ items) =
+    IsSaidBehind format state item × AreSaid format (format.after state item) items
+
+-- what is known after these items
+abbrev pub state_behind : {A State : Type 0} → Format A State → State → List A → State
+state_behind format state [] = state
+state_behind format state (item ∷ items) = state_behind format (format.after state item) items
+
+-- items on lines that follow one another, of which the first has this number
+abbrev pub members_from : {A : Type 0} → ℕ → List A → List (Member A)
+members_from line [] = []
+members_from line (item ∷ items) = record { line = line; item = item } ∷ members_from (suc line) items
+
+-- the first of them
+abbrev pub first_from : {A : Type 0} → ℕ → List A → Option (Member A)
+first_from line [] = None
+first_from line (item ∷ items) = Some (record { line = line; item = item })
+
+-- members before others
+abbrev pub with_members : {A : Type 0} → List (Member A) → Good A → Good A
+with_members members good = record { members = members ++ good.members; fault = good.fault }
+
+module _ {S : Type 0} where
+  -- of known lines, those that were given aren't left
+  abbrev pub LinesPass : (S → Option (List ℕ)) → LineReader S → LineReader S → Type 0
+  LinesPass left old new = IfSome (lines_left left old) (λ lines.
+      lines_left left new ≡ Some (drop (lines_given new - lines_given old) lines))
+
+  -- the source failed, or its text is too long
+  pub record ReadingFails (left : S → Option (List ℕ)) (failed end : S → Bool)
+      (old new : LineReader S) (fault : Told) : Type 0 where
+    pub is : fault ≡ read_failed (input_of old) (suc (lines_given new))
+    pub cause : (failed (source_of new) ≡ true) ⊎ (2 ^ 63 ≤ bytes_taken new)
+    -- it comes before the end
+    pub before_end : end_told old ≡ false
+    -- the complete lines among the bytes taken in the call are those that were given
+    pub cut : IsKept left end old → CutsOff left old new
+
+  -- A failed read is reported for the first time only if a read of this call failed, or if the text is
+  -- too long by what its reads gave. What the source did before doesn't matter. Else all reads of the
+  -- call succeeded.
+  abbrev pub TellsOwnFailure : {T : Type 0} → (S → Option ℕ → S → Type 0) → Option Told
+      → LineReader S → Result T Fault → LineReader S → Type 0
+  TellsOwnFailure IsRead before old (Ok done) new = HasRead IsRead old new
+  TellsOwnFailure IsRead before old (Err fault) new = before ≡ None
+      → TellsReads IsRead old (Some (told fault)) new
+
+  -- memory ran out
+  pub record MemoryRanOut (failed : S → Bool) (old new : LineReader S) (fault : Told) : Type 0 where
+    pub is : fault ≡ no_memory
+    pub served : failed (source_of new) ≡ failed (source_of old)
+
+module _ {S A State : Type 0} where
+  -- the member ahead, once it is known
+  abbrev pub ahead_in : MemberReader S A State → Option (Member A)
+  ahead_in reader = first_from (suc (lines_given reader.below)) reader.buffered
+
+  -- its line
+  abbrev pub line_of_ahead : MemberReader S A State → Option ℕ
+  line_of_ahead reader = option_map (λ m. m.line) (ahead_in reader)
+
+  -- what is still to come, the members that are buffered included, if the source's bytes are known
+  unfoldable pub good_coming : (S → Option (List ℕ)) → MemberReader S A State → Option (Good A)
+  good_coming left reader =
+      option_map
+      (good_behind reader.format (input_of reader.below) reader.fault reader.state)
+      (lines_left left reader.below)
+
+  -- the members that are buffered are the first of those still to come
+  abbrev pub BeginsComing : (S → Option (List ℕ)) → MemberReader S A State → Type 0
+  BeginsComing left reader = IfSome (good_coming left reader) (λ good. (rest : List (Member A))
+      × (good.members ≡ members_from (suc (lines_given reader.below)) reader.buffered ++ rest))
+
+  -- how many bytes may still come: it never rises, and falls with each member taken
+  abbrev pub room : MemberReader S A State → ℕ
+  room reader = line_room reader.below
+
+  -- what no call changes
+  pub record Stays (left : S → Option (List ℕ)) (old new : MemberReader S A State) : Type 0 where
+    pub bytes : (bytes : List ℕ) × Hands left old.below bytes new.below
+    pub format : new.format ≡ old.format
+
+  -- a member is ahead
+  pub record GivesMember (left : S → Option (List ℕ)) (failed : S → Bool)
+      (old : MemberReader S A State) (m : Member A) (new : MemberReader S A State) : Type 0 where
+    pub ahead : ahead_in new ≡ Some m
+    pub state : new.state ≡ old.state
+    -- it is the first of what is still to come, if that is known, and nothing of it is lost
+    pub good : Remains (good_coming left old) (good_coming left new)
+    pub first : IfSome (good_coming left old) (λ good. (rest : List (Member A))
+        × (good.members ≡ m ∷ rest))
+    -- known or not, it is what a line says after the member before it
+    pub said : IsSaidBehind old.format old.state m.item
+    -- if it was ahead before, nothing is read
+    pub again : IsSome (ahead_in old) → new ≡ old
+    -- its line comes next, after those given before
+    pub at : m.line ≡ suc (lines_given new.below)
+    pub rises : lines_given old.below ≤ lines_given new.below
+    pub below : m.line < 2 ^ 63
+    pub served : failed (source_of new.below) ≡ failed (source_of old.below)
+    -- after a fault none is given
+    pub was_going : old.fault ≡ None
+    pub goes : new.fault ≡ old.fault
+    pub stays : Stays left old new
+    pub lines : LinesPass left old.below new.below
+    -- of known bytes, those after the lines given and its own are left, except at most a block
+    pub near : IsNear left old.below new.below
+    pub shrinks : room new ≤ room old
+
+  -- no member is left
+  pub record EndsMembers (left : S → Option (List ℕ)) (failed : S → Bool)
+      (old new : MemberReader S A State) : Type 0 where
+    pub none_left : IfSome (good_coming left old) (λ good. good ≡ ends_with None)
+    pub none_comes : IfSome (good_coming left new) (λ good. good ≡ ends_with None)
+    pub was_none : old.buffered ≡ []
+    pub none_buffered : new.buffered ≡ []
+    pub state : new.state ≡ old.state
+    pub ends : has_ended new.below ≡ true
+    pub told : end_told new.below ≡ true
+    pub rises : lines_given old.below ≤ lines_given new.below
+    -- all known lines were given
+    pub lines : IfSome (lines_left left old.below) (λ lines.
+        drop (lines_given new.below - lines_given old.below) lines ≡ [])
+    -- once the end is reached, nothing more is read
+    pub again : has_ended old.below ≡ true → new ≡ old
+    pub served : failed (source_of new.below) ≡ failed (source_of old.below)
+    -- after a fault no end is reported
+    pub was_going : old.fault ≡ None
+    pub goes : new.fault ≡ None
+    pub stays : Stays left old new
+    pub shrinks : room new ≤ room old
+
+  -- a line is at fault: the last one given
+  pub record LineIsWrong (left : S → Option (List ℕ)) (failed : S → Bool)
+      (old : MemberReader S A State) (fault : Told) (new : MemberReader S A State) : Type 0 where
+    pub none_left : IfSome (good_coming left old) (λ good. good ≡ ends_with (Some fault))
+    -- known or not, it is what is wrong with some line after the last member
+    pub kind : Kind
+    pub line : TextLine
+    pub says : old.format.says old.state line ≡ Err kind
+    pub of_line : is_of_line kind ≡ true
+    pub place : fault ≡ fault_at_line (input_of old.below) (lines_given new.below) kind
+    pub rises : lines_given old.below < lines_given new.below
+    pub going : line_fault new.below ≡ None
+    pub served : failed (source_of new.below) ≡ failed (source_of old.below)
+    -- after it at most a block is held
+    pub near : length (held new.below) ≤ block_size
+
+  -- the lines that were given said nothing: what was still to come lies after them
+  abbrev pub SaidNothing : (S → Option (List ℕ)) → MemberReader S A State → MemberReader S A State
+      → Type 0
+  SaidNothing left old new = IfSome (good_coming left old) (IsBeyond (lines_given new.below))
+
+  -- a line couldn't be read, and no line before it was at fault or had a member
+  pub record LineUnread (left : S → Option (List ℕ)) (failed end : S → Bool)
+      (old : MemberReader S A State) (fault : Told) (new : MemberReader S A State) : Type 0 where
+    pub fails : ReadingFails left failed end old.below new.below fault
+    pub passed : SaidNothing left old new
+
+  -- the last line given has the first member of what was still to come, which couldn't be kept
+  pub record LastUnkept (left : S → Option (List ℕ))
+      (old new : MemberReader S A State) : Type 0 where
+    pub first : IfSome (good_coming left old) (λ good. (item : A) × (rest : List (Member A))
+        × (good.members ≡ record { line = lines_given new.below; item = item } ∷ rest))
+    pub rises : lines_given old.below < lines_given new.below
+    pub going : line_fault new.below ≡ None
+    -- after it at most a block is held
+    pub near : length (held new.below) ≤ block_size
+
+  -- memory ran out: for a line that couldn't be read, once those before it were checked, or for the
+  -- member of the last line given, once it was
+  pub record RunsOut (left : S → Option (List ℕ)) (failed : S → Bool)
+      (old : MemberReader S A State) (fault : Told) (new : MemberReader S A State) : Type 0 where
+    pub is : fault ≡ no_memory
+    pub checked : ((line_fault new.below ≡ Some no_memory) × SaidNothing left old new)
+        ⊎ LastUnkept left old new
+    pub served : failed (source_of new.below) ≡ failed (source_of old.below)
+
+  -- why a fault came
+  abbrev pub Cause : (S → Option (List ℕ)) → (S → Bool) → (S → Bool) → MemberReader S A State
+      → Told → MemberReader S A State → Type 0
+  Cause left failed end old fault new =
+      LineIsWrong left failed old fault new ⊎ (LineUnread left failed end old fault new
+      ⊎ RunsOut left failed old fault new)
+
+  -- a fault was returned
+  pub record AnswersFault (left : S → Option (List ℕ)) (failed end : S → Bool)
+      (old : MemberReader S A State) (fault : Told) (new : MemberReader S A State) : Type 0 where
+    pub kept : new.fault ≡ Some fault
+    pub was_none : old.buffered ≡ []
+    pub none_buffered : new.buffered ≡ []
+    pub state : new.state ≡ old.state
+    -- a fault is returned again, and nothing is read
+    pub again : (before : Told) → old.fault ≡ Some before → (fault ≡ before) × (new ≡ old)
+    pub first : old.fault ≡ None → Cause left failed end old fault new
+    pub stays : Stays left old new
+    -- the lines that were given aren't left, if the line read last could be read
+    pub rises : lines_given old.below ≤ lines_given new.below
+    pub lines : line_fault new.below ≡ None → LinesPass left old.below new.below
+    -- of known bytes, those after the lines given and one line more are left,
+    -- except at most a block
+    pub near : old.fault ≡ None → IsKept left end old.below → IsNear left old.below new.below
+
+  -- a member was made buffered
+  pub record MakesMember (left : S → Option (List ℕ)) (failed : S → Bool)
+      (old new : MemberReader S A State) : Type 0 where
+    pub m : Member A
+    pub gives : GivesMember left failed old m new
+
+  -- what `fill` returns
+  abbrev pub FillAnswers : (S → Option (List ℕ)) → (S → Bool) → (S → Bool) → MemberReader S A State
+      → Result Bool Fault → MemberReader S A State → Type 0
+  FillAnswers left failed end old (Ok true) new = MakesMember left failed old new
+  FillAnswers left failed end old (Ok false) new = EndsMembers left failed old new
+  FillAnswers left failed end old (Err fault) new = AnswersFault left failed end old
+      (told fault) new
+
+  -- a call of `fill`
+  pub record Fills (left : S → Option (List ℕ)) (failed end : S → Bool)
+      (old : MemberReader S A State) (answer : Result Bool Fault)
+      (new : MemberReader S A State) : Type 0 where
+    pub answers : FillAnswers left failed end old answer new
+    pub kept : IsKept left end old.below → IsKept left end new.below
+
+  -- members were taken, which were buffered, and nothing is read
+  pub record Takes (left : S → Option (List ℕ)) (end : S → Bool) (old : MemberReader S A State)
+      (taken : List A) (new : MemberReader S A State) : Type 0 where
+    pub buffered : old.buffered ≡ taken ++ new.buffered
+    pub said : AreSaid old.format old.state taken
+    pub state : new.state ≡ state_behind old.format old.state taken
+    pub good : option_map (with_members (members_from (suc (lines_given old.below)) taken))
+        (good_coming left new) ≡ good_coming left old
+    pub goes : new.fault ≡ old.fault
+    pub format : new.format ≡ old.format
+    pub given : lines_given new.below ≡ lines_given old.below + length taken
+    pub below : lines_given new.below < 2 ^ 63
+    pub hands : Hands left old.below [] new.below
+    pub source : source_of new.below ≡ source_of old.below
+    pub lines : LinesPass left old.below new.below
+    pub kept : IsKept left end old.below → IsKept left end new.below
+    -- after the lines at most a block is held
+    pub near : 0 < length taken → length (held new.below) ≤ block_size
+    pub shrinks : room new + length taken ≤ room old

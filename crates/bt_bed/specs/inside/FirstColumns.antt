@@ -1,0 +1,76 @@
+-- The first columns of a line that are in order.
+use Rattle.std.specs.Prelude.{◌≡◌, ℕ, ◌<◌, ◌≤◌, ◌+◌, ◌==◌, Bool, true, false, List, ◌∷◌, ◌++◌}
+use Rattle.std.specs.Prelude.{length, take, drop, get_or, Some}
+use Rattle.std.specs.Char.{is_ascii_digit}
+use Rattle.std.specs.List.{All, list_all}
+use Rattle.std.specs.Str.Parse.{digits_value}
+use Rattle.bt_lines.specs.model.Lines.{pieces}
+use Rattle.bt_lines.specs.model.Number.{value_of}
+use Rattle.bt_bed.specs.model.feature.Header.{is_header}
+use Rattle.bt_bed.specs.model.feature.Record.{IsName}
+use Rattle.bt_bed.specs.declared.parse.leading.Leading.{Leading}
+
+-- the first column ends here: it isn't empty, and a tab comes after it
+pub record EndsName (text : List ℕ) (end : ℕ) : Type 0 where
+  pub some : 0 < end
+  pub within : end < length text
+  pub tab : get_or text end 0 ≡ 9
+  pub column : All (λ byte. (byte == 9) ≡ false) (take end text)
+
+-- the text begins with this name and a tab
+abbrev pub BeginsWithName : List ℕ → List ℕ → Type 0
+BeginsWithName text name = text ≡ name ++ 9 ∷ drop (length name + 1) text
+
+-- a name with which a record's line can begin: no line that begins with it and a tab is a header
+pub record IsRecordName (name : List ℕ) : Type 0 where
+  pub named : IsName name
+  pub no_header : (rest : List ℕ) → is_header (name ++ 9 ∷ rest) ≡ false
+
+-- the first column ends here
+pub record EndsFirst (text : List ℕ) (end : ℕ) : Type 0 where
+  pub within : end ≤ length text
+  pub tab : end < length text → get_or text end 0 ≡ 9
+  pub column : All (λ byte. (byte == 9) ≡ false) (take end text)
+
+-- the first column denotes the number, and ends here
+pub record Leads (text : List ℕ) (lead : Leading) : Type 0 where
+  pub within : lead.end ≤ length text
+  pub tab : lead.end < length text → get_or text lead.end 0 ≡ 9
+  pub column : All (λ byte. (byte == 9) ≡ false) (take lead.end text)
+  pub value : value_of (take lead.end text) ≡ Some lead.value
+
+-- the second and the third column denote the start and the end of a feature, if the first column
+-- ends here
+pub record AreBounds (text : List ℕ) (name : ℕ) (start stop : Leading) : Type 0 where
+  pub first : Leads (drop (name + 1) text) start
+  pub inside : start.end < length (drop (name + 1) text)
+  pub second : Leads (drop (start.end + 1) (drop (name + 1) text)) stop
+  pub below : start.value < stop.value
+
+-- `lead.end` digits come first, at most twelve, and denote the number
+pub record BeginsWith (text : List ℕ) (lead : Leading) : Type 0 where
+  pub within : lead.end ≤ length text
+  pub short : lead.end ≤ 12
+  pub digits : list_all is_ascii_digit (take lead.end text) ≡ true
+  pub value : lead.value ≡ digits_value 10 (take lead.end text)
+
+-- the bytes begin with this name, and after it come, each after a tab, the digits of a start and of a greater end
+pub record HasColumns (bytes name : List ℕ) (start stop : Leading) : Type 0 where
+  pub named : BeginsWithName bytes name
+  pub first : BeginsWith (drop (length name + 1) bytes) start
+  pub some_first : 0 < start.end
+  pub tab : get_or bytes (length name + start.end + 1) 0 ≡ 9
+  pub second : BeginsWith (drop (length name + start.end + 2) bytes) stop
+  pub some_second : 0 < stop.end
+  pub below : start.value < stop.value
+
+-- whether a byte is a tab
+abbrev pub is_tab : ℕ → Bool
+is_tab byte = byte == 9
+
+-- the second tab is here: it divides the first two columns from the others
+pub record CutsTwo (text : List ℕ) (at : ℕ) : Type 0 where
+  pub within : at < length text
+  pub first : List ℕ
+  pub second : List ℕ
+  pub cut : pieces 9 text ≡ first ∷ second ∷ pieces 9 (drop (at + 1) text)

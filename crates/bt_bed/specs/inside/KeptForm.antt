@@ -1,0 +1,8 @@
+-- The bytes of a text that is kept, inline or in a buffer.
+use Rattle.std.specs.Prelude.{ℕ, List}
+use Rattle.bt_bed.specs.declared.record.kept_text.Form.{Form}
+use Rattle.bt_bed.specs.declared.record.kept_text.Form.TheVariants.{Short, Long}
+
+abbrev pub bytes_of : Form → List ℕ
+bytes_of (Short bytes) = bytes
+bytes_of (Long text) = text.items

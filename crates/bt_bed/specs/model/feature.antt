@@ -1,0 +1,10 @@
+-- What one has to believe: the definitions that the report names.
+pub mod Bases
+pub mod Feature
+pub mod Header
+pub mod Interval
+pub mod IntervalLine
+pub mod LineKind
+pub mod Record
+pub mod Strands
+pub mod Stretches

@@ -1,0 +1,76 @@
+-- What an input gives: its members (records, sequences' lines, alignments) up to its first line at
+-- fault.
+use Rattle.std.specs.Prelude.{ℕ, List, [], ◌∷◌, map, Option, Some, None, Result, Ok, Err}
+use Rattle.bt_lines.specs.model.Fault.{Told}
+use Rattle.bt_lines.specs.model.Handed.{Handed, cut_fault, lines_handed}
+use Rattle.bt_lines.specs.model.Lines.{TextLine}
+use Rattle.bt_lines.specs.declared.fault.Input.{Input}
+use Rattle.bt_lines.specs.declared.fault.Kind.{Kind}
+use Rattle.bt_bed.specs.model.feature.LineKind.{fault_at_line}
+
+-- a member of an input, and the number of its line
+pub record Member (A : Type 0) : Type 0 where
+  pub line : ℕ
+  pub item : A
+
+-- the members before the first line at fault, and the fault of that line, if there is one
+pub record Good (A : Type 0) : Type 0 where
+  pub members : List (Member A)
+  pub fault : Option Told
+
+-- the members without their lines
+abbrev pub items_in : {A : Type 0} → Good A → List A
+items_in good = map (λ m. m.item) good.members
+
+-- What the lines of an input say, one after another: nothing, a member, or what is wrong with the
+-- line.
+-- This depends on what is known of the members before it.
+pub record Format (A State : Type 0) : Type 0 where
+  -- what is known at the start
+  pub begin : State
+  pub says : State → TextLine → Result (Option A) Kind
+  -- what is known after this member
+  pub after : State → A → State
+
+-- no member, and a fault if there is one
+abbrev pub ends_with : {A : Type 0} → Option Told → Good A
+ends_with fault = record { members = []; fault = fault }
+
+-- a member before others
+abbrev pub with_member : {A : Type 0} → Member A → Good A → Good A
+with_member m good = record { members = m ∷ good.members; fault = good.fault }
+
+-- what a line says, and then what is good after it
+abbrev pub good_with : {A State : Type 0} → Format A State → Input → ℕ → State
+    → Result (Option A) Kind → (State → Good A) → Good A
+good_with format input line state (Err kind) rest = ends_with (Some (fault_at_line input line kind))
+good_with format input line state (Ok None) rest = rest state
+good_with format input line state (Ok (Some item)) rest =
+    with_member (record { line = line; item = item }) (rest (format.after state item))
+
+-- what is good of the lines, by what is known before them
+unfoldable pub good_from : {A State : Type 0} → Format A State → Input → State
+    → List TextLine → Good A
+good_from format input state [] = ends_with None
+good_from format input state (line ∷ lines) =
+    good_with format input line.number state (format.says state line)
+    (λ now. good_from format input now lines)
+
+-- what is good of all lines of an input
+abbrev pub good : {A State : Type 0} → Format A State → Input → List TextLine → Good A
+good format input lines = good_from format input format.begin lines
+
+-- the first of two faults, if there is one
+abbrev pub or_else : Option Told → Option Told → Option Told
+or_else None other = other
+or_else (Some fault) other = Some fault
+
+-- the same members, and after them this fault, if none of theirs comes before
+abbrev pub cut_by : {A : Type 0} → Option Told → Good A → Good A
+cut_by fault good = record { members = good.members; fault = or_else good.fault fault }
+
+-- What is good of an input that may have been cut off: the good members of the lines handed over.
+-- The failed read comes after them, if none of these lines is at fault.
+abbrev pub good_handed : {A State : Type 0} → Format A State → Input → Handed → Good A
+good_handed format input handed =
+    cut_by (cut_fault input handed) (good format input (lines_handed handed))

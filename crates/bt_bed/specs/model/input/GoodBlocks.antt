@@ -1,0 +1,56 @@
+-- The good records of a BED input whose chromosomes come in any order. A block is a maximal run of
+-- records of one chromosome; in each block the starts don't fall, and a chromosome may have several
+-- blocks (bedtools manual, maskfasta).
+use Rattle.std.specs.Prelude.{◌≡◌, ◌≢◌, ℕ, ◌≤◌, ⊤, All, IfSome, List, [], ◌∷◌, length, Option}
+use Rattle.bt_lines.specs.model.Handed.{Handed}
+use Rattle.bt_lines.specs.model.Lines.{text_lines}
+use Rattle.bt_lines.specs.declared.fault.Input.{Input}
+use Rattle.bt_lines.specs.declared.fault.Kind.TheVariants.{UnknownChrom}
+use Rattle.bt_bed.specs.model.feature.Feature.{Feature, intervals_of}
+use Rattle.bt_bed.specs.model.input.Good.{Format, Good, good, good_handed, items_in}
+use Rattle.bt_bed.specs.model.input.GoodBed.{bed_format, locus_at}
+use Rattle.bt_bed.specs.model.input.GoodLines.{AreAscending}
+use Rattle.bt_bed.specs.model.feature.Interval.{AreNonEmpty}
+use Rattle.bt_bed.specs.model.order.Locus.{Locus}
+use Rattle.bt_bed.specs.model.order.Sorting.{block_sorting}
+
+-- records in blocks, of which the place of the last is known
+abbrev pub block_format : Format Feature (Option Locus)
+block_format = bed_format block_sorting
+
+-- what is good of a BED input in blocks
+abbrev pub block_good : Input → Handed → Good Feature
+block_good input handed = good_handed block_format input handed
+
+-- a place isn't below another that it follows: on one chromosome the starts don't fall
+abbrev pub IsBlockUpTo : Locus → Locus → Type 0
+IsBlockUpTo place next = place.chrom ≡ next.chrom → place.start ≤ next.start
+
+-- no record of a chromosome starts before the one right before it,
+-- if that is of the same chromosome
+abbrev pub AreInBlocks : List Feature → Type 0
+AreInBlocks [] = ⊤
+AreInBlocks (r ∷ []) = ⊤
+AreInBlocks (r ∷ s ∷ rs) = IsBlockUpTo (locus_at r) (locus_at s) × AreInBlocks (s ∷ rs)
+
+-- the good records are so
+abbrev pub good_are_in_blocks : Type 0
+good_are_in_blocks = (input : Input) (handed : Handed)
+    → AreInBlocks (items_in (block_good input handed))
+
+-- each has at least one base
+abbrev pub good_in_blocks_are_non_empty : Type 0
+good_in_blocks_are_non_empty = (input : Input) (handed : Handed)
+    → AreNonEmpty (intervals_of (items_in (block_good input handed)))
+
+-- each member of a text is on a line of its own, in their order
+abbrev pub good_in_blocks_stand_on_lines : Type 0
+good_in_blocks_stand_on_lines = (input : Input) (text : List ℕ)
+    → AreAscending 1 (good block_format input (text_lines text)).members
+    × All (λ m. m.line ≤ length (text_lines text))
+    (good block_format input (text_lines text)).members
+
+-- no line is at fault for its chromosome: every name is one
+abbrev pub blocks_know_each_chromosome : Type 0
+blocks_know_each_chromosome = (input : Input) (handed : Handed)
+    → IfSome (block_good input handed).fault (λ fault. fault.kind ≢ UnknownChrom)

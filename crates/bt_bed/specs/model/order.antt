@@ -1,0 +1,8 @@
+-- What one has to believe: the definitions that the report names.
+pub mod ByteOrder
+pub mod Genome
+pub mod Locus
+pub mod Order
+pub mod Rank
+pub mod Sorting
+pub mod Together

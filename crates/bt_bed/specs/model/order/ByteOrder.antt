@@ -1,0 +1,45 @@
+-- The order of names by their bytes, in which `LC_ALL=C sort` sorts them (POSIX, sort and the
+-- collation of the POSIX locale). The laws are proved here since an order cites them as its own.
+use Rattle.std.specs.Prelude.{◌≡◌, ◌≢◌, ℕ, ◌<◌, true, List, ◌∷◌, ◌++◌}
+use Rattle.std.specs.Cmp.Lexicographic.{nat_list_cmp_total, same_text, slice_cmp, texts_ties}
+use Rattle.std.specs.Cmp.{tied_itself}
+use Rattle.std.specs.Ordering.{is_eq, nat_cmp}
+use Rattle.std.specs.declared.cmp.Ordering.TheVariants.{Less}
+use Rattle.std.proofs.Common.{sym, ◌∙◌, ap}
+use Rattle.bt_lines.specs.declared.fault.Kind.{Kind}
+use Rattle.bt_lines.specs.declared.fault.Kind.TheVariants.{UnknownChrom}
+use Rattle.bt_bed.specs.model.feature.LineKind.{IsBedKind}
+use Rattle.bt_bed.specs.model.order.Order.{Order, IsTotal}
+
+-- every name is known; the first byte in which two names differ decides,
+-- and a name comes before the longer ones that it begins
+abbrev pub byte_order : Order
+byte_order = record { knows = λ name. true; compare = slice_cmp nat_cmp }
+
+-- it is a total order on all names
+abbrev pub bytes_are_total : Type 0
+bytes_are_total = IsTotal byte_order
+
+-- a name comes before the longer ones that it begins
+abbrev pub prefixes_come_first : Type 0
+prefixes_come_first =
+    (name : List ℕ) (byte : ℕ) (rest : List ℕ)
+    → byte_order.compare name (name ++ byte ∷ rest) ≡ Less
+
+-- of two other names the first byte in which they differ decides, whatever their lengths
+abbrev pub first_difference_decides : Type 0
+first_difference_decides =
+    (front : List ℕ) (low high : ℕ) (left right : List ℕ) → low < high
+    → byte_order.compare (front ++ low ∷ left) (front ++ high ∷ right) ≡ Less
+
+-- so no chromosome is unknown to it
+abbrev pub bytes_know_each_chromosome : Type 0
+bytes_know_each_chromosome = (kind : Kind) → IsBedKind byte_order kind → kind ≢ UnknownChrom
+
+pub bytes_total : bytes_are_total
+bytes_total = record {
+  same = λ name known. tied_itself nat_list_cmp_total name;
+  equal = λ a b one two e. same_text a b (sym (texts_ties a b ∙ ap is_eq e));
+  swapped = λ a b one two. nat_list_cmp_total.antisymm b a;
+  ascends = λ a b c one two three. nat_list_cmp_total.trans a b c;
+}

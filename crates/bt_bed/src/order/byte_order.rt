@@ -1,0 +1,81 @@
+//! The order of chromosomes by the bytes of their names.
+
+ghost use Rattle.std.specs.Prelude.{◌≡◌};
+ghost use Rattle.bt_bed.specs.model.order.ByteOrder.{byte_order, bytes_total};
+
+use crate::order::ChromOrder;
+use crate::parse::names::is_same_name;
+use std::cmp::Ordering;
+
+/// The order of chromosomes by the bytes of their names, as `LC_ALL=C sort` sorts them: `chr1`, `chr10`,
+/// `chr2`. It knows every name.
+#[derive(Clone, Copy, Debug)]
+pub struct ByteOrder;
+
+impl ChromOrder for ByteOrder {
+    ghost order = { λ _. byte_order };
+
+    ghost total = { λ _. bytes_total };
+
+    fn knows(&self, _name: &[u8]) -> bool {
+        true
+    }
+
+    fn compare(&self, left: &[u8], right: &[u8]) -> Ordering {
+        if is_same_name(left, right) {
+            return Ordering::Equal;
+        }
+        compare_bytes(left, right)
+    }
+}
+
+// Which of two names comes first. Out of line, so that equal names need no call.
+#[inline(never)]
+fn compare_bytes(left: &[u8], right: &[u8]) -> Ordering
+    ensures { result ≡ byte_order.compare left.now right.now }
+{
+    left.cmp(right)
+}
+
+#[cfg(test)]
+mod tests {
+    use super::*;
+
+    // Names, each of which comes before the next.
+    const ASCENDING: [&[u8]; 9] = [
+        b"",
+        b"Chr1",
+        b"chr",
+        b"chr1",
+        b"chr10",
+        b"chr10_random",
+        b"chr2",
+        b"chrX",
+        b"\xc3\xa9",
+    ];
+
+    // Whether two names of the list compare as their places in it.
+    fn agrees<O: ChromOrder>(order: &O, i: usize, j: usize) -> bool {
+        let (Some(left), Some(right)) = (ASCENDING.get(i), ASCENDING.get(j)) else {
+            return true;
+        };
+        order.knows(left) && order.knows(right) && order.compare(left, right) == i.cmp(&j)
+    }
+
+    // The places of the first two names that compare otherwise.
+    fn first_misordered<O: ChromOrder>(order: &O) -> Option<(usize, usize)> {
+        for i in 0..9 {
+            for j in 0..9 {
+                if !agrees(order, i, j) {
+                    return Some((i, j));
+                }
+            }
+        }
+        None
+    }
+
+    #[test]
+    fn orders_names_by_their_bytes(rt: HostRuntime) {
+        assert_eq!(rt; first_misordered(&ByteOrder), None);
+    }
+}

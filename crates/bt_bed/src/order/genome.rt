@@ -1,0 +1,315 @@
+//! The chromosomes of a genome file.
+
+ghost use Rattle.std.specs.Prelude.{◌<◌, All};
+
+use crate::order::entry::EntryRef;
+use crate::order::genome_line::entry;
+use crate::parse::faults::at_line;
+use bt_lines::{Fault, Kind, LineReader, Place, Source, no_memory};
+use indexmap::IndexMap;
+use std::alloc::Global;
+
+/// The chromosomes of a genome file, each with its length in bases. They are in the file's order,
+/// and a chromosome's rank is its index there, from 0 (bedtools manual, genome file format). A look-up
+/// by name is hashed.
+#[derive(Drop, Debug)]
+pub struct Genome {
+    // Always valid: each length is above 0, and the names are distinct.
+    lengths: IndexMap<Vec<u8>, u64>,
+    ghost non_empty: { All (λ chromosome. 0 < chromosome.1) lengths.entries },
+}
+
+#[tactic(auto, unfolding(crate::specs::calls::GenomeTable::entries))]
+impl Genome {
+    ghost use Rattle.std.specs.Prelude.{◌≡◌, ◌⊎◌, false, [], ◌∷◌, ◌++◌, length, slice_get, Some, IfErr, OnOk, option_map};
+    ghost use Rattle.bt_lines.specs.model.Fault.{no_memory};
+    ghost use Rattle.bt_lines.specs.calls.Names.{told};
+    ghost use Rattle.bt_bed.specs.model.order.Genome.{entry_of, new_entry};
+    ghost use Rattle.bt_bed.specs.model.order.Rank.{is_among, rank_of};
+    ghost use Rattle.bt_bed.specs.calls.GenomeTable.{LineAdded, LineRefused, LineUnkept, ReadsGenome, entries, entry_lent, entry_said, names_of};
+
+    /// A genome without chromosomes, as that of a run that has no genome file.
+    pub fn new(alloc: Global) -> Genome
+        ensures { entries result ≡ [] }
+    {
+        Genome {
+            lengths: IndexMap::new(alloc),
+        }
+    }
+
+    /// Reads a genome file to its end. Each line has a name, a tab and a length, and other columns
+    /// are ignored, so that an index of `samtools faidx` serves too. Blank lines and lines that begin
+    /// with `#` are skipped (bedtools manual, genome file format).
+    ///
+    /// The first line at fault is reported, and nothing after it is read. The fault is `TooFewColumns` if it
+    /// has no second column, else `EmptyName`, else `BadLength` if the length is 0 or no number, else
+    /// `RepeatedChrom` if a line before it has the name. Running out of memory for the table comes after
+    /// these, and the reader's own faults, `ReadFailed` and `NoMemory`, before. A fault that the reader
+    /// had already is returned again.
+    pub fn read<S: Source>(alloc: Global, reader: &mut LineReader<S>) -> Result<Genome, Fault>
+        ensures { ReadsGenome S.left S.has_failed S.end_told S.is_read reader.old result reader.new }
+    {
+        let input = reader.input();
+        let mut genome = Genome::new(alloc);
+        while let Some(line) = reader.next()? {
+            let place = Place {
+                input,
+                line: line.number,
+            };
+            genome.add_line(alloc, place, line.text)?;
+        }
+        Ok(genome)
+    }
+
+    /// The rank of a chromosome, from 0, if the genome file has it. Names are compared byte for byte.
+    pub fn rank(&self, name: &[u8]) -> Option<usize>
+        ensures { result ≡ rank_of (names_of self.now) name.now }
+    {
+        self.lengths.get_index_of(name)
+    }
+
+    /// How many chromosomes there are.
+    pub fn count(&self) -> usize
+        ensures { result ≡ length (entries self.now) }
+    {
+        self.lengths.len()
+    }
+
+    /// The name of the chromosome of this rank, which is below [`Genome::count`].
+    pub fn name(&self, rank: usize) -> &[u8]
+        requires { rank < length (entries self.now) }
+        ensures { slice_get (names_of self.now) rank ≡ Some result.now }
+    {
+        let (name, _) = self.lengths.get_index(rank).unwrap();
+        name.as_slice()
+    }
+
+    /// The length in bases, at least 1, of the chromosome of this rank, which is below [`Genome::count`].
+    pub fn length(&self, rank: usize) -> u64
+        requires { rank < length (entries self.now) }
+        ensures is { option_map (λ entry. entry.length) (slice_get (entries self.now) rank) ≡ Some result }
+        ensures some { 0 < result }
+    {
+        self.lengths[rank]
+    }
+
+    // Adds what a line says.
+    fn add_line(&mut self, alloc: Global, place: Place, text: &[u8]) -> Result<(), Fault>
+        ensures added { OnOk result (LineAdded text.now self.old self.new) }
+        ensures refused { IfErr result (λ fault.
+            LineRefused place text.now self.old (told fault) ⊎ LineUnkept text.now self.old (told fault)) }
+    {
+        match self.new_entry(text) {
+            Ok(Some(entry)) => self.push(alloc, entry),
+            Ok(None) => Ok(()),
+            Err(kind) => Err(at_line(kind, place)),
+        }
+    }
+
+    // Adds a new chromosome after the others.
+    fn push(&mut self, alloc: Global, entry: EntryRef<'_>) -> Result<(), Fault>
+        requires { is_among (names_of self.old) entry.name.now ≡ false }
+        ensures added { OnOk result (entries self.new ≡ entries self.old ++ entry_lent entry.entry ∷ []) }
+        ensures refused { IfErr result (λ fault. told fault ≡ no_memory) }
+    {
+        let Ok(name) = Vec::from_slice(alloc, entry.name) else {
+            return Err(no_memory());
+        };
+        match self.lengths.insert(name, entry.length) {
+            Ok(_new) => Ok(()),
+            Err(_failed) => Err(no_memory()),
+        }
+    }
+
+    // What a line says after the lines before it.
+    fn new_entry<'t>(&self, text: &'t [u8]) -> Result<Option<EntryRef<'t>>, Kind>
+        ensures { entry_said result ≡ new_entry (names_of self.now) (entry_of text.now) }
+    {
+        let Some(entry) = entry(text)? else {
+            return Ok(None);
+        };
+        if self.rank(entry.name).is_some() {
+            return Err(Kind::RepeatedChrom);
+        }
+        Ok(Some(entry))
+    }
+}
+
+#[cfg(test)]
+mod tests {
+    use super::*;
+    use crate::order::ChromOrder;
+    use bt_lines::{Input, ScriptSource};
+    use itoa::Buffer;
+    use std::alloc::AllocError;
+    use std::cmp::Ordering;
+
+    // The genome file of a text that comes in pieces of this many bytes.
+    fn read(alloc: Global, text: &[u8], step: usize, good: Option<usize>) -> Result<Genome, Fault>
+        requires { 0 < step }
+    {
+        let source = ScriptSource::new(text, step, good);
+        let mut reader = LineReader::new(alloc, source, Input::Genome);
+        let genome = Genome::read(alloc, &mut reader);
+        let _ = reader.into_source();
+        genome
+    }
+
+    // How many chromosomes the text has, or what is wrong with it at which line.
+    fn count(
+        alloc: Global,
+        text: &[u8],
+        step: usize,
+        good: Option<usize>,
+    ) -> Result<usize, (Kind, Option<Place>)>
+        requires { 0 < step }
+    {
+        match read(alloc, text, step, good) {
+            Ok(genome) => Ok(genome.count()),
+            Err(fault) => Err((fault.kind, fault.place)),
+        }
+    }
+
+    fn at(kind: Kind, line: u64) -> Result<usize, (Kind, Option<Place>)> {
+        let place = Place {
+            input: Input::Genome,
+            line,
+        };
+        Err((kind, Some(place)))
+    }
+
+    const COUNTS: [(&[u8], Result<usize, (Kind, u64)>); 11] = [
+        (b"", Ok(0)),
+        (b"chr1\t10\nchr2\t5\n", Ok(2)),
+        (b"chr1\t10\t52\t60\t61\n", Ok(1)),
+        (b"# all\n\nchr1\t10\n\r\n#\t\t\nchr2\t20", Ok(2)),
+        (b"chr1\n", Err((Kind::TooFewColumns, 1))),
+        (b"\n\t10\n", Err((Kind::EmptyName, 2))),
+        (b"chr1\t0\n", Err((Kind::BadLength, 1))),
+        (b"chr1\tx\n", Err((Kind::BadLength, 1))),
+        (b"chr1\t10\nchr1\t20\n", Err((Kind::RepeatedChrom, 2))),
+        (b"chr1\t10\nchr1\t0\n", Err((Kind::BadLength, 2))),
+        (b"chr1\t10\nchr2\nchr1\t10\n", Err((Kind::TooFewColumns, 2))),
+    ];
+
+    // The first text of a table that gives another count or fault than it has, in pieces of this many
+    // bytes.
+    fn first_miscounted(
+        alloc: Global,
+        rows: &[(&'static [u8], Result<usize, (Kind, u64)>)],
+        step: usize,
+    ) -> Option<&'static [u8]>
+        requires { 0 < step }
+    {
+        for row in rows {
+            let want = match row.1 {
+                Ok(count) => Ok(count),
+                Err((kind, line)) => at(kind, line),
+            };
+            if count(alloc, row.0, step, None) != want {
+                return Some(row.0);
+            }
+        }
+        None
+    }
+
+    #[test]
+    fn counts_chromosomes(rt: HostRuntime) {
+        assert_eq!(rt; first_miscounted(rt.alloc(), &COUNTS, 1), None);
+        assert_eq!(rt; first_miscounted(rt.alloc(), &COUNTS, 7), None);
+    }
+
+    #[test]
+    fn tells_a_failed_read(rt: HostRuntime) {
+        let text = b"chr1\t10\nchr2\t5\n";
+        assert_eq!(rt;
+            count(rt.alloc(), text, 7, Some(8)),
+            at(Kind::ReadFailed, 2)
+        );
+        assert_eq!(rt;
+            count(rt.alloc(), text, 1, Some(15)),
+            at(Kind::ReadFailed, 3)
+        );
+    }
+
+    #[test]
+    fn finds_chromosomes(rt: HostRuntime) {
+        let found = match read(rt.alloc(), b"b\t10\na\t5\n", 1, None) {
+            Ok(genome) => (genome.rank(b"a"), genome.rank(b"b"), genome.rank(b"c")),
+            Err(_fault) => (None, None, None),
+        };
+        assert_eq!(rt; found, (Some(1), Some(0), None));
+    }
+
+    #[test]
+    fn tells_names_and_lengths(rt: HostRuntime) {
+        let found = match read(rt.alloc(), b"b\t10\na\t5\n", 1, None) {
+            Ok(genome) if genome.count() == 2 => genome.name(1) == b"a".as_slice()
+                && genome.length(1) == 5,
+            _ => false,
+        };
+        assert!(rt; found);
+    }
+
+    // Which of two names comes first, if the order knows both.
+    fn compared<O: ChromOrder>(order: &O, left: &[u8], right: &[u8]) -> Option<Ordering> {
+        if order.knows(left) && order.knows(right) {
+            Some(order.compare(left, right))
+        } else {
+            None
+        }
+    }
+
+    // Two names, and how they compare.
+    type Pair = (&'static [u8], &'static [u8], Option<Ordering>);
+
+    const PAIRS: [Pair; 5] = [
+        (b"chr10", b"chr2", Some(Ordering::Less)),
+        (b"chr2", b"chr10", Some(Ordering::Greater)),
+        (b"chr2", b"chr2", Some(Ordering::Equal)),
+        (b"chr2", b"chr3", None),
+        (b"chr3", b"chr2", None),
+    ];
+
+    fn agrees<O: ChromOrder>(order: &O, pairs: &[Pair]) -> bool {
+        for pair in pairs {
+            if compared(order, pair.0, pair.1) != pair.2 {
+                return false;
+            }
+        }
+        true
+    }
+
+    #[test]
+    fn orders_chromosomes_by_their_lines(rt: HostRuntime) {
+        let found = match read(rt.alloc(), b"chr10\t5\nchr2\t7\n", 1, None) {
+            Ok(genome) => agrees(&genome, &PAIRS),
+            Err(_fault) => false,
+        };
+        assert!(rt; found);
+    }
+
+    // A genome file of the names c0, c1 and so on.
+    fn numbered(alloc: Global, count: u64) -> Result<Vec<u8>, AllocError> {
+        let mut text = Vec::new(alloc);
+        let mut digits = Buffer::new();
+        for n in 0..count {
+            text.extend_from_slice(b"c")?;
+            text.extend_from_slice(digits.format(n).as_bytes())?;
+            text.extend_from_slice(b"\t5\n")?;
+        }
+        Ok(text)
+    }
+
+    #[test]
+    fn finds_the_last_of_many(rt: HostRuntime) {
+        let found = match numbered(rt.alloc(), 2000) {
+            Ok(text) => match read(rt.alloc(), text.as_slice(), 512, None) {
+                Ok(genome) => (genome.count(), genome.rank(b"c1999"), genome.rank(b"c2000")),
+                Err(_fault) => (0, None, None),
+            },
+            Err(_failed) => (0, None, None),
+        };
+        assert_eq!(rt; found, (2000, Some(1999), None));
+    }
+}

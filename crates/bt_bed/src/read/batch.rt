@@ -1,0 +1,245 @@
+//! Records that a reader has buffered.
+
+ghost use Rattle.std.specs.Prelude.{◌≡◌, ◌<◌, ◌≤◌, IsTrue, get_or, length};
+ghost use Rattle.bt_lines.specs.calls.Buffered.{rest_in};
+ghost use Rattle.bt_bed.specs.inside.FirstColumns.{IsRecordName};
+ghost use Rattle.bt_bed.specs.inside.NameKey.{HasKey};
+ghost use Rattle.bt_bed.specs.calls.Run.{is_on};
+ghost use Rattle.bt_bed.specs.model.feature.Record.{record_of};
+
+use crate::parse::columns::{LOOKAHEAD, begins_with_long, scan_columns};
+use crate::parse::leading::parse_leading;
+use crate::parse::name_key::NameKey;
+use crate::parse::names::is_same_name;
+use crate::parse::parsing::parse_bed;
+use crate::record::raw_record::RawRecord;
+use bt_lines::{BufferedLines, ConsumedLines, LineText};
+
+/// Records that a reader has buffered, of one chromosome and in order, as a cursor over them. It ends before the first line
+/// that isn't such a record's. What was consumed is reported to the reader ([`Records::consume`](crate::Records::consume)).
+#[derive(Clone, Copy, Debug)]
+pub struct Batch<'a> {
+    lines: BufferedLines<'a>,
+    // The chromosome.
+    name: &'a [u8],
+    // By which a line on it is recognized.
+    key: NameKey,
+    // The start of the record before, or 0.
+    start: u64,
+    ghost named: { 0 < length (rest_in lines) → IsRecordName name.now },
+    ghost keyed: { HasKey name.now key },
+}
+
+/// What was consumed of the records that a reader had buffered.
+#[derive(Clone, Copy, Debug)]
+pub struct Consumed {
+    pub(crate) lines: ConsumedLines,
+    // The start of the record consumed last.
+    pub(crate) start: u64,
+    // Whether another one follows.
+    pub(crate) is_ahead: bool,
+}
+
+#[tactic(auto, unfolding(crate::specs::calls::Batch::left, crate::specs::calls::Batch::left_behind, crate::specs::calls::Batch::chrom_in, crate::specs::calls::Batch::start_in, crate::specs::calls::Batch::line_in, crate::specs::calls::Batch::cursor_in, crate::specs::calls::RawRecord::text_in))]
+impl<'a> Batch<'a> {
+    ghost use Rattle.std.specs.Prelude.{◌≡◌, ◌<◌, ◌≤◌, ◌∷◌, ◌++◌, [], IfNone, IfSome, false, length, take};
+    ghost use Rattle.bt_lines.specs.calls.Buffered.{lines_in, rest_in};
+    ghost use Rattle.bt_lines.specs.calls.FirstLine.{Cut, line_shown};
+    ghost use Rattle.bt_bed.specs.calls.Batch.{IsWhere, Passes, StandsFirst, chrom_in, consumed_in, cursor_in, left, line_in, start_in};
+    ghost use Rattle.bt_bed.specs.inside.FirstColumns.{IsRecordName};
+    ghost use Rattle.bt_bed.specs.calls.RawRecord.{IsOnLine, raw_in, record_in};
+    ghost use Rattle.bt_bed.specs.model.feature.Record.{record_of};
+    ghost use Rattle.bt_bed.specs.calls.Run.{is_on, run_of};
+
+    // The records of these lines on the chromosome of this name, from this start on.
+    pub(crate) fn new(lines: BufferedLines<'a>, name: &'a [u8], start: u64) -> Batch<'a>
+        requires { 0 < length (rest_in lines) → IsRecordName name.now }
+        ensures left { left result ≡ run_of name.now start (lines_in lines.entry) }
+        ensures cursor { cursor_in result ≡ lines.entry }
+        ensures chrom { chrom_in result ≡ name.now }
+        ensures start { start_in result ≡ start }
+    {
+        Batch {
+            lines,
+            name,
+            key: NameKey::of(name),
+            start,
+        }
+    }
+
+    /// The next record, which is consumed.
+    #[inline(always)]
+    pub fn next(&mut self) -> Option<RawRecord<'a>>
+        ensures some { IfSome result (λ r. Passes self.old (record_in r ∷ []) self.new) }
+        ensures on { IfSome result (λ r. (record_in r).chrom ≡ chrom_in self.old) }
+        ensures line { IfSome result (λ r. consumed_in self.new ≡ consumed_in self.old ++ raw_in r) }
+        ensures none { IfNone result (left self.old ≡ []) }
+        ensures unchanged { IfNone result (self.new ≡ self.old) }
+    {
+        let record = self.first()?;
+        self.consume(&record);
+        Some(record)
+    }
+
+    /// The next record, which isn't consumed. Its first three columns are scanned in the buffer, and the line is parsed
+    /// if they look otherwise than most.
+    #[inline(always)]
+    pub fn first(&self) -> Option<RawRecord<'a>>
+        ensures some { IfSome result (StandsFirst self.now) }
+        ensures on { IfSome result (λ r. (record_in r).chrom ≡ chrom_in self.now) }
+        ensures none { IfNone result (left self.now ≡ []) }
+    {
+        let line = self.lines.first()?;
+        let record = self.read(line)?;
+        if record.start.value < self.start {
+            return None;
+        }
+        Some(record)
+    }
+
+    // The record of the next line, which is this one, if it lies on the chromosome.
+    #[inline(always)]
+    fn read(&self, line: LineText<'a>) -> Option<RawRecord<'a>>
+        requires { Cut (rest_in (cursor_in self.now)) (line_shown line) }
+        ensures some { IfSome result (IsOnLine (line_shown line.entry) (chrom_in self.now)) }
+        ensures none { IfNone result (is_on (chrom_in self.now) (record_of line.entry.text.now) ≡ false) }
+    {
+        match self.scan(line) {
+            Some(record) => Some(record),
+            None => self.parse(line),
+        }
+    }
+
+    // The same as it is scanned: none proves nothing.
+    #[inline(always)]
+    fn scan(&self, line: LineText<'a>) -> Option<RawRecord<'a>>
+        requires { Cut (rest_in (cursor_in self.now)) (line_shown line) }
+        ensures { IfSome result (IsOnLine (line_shown line.entry) (chrom_in self.now)) }
+    {
+        let rest = self.lines.rest();
+        if rest.len() < self.name.len() + LOOKAHEAD {
+            return None;
+        }
+        let columns = scan_columns(rest, self.name, self.key)?;
+        let end = self.name.len() + columns.start.end + columns.stop.end + 2;
+        if !ends_column(line.text, end) {
+            return None;
+        }
+        Some(RawRecord {
+            text: line.text,
+            size: line.size,
+            name: self.name.len(),
+            start: columns.start,
+            stop: columns.stop,
+        })
+    }
+
+    // The same as the line is parsed.
+    #[inline(always)]
+    fn parse(&self, line: LineText<'a>) -> Option<RawRecord<'a>>
+        ensures some { IfSome result (IsOnLine (line_shown line.entry) (chrom_in self.now)) }
+        ensures none { IfNone result (is_on (chrom_in self.now) (record_of line.entry.text.now) ≡ false) }
+    {
+        if !is_record_on(line.text, self.name) {
+            return None;
+        }
+        let start = parse_leading(line.text, self.name.len() + 1);
+        let stop = parse_leading(line.text, self.name.len() + start.end + 2);
+        Some(RawRecord {
+            text: line.text,
+            size: line.size,
+            name: self.name.len(),
+            start,
+            stop,
+        })
+    }
+
+    /// Consumes the next record, which is this one.
+    #[inline(always)]
+    pub fn consume(&mut self, raw: &RawRecord<'a>)
+        requires { StandsFirst self.old raw.now }
+        ensures passes { Passes self.old (record_in raw.now ∷ []) self.new }
+        ensures line { consumed_in self.new ≡ consumed_in self.old ++ raw_in raw.now }
+    {
+        self.lines.consume(raw.size);
+        self.start = raw.start.value;
+    }
+
+    /// The chromosome of the records.
+    #[inline(always)]
+    pub fn chrom(&self) -> &'a [u8]
+        ensures { result.now ≡ chrom_in self.now }
+    {
+        self.name
+    }
+
+    /// The number of the line, counted from 1, of the record that was consumed last; before the first one that of the
+    /// line before it, or 0.
+    #[inline(always)]
+    pub fn line(&self) -> u64
+        ensures { result ≡ line_in self.now }
+    {
+        self.lines.lines()
+    }
+
+    /// How many bytes of lines were consumed of this batch, line ends included.
+    #[inline(always)]
+    pub fn offset(&self) -> usize
+        ensures { result ≡ length (consumed_in self.now) }
+    {
+        self.lines.offset()
+    }
+
+    /// The bytes that were consumed between two offsets, both counted as [`Batch::offset`] counts. `to` isn't included.
+    #[inline(always)]
+    pub fn between(&self, from: usize, to: usize) -> &'a [u8]
+        requires ordered { from ≤ to }
+        requires within { to ≤ length (consumed_in self.now) }
+        ensures { take to (consumed_in self.now) ≡ take from (consumed_in self.now) ++ result.now }
+    {
+        self.lines.between(from, to)
+    }
+
+    /// What was consumed.
+    #[inline(never)]
+    pub fn consumed(&self) -> Consumed
+        ensures { IsWhere self.now result }
+    {
+        Consumed {
+            lines: self.lines.consumed(),
+            start: self.start,
+            is_ahead: self.first().is_some(),
+        }
+    }
+}
+
+// Whether a column that reaches so far ends there.
+#[inline(always)]
+fn ends_column(text: &[u8], end: usize) -> bool
+    ensures within { IsTrue result → end ≤ length text.now }
+    ensures tab { IsTrue result → end < length text.now → get_or text.now end 0 ≡ 9 }
+{
+    if end < text.len() {
+        return text[end] == b'\t';
+    }
+    end == text.len()
+}
+
+// Whether a text says a record on the chromosome of this name. Most that don't begin with another name, so that no other
+// column is parsed.
+#[cold]
+#[inline(never)]
+fn is_record_on(text: &[u8], name: &[u8]) -> bool
+    ensures { result ≡ is_on name.now (record_of text.now) }
+{
+    if text.len() <= name.len() || !begins_with_long(text, name) {
+        return false;
+    }
+    match parse_bed(text) {
+        Ok(Some(bed)) => is_same_name(bed.chrom, name),
+        _ => false,
+    }
+}
+
+#[cfg(test)]
+mod tests;

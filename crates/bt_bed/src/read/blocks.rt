@@ -1,0 +1,115 @@
+//! The records of a BED input whose chromosomes come in any order.
+
+ghost use Rattle.bt_bed.specs.calls.SortedReader.{IsPlaced, view_in};
+ghost use Rattle.bt_bed.specs.model.order.Sorting.{block_sorting};
+
+use crate::read::batch::{Batch, Consumed};
+use crate::read::sorted::InBlocks;
+use crate::read::sorted_reader::SortedReader;
+use crate::record::bed::BedRef;
+use bt_lines::{Fault, LineReader, Source};
+use std::alloc::Global;
+
+/// Reads the records of a BED input in blocks. It reports the first line at fault: one that isn't a
+/// feature, or starts before the record before it on the same chromosome. A block is a maximal run of
+/// records of one chromosome. The blocks come in any order, and a chromosome may have several. Header
+/// lines and blank lines are skipped. `fill` makes a record buffered, or the end, `buffered` borrows the records, and
+/// `consume` takes some of them.
+#[derive(Drop)]
+pub struct Blocks<S> {
+    // Always valid: `placed` says that it goes by the order of blocks.
+    sorted: SortedReader<S, InBlocks>,
+    ghost placed: { IsPlaced block_sorting (view_in block_sorting sorted) },
+}
+
+#[tactic(auto, unfolding(crate::specs::calls::SortedReader::view_with, crate::specs::calls::Blocks::view_of))]
+impl<S: Source> Blocks<S> {
+    ghost use Rattle.std.specs.Prelude.{◌≡◌, [], None, Some, IsSome, option_map};
+    ghost use Rattle.std.specs.Borrow.{sem};
+    ghost use Rattle.std.specs.Io.BufRead.{Rests};
+    ghost use Rattle.bt_lines.specs.calls.Reader.{fault_kept as line_fault, input_of, lines_left};
+    ghost use Rattle.bt_bed.specs.contracts.read.blocks.Blocks.{the_row};
+    ghost use Rattle.bt_bed.specs.calls.Reading.{BeginsComing};
+    ghost use Rattle.bt_bed.specs.calls.Blocks.{FillsBlocks, IsTaken, Lends, PassesBlocks, PeeksBlocks, TakesBlocks, below, buffered_in, count_in, fault_kept, good_left, last_locus, line_ahead, view_of};
+    ghost use Rattle.bt_bed.specs.model.input.Good.{good};
+    ghost use Rattle.bt_bed.specs.model.input.GoodBlocks.{block_format};
+
+    /// A reader of the records that the reader of lines has left.
+    pub fn new(alloc: Global, reader: LineReader<S>) -> Blocks<S>
+        ensures below { below result ≡ reader }
+        ensures fault { fault_kept result ≡ line_fault reader }
+        ensures good { line_fault reader ≡ None → good_left S.left result
+            ≡ option_map (good block_format (input_of reader)) (lines_left S.left reader) }
+        ensures none_last { last_locus result ≡ None }
+        ensures none_buffered { buffered_in result ≡ [] }
+    {
+        Blocks {
+            sorted: SortedReader::new(alloc, reader, InBlocks),
+        }
+    }
+
+    /// Makes at least one record buffered, and returns true if there is one: there is none at the end of the input. It
+    /// reads nothing while one is buffered, after a fault, which is returned again, and after the end. A line that
+    /// couldn't be read is reported before what is wrong with it, and running out of memory for its chromosome's name
+    /// after. It allocates for the line, and if the chromosome is another than that of the record before.
+    #[inline(always)]
+    pub fn fill(&mut self) -> Result<bool, Fault>
+        ensures { FillsBlocks S.left S.has_failed S.end_told S.is_read self.old result self.new }
+    {
+        self.sorted.fill()
+    }
+
+    /// The records that are buffered, on the chromosome of the first of them.
+    pub fn buffered(&self) -> Batch<'_>
+        ensures lends { Lends self.now result }
+        ensures comes { BeginsComing S.left (view_of self.now) }
+    {
+        self.sorted.buffered()
+    }
+
+    /// Takes the records that were consumed of what [`Blocks::buffered`] gave. It reads nothing and doesn't allocate.
+    pub fn consume(&mut self, consumed: Consumed)
+        requires { IsTaken self.old consumed }
+        ensures { TakesBlocks S.left S.end_told self.old (count_in self.old consumed) self.new }
+    {
+        self.sorted.consume(consumed);
+    }
+
+    /// The record ahead, or none at the end of the input: `fill`, and the first of those buffered. It fails as `fill`
+    /// does.
+    #[inline]
+    pub fn peek(&mut self) -> Result<Option<BedRef<'_>>, Fault>
+        ensures* after { sem 𝓛 (Rests (the_row S.row) self.entry
+            (λ new. PeeksBlocks S.left S.has_failed S.end_told S.is_read self.old result new)) }
+    {
+        self.fill()?;
+        Ok(self.sorted.first())
+    }
+
+    /// Takes the record ahead, which the last `peek` gave: `consume` of one. It reads nothing and can't fail.
+    pub fn advance(&mut self)
+        requires { IsSome (line_ahead self.old) }
+        ensures { PassesBlocks S.left S.end_told self.old self.new }
+    {
+        self.sorted.advance();
+    }
+
+    /// The number of the line, counted from 1, of the record ahead, which the last `peek` gave.
+    pub fn line(&self) -> u64
+        requires { IsSome (line_ahead self.now) }
+        ensures { line_ahead self.now ≡ Some result }
+    {
+        self.sorted.line()
+    }
+
+    /// Gives back the reader of lines.
+    pub fn into_reader(self) -> LineReader<S>
+        ensures { result ≡ below self }
+    {
+        let Blocks { sorted } = self;
+        sorted.into_reader()
+    }
+}
+
+#[cfg(test)]
+mod tests;

@@ -1,0 +1,67 @@
+//! Lines of which a record's start and end were read.
+
+ghost use Rattle.std.specs.Prelude.{◌≡◌, IsTrue, Ok, Some, false, get_or};
+ghost use Rattle.bt_bed.specs.inside.FirstColumns.{AreBounds, EndsName};
+ghost use Rattle.bt_bed.specs.model.feature.Header.{is_header};
+
+use crate::parse::leading::Leading;
+use crate::parse::parsing::behind;
+use crate::record::bed::BedRef;
+use crate::record::kept_strand::kept_strand;
+
+/// A line that says a record, of which the start and the end were read. Its other columns aren't looked at until
+/// they are needed.
+#[derive(Clone, Copy, Debug)]
+pub struct RawRecord<'a> {
+    pub(crate) text: &'a [u8],
+    // How many bytes the line has, with its end.
+    pub(crate) size: usize,
+    // Where the chromosome's name ends.
+    pub(crate) name: usize,
+    // The numbers of the second and the third column, and where these end, each counted from where it begins.
+    pub(crate) start: Leading,
+    pub(crate) stop: Leading,
+    ghost named: { EndsName text.now name },
+    ghost bounds: { AreBounds text.now name start stop },
+    ghost no_header: { is_header text.now ≡ false },
+}
+
+#[tactic(auto, unfolding(crate::specs::calls::RawRecord::text_in, crate::specs::calls::RawRecord::record_in, crate::specs::calls::RawRecord::kept_in))]
+impl<'a> RawRecord<'a> {
+    ghost use Rattle.bt_bed.specs.calls.Bed.{feature_lent};
+    ghost use Rattle.bt_bed.specs.calls.RawRecord.{IsAsWritten, record_in, text_in};
+
+    /// The text of the line.
+    #[inline(always)]
+    pub fn text(&self) -> &'a [u8]
+        ensures { result.now ≡ text_in self.now }
+    {
+        self.text
+    }
+
+    /// The record, for as long as the line.
+    #[inline(always)]
+    pub fn to_bed(&self) -> BedRef<'a>
+        ensures { feature_lent result ≡ record_in self.now }
+    {
+        let kept = self.name + self.start.end + self.stop.end + 2;
+        BedRef {
+            chrom: &self.text[..self.name],
+            start: self.start.value,
+            stop: self.stop.value,
+            strand: kept_strand(self.text, kept),
+            rest: behind(self.text, kept),
+        }
+    }
+
+    /// True only if the record is written as its line: neither its start nor its end begins with a zero. It is false for
+    /// a start of `0` too, which is the start of few records.
+    #[inline(always)]
+    pub fn is_as_written(&self) -> bool
+        ensures { IsTrue result → IsAsWritten (text_in self.now) }
+    {
+        let start = self.name + 1;
+        let stop = start + self.start.end + 1;
+        self.text[start] != b'0' && self.text[stop] != b'0'
+    }
+}

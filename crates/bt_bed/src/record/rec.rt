@@ -1,0 +1,154 @@
+//! Records that are kept.
+
+ghost use Rattle.std.specs.Prelude.{◌≡◌, IfOk};
+ghost use Rattle.bt_bed.specs.calls.Bed.{feature_lent};
+
+use crate::record::bed::BedRef;
+use crate::record::kept_text::KeptText;
+use crate::record::strand::Strand;
+use std::alloc::{AllocError, Global};
+use std::marker::Model;
+
+/// A feature that owns its bytes: what a [`BedRef`] borrows. A short text is inline, and a longer
+/// one in a buffer. Contracts see the feature itself, so a list of records is a list of features.
+#[derive(Debug, Drop)]
+pub struct Rec {
+    // The chromosome's name, and after it the columns from the fourth on, each with the tab before it. Bytes that are
+    // unspecified may come last.
+    text: KeptText,
+    // How much of the text is the name. The fields below are always those of one feature.
+    name_len: usize,
+    start: u64,
+    stop: u64,
+    strand: Strand,
+    // How many bytes at the end of the text are unspecified.
+    left_over: u32,
+}
+
+impl Model for Rec {
+    ghost use Rattle.std.specs.Prelude.{◌-◌, ◌≤◌, length, take};
+    ghost use Rattle.bt_bed.specs.model.feature.Feature.{Feature};
+    ghost use Rattle.bt_bed.specs.calls.Rec.{IsFeatureIn, feature_in};
+
+    ghost Value = { Feature };
+
+    ghost view = { λ r. feature_in (take (length r.text - r.left_over) r.text)
+        r.name_len r.start r.stop r.strand };
+
+    ghost invariant = { λ r. (r.left_over ≤ length r.text)
+        × IsFeatureIn (take (length r.text - r.left_over) r.text)
+        r.name_len r.start r.stop r.strand };
+}
+
+impl Rec {
+    /// The record, which borrows from this one. It doesn't allocate.
+    #[inline]
+    pub fn as_bed(&self) -> BedRef<'_>
+        ensures { feature_lent result ≡ self.now }
+    {
+        let text = self.text.as_slice();
+        let len = text.len() - self.left_over as usize;
+        let (chrom, rest) = text[..len].split_at(self.name_len);
+        BedRef {
+            chrom,
+            start: self.start,
+            stop: self.stop,
+            strand: self.strand,
+            rest,
+        }
+    }
+}
+
+impl BedRef<'_> {
+    /// The record with bytes of its own. It allocates once if its name and other columns are longer
+    /// than what a [`Rec`] has inline, and else not. `Err` if memory runs out.
+    pub fn to_rec(&self, alloc: Global) -> Result<Rec, AllocError>
+        ensures { IfOk result (λ rec. rec ≡ feature_lent self.now) }
+    {
+        let (text, left_over) = KeptText::of(alloc, self.chrom, self.rest)?;
+        Ok(Rec {
+            text,
+            name_len: self.chrom.len(),
+            start: self.start,
+            stop: self.stop,
+            strand: self.strand,
+            left_over,
+        })
+    }
+}
+
+#[cfg(test)]
+mod tests {
+    use super::*;
+    use crate::parse::parsing::parse_bed;
+    use std::test::Fail;
+
+    // A line, and the start, the end, the strand and what is kept of its record.
+    type Row = (&'static [u8], (u64, u64, Strand, &'static [u8]));
+
+    // Texts that are inline, up to the longest of 31 bytes and the shortest that isn't, and some in a buffer.
+    const RECORDS: [Row; 9] = [
+        (b"chr1\t10\t30\ta", (10, 30, Strand::Dot, b"\ta")),
+        (b"chr1\t007\t9\tn\t0\t+", (7, 9, Strand::Plus, b"\tn\t0\t+")),
+        (
+            b"chr1\t8\t9\tabcdefghijklmnopqrstuvwxyz",
+            (8, 9, Strand::Dot, b"\tabcdefghijklmnopqrstuvwxyz"),
+        ),
+        (b"chr1\t5\t9\t", (5, 9, Strand::Dot, b"\t")),
+        (
+            b"chr1\t8\t10\tabcdefghijklmnopqrstuvwxyz0",
+            (8, 10, Strand::Dot, b"\tabcdefghijklmnopqrstuvwxyz0"),
+        ),
+        (b"chr1\t0\t15", (0, 15, Strand::Dot, b"")),
+        (
+            b"chr1\t1\t11\tlong\t5\t+\t0123456789abcdefghijklmnopqrstuvwxyz0123456789abcdefghijklmnopqrstuvwxyz",
+            (
+                1,
+                11,
+                Strand::Plus,
+                b"\tlong\t5\t+\t0123456789abcdefghijklmnopqrstuvwxyz0123456789abcdefghijklmnopqrstuvwxyz",
+            ),
+        ),
+        (
+            b"chr1\t2\t12\t0123456789abcdefghijklmnopqrstuvwxyz",
+            (
+                2,
+                12,
+                Strand::Dot,
+                b"\t0123456789abcdefghijklmnopqrstuvwxyz",
+            ),
+        ),
+        (
+            b"chr1\t0\t100\tn\t5\t-\tx",
+            (0, 100, Strand::Minus, b"\tn\t5\t-\tx"),
+        ),
+    ];
+
+    fn is_seen_as(bed: BedRef<'_>, want: (u64, u64, Strand, &[u8])) -> bool {
+        let (start, stop, strand, rest) = want;
+        bed.chrom == b"chr1".as_slice()
+            && (bed.start, bed.stop) == (start, stop)
+            && bed.strand == strand
+            && bed.rest == rest
+    }
+
+    // The first line of a table whose record reads otherwise once it is kept.
+    fn first_miskept(alloc: Global, rows: &[Row]) -> Result<Option<&'static [u8]>, AllocError> {
+        for row in rows {
+            let agrees = match parse_bed(row.0) {
+                Ok(Some(bed)) => is_seen_as(bed.to_rec(alloc)?.as_bed(), row.1),
+                _ => false,
+            };
+            if !agrees {
+                return Ok(Some(row.0));
+            }
+        }
+        Ok(None)
+    }
+
+    #[test]
+    fn records_are_kept_and_lent_as_they_were(rt: HostRuntime) -> Result<(), Fail> {
+        assert_eq!(rt; first_miskept(rt.alloc(), &RECORDS)?, None);
+        Ok(())
+    }
+}

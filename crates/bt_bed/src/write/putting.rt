@@ -1,0 +1,97 @@
+//! Records put to an output.
+
+ghost use Rattle.std.specs.Prelude.{◌++◌};
+ghost use Rattle.bt_lines.specs.calls.Putting.{Puts};
+ghost use Rattle.bt_bed.specs.calls.Bed.{feature_lent};
+ghost use Rattle.bt_bed.specs.model.feature.Record.{bed_text, cut_to};
+
+use crate::record::bed::BedRef;
+use crate::write::interval_line::{put_columns, put_ended};
+use bt_lines::{Fault, Out, Sink, put_line};
+
+/// Puts a record and what ends it, as a tab or a line feed: chromosome, start, end and the kept
+/// columns, with tabs between them. Start and end are printed without leading zeros. It doesn't
+/// allocate. It fails with `WriteFailed`, only if the sink has failed: then the sink took a prefix of all bytes put.
+pub fn put_bed<K: Sink>(bed: &BedRef<'_>, end: &[u8], out: &mut Out<K>) -> Result<(), Fault>
+    ensures { Puts out.old.output (bed_text (feature_lent bed.now) ++ end.now) result out.new.output }
+{
+    put_cut(bed, bed.start, bed.stop, end, out)
+}
+
+/// Puts a record as [`put_bed`] does, with this start, which is zero-based, and this end, which isn't
+/// included, instead of its own: a part of it, with its other columns. It doesn't allocate, and fails as [`put_bed`]
+/// does.
+pub fn put_cut<K: Sink>(
+    bed: &BedRef<'_>,
+    start: u64,
+    stop: u64,
+    end: &[u8],
+    out: &mut Out<K>,
+) -> Result<(), Fault>
+    ensures { Puts out.old.output (bed_text (cut_to start stop (feature_lent bed.now)) ++ end.now) result out.new.output }
+{
+    if bed.rest.is_empty() && end.len() == 1 {
+        return put_ended(bed.chrom, start, stop, end[0], out);
+    }
+    put_columns(bed.chrom, start, stop, out)?;
+    put_line(bed.rest, end, out)
+}
+
+#[cfg(test)]
+mod tests {
+    use super::*;
+    use crate::parse::parsing::parse_bed;
+    use bt_lines::{ScriptSink, put_number};
+    use std::test::Fail;
+
+    // Puts the lines of two records that share bases: the shared part beside the second, both with the
+    // number of shared bases, and the first as it is.
+    fn put_lines<K: Sink>(a: &BedRef<'_>, b: &BedRef<'_>, out: &mut Out<K>) -> Result<(), Fault> {
+        put_cut(a, 10, 15, b"\t", out)?;
+        put_bed(b, b"\n", out)?;
+        put_bed(a, b"\t", out)?;
+        put_bed(b, b"\t", out)?;
+        put_number(5, b"\n", out)?;
+        put_bed(a, b"\n", out)?;
+        out.flush()
+    }
+
+    // Whether the lines are put, and what the sink took of them if it takes `good` bytes.
+    fn taken_by(rt: &HostRuntime, good: Option<usize>, want: &[u8]) -> bool {
+        let (Ok(Some(a)), Ok(Some(b))) = (
+            parse_bed(b"chr1\t010\t30\ta"),
+            parse_bed(b"chr1\t0\t15\tx"),
+        ) else {
+            return false;
+        };
+        let mut out = Out::new(ScriptSink::new(rt.alloc(), 3, good));
+        let put = put_lines(&a, &b, &mut out);
+        put.is_ok() == good.is_none() && out.into_sink().taken() == want
+    }
+
+    #[test]
+    fn records_and_parts_stand_beside_one_another(rt: HostRuntime) {
+        let lines: &[u8] =
+            b"chr1\t10\t15\ta\tchr1\t0\t15\tx\nchr1\t10\t30\ta\tchr1\t0\t15\tx\t5\nchr1\t10\t30\ta\n";
+        assert!(rt; taken_by(&rt, None, lines));
+        assert!(rt; taken_by(&rt, Some(9), b"chr1\t10\t1"));
+    }
+
+    // Puts a record, its first half and the record again, with nothing after it.
+    fn put_bare<K: Sink>(bed: &BedRef<'_>, out: &mut Out<K>) -> Result<(), Fault> {
+        put_bed(bed, b"\t", out)?;
+        put_cut(bed, 10, 15, b"\n", out)?;
+        put_bed(bed, b"", out)?;
+        out.flush()
+    }
+
+    #[test]
+    fn records_without_further_columns_are_put_with_what_ends_them(rt: HostRuntime) {
+        let mut out = Out::new(ScriptSink::new(rt.alloc(), 3, None));
+        if let Ok(Some(bed)) = parse_bed(b"chr1\t010\t20") {
+            assert!(rt; put_bare(&bed, &mut out).is_ok());
+        }
+        let lines: &[u8] = b"chr1\t10\t20\tchr1\t10\t15\nchr1\t10\t20";
+        assert_eq!(rt; out.into_sink().taken(), lines);
+    }
+}

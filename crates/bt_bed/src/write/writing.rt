@@ -1,0 +1,144 @@
+//! Records as they are written.
+
+ghost use Rattle.std.specs.Prelude.{◌≡◌, ◌++◌, OnOk, OnErr, length, take};
+ghost use Rattle.bt_bed.specs.calls.Bed.{feature_lent};
+ghost use Rattle.bt_bed.specs.model.feature.Record.{bed_text, cut_to};
+
+use crate::record::bed::BedRef;
+use itoa::Buffer;
+use std::alloc::AllocError;
+
+/// Adds the line of a record, without its line feed: chromosome, start, end and the kept columns, with
+/// tabs between them. Start and end are printed without leading zeros. If memory runs out, nothing
+/// is added.
+pub fn write_bed(bed: &BedRef<'_>, line: &mut Vec<u8>) -> Result<(), AllocError>
+    ensures appended { OnOk result (line.new.items ≡ line.old.items ++ bed_text (feature_lent bed.now)) }
+    ensures unchanged { OnErr result (line.new.items ≡ line.old.items) }
+{
+    write_cut(bed, bed.start, bed.stop, line)
+}
+
+/// Adds the line of a record as [`write_bed`] does, with this start and this end instead of its own: a part
+/// of it, with its other columns. The start is zero-based, and the end isn't included. If memory
+/// runs out, nothing is added.
+pub fn write_cut(
+    bed: &BedRef<'_>,
+    start: u64,
+    stop: u64,
+    line: &mut Vec<u8>,
+) -> Result<(), AllocError>
+    ensures appended { OnOk result (line.new.items
+        ≡ line.old.items ++ bed_text (cut_to start stop (feature_lent bed.now))) }
+    ensures unchanged { OnErr result (line.new.items ≡ line.old.items) }
+{
+    let before = line.len();
+    let written = push_columns(bed, start, stop, line);
+    if written.is_err() {
+        line.truncate(before);
+    }
+    written
+}
+
+// Adds the columns of a record with this start and this end, or if memory runs out some of their
+// bytes.
+fn push_columns(
+    bed: &BedRef<'_>,
+    start: u64,
+    stop: u64,
+    line: &mut Vec<u8>,
+) -> Result<(), AllocError>
+    ensures appended { OnOk result (line.new.items
+        ≡ line.old.items ++ bed_text (cut_to start stop (feature_lent bed.now))) }
+    ensures kept { take (length line.old.items) line.new.items ≡ line.old.items }
+{
+    let mut digits = Buffer::new();
+    line.extend_from_slice(bed.chrom)?;
+    line.extend_from_slice(b"\t")?;
+    line.extend_from_slice(digits.format(start).as_bytes())?;
+    line.extend_from_slice(b"\t")?;
+    line.extend_from_slice(digits.format(stop).as_bytes())?;
+    line.extend_from_slice(bed.rest)
+}
+
+#[cfg(test)]
+mod tests {
+    use super::*;
+    use crate::parse::parsing::parse_bed;
+    use std::alloc::Global;
+    use std::test::Fail;
+
+    // A line, the bounds of the part of its record that is written if it isn't written whole, and
+    // what is written.
+    type Row = (&'static [u8], Option<(u64, u64)>, &'static [u8]);
+
+    const WHOLE: [Row; 5] = [
+        (b"chr1\t007\t9\tn\t0\t+", None, b"chr1\t7\t9\tn\t0\t+"),
+        (b"chr1\t000\t00012", None, b"chr1\t0\t12"),
+        (b"chr 1\t5\t9\t", None, b"chr 1\t5\t9\t"),
+        (b"chr1\t5\t9\t\tx", None, b"chr1\t5\t9\t\tx"),
+        (
+            b"c\t999999999998\t999999999999",
+            None,
+            b"c\t999999999998\t999999999999",
+        ),
+    ];
+
+    const PARTS: [Row; 5] = [
+        (
+            b"chr1\t0\t100\tn\t5\t+",
+            Some((0, 10)),
+            b"chr1\t0\t10\tn\t5\t+",
+        ),
+        (
+            b"chr1\t0\t100\tn\t5\t+",
+            Some((30, 90)),
+            b"chr1\t30\t90\tn\t5\t+",
+        ),
+        (b"chr1\t10\t30\ta", Some((25, 30)), b"chr1\t25\t30\ta"),
+        (b"chr1\t010\t020", Some((10, 20)), b"chr1\t10\t20"),
+        (
+            b"c\t0\t999999999999\t",
+            Some((999_999_999_998, 999_999_999_999)),
+            b"c\t999999999998\t999999999999\t",
+        ),
+    ];
+
+    // What follows a sign that a record was written to.
+    fn written(
+        alloc: Global,
+        text: &[u8],
+        part: Option<(u64, u64)>,
+    ) -> Result<Vec<u8>, AllocError> {
+        let mut line = Vec::from_slice(alloc, b"> ")?;
+        if let Ok(Some(bed)) = parse_bed(text) {
+            match part {
+                Some((start, stop)) => write_cut(&bed, start, stop, &mut line)?,
+                None => write_bed(&bed, &mut line)?,
+            }
+        }
+        Ok(line)
+    }
+
+    // The first line of a table that is written otherwise.
+    fn first_miswritten(alloc: Global, rows: &[Row]) -> Result<Option<&'static [u8]>, AllocError> {
+        for row in rows {
+            let line = written(alloc, row.0, row.1)?;
+            if line.strip_prefix(b"> ") != Some(row.2) {
+                return Ok(Some(row.0));
+            }
+        }
+        Ok(None)
+    }
+
+    #[test]
+    fn records_are_written_behind_what_stands(rt: HostRuntime) -> Result<(), Fail> {
+        assert_eq!(rt; first_miswritten(rt.alloc(), &WHOLE)?, None);
+        Ok(())
+    }
+
+    #[test]
+    fn parts_are_written_with_their_own_bounds(rt: HostRuntime) -> Result<(), Fail> {
+        assert_eq!(rt; first_miswritten(rt.alloc(), &PARTS)?, None);
+        Ok(())
+    }
+}

@@ -1,0 +1,6 @@
+-- Lemmas by theme.
+pub mod back
+pub mod length
+pub mod parts
+pub mod pipes
+pub mod same

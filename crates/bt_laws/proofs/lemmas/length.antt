@@ -1,0 +1,3 @@
+-- Lemmas on length.
+pub mod DepthsMerged
+pub mod LengthLaws

@@ -1,0 +1,188 @@
+-- Gaps of gaps, and merged depths.
+use Rattle.std.proofs.Common.{◌≡◌, ℕ, ◌+◌, ◌<◌, ◌≤◌, true, false, cond, List, [], ◌∷◌, ◌++◌, map, filter, min, Some, None, refl, sym, ap, ap₂, ◌∙◌, subst, inl, inr, arith}
+use Rattle.std.specs.Prelude.{bytes_eq, flat_map, nat_lt}
+use Rattle.std.specs.List.{AllByRecursion}
+use Rattle.std.proofs.lemmas.Bool.{cases_Bool, cases_lt, false≢true, le-ltb, lt-ltb, or_parts}
+use Rattle.std.proofs.lemmas.Grind.{flat_map-append}
+use Rattle.bt_lines.specs.declared.fault.Input.TheVariants.{First}
+use Rattle.bt_bed.specs.model.feature.Feature.{Feature, intervals_of}
+use Rattle.bt_bed.specs.model.order.Genome.{Entry, genome_names}
+use Rattle.bt_bed.specs.model.input.Good.{items_in}
+use Rattle.bt_bed.specs.model.input.GoodBed.{bed_good}
+use Rattle.bt_bed.specs.model.feature.Header.{is_header}
+use Rattle.bt_bed.specs.model.feature.Interval.{Interval, Span, placed_on, spans_on}
+use Rattle.bt_bed.specs.model.feature.IntervalLine.{interval_lines}
+use Rattle.bt_bed.specs.model.order.Locus.{ArePlaced}
+use Rattle.bt_bed.specs.model.order.Order.{Order}
+use Rattle.bt_bed.specs.model.order.Rank.{AreDistinct, is_among, rank_order}
+use Rattle.bt_bed.specs.model.feature.Stretches.{AreApartFrom, IsCovered}
+use Rattle.bt_bed.proofs.lemmas.laws.GoodBedLemmas.{placed_good}
+use Rattle.bt_bed.proofs.lemmas.parse.NameLemmas.{name_eq, name_ne-sym}
+use Rattle.bt_runs.specs.model.Counted.{counted}
+use Rattle.bt_runs.specs.model.Gaps.{complement, gaps_of, gaps_on, is_asked, length_in}
+use Rattle.bt_runs.specs.model.Merged.{is_covered, merged, runs_of, runs_on}
+use Rattle.bt_runs.specs.model.RunOrder.{ordered_runs}
+use Rattle.bt_runs.specs.declared.merge.merge_strand.MergeStrand.TheVariants.{All}
+use Rattle.bt_runs.proofs.lemmas.merge.Bridging.{are_runs, is_covered-Decides}
+use Rattle.bt_runs.proofs.lemmas.complement.OneGap.{are_gaps, only_gaps}
+use Rattle.bt_runs.proofs.lemmas.order.RunOrder.{file_ordered}
+use Rattle.bt_tool.specs.model.report.Behaviour.{order_of}
+use Rattle.bt_tool.specs.model.report.Report.{report_of}
+use Rattle.bt_tool.specs.model.report.Written.{complement_written, merge_written}
+use Rattle.bt_tool.specs.declared.planning.plan_type.Command.TheVariants.{Complement, Merge}
+use Rattle.bt_laws.specs.same.LengthLaws.{complement_of_complement, cut_at_length}
+use Rattle.bt_laws.specs.pipes.Pipes.{first_records}
+use Rattle.bt_laws.specs.same.SameRuns.{piped}
+use Rattle.bt_laws.specs.pipes.Taken.{IsInput, is_no_header, three_columns}
+use Rattle.bt_laws.proofs.lemmas.pipes.Covers.{runs_cover}
+use Rattle.bt_laws.proofs.lemmas.back.GapsBack.{gaps_back}
+use Rattle.bt_laws.proofs.lemmas.same.GapsHit.{complement_spans, unhidden}
+use Rattle.bt_laws.proofs.lemmas.parts.text.PartLists.{all_any, filter_all, flat_map_same}
+use Rattle.bt_laws.proofs.lemmas.pipes.PipeLaws.{chroms_of, complement_whole, merge_whole, order_total}
+use Rattle.bt_laws.proofs.lemmas.pipes.Placing.{all_zip}
+use Rattle.bt_laws.proofs.lemmas.same.RunsAgain.{complement_on, fault_as, told_same, writes_is}
+
+-- ---- on one chromosome
+
+abbrev pub cut_span : ℕ → Span → List Span
+cut_span size s = cond (nat_lt s.start size) (record { start = s.start; stop = min s.stop size } ∷ []) []
+
+abbrev cut_spans : ℕ → List Span → List Span
+cut_spans size spans = flat_map (cut_span size) spans
+
+nearer : (first low : ℕ) (spans : List Span) → low ≤ first → AreApartFrom first spans → AreApartFrom low spans
+nearer first low [] up h = tt
+nearer first low (s ∷ ss) up h = (omega (arith, up, h.0), h.1, h.2)
+
+one_more : (size : ℕ) (s : Span) (ss : List Span) (p : ℕ) → IsCovered (record { start = s.start; stop = min s.stop size } ∷ cut_spans size ss) p → (IsCovered (cut_spans size ss) p → IsCovered ss p × (p < size)) → IsCovered (s ∷ ss) p × (p < size)
+one_more size s ss p (inl here) more = (inl (here.0, omega (arith, here.1)), omega (arith, here.1))
+one_more size s ss p (inr there) more = let rest = more there in (inr rest.0, rest.1)
+
+covered_or : (spans : List Span) (p : ℕ) → ((IsCovered spans p → ⊥) → ⊥) → IsCovered spans p
+covered_or spans p h = elim (cases_Bool (is_covered spans p)) [
+  | inl t ↦ (is_covered-Decides spans p).0 t
+  | inr f ↦ absurd (h (λ c. false≢true (sym f ∙ (is_covered-Decides spans p).1 c)))
+]
+
+cut_apart : (size first : ℕ) (spans : List Span) → AreApartFrom first spans → AreApartFrom first (cut_spans size spans)
+cut_apart size first [] h = tt
+cut_apart size first (s ∷ ss) h = elim (cases_lt s.start size) [
+  | inl below ↦ subst (λ b. AreApartFrom first (cond b (record { start = s.start; stop = min s.stop size } ∷ []) [] ++ cut_spans size ss)) (sym (lt-ltb s.start size below))
+      (h.0, omega (arith, below, h.1), nearer (s.stop + 1) (min s.stop size + 1) (cut_spans size ss) (omega arith) (cut_apart size (s.stop + 1) ss h.2))
+  | inr past ↦ subst (λ b. AreApartFrom first (cond b (record { start = s.start; stop = min s.stop size } ∷ []) [] ++ cut_spans size ss)) (sym (le-ltb s.start size past))
+      (nearer (s.stop + 1) first (cut_spans size ss) (omega (arith, h.0, h.1)) (cut_apart size (s.stop + 1) ss h.2))
+]
+
+cut_to : (size : ℕ) (spans : List Span) (p : ℕ) → IsCovered (cut_spans size spans) p → IsCovered spans p × (p < size)
+cut_to size [] p c = absurd c
+cut_to size (s ∷ ss) p c = elim (cases_lt s.start size) [
+  | inl below ↦ one_more size s ss p (subst (λ b. IsCovered (cond b (record { start = s.start; stop = min s.stop size } ∷ []) [] ++ cut_spans size ss) p) (lt-ltb s.start size below) c) (cut_to size ss p)
+  | inr past ↦
+      let more = cut_to size ss p (subst (λ b. IsCovered (cond b (record { start = s.start; stop = min s.stop size } ∷ []) [] ++ cut_spans size ss) p) (le-ltb s.start size past) c) in
+      (inr more.0, more.1)
+]
+
+cut_back : (size : ℕ) (spans : List Span) (p : ℕ) → p < size → IsCovered spans p → IsCovered (cut_spans size spans) p
+cut_back size [] p within c = absurd c
+cut_back size (s ∷ ss) p within (inl here) = subst (λ b. IsCovered (cond b (record { start = s.start; stop = min s.stop size } ∷ []) [] ++ cut_spans size ss) p) (sym (lt-ltb s.start size (omega (arith, here.0, within)))) (inl (here.0, omega (arith, here.1, within)))
+cut_back size (s ∷ ss) p within (inr there) =
+    elim (nat_lt s.start size) as (λ b. IsCovered (cond b (record { start = s.start; stop = min s.stop size } ∷ []) [] ++ cut_spans size ss) p) [
+      | true ↦ inr (cut_back size ss p within there)
+      | false ↦ cut_back size ss p within there
+    ]
+
+-- the gaps of the gaps are the runs, cut at the length
+pub gaps_twice : (size : ℕ) (spans : List Span) → gaps_of size (gaps_of size spans) ≡ cut_spans size (runs_of 0 spans)
+gaps_twice size spans =
+    let cover = runs_cover spans in
+    let gaps = are_gaps size spans in
+    sym (only_gaps size (gaps_of size spans) (cut_spans size (runs_of 0 spans)) (record {
+      apart = cut_apart size 0 (runs_of 0 spans) (are_runs 0 spans).apart;
+      within = λ p c.
+          let is = cut_to size (runs_of 0 spans) p c in
+          record { within = is.1; bare = λ gap. (gaps.within p gap).bare (cover.to p is.0) };
+      whole = λ p b. cut_back size (runs_of 0 spans) p b.within (cover.back p (covered_or spans p (λ off. b.bare (gaps.whole p (record { within = b.within; bare = off })))));
+    }))
+
+-- ---- chromosome by chromosome
+
+cut_placed : (entries : List Entry) (name : List ℕ) (size : ℕ) (spans : List Span) → length_in entries name ≡ size → flat_map (cut_at_length entries) (map (placed_on name) spans) ≡ map (placed_on name) (cut_spans size spans)
+cut_placed entries name size [] e = refl
+cut_placed entries name size (s ∷ ss) e =
+    ap (λ n. cond (nat_lt s.start n) (record { chrom = name; start = s.start; stop = min s.stop n } ∷ []) [] ++ flat_map (cut_at_length entries) (map (placed_on name) ss)) e
+    ∙ elim (nat_lt s.start size) as (λ b. cond b (record { chrom = name; start = s.start; stop = min s.stop size } ∷ []) [] ++ flat_map (cut_at_length entries) (map (placed_on name) ss) ≡ map (placed_on name) (cond b (record { start = s.start; stop = min s.stop size } ∷ []) [] ++ cut_spans size ss)) [
+      | true ↦ ap (λ rest. record { chrom = name; start = s.start; stop = min s.stop size } ∷ rest) (cut_placed entries name size ss e)
+      | false ↦ cut_placed entries name size ss e
+    ]
+
+module _ (all : List Entry) (used : List Interval) where
+  cut_all : (entries : List Entry) → AllByRecursion (λ (e : Entry). length_in all e.name ≡ e.length) entries
+      → flat_map (cut_at_length all) (flat_map (λ name. runs_on name 0 used) (genome_names entries)) ≡ flat_map (λ (e : Entry). map (placed_on e.name) (cut_spans e.length (runs_of 0 (spans_on e.name used)))) entries
+  cut_all [] h = refl
+  cut_all (e ∷ es) h =
+      flat_map-append (cut_at_length all) (runs_on e.name 0 used) (flat_map (λ name. runs_on name 0 used) (genome_names es))
+      ∙ ap₂ (λ a b. a ++ b) (cut_placed all e.name e.length (runs_of 0 (spans_on e.name used)) h.0) (cut_all es h.1)
+
+length_past : (e f : Entry) (es : List Entry) → bytes_eq e.name f.name ≡ false → length_in es f.name ≡ f.length → length_in (e ∷ es) f.name ≡ f.length
+length_past e f es other is = ap (λ b. cond b e.length (length_in es f.name)) other ∙ is
+
+lengths_more : (e : Entry) (es fs : List Entry) → is_among (genome_names fs) e.name ≡ false → AllByRecursion (λ (f : Entry). length_in es f.name ≡ f.length) fs → AllByRecursion (λ (f : Entry). length_in (e ∷ es) f.name ≡ f.length) fs
+lengths_more e es [] absent h = tt
+lengths_more e es (f ∷ fs) absent h =
+    let parts = or_parts (bytes_eq f.name e.name) (is_among (genome_names fs) e.name) absent in
+    (length_past e f es (name_ne-sym f.name e.name parts.0) h.0, lengths_more e es fs parts.1 h.1)
+
+lengths_are : (entries : List Entry) → AreDistinct (genome_names entries) → AllByRecursion (λ (e : Entry). length_in entries e.name ≡ e.length) entries
+lengths_are [] distinct = tt
+lengths_are (e ∷ es) distinct = (
+  ap (λ b. cond b e.length (length_in es e.name)) (name_eq e.name e.name refl),
+  lengths_more e es es distinct.0 (lengths_are es distinct.1),
+)
+
+module _ (entries : List Entry) (distinct : AreDistinct (genome_names entries)) (records : List Feature) (placed : ArePlaced (rank_order (genome_names entries)) (intervals_of records)) where
+  abbrev order : Order
+  order = rank_order (genome_names entries)
+
+  abbrev gaps : List Interval
+  gaps = complement false entries records
+
+  abbrev gap_records : List Feature
+  gap_records = filter is_no_header (map three_columns gaps)
+
+  all_records : counted All records ≡ intervals_of records
+  all_records = ap intervals_of (filter_all (λ (r : Feature). true) records (all_any _ records (λ r. refl)))
+
+  by_entries : ordered_runs order 0 All records ≡ flat_map (λ name. runs_on name 0 (intervals_of records)) (genome_names entries)
+  unfolding merged
+  by_entries = sym (file_ordered (genome_names entries) 0 All records distinct placed) ∙ ap (merged (genome_names entries) 0) all_records
+
+  gap_twice : (e : Entry) → is_header e.name ≡ false → length_in entries e.name ≡ e.length → gaps_on (intervals_of gap_records) e ≡ map (placed_on e.name) (cut_spans e.length (runs_of 0 (spans_on e.name (intervals_of records))))
+  gap_twice e plain size =
+      ap (map (placed_on e.name)) (ap (gaps_of e.length) (unhidden e.name gaps plain ∙ complement_spans entries records e.name distinct ∙ ap (λ n. gaps_of n (spans_on e.name (intervals_of records))) size)
+      ∙ gaps_twice e.length (spans_on e.name (intervals_of records)))
+
+  pub complement_twice : AllByRecursion (λ (e : Entry). is_header e.name ≡ false) entries → complement false entries gap_records ≡ flat_map (cut_at_length entries) (ordered_runs order 0 All records)
+  unfolding complement
+  complement_twice plain =
+      let lengths = lengths_are entries distinct in
+      ap (flat_map (gaps_on (intervals_of gap_records))) (filter_all (is_asked false (intervals_of gap_records)) entries (all_any _ entries (λ e. refl)))
+      ∙ flat_map_same (gaps_on (intervals_of gap_records)) (λ (e : Entry). map (placed_on e.name) (cut_spans e.length (runs_of 0 (spans_on e.name (intervals_of records))))) entries
+      (all_zip (λ (e : Entry). is_header e.name ≡ false) (λ (e : Entry). length_in entries e.name ≡ e.length) _ entries gap_twice plain lengths)
+      ∙ sym (ap (flat_map (cut_at_length entries)) by_entries ∙ cut_all entries (intervals_of records) entries lengths)
+
+pub complements_twice : complement_of_complement
+complements_twice inputs entries well plain =
+    let records = first_records (Some entries) inputs in
+    let order = order_of (Some entries) in
+    let known = chroms_of inputs.genome entries well.genome in
+    let good = bed_good First order inputs.first in
+    let merged_well = fault_as (Complement false) (Merge 0 All) inputs (Some entries) well (told_same (complement_written entries false) (merge_written order 0 All) (items_in good) good.fault) in
+    let e = complement_whole false inputs (Some entries) well in
+    let gaps = complement false entries records in
+    let is = subst (λ text. IsInput order text (filter is_no_header (map three_columns gaps))) (sym e) (gaps_back entries known.0 known.1 false records) in (
+      ordered_runs order 0 All records,
+      record { output = merge_whole 0 All inputs (Some entries) merged_well; faultless = merged_well.faultless },
+      writes_is (Complement false) (piped (Complement false) inputs) (interval_lines (flat_map (cut_at_length entries) (ordered_runs order 0 All records)))
+          (complement_on false (piped (Complement false) inputs) (Some entries) (report_of (Complement false) inputs).output (filter is_no_header (map three_columns gaps)) well.genome refl is
+          ∙ ap (λ rs. record { output = interval_lines rs; fault = None }) (complement_twice entries known.1 records (placed_good First order inputs.first (order_total (Some entries))) plain)),
+    )

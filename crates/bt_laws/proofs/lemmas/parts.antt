@@ -1,0 +1,4 @@
+-- Lemmas on parts.
+pub mod order
+pub mod report
+pub mod text

@@ -1,0 +1,7 @@
+-- Lemmas on parts, order.
+pub mod PartChromosomes
+pub mod PartGenomes
+pub mod PartGood
+pub mod PartOwnGenomes
+pub mod PartOwners
+pub mod PartRanks

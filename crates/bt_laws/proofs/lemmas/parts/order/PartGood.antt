@@ -1,0 +1,107 @@
+-- What is good of a text that is put behind another.
+use Rattle.std.proofs.Common.{◌≡◌, ℕ, false, List, [], ◌∷◌, ◌++◌, Option, Some, None, Result, Ok, Err, refl, sym, ap, ◌∙◌, subst}
+use Rattle.std.specs.Prelude.{is_none}
+use Rattle.std.specs.List.{AllByRecursion}
+use Rattle.std.proofs.lemmas.List.{map-append}
+use Rattle.bt_lines.specs.model.Fault.{Told}
+use Rattle.bt_lines.specs.model.Lines.{TextLine, lines_from, text_lines}
+use Rattle.bt_lines.specs.declared.fault.Input.{Input}
+use Rattle.bt_lines.specs.declared.fault.Kind.{Kind}
+use Rattle.bt_bed.specs.model.input.Good.{Format, Good, Member, good, good_from, good_with, items_in, with_member}
+use Rattle.bt_laws.specs.parts.Parts.{StandsBefore}
+use Rattle.bt_laws.proofs.lemmas.parts.text.PartLines.{AreAlike, alike_lines, lines_join}
+
+-- the same items, and a fault in both or in neither
+pub record IsLike {A : Type 0} (g h : Good A) : Type 0 where
+  pub items : items_in g ≡ items_in h
+  pub fault : is_none g.fault ≡ is_none h.fault
+
+pub none_like : (f g : Option Told) → is_none f ≡ is_none g → f ≡ None → g ≡ None
+none_like None None e d = refl
+none_like None (Some g) e d = cc
+none_like (Some f) g e d = cc
+
+put_by : {A : Type 0} → Option Told → Good A → Good A → Good A
+put_by None g h = record { members = g.members ++ h.members; fault = h.fault }
+put_by (Some fault) g h = g
+
+-- what is good of lines, where this is good of those behind them
+put_behind : {A : Type 0} → Good A → Good A → Good A
+unfolding put_by
+put_behind g h = put_by g.fault g h
+
+member_by : {A : Type 0} (m : Member A) (fault : Option Told) (g h : Good A) → with_member m (put_by fault g h) ≡ put_by fault (with_member m g) h
+unfolding put_by
+member_by m None g h = refl
+member_by m (Some fault) g h = refl
+
+abbrev pub IsJointBy : {A : Type 0} → Option Told → Good A → Good A → Good A → Type 0
+IsJointBy None one two whole = (items_in whole ≡ items_in one ++ items_in two) × (is_none whole.fault ≡ is_none two.fault)
+IsJointBy (Some fault) one two whole = (items_in whole ≡ items_in one) × (is_none whole.fault ≡ false)
+
+-- what is good of a whole text, by what is good of its two parts
+abbrev pub IsJoint : {A : Type 0} → Good A → Good A → Good A → Type 0
+IsJoint one two whole = IsJointBy one.fault one two whole
+
+joint_by : {A : Type 0} (fault : Option Told) (one two like : Good A) → one.fault ≡ fault → IsLike two like → IsJointBy fault one like (put_by fault one two)
+unfolding put_by
+joint_by None one two like e is = (map-append (λ m. m.item) one.members two.members ∙ ap (λ l. items_in one ++ l) is.items, is.fault)
+joint_by (Some fault) one two like e is = (refl, ap is_none e)
+
+module _ {A State : Type 0} (format : Format A State) where
+  -- a line's number changes nothing of what it says
+  abbrev pub IsNumberless : Type 0
+  IsNumberless = (state : State) (l m : TextLine) → l.text ≡ m.text → l.ending ≡ m.ending → format.says state l ≡ format.says state m
+
+  like_with : (input : Input) (state : State) (n m : ℕ) (said : Result (Option A) Kind) (ls ms : State → Good A) → ((now : State) → IsLike (ls now) (ms now)) → IsLike (good_with format input n state said ls) (good_with format input m state said ms)
+  like_with input state n m (Err kind) ls ms h = record { items = refl; fault = refl }
+  like_with input state n m (Ok None) ls ms h = h state
+  like_with input state n m (Ok (Some item)) ls ms h =
+      let more = h (format.after state item) in
+      record { items = ap (λ l. item ∷ l) more.items; fault = more.fault }
+
+  pub like_from : (input : Input) (state : State) (ls ms : List TextLine) → IsNumberless → AreAlike ls ms → IsLike (good_from format input state ls) (good_from format input state ms)
+  unfolding good_from
+  like_from input state [] [] free alike = record { items = refl; fault = refl }
+  like_from input state [] (m ∷ ms) free alike = absurd alike
+  like_from input state (l ∷ ls) [] free alike = absurd alike
+  like_from input state (l ∷ ls) (m ∷ ms) free alike =
+      subst (λ said. IsLike (good_with format input l.number state (format.says state l) (λ now. good_from format input now ls)) (good_with format input m.number state said (λ now. good_from format input now ms)))
+      (free state l m alike.0 alike.1)
+      (like_with input state l.number m.number (format.says state l) (λ now. good_from format input now ls) (λ now. good_from format input now ms) (λ now. like_from input now ls ms free alike.2))
+
+  -- a member of this line leads to such a state
+  abbrev pub LeadsOn : (State → Type 0) → TextLine → Type 0
+  LeadsOn Leads line = (state : State) (item : A) → Leads state → format.says state line ≡ Ok (Some item) → Leads (format.after state item)
+
+  module _ (input : Input) (Leads : State → Type 0) (behind : Good A) where
+    put_with : (n : ℕ) (state : State) (said : Result (Option A) Kind) (whole ones : State → Good A) → Leads state → ((item : A) → said ≡ Ok (Some item) → Leads (format.after state item)) → ((now : State) → Leads now → whole now ≡ put_behind (ones now) behind)
+        → good_with format input n state said whole ≡ put_behind (good_with format input n state said ones) behind
+    unfolding put_behind put_by
+    put_with n state (Err kind) whole ones leads on h = refl
+    put_with n state (Ok None) whole ones leads on h = h state leads
+    put_with n state (Ok (Some item)) whole ones leads on h =
+        let now = format.after state item in
+        let m : Member A = record { line = n; item = item } in
+        ap (with_member m) (h now (on item refl)) ∙ member_by m (ones now).fault (ones now) behind
+
+    put_from : (state : State) (ls ms : List TextLine) → Leads state → ((now : State) → Leads now → good_from format input now ms ≡ behind) → AllByRecursion (LeadsOn Leads) ls → good_from format input state (ls ++ ms) ≡ put_behind (good_from format input state ls) behind
+    unfolding good_from put_behind put_by
+    put_from state [] ms leads is on = is state leads
+    put_from state (l ∷ ls) ms leads is on =
+        put_with l.number state (format.says state l) (λ now. good_from format input now (ls ++ ms)) (λ now. good_from format input now ls) leads (λ item e. on.0 state item leads e) (λ now to. put_from now ls ms to is on.1)
+
+  module _ (input : Input) (Leads : State → Type 0) (one two : List ℕ) (ends : StandsBefore one two) (free : IsNumberless) where
+    -- where what is good of the second text is so behind each member of the first
+    pub good_joint : Leads format.begin → ((n : ℕ) (now : State) → Leads now → good_from format input now (lines_from n two) ≡ good_from format input format.begin (lines_from n two))
+        → AllByRecursion (LeadsOn Leads) (text_lines one)
+        → IsJoint (good format input (text_lines one)) (good format input (text_lines two)) (good format input (text_lines (one ++ two)))
+    unfolding put_behind put_by
+    good_joint begins is on =
+        let split = lines_join 1 one two ends in
+        let behind = good_from format input format.begin (lines_from split.0 two) in
+        let first = good format input (text_lines one) in
+        let whole : good format input (text_lines (one ++ two)) ≡ put_behind first behind =
+        ap (good format input) split.1 ∙ put_from input Leads behind format.begin (text_lines one) (lines_from split.0 two) begins (is split.0) on in
+        subst (λ g. IsJoint first (good format input (text_lines two)) g) (sym whole)
+        (joint_by first.fault first behind (good format input (text_lines two)) refl (like_from input format.begin (lines_from split.0 two) (text_lines two) free (alike_lines split.0 1 two)))

@@ -1,0 +1,11 @@
+-- Lemmas on parts, report.
+pub mod PartMaskFaults
+pub mod PartMaskLaws
+pub mod PartMaskSound
+pub mod PartMasked
+pub mod PartMerge
+pub mod PartReports
+pub mod PartShards
+pub mod PartStrands
+pub mod PartSuffice
+pub mod PartSweep

@@ -1,0 +1,413 @@
+-- Parts with their own parts of the genome file: complement, genomecov and merge.
+use Rattle.std.proofs.Common.{◌≡◌, ℕ, Bool, true, false, cond, not, List, [], ◌∷◌, ◌++◌, ◌||◌, map, filter, append-nil, Option, Some, None, Result, Ok, Err, refl, sym, ap, ap₂, ◌∙◌, subst}
+use Rattle.std.specs.Prelude.{flat_map, nat_le, nat_lt}
+use Rattle.std.specs.List.{AllByRecursion}
+use Rattle.std.proofs.lemmas.Bool.{or_left, or_right}
+use Rattle.std.proofs.lemmas.List.{map-append}
+use Rattle.std.proofs.lemmas.List.Elements.{filter-append}
+use Rattle.bt_lines.specs.model.Fault.{Told}
+use Rattle.bt_lines.specs.model.Handed.{Handed, cut_fault, lines_handed, whole_text}
+use Rattle.bt_lines.specs.model.Lines.{lines_from, text_lines}
+use Rattle.bt_lines.specs.declared.fault.Input.TheVariants.{First, Genome}
+use Rattle.bt_bed.specs.model.feature.Feature.{Feature, interval_of, intervals_of}
+use Rattle.bt_bed.specs.model.order.Genome.{Entry, genome_cut, genome_handed, genome_names, genome_of}
+use Rattle.bt_bed.specs.model.input.Good.{Good, good, good_from, items_in}
+use Rattle.bt_bed.specs.model.input.GoodBed.{bed_format}
+use Rattle.bt_bed.specs.model.feature.Interval.{Interval, last_of, placed_on, spans_on}
+use Rattle.bt_bed.specs.model.feature.IntervalLine.{interval_line, interval_lines}
+use Rattle.bt_bed.specs.model.order.Locus.{ArePlaced}
+use Rattle.bt_bed.specs.model.order.Order.{IsTotal, Order}
+use Rattle.bt_bed.specs.model.order.Rank.{AreDistinct, is_among, rank_order}
+use Rattle.bt_bed.specs.inside.RankTotal.{ranks_total}
+use Rattle.bt_bed.specs.model.order.Sorting.{sorting_of}
+use Rattle.bt_bed.specs.model.order.Together.{has_records}
+use Rattle.bt_bed.specs.declared.record.strand.Strand.{Strand}
+use Rattle.bt_bed.proofs.lemmas.laws.GoodBedLemmas.{non_empty_from, placed_lines}
+use Rattle.bt_bed.proofs.lemmas.order.GenomeLemmas.{distinct_genome}
+use Rattle.bt_bed.proofs.lemmas.order.RankLemmas.{among_ranked}
+use Rattle.bt_runs.specs.model.Depth.{DepthInterval, counted_on, coverage, depth_line, depth_of, depth_on, depths_on, ended_by, is_counted_by, settled_depths}
+use Rattle.bt_runs.specs.model.Gaps.{AreTaken, complement, gaps_of, gaps_on, is_asked, over_by, settled_gaps}
+use Rattle.bt_runs.specs.model.Levels.{levels_of}
+use Rattle.bt_runs.specs.model.MergedRuns.{passed_by}
+use Rattle.bt_runs.specs.model.Merged.{merged}
+use Rattle.bt_runs.specs.model.RunOrder.{ordered_runs}
+use Rattle.bt_runs.specs.model.StrandRuns.{strand_runs}
+use Rattle.bt_runs.specs.declared.merge.merge_strand.MergeStrand.{MergeStrand}
+use Rattle.bt_runs.specs.declared.merge.merge_strand.MergeStrand.TheVariants.{All, Each, One}
+use Rattle.bt_runs.proofs.lemmas.order.RunOrder.{ordered_come}
+use Rattle.bt_runs.proofs.lemmas.coverage.DepthSteps.{settles_depths}
+use Rattle.bt_runs.proofs.lemmas.complement.GapSteps.{settles_gaps}
+use Rattle.bt_runs.proofs.lemmas.laws.SettlingLemmas.{begins}
+use Rattle.bt_laws.specs.parts.GenomeSplitLaws.{AreShards, LiesWithin, Shard, ShardsAddUp, all_entries, complement_divides, genomecov_divides, merge_genomes_divide, shard_texts}
+use Rattle.bt_laws.specs.parts.Parts.{AreOfLines, StandsBefore, joined, records_in}
+use Rattle.bt_tool.specs.model.report.RecordReport.{Report, good_report}
+use Rattle.bt_tool.specs.model.report.Report.{chromosomes_of, of_file, report_of, report_on}
+use Rattle.bt_laws.specs.parts.SplitLaws.{on_text}
+use Rattle.bt_tool.specs.model.report.Written.{Written, complement_written, coverage_written, merge_written, pooled_written}
+use Rattle.bt_tool.specs.declared.planning.plan_type.Command.{Command}
+use Rattle.bt_tool.specs.declared.planning.plan_type.Command.TheVariants.{Complement, Coverage, Merge}
+use Rattle.bt_tool.proofs.lemmas.running.members.CameMembers.{good_whole}
+use Rattle.bt_laws.proofs.lemmas.parts.text.PartBed.{Earlier, bed_joint, good_earlier, items_all}
+use Rattle.bt_laws.proofs.lemmas.parts.order.PartChromosomes.{chromosomes_split, ended, settled_of, whole_of, written_of}
+use Rattle.bt_laws.proofs.lemmas.parts.order.PartGenomes.{agree_first, agree_good, agree_second, names_both, records_both, within_before}
+use Rattle.bt_laws.proofs.lemmas.parts.order.PartGood.{IsJoint}
+use Rattle.bt_laws.proofs.lemmas.parts.text.PartLists.{all_any, all_both, all_map, all_so, map_same}
+use Rattle.bt_laws.proofs.lemmas.parts.report.PartMerge.{fewer, pooled_split}
+use Rattle.bt_laws.proofs.lemmas.parts.order.PartRanks.{among_append}
+use Rattle.bt_laws.proofs.lemmas.parts.text.PartRecords.{has_append, records_away, spans_first, spans_second}
+use Rattle.bt_laws.proofs.lemmas.parts.report.PartReports.{Adds, Splits, Stops, good_adds, good_stops, nothing, parts_both, splits_as}
+use Rattle.bt_laws.proofs.lemmas.parts.text.PartSam.{lines_less}
+use Rattle.bt_laws.proofs.lemmas.parts.report.PartStrands.{strands_split}
+
+-- ---- gaps
+
+flat_filter : {A B : Type 0} (g : A → List B) (t : A → Bool) (xs : List A) → flat_map g (filter t xs) ≡ flat_map (λ x. cond (t x) (g x) []) xs
+flat_filter g t [] = refl
+flat_filter g t (x ∷ xs) = by (t x) ∙ ap (λ l. cond (t x) (g x) [] ++ l) (flat_filter g t xs)
+  where
+    by : (b : Bool) → flat_map g (cond b (x ∷ filter t xs) (filter t xs)) ≡ cond b (g x) [] ++ flat_map g (filter t xs)
+    by true = refl
+    by false = refl
+
+-- records of parts, each known to its own genome file
+pub record OwnParts (e_one e_two : List Entry) (ones twos : List Feature) : Type 0 where
+  pub distinct : AreDistinct (genome_names (e_one ++ e_two))
+  pub in_one : AllByRecursion (λ r. is_among (genome_names e_one) r.chrom ≡ true) (intervals_of ones)
+  pub in_two : AllByRecursion (λ r. is_among (genome_names e_two) r.chrom ≡ true) (intervals_of twos)
+  pub taken : AreTaken e_one ones
+  pub placed : ArePlaced (rank_order (genome_names e_two)) (intervals_of twos)
+  pub first_placed : ArePlaced (rank_order (genome_names (e_one ++ e_two))) (intervals_of ones)
+  pub second_placed : ArePlaced (rank_order (genome_names (e_one ++ e_two))) (intervals_of twos)
+  pub early : Earlier (rank_order (genome_names (e_one ++ e_two))) (ranks_total (genome_names (e_one ++ e_two))) ones twos
+
+or_not : (a b : Bool) → b ≡ false → (a || b) ≡ a
+or_not true b e = refl
+or_not false b e = e
+
+or_is : (a b : Bool) → a ≡ false → (a || b) ≡ b
+or_is a b e = ap (λ x. x || b) e
+
+module _ (limit : Bool) where
+  gaps_here : List Feature → Entry → List Interval
+  gaps_here records e = cond (is_asked limit (intervals_of records) e) (gaps_on (intervals_of records) e) []
+
+  abbrev gap_ends : Interval → Interval → Bool
+  gap_ends last gap = nat_le gap.stop last.start
+
+  abbrev gap_chrom : Interval → List ℕ
+  gap_chrom gap = gap.chrom
+
+  complement_is : (entries : List Entry) (records : List Feature) → complement limit entries records ≡ whole_of gap_chrom gap_ends interval_line gaps_here entries records
+  unfolding complement gaps_here
+  complement_is entries records = flat_filter (gaps_on (intervals_of records)) (is_asked limit (intervals_of records)) entries
+
+  over_same : (names : List (List ℕ)) (items : List Interval) (o : Option Interval) → over_by names items o ≡ ended gap_chrom gap_ends interval_line gaps_here names items o
+  over_same names items None = refl
+  over_same names items (Some last) = refl
+
+  gaps_settled : (entries : List Entry) (records : List Feature) → settled_gaps limit entries records ≡ settled_of gap_chrom gap_ends interval_line gaps_here entries records
+  unfolding settled_gaps
+  gaps_settled entries records =
+      ap (λ items. over_by (genome_names entries) items (last_of (intervals_of records))) (complement_is entries records)
+      ∙ over_same (genome_names entries) (whole_of gap_chrom gap_ends interval_line gaps_here entries records) (last_of (intervals_of records))
+
+  gaps_named : (records : List Feature) (e : Entry) → AllByRecursion (λ gap. gap.chrom ≡ e.name) (gaps_here records e)
+  unfolding gaps_here
+  gaps_named records e = by (is_asked limit (intervals_of records) e)
+    where
+      by : (b : Bool) → AllByRecursion (λ gap. gap.chrom ≡ e.name) (cond b (gaps_on (intervals_of records) e) [])
+      by true = all_map (λ gap. gap.chrom ≡ e.name) (placed_on e.name) (gaps_of e.length (spans_on e.name (intervals_of records))) (all_any _ (gaps_of e.length (spans_on e.name (intervals_of records))) (λ s. refl))
+      by false = tt
+
+  gaps_first : (ones twos : List Feature) (e : Entry) → has_records e.name (intervals_of twos) ≡ false → gaps_here (ones ++ twos) e ≡ gaps_here ones e
+  unfolding gaps_here
+  gaps_first ones twos e none =
+      ap (λ ivs. cond (is_asked limit ivs e) (gaps_on ivs e) []) (map-append interval_of ones twos)
+      ∙ ap₂ (λ b spans. cond (not limit || b) (map (placed_on e.name) (gaps_of e.length spans)) [])
+      (has_append e.name (intervals_of ones) (intervals_of twos) ∙ or_not (has_records e.name (intervals_of ones)) (has_records e.name (intervals_of twos)) none)
+      (spans_first e.name (intervals_of ones) (intervals_of twos) none)
+
+  gaps_second : (ones twos : List Feature) (e : Entry) → has_records e.name (intervals_of ones) ≡ false → gaps_here (ones ++ twos) e ≡ gaps_here twos e
+  unfolding gaps_here
+  gaps_second ones twos e none =
+      ap (λ ivs. cond (is_asked limit ivs e) (gaps_on ivs e) []) (map-append interval_of ones twos)
+      ∙ ap₂ (λ b spans. cond (not limit || b) (map (placed_on e.name) (gaps_of e.length spans)) [])
+      (has_append e.name (intervals_of ones) (intervals_of twos) ∙ or_is (has_records e.name (intervals_of ones)) (has_records e.name (intervals_of twos)) none)
+      (spans_second e.name (intervals_of ones) (intervals_of twos) none)
+
+  gaps_begin : (entries : List Entry) (ones : List Feature) → AreTaken entries ones → (rest : List Interval) × (whole_of gap_chrom gap_ends interval_line gaps_here entries ones ≡ settled_of gap_chrom gap_ends interval_line gaps_here entries ones ++ rest)
+  gaps_begin entries ones taken =
+      let front = begins (settled_gaps limit entries) (complement limit entries) (AreTaken entries) (settles_gaps limit entries) ones [] (subst (AreTaken entries) (sym (append-nil ones)) taken) in
+      (front.0, sym (complement_is entries ones) ∙ ap (complement limit entries) (sym (append-nil ones)) ∙ front.1 ∙ ap (λ l. l ++ front.0) (gaps_settled entries ones))
+
+  pub gaps_split : (e_one e_two : List Entry) (ones twos : List Feature) → OwnParts e_one e_two ones twos → Splits (complement_written e_one limit) (complement_written e_two limit) (complement_written (e_one ++ e_two) limit) ones twos
+  gaps_split e_one e_two ones twos own =
+      let W : List Entry → Written Feature = written_of gap_chrom gap_ends interval_line gaps_here in
+      splits_as (complement_written e_one limit) (complement_written e_two limit) (complement_written (e_one ++ e_two) limit) (W e_one) (W e_two) (W (e_one ++ e_two)) ones twos
+      (ap interval_lines (complement_is e_one ones)) (ap interval_lines (gaps_settled e_one ones)) (ap interval_lines (complement_is e_two twos)) (ap interval_lines (gaps_settled e_two twos))
+      (ap interval_lines (complement_is (e_one ++ e_two) (ones ++ twos))) (ap interval_lines (gaps_settled (e_one ++ e_two) ones)) (ap interval_lines (gaps_settled (e_one ++ e_two) (ones ++ twos)))
+      (chromosomes_split gap_chrom gap_ends interval_line gaps_here gaps_named gaps_first gaps_second e_one e_two own.distinct ones twos own.in_one own.in_two (gaps_begin e_one ones own.taken))
+
+-- ---- depths
+
+module _ (zeros : Bool) (strand : Option Strand) where
+  abbrev depth_chrom : DepthInterval → List ℕ
+  depth_chrom item = item.chrom
+
+  abbrev depth_ends : Interval → DepthInterval → Bool
+  depth_ends last item = nat_lt item.stop last.start
+
+  abbrev depths_here : List Feature → Entry → List DepthInterval
+  depths_here records e = depths_on zeros strand records e
+
+  coverage_is : (entries : List Entry) (records : List Feature) → coverage zeros strand entries records ≡ whole_of depth_chrom depth_ends depth_line depths_here entries records
+  unfolding coverage
+  coverage_is entries records = refl
+
+  ended_same : (names : List (List ℕ)) (items : List DepthInterval) (o : Option Interval) → ended_by names items o ≡ ended depth_chrom depth_ends depth_line depths_here names items o
+  ended_same names items None = refl
+  ended_same names items (Some last) = refl
+
+  depths_settled : (entries : List Entry) (records : List Feature) → settled_depths zeros strand entries records ≡ settled_of depth_chrom depth_ends depth_line depths_here entries records
+  unfolding settled_depths
+  depths_settled entries records =
+      ap (λ items. ended_by (genome_names entries) items (last_of (intervals_of records))) (coverage_is entries records)
+      ∙ ended_same (genome_names entries) (whole_of depth_chrom depth_ends depth_line depths_here entries records) (last_of (intervals_of records))
+
+  depths_named : (records : List Feature) (e : Entry) → AllByRecursion (λ item. item.chrom ≡ e.name) (depths_here records e)
+  depths_named records e =
+      let levels = levels_of (depth_of zeros (counted_on strand e.name records)) e.length in
+      all_map (λ item. item.chrom ≡ e.name) (depth_on e.name) levels (all_any _ levels (λ l. refl))
+
+  abbrev counts : Feature → Bool
+  counts r = is_counted_by strand r.strand
+
+  counted_both : (ones twos : List Feature) → intervals_of (filter counts (ones ++ twos)) ≡ intervals_of (filter counts ones) ++ intervals_of (filter counts twos)
+  counted_both ones twos = ap intervals_of (filter-append counts ones twos) ∙ map-append interval_of (filter counts ones) (filter counts twos)
+
+  depths_by : (e : Entry) (xs ys : List Feature) → counted_on strand e.name xs ≡ counted_on strand e.name ys → depths_here xs e ≡ depths_here ys e
+  depths_by e xs ys is = ap (λ spans. map (depth_on e.name) (levels_of (depth_of zeros spans) e.length)) is
+
+  depths_first : (ones twos : List Feature) (e : Entry) → has_records e.name (intervals_of twos) ≡ false → depths_here (ones ++ twos) e ≡ depths_here ones e
+  depths_first ones twos e none =
+      depths_by e (ones ++ twos) ones (ap (spans_on e.name) (counted_both ones twos) ∙ spans_first e.name (intervals_of (filter counts ones)) (intervals_of (filter counts twos)) (fewer counts e.name twos none))
+
+  depths_second : (ones twos : List Feature) (e : Entry) → has_records e.name (intervals_of ones) ≡ false → depths_here (ones ++ twos) e ≡ depths_here twos e
+  depths_second ones twos e none =
+      depths_by e (ones ++ twos) twos (ap (spans_on e.name) (counted_both ones twos) ∙ spans_second e.name (intervals_of (filter counts ones)) (intervals_of (filter counts twos)) (fewer counts e.name ones none))
+
+  depths_begin : (entries : List Entry) (ones : List Feature) → AreTaken entries ones → (rest : List DepthInterval) × (whole_of depth_chrom depth_ends depth_line depths_here entries ones ≡ settled_of depth_chrom depth_ends depth_line depths_here entries ones ++ rest)
+  depths_begin entries ones taken =
+      let front = begins (settled_depths zeros strand entries) (coverage zeros strand entries) (AreTaken entries) (settles_depths zeros strand entries) ones [] (subst (AreTaken entries) (sym (append-nil ones)) taken) in
+      (front.0, sym (coverage_is entries ones) ∙ ap (coverage zeros strand entries) (sym (append-nil ones)) ∙ front.1 ∙ ap (λ l. l ++ front.0) (depths_settled entries ones))
+
+  pub depths_split : (e_one e_two : List Entry) (ones twos : List Feature) → OwnParts e_one e_two ones twos → Splits (coverage_written e_one zeros strand) (coverage_written e_two zeros strand) (coverage_written (e_one ++ e_two) zeros strand) ones twos
+  depths_split e_one e_two ones twos own =
+      let W : List Entry → Written Feature = written_of depth_chrom depth_ends depth_line depths_here in
+      splits_as (coverage_written e_one zeros strand) (coverage_written e_two zeros strand) (coverage_written (e_one ++ e_two) zeros strand) (W e_one) (W e_two) (W (e_one ++ e_two)) ones twos
+      (ap (flat_map depth_line) (coverage_is e_one ones)) (ap (flat_map depth_line) (depths_settled e_one ones)) (ap (flat_map depth_line) (coverage_is e_two twos)) (ap (flat_map depth_line) (depths_settled e_two twos))
+      (ap (flat_map depth_line) (coverage_is (e_one ++ e_two) (ones ++ twos))) (ap (flat_map depth_line) (depths_settled (e_one ++ e_two) ones)) (ap (flat_map depth_line) (depths_settled (e_one ++ e_two) (ones ++ twos)))
+      (chromosomes_split depth_chrom depth_ends depth_line depths_here depths_named depths_first depths_second e_one e_two own.distinct ones twos own.in_one own.in_two (depths_begin e_one ones own.taken))
+
+-- ---- merged runs
+
+module _ (d : ℕ) where
+  -- the runs in either order
+  module _ (strand : MergeStrand) where
+    runs_as : (mine yours : List (List ℕ)) (records : List Feature) → ArePlaced (rank_order mine) (intervals_of records) → ArePlaced (rank_order yours) (intervals_of records)
+        → ordered_runs (rank_order mine) d strand records ≡ ordered_runs (rank_order yours) d strand records
+    runs_as mine yours records one two = ordered_come (rank_order mine) d strand records (ranks_total mine) one ∙ sym (ordered_come (rank_order yours) d strand records (ranks_total yours) two)
+
+    settled_as : (mine yours : List (List ℕ)) (records : List Feature) → ArePlaced (rank_order mine) (intervals_of records) → ArePlaced (rank_order yours) (intervals_of records)
+        → interval_lines (passed_by d (ordered_runs (rank_order mine) d strand records) (last_of (intervals_of records))) ≡ interval_lines (passed_by d (ordered_runs (rank_order yours) d strand records) (last_of (intervals_of records)))
+    settled_as mine yours records one two = ap (λ runs. interval_lines (passed_by d runs (last_of (intervals_of records)))) (runs_as mine yours records one two)
+
+    pooled_own : (e_one e_two : List Entry) (ones twos : List Feature) → OwnParts e_one e_two ones twos
+        → Splits (pooled_written (rank_order (genome_names e_one)) d strand) (pooled_written (rank_order (genome_names e_two)) d strand) (pooled_written (rank_order (genome_names (e_one ++ e_two))) d strand) ones twos
+    pooled_own e_one e_two ones twos own =
+        let both = genome_names (e_one ++ e_two) in
+        let W : List (List ℕ) → Written Feature = λ names. pooled_written (rank_order names) d strand in
+        splits_as (W (genome_names e_one)) (W (genome_names e_two)) (W both) (W both) (W both) (W both) ones twos
+        (ap interval_lines (runs_as (genome_names e_one) both ones own.taken.placed own.first_placed)) (settled_as (genome_names e_one) both ones own.taken.placed own.first_placed)
+        (ap interval_lines (runs_as (genome_names e_two) both twos own.placed own.second_placed)) (settled_as (genome_names e_two) both twos own.placed own.second_placed)
+        refl refl refl
+        (pooled_split d strand (rank_order both) (ranks_total both) ones twos own.first_placed own.second_placed own.taken.full own.early)
+
+  pub merge_own : (strand : MergeStrand) (e_one e_two : List Entry) (ones twos : List Feature) → OwnParts e_one e_two ones twos
+      → Splits (merge_written (rank_order (genome_names e_one)) d strand) (merge_written (rank_order (genome_names e_two)) d strand) (merge_written (rank_order (genome_names (e_one ++ e_two))) d strand) ones twos
+  merge_own All = pooled_own All
+  merge_own (One strand) = pooled_own (One strand)
+  merge_own Each = λ e_one e_two ones twos own. strands_split d ones twos (records_away (rank_order (genome_names (e_one ++ e_two))) (ranks_total (genome_names (e_one ++ e_two))) ones twos own.first_placed own.early)
+
+-- ---- any command that writes so
+
+-- a genome file has each chromosome once
+cut_none : (fault : Option Told) (result : Result (List Entry) Told) (entries : List Entry) → genome_cut fault result ≡ Ok entries → result ≡ Ok entries
+cut_none None result entries e = e
+cut_none (Some fault) (Ok more) entries e = cc
+cut_none (Some fault) (Err first) entries e = cc
+
+file_is : (result : Result (List Entry) Told) (entries : List Entry) → of_file result ≡ Ok (Some entries) → result ≡ Ok entries
+file_is (Ok more) entries e = cc
+file_is (Err fault) entries e = cc
+
+pub distinct_in : (genome : Handed) (entries : List Entry) → chromosomes_of (Some genome) ≡ Ok (Some entries) → AreDistinct (genome_names entries)
+distinct_in genome entries e =
+    distinct_genome Genome (lines_handed genome) entries (cut_none (cut_fault Genome genome) (genome_of Genome (lines_handed genome)) entries (file_is (genome_handed Genome genome) entries e))
+
+module _ (W : List Entry → Written Feature) (command : Command)
+    (is : (entries : List Entry) (text : List ℕ) → report_on command (Ok (Some entries)) (whole_text text) None ≡ good_report (W entries) (good (bed_format (sorting_of (rank_order (genome_names entries)))) First (text_lines text)))
+    (splits : (e_one e_two : List Entry) (ones twos : List Feature) → OwnParts e_one e_two ones twos → Splits (W e_one) (W e_two) (W (e_one ++ e_two)) ones twos) where
+  abbrev good_of : List Entry → List ℕ → Good Feature
+  good_of entries text = good (bed_format (sorting_of (rank_order (genome_names entries)))) First (text_lines text)
+
+  abbrev report_in : List Entry → List ℕ → Report
+  report_in entries text = good_report (W entries) (good_of entries text)
+
+  known_in : (entries : List Entry) (text : List ℕ) → AllByRecursion (λ r. is_among (genome_names entries) r.chrom ≡ true) (intervals_of (items_in (good_of entries text)))
+  known_in entries text =
+      let total = ranks_total (genome_names entries) in
+      all_map (λ r. is_among (genome_names entries) r.chrom ≡ true) interval_of (items_in (good_of entries text))
+      (items_all (rank_order (genome_names entries)) total First (λ r. is_among (genome_names entries) r.chrom ≡ true) None (text_lines text) (all_any _ _ (λ r known. sym (among_ranked (genome_names entries) r.chrom) ∙ known)))
+
+  front_distinct : (xs ys : List (List ℕ)) → AreDistinct (xs ++ ys) → AreDistinct xs
+  front_distinct [] ys d = tt
+  front_distinct (x ∷ xs) ys d = (not_there (is_among xs x) (is_among ys x) (sym (among_append xs ys x) ∙ d.0), front_distinct xs ys d.1)
+    where
+      not_there : (a b : Bool) → (a || b) ≡ false → a ≡ false
+      not_there true b e = cc
+      not_there false b e = refl
+
+  module _ (e_one e_two : List Entry) (one two : List ℕ) (distinct : AreDistinct (genome_names (e_one ++ e_two))) (ends : StandsBefore one two)
+      (within_one : AllByRecursion (LiesWithin e_one (e_one ++ e_two)) (records_in one)) (within_two : AllByRecursion (LiesWithin e_two (e_one ++ e_two)) (records_in two)) where
+    one_same : good_of (e_one ++ e_two) one ≡ good_of e_one one
+    one_same = agree_good _ _ _ (agree_first e_one e_two) First None (text_lines one) tt within_one
+
+    two_same : good_of (e_one ++ e_two) two ≡ good_of e_two two
+    two_same = agree_good _ _ _ (agree_second e_one e_two distinct) First None (text_lines two) tt within_two
+
+    joint : IsJoint (good_of e_one one) (good_of e_two two) (good_of (e_one ++ e_two) (one ++ two))
+    joint = subst (λ g. IsJoint g (good_of e_two two) (good_of (e_one ++ e_two) (one ++ two))) one_same
+        (subst (λ g. IsJoint (good_of (e_one ++ e_two) one) g (good_of (e_one ++ e_two) (one ++ two))) two_same
+        (bed_joint (rank_order (genome_names (e_one ++ e_two))) (ranks_total (genome_names (e_one ++ e_two))) one two (within_before e_one e_two distinct (records_in one) (records_in two) within_one within_two) First ends))
+
+    abbrev order_of_both : Order
+    order_of_both = rank_order (genome_names (e_one ++ e_two))
+
+    abbrev total_of_both : IsTotal (rank_order (genome_names (e_one ++ e_two)))
+    total_of_both = ranks_total (genome_names (e_one ++ e_two))
+
+    own : OwnParts e_one e_two (items_in (good_of e_one one)) (items_in (good_of e_two two))
+    own = record {
+      distinct = distinct;
+      in_one = known_in e_one one;
+      in_two = known_in e_two two;
+      taken = record {
+        distinct = front_distinct (genome_names e_one) (genome_names e_two) (subst AreDistinct (names_both e_one e_two) distinct);
+        placed = placed_lines First (rank_order (genome_names e_one)) (text_lines one) (ranks_total (genome_names e_one));
+        full = non_empty_from First (sorting_of (rank_order (genome_names e_one))) None (text_lines one);
+      };
+      placed = placed_lines First (rank_order (genome_names e_two)) (text_lines two) (ranks_total (genome_names e_two));
+      first_placed = subst (λ (g : Good Feature). ArePlaced order_of_both (intervals_of (items_in g))) one_same (placed_lines First order_of_both (text_lines one) total_of_both);
+      second_placed = subst (λ (g : Good Feature). ArePlaced order_of_both (intervals_of (items_in g))) two_same (placed_lines First order_of_both (text_lines two) total_of_both);
+      early = subst (λ (g : Good Feature). Earlier order_of_both total_of_both (items_in g) (items_in (good_of e_two two))) one_same
+          (subst (λ (g : Good Feature). Earlier order_of_both total_of_both (items_in (good_of (e_one ++ e_two) one)) (items_in g)) two_same
+          (good_earlier order_of_both total_of_both one two (within_before e_one e_two distinct (records_in one) (records_in two) within_one within_two) First First));
+    }
+
+    both_reports : Adds (report_in e_one one) (report_in e_two two) (report_in (e_one ++ e_two) (one ++ two)) × Stops (report_in e_one one) (report_in e_two two) (report_in (e_one ++ e_two) (one ++ two))
+    both_reports = (
+      good_adds (W e_one) (W e_two) (W (e_one ++ e_two)) (good_of e_one one) (good_of e_two two) (good_of (e_one ++ e_two) (one ++ two)) joint (splits e_one e_two (items_in (good_of e_one one)) (items_in (good_of e_two two)) own),
+      good_stops (W e_one) (W e_two) (W (e_one ++ e_two)) (good_of e_one one) (good_of e_two two) (good_of (e_one ++ e_two) (one ++ two)) joint (splits e_one e_two (items_in (good_of e_one one)) (items_in (good_of e_two two)) own),
+    )
+
+  join : List Shard → Shard
+  join shards = record { genome = whole_text []; entries = all_entries shards; text = joined (shard_texts shards) }
+
+  record Fit (shards : List Shard) : Type 0 where
+    distinct : AreDistinct (genome_names (all_entries shards))
+    lines : AreOfLines (shard_texts shards)
+    within : AllByRecursion (λ shard. AllByRecursion (LiesWithin shard.entries (all_entries shards)) (records_in shard.text)) shards
+
+  back_distinct : (xs ys : List (List ℕ)) → AreDistinct (xs ++ ys) → AreDistinct ys
+  back_distinct [] ys d = d
+  back_distinct (x ∷ xs) ys d = back_distinct xs ys d.1
+
+  among_more : (e_one e_two : List Entry) (name : List ℕ) → is_among (genome_names e_two) name ≡ true → is_among (genome_names (e_one ++ e_two)) name ≡ true
+  among_more e_one e_two name h = ap (λ ns. is_among ns name) (names_both e_one e_two) ∙ among_append (genome_names e_one) (genome_names e_two) name ∙ or_right (is_among (genome_names e_one) name) (is_among (genome_names e_two) name) h
+
+  among_less : (e_one e_two : List Entry) (name : List ℕ) → is_among (genome_names e_one) name ≡ true → is_among (genome_names (e_one ++ e_two)) name ≡ true
+  among_less e_one e_two name h = ap (λ ns. is_among ns name) (names_both e_one e_two) ∙ among_append (genome_names e_one) (genome_names e_two) name ∙ or_left (is_among (genome_names e_one) name) (is_among (genome_names e_two) name) h
+
+  fit_less : (t : Shard) (ts : List Shard) → Fit (t ∷ ts) → Fit ts
+  fit_less t ts fit = record {
+    distinct = back_distinct (genome_names t.entries) (genome_names (all_entries ts)) (subst AreDistinct (names_both t.entries (all_entries ts)) fit.distinct);
+    lines = lines_less t.text (shard_texts ts) fit.lines;
+    within = all_so _ _ ts (λ s h. all_so _ _ (records_in s.text) (λ r k here. k (among_more t.entries (all_entries ts) r.chrom here)) h) fit.within.1;
+  }
+
+  within_all : (whole : List Entry) (shards : List Shard) → AreOfLines (shard_texts shards) → AllByRecursion (λ shard. AllByRecursion (LiesWithin shard.entries whole) (records_in shard.text)) shards
+      → AllByRecursion (LiesWithin (all_entries shards) whole) (records_in (joined (shard_texts shards)))
+  unfolding lines_from
+  within_all whole [] lines h = tt
+  within_all whole (t ∷ []) lines h =
+      subst (λ text. AllByRecursion (LiesWithin (t.entries ++ []) whole) (records_in text)) (sym (append-nil t.text))
+      (subst (λ es. AllByRecursion (LiesWithin es whole) (records_in t.text)) (sym (append-nil t.entries)) h.0)
+  within_all whole (t ∷ u ∷ ts) lines h =
+      subst (λ rs. AllByRecursion (LiesWithin (t.entries ++ all_entries (u ∷ ts)) whole) rs) (sym (records_both t.text (joined (shard_texts (u ∷ ts))) lines.0))
+      (all_both _ (records_in t.text) (records_in (joined (shard_texts (u ∷ ts))))
+      (all_so _ _ (records_in t.text) (λ r k here. among_less t.entries (all_entries (u ∷ ts)) r.chrom (k here)) h.0)
+      (all_so _ _ (records_in (joined (shard_texts (u ∷ ts)))) (λ r k here. among_more t.entries (all_entries (u ∷ ts)) r.chrom (k here)) (within_all whole (u ∷ ts) lines.1 h.1)))
+
+  on_shard : Shard → Report
+  on_shard shard = report_in shard.entries shard.text
+
+  on_own : (shards : List Shard) → AllByRecursion (λ shard. chromosomes_of (Some shard.genome) ≡ Ok (Some shard.entries)) shards → map (λ shard. on_text command (Some shard.genome) shard.text) shards ≡ map on_shard shards
+  unfolding report_of on_shard
+  on_own shards h = map_same _ _ shards (all_so _ _ shards (λ s has. ap (λ c. report_on command c (whole_text s.text) None) has ∙ is s.entries s.text) h)
+
+  same_parts : (shards : List Shard) (genome : Handed) → AreShards genome shards → on_text command (Some genome) (joined (shard_texts shards)) ≡ on_shard (join shards)
+  unfolding report_of on_shard join
+  same_parts shards genome are = ap (λ c. report_on command c (whole_text (joined (shard_texts shards))) None) are.whole ∙ is (all_entries shards) (joined (shard_texts shards))
+
+  fit_of : (shards : List Shard) (genome : Handed) → AreShards genome shards → Fit shards
+  fit_of shards genome are = record { distinct = distinct_in genome (all_entries shards) are.whole; lines = are.lines; within = are.within }
+
+  alone : (t : Shard) → on_shard (join (t ∷ [])) ≡ on_shard t
+  unfolding on_shard join
+  alone t = ap₂ report_in (append-nil t.entries) (append-nil t.text)
+
+  next : (t u : Shard) (ts : List Shard) → Fit (t ∷ u ∷ ts) → Adds (on_shard t) (on_shard (join (u ∷ ts))) (on_shard (join (t ∷ u ∷ ts))) × Stops (on_shard t) (on_shard (join (u ∷ ts))) (on_shard (join (t ∷ u ∷ ts)))
+  unfolding on_shard join
+  next t u ts fit =
+      both_reports t.entries (all_entries (u ∷ ts)) t.text (joined (shard_texts (u ∷ ts))) fit.distinct fit.lines.0 fit.within.0
+      (within_all (t.entries ++ all_entries (u ∷ ts)) (u ∷ ts) fit.lines.1 fit.within.1)
+
+  pub shards_add : report_in [] [] ≡ nothing → (genome : Handed) (shards : List Shard) → AreShards genome shards → ShardsAddUp command genome shards
+  unfolding on_shard join
+  shards_add empty genome shards are =
+      let both = parts_both join on_shard Fit empty alone fit_less next shards (fit_of shards genome are) in
+      rw (on_own shards are.parts, same_parts shards genome are) both
+
+pub complement_parts : complement_divides
+unfolding lines_from good_from complement
+complement_parts limit = shards_add (λ entries. complement_written entries limit) (Complement limit)
+    (λ entries text. ap (good_report (complement_written entries limit)) (good_whole (bed_format (sorting_of (rank_order (genome_names entries)))) First text))
+    (gaps_split limit) refl
+
+pub genomecov_parts : genomecov_divides
+unfolding lines_from good_from coverage
+genomecov_parts zeros strand = shards_add (λ entries. coverage_written entries zeros strand) (Coverage zeros strand)
+    (λ entries text. ap (good_report (coverage_written entries zeros strand)) (good_whole (bed_format (sorting_of (rank_order (genome_names entries)))) First text))
+    (depths_split zeros strand) refl
+
+merge_nothing : (d : ℕ) (strand : MergeStrand) → good_report (merge_written (rank_order []) d strand) (good (bed_format (sorting_of (rank_order []))) First (text_lines [])) ≡ nothing
+unfolding lines_from good_from ordered_runs merged strand_runs
+merge_nothing d All = refl
+merge_nothing d Each = refl
+merge_nothing d (One strand) = refl
+
+pub merge_genome_parts : merge_genomes_divide
+merge_genome_parts d strand = shards_add (λ entries. merge_written (rank_order (genome_names entries)) d strand) (Merge d strand)
+    (λ entries text. ap (good_report (merge_written (rank_order (genome_names entries)) d strand)) (good_whole (bed_format (sorting_of (rank_order (genome_names entries)))) First text))
+    (merge_own d strand) (merge_nothing d strand)

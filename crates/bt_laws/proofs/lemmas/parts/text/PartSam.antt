@@ -1,0 +1,78 @@
+-- Alignments divided at any line.
+use Rattle.std.proofs.Common.{◌≡◌, ℕ, Bool, List, [], ◌∷◌, ◌++◌, append-nil, Option, Some, None, refl, sym, ap, ◌∙◌}
+use Rattle.std.specs.List.{AllByRecursion}
+use Rattle.std.proofs.lemmas.Grind.{flat_map-append}
+use Rattle.bt_lines.specs.model.Fault.{Told}
+use Rattle.bt_lines.specs.model.Lines.{TextLine, lines_from, text_lines}
+use Rattle.bt_lines.specs.declared.fault.Input.TheVariants.{First}
+use Rattle.bt_bed.specs.model.input.Good.{Good, good, good_from, items_in}
+use Rattle.bt_seq.specs.model.Alignment.{Alignment, alignment_of}
+use Rattle.bt_seq.specs.model.BedLines.{bed_lines}
+use Rattle.bt_seq.specs.model.GoodSam.{sam_format}
+use Rattle.bt_tool.specs.model.report.ConvertReport.{alignment_lines}
+use Rattle.bt_laws.specs.parts.Parts.{AreOfLines, StandsBefore, joined}
+use Rattle.bt_tool.specs.model.report.RecordReport.{Report, good_report, report_by}
+use Rattle.bt_tool.specs.model.report.Report.{report_of}
+use Rattle.bt_laws.specs.parts.SplitLaws.{bamtobed_divides, on_text}
+use Rattle.bt_tool.specs.model.report.Written.{Written}
+use Rattle.bt_tool.specs.declared.planning.plan_type.Command.TheVariants.{BamToBed}
+use Rattle.bt_tool.proofs.lemmas.running.members.CameMembers.{good_whole}
+use Rattle.bt_laws.proofs.lemmas.parts.order.PartGood.{IsJoint, LeadsOn, good_joint}
+use Rattle.bt_laws.proofs.lemmas.parts.report.PartReports.{Adds, Splits, Stops, good_adds, good_stops, parts_both}
+
+module _ (split cigar : Bool) where
+  -- each alignment's lines are settled by itself
+  lines_written : Written Alignment
+  lines_written = record { whole = alignment_lines split cigar; settled = alignment_lines split cigar }
+
+  same_report : (members : List Alignment) (fault : Option Told) → report_by lines_written members fault ≡ record { output = alignment_lines split cigar members; fault = fault }
+  unfolding lines_written
+  same_report members None = refl
+  same_report members (Some fault) = refl
+
+  on_sam : List ℕ → Report
+  on_sam text = good_report lines_written (good sam_format First (text_lines text))
+
+  sam_is : (text : List ℕ) → on_text (BamToBed split cigar) None text ≡ on_sam text
+  unfolding report_of on_sam
+  sam_is text =
+      ap (λ (g : Good Alignment). record { output = alignment_lines split cigar (items_in g); fault = g.fault }) (good_whole sam_format First text)
+      ∙ sym (same_report (items_in (good sam_format First (text_lines text))) (good sam_format First (text_lines text)).fault)
+
+  lines_split : (ones twos : List Alignment) → Splits lines_written lines_written lines_written ones twos
+  unfolding lines_written
+  lines_split ones twos =
+      let both = flat_map-append (bed_lines split cigar) ones twos in
+      record { all = both; first = refl; begin = ([], sym (append-nil (alignment_lines split cigar (ones ++ twos)) ∙ both)) }
+
+  all_lead : (ls : List TextLine) → AllByRecursion (LeadsOn sam_format (λ state. Unit {0})) ls
+  all_lead [] = tt
+  all_lead (l ∷ ls) = ((λ state item leads e. tt), all_lead ls)
+
+  sam_joint : (one two : List ℕ) → StandsBefore one two → IsJoint (good sam_format First (text_lines one)) (good sam_format First (text_lines two)) (good sam_format First (text_lines (one ++ two)))
+  sam_joint one two ends = good_joint sam_format First (λ state. Unit {0}) one two ends (λ state l m e d. ap alignment_of e) tt (λ n now leads. refl) (all_lead (text_lines one))
+
+  sam_adds : (one two : List ℕ) → StandsBefore one two → Adds (on_sam one) (on_sam two) (on_sam (one ++ two))
+  unfolding on_sam
+  sam_adds one two ends =
+      good_adds lines_written lines_written lines_written (good sam_format First (text_lines one)) (good sam_format First (text_lines two)) (good sam_format First (text_lines (one ++ two))) (sam_joint one two ends) (lines_split _ _)
+
+  sam_stops : (one two : List ℕ) → StandsBefore one two → Stops (on_sam one) (on_sam two) (on_sam (one ++ two))
+  unfolding on_sam
+  sam_stops one two ends =
+      good_stops lines_written lines_written lines_written (good sam_format First (text_lines one)) (good sam_format First (text_lines two)) (good sam_format First (text_lines (one ++ two))) (sam_joint one two ends) (lines_split _ _)
+
+  text_adds : (one two : List ℕ) → StandsBefore one two → Adds (on_text (BamToBed split cigar) None one) (on_text (BamToBed split cigar) None two) (on_text (BamToBed split cigar) None (one ++ two))
+  text_adds one two ends = rw (sam_is one, sam_is two, sam_is (one ++ two)) (sam_adds one two ends)
+
+  text_stops : (one two : List ℕ) → StandsBefore one two → Stops (on_text (BamToBed split cigar) None one) (on_text (BamToBed split cigar) None two) (on_text (BamToBed split cigar) None (one ++ two))
+  text_stops one two ends = rw (sam_is one, sam_is two, sam_is (one ++ two)) (sam_stops one two ends)
+
+pub lines_less : (text : List ℕ) (texts : List (List ℕ)) → AreOfLines (text ∷ texts) → AreOfLines texts
+lines_less text texts lines = lines.1
+
+pub sam_divides : bamtobed_divides
+unfolding report_of lines_from good_from
+sam_divides split cigar texts lines =
+    parts_both joined (on_text (BamToBed split cigar) None) AreOfLines refl (λ t. ap (on_text (BamToBed split cigar) None) (append-nil t)) lines_less
+    (λ t u ts fits. (text_adds split cigar t (joined (u ∷ ts)) fits.0, text_stops split cigar t (joined (u ∷ ts)) fits.0)) texts lines

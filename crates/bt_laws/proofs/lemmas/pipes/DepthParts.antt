@@ -1,0 +1,153 @@
+-- The intervals of depth 0, and the others.
+use Rattle.std.proofs.Common.{◌≡◌, ℕ, ◌<◌, Bool, true, false, cond, List, [], ◌∷◌, ◌++◌, map, filter, Option, Some, None, refl, sym, ap, ap₂, ◌∙◌, subst, inl, inr, arith, eqb}
+use Rattle.std.specs.Prelude.{flat_map, nat_lt}
+use Rattle.std.proofs.lemmas.Bool.{cases_Bool, eqb-true, lt-ltb, ltb-true}
+use Rattle.std.proofs.lemmas.List.Elements.{filter-append}
+use Rattle.bt_lines.specs.declared.fault.Input.TheVariants.{First}
+use Rattle.bt_bed.specs.model.feature.Feature.{Feature}
+use Rattle.bt_bed.specs.model.order.Genome.{Entry}
+use Rattle.bt_bed.specs.model.input.Good.{items_in}
+use Rattle.bt_bed.specs.model.input.GoodBed.{bed_good}
+use Rattle.bt_bed.specs.model.feature.Interval.{Span}
+use Rattle.bt_bed.specs.declared.record.strand.Strand.{Strand}
+use Rattle.bt_runs.specs.calls.CoveredLevels.{interval_at}
+use Rattle.bt_runs.specs.model.Depth.{DepthInterval, counted_on, coverage, depth_at, depth_lines, depth_of, depth_on, depths_on}
+use Rattle.bt_runs.specs.model.Gaps.{complement}
+use Rattle.bt_runs.specs.model.Levels.{AreDisjointFrom, DiffersFromNext, HasValue, Level, levels_of}
+use Rattle.bt_runs.proofs.lemmas.coverage.CoveredLevels.{gaps_depth_0}
+use Rattle.bt_runs.proofs.lemmas.coverage.LevelLemmas.{are_levels, looser, only_levels}
+use Rattle.bt_tool.specs.model.report.Behaviour.{entries_in, order_of}
+use Rattle.bt_tool.specs.model.report.Written.{complement_written, coverage_written}
+use Rattle.bt_tool.specs.declared.planning.plan_type.Command.TheVariants.{Complement, Coverage}
+use Rattle.bt_laws.specs.pipes.Pipes.{first_records}
+use Rattle.bt_laws.specs.same.SameRuns.{bg_is_bga_above_0, depth_0_is_complement, without_depth}
+use Rattle.bt_laws.proofs.lemmas.pipes.PipeLaws.{complement_whole, genomecov_whole}
+use Rattle.bt_laws.proofs.lemmas.same.RunsAgain.{fault_as, told_same}
+
+-- ---- some of the levels
+
+module _ (t : Level → Bool) where
+  -- what starts past a level doesn't touch it
+  differs_far : (l : Level) (first : ℕ) (ms : List Level) → l.stop < first → AreDisjointFrom first ms → DiffersFromNext l (filter t ms)
+  differs_far l first [] far d = tt
+  differs_far l first (m ∷ ms) far d =
+      elim (t m) as (λ b. DiffersFromNext l (cond b (m ∷ filter t ms) (filter t ms))) [
+        | true ↦ λ touch same. absurd (omega (arith, touch, far, d.0))
+        | false ↦ differs_far l m.stop ms (omega (arith, far, d.0, d.1)) d.3
+      ]
+
+  differs_some : (l : Level) (ms : List Level) → DiffersFromNext l ms → AreDisjointFrom l.stop ms → DiffersFromNext l (filter t ms)
+  differs_some l [] differs d = tt
+  differs_some l (m ∷ ms) differs d =
+      elim (t m) as (λ b. DiffersFromNext l (cond b (m ∷ filter t ms) (filter t ms))) [
+        | true ↦ differs
+        | false ↦ differs_far l m.stop ms (omega (arith, d.0, d.1)) d.3
+      ]
+
+  some_disjoint : (first : ℕ) (ls : List Level) → AreDisjointFrom first ls → AreDisjointFrom first (filter t ls)
+  some_disjoint first [] d = tt
+  some_disjoint first (l ∷ ls) d =
+      elim (t l) as (λ b. AreDisjointFrom first (cond b (l ∷ filter t ls) (filter t ls))) [
+        | true ↦ (d.0, d.1, differs_some l ls d.2 d.3, some_disjoint l.stop ls d.3)
+        | false ↦ looser l.stop first (filter t ls) (omega (arith, d.0, d.1)) (some_disjoint l.stop ls d.3)
+      ]
+
+abbrev is_deep : Level → Bool
+is_deep l = nat_lt 0 l.value
+
+deep_here : (l : Level) (ls : List Level) (p v : ℕ) → 0 < l.value → HasValue (l ∷ filter is_deep ls) p v → (HasValue (filter is_deep ls) p v → HasValue ls p v × (0 < v)) → HasValue (l ∷ ls) p v × (0 < v)
+deep_here l ls p v some (inl here) more = (inl here, omega (arith, some, here.2))
+deep_here l ls p v some (inr there) more = let rest = more there in (inr rest.0, rest.1)
+
+deep_value : (ls : List Level) (p v : ℕ) → HasValue (filter is_deep ls) p v → HasValue ls p v × (0 < v)
+deep_value [] p v h = absurd h
+deep_value (l ∷ ls) p v h = elim (cases_Bool (nat_lt 0 l.value)) [
+  | inl t ↦ deep_here l ls p v (ltb-true 0 l.value t) (subst (λ b. HasValue (cond b (l ∷ filter is_deep ls) (filter is_deep ls)) p v) t h) (deep_value ls p v)
+  | inr f ↦ let more = deep_value ls p v (subst (λ b. HasValue (cond b (l ∷ filter is_deep ls) (filter is_deep ls)) p v) f h) in (inr more.0, more.1)
+]
+
+value_deep : (ls : List Level) (p v : ℕ) → 0 < v → HasValue ls p v → HasValue (filter is_deep ls) p v
+value_deep [] p v some h = absurd h
+value_deep (l ∷ ls) p v some (inl here) = subst (λ b. HasValue (cond b (l ∷ filter is_deep ls) (filter is_deep ls)) p v) (sym (lt-ltb 0 l.value (omega (arith, some, here.2)))) (inl here)
+value_deep (l ∷ ls) p v some (inr there) =
+    elim (nat_lt 0 l.value) as (λ b. HasValue (cond b (l ∷ filter is_deep ls) (filter is_deep ls)) p v) [
+      | true ↦ inr (value_deep ls p v some there)
+      | false ↦ value_deep ls p v some there
+    ]
+
+shown_by : (b : Bool) (d v : ℕ) → nat_lt 0 d ≡ b → cond b (Some d) None ≡ Some v → (d ≡ v) × (0 < v)
+shown_by true d v t e = let same : d ≡ v = cc in (same, subst (λ n. 0 < n) same (ltb-true 0 d t))
+shown_by false d v t e = cc
+
+pub shown : (d v : ℕ) → cond (nat_lt 0 d) (Some d) None ≡ Some v → (d ≡ v) × (0 < v)
+shown d v e = shown_by (nat_lt 0 d) d v refl e
+
+module _ (spans : List Span) (size : ℕ) where
+  deep_levels : levels_of (depth_of false spans) size ≡ filter is_deep (levels_of (depth_of true spans) size)
+  unfolding depth_of
+  deep_levels =
+      let all = are_levels (depth_of true spans) size in
+      sym (only_levels (depth_of false spans) size (filter is_deep (levels_of (depth_of true spans) size)) (record {
+        disjoint = some_disjoint is_deep 0 (levels_of (depth_of true spans) size) all.disjoint;
+        within = λ p v h.
+            let deep = deep_value (levels_of (depth_of true spans) size) p v h in
+            let w = all.within p v deep.0 in
+            let same : depth_at spans p ≡ v = cc in
+            (w.0, subst (λ d. cond (nat_lt 0 d) (Some d) None ≡ Some v) (sym same) (ap (λ b. cond b (Some v) None) (lt-ltb 0 v deep.1)));
+        whole = λ p v below h.
+            let is = shown (depth_at spans p) v h in
+            value_deep (levels_of (depth_of true spans) size) p v is.1 (all.whole p v below (ap Some is.0));
+      }))
+
+map_filter : (name : List ℕ) (ls : List Level) → map (depth_on name) (filter is_deep ls) ≡ filter (λ (r : DepthInterval). nat_lt 0 r.depth) (map (depth_on name) ls)
+map_filter name [] = refl
+map_filter name (l ∷ ls) =
+    elim (nat_lt 0 l.value) as (λ b. map (depth_on name) (cond b (l ∷ filter is_deep ls) (filter is_deep ls)) ≡ cond b (depth_on name l ∷ filter (λ (r : DepthInterval). nat_lt 0 r.depth) (map (depth_on name) ls)) (filter (λ (r : DepthInterval). nat_lt 0 r.depth) (map (depth_on name) ls))) [
+      | true ↦ ap (λ more. depth_on name l ∷ more) (map_filter name ls)
+      | false ↦ map_filter name ls
+    ]
+
+deep_all : (strand : Option Strand) (records : List Feature) (entries : List Entry) → flat_map (depths_on false strand records) entries ≡ filter (λ (r : DepthInterval). nat_lt 0 r.depth) (flat_map (depths_on true strand records) entries)
+deep_all strand records [] = refl
+deep_all strand records (e ∷ es) =
+    ap₂ (λ a b. a ++ b) (ap (map (depth_on e.name)) (deep_levels (counted_on strand e.name records) e.length) ∙ map_filter e.name (levels_of (depth_of true (counted_on strand e.name records)) e.length)) (deep_all strand records es)
+    ∙ sym (filter-append (λ (r : DepthInterval). nat_lt 0 r.depth) (depths_on true strand records e) (flat_map (depths_on true strand records) es))
+
+pub deep_coverage : (strand : Option Strand) (entries : List Entry) (records : List Feature) → coverage false strand entries records ≡ filter (λ (r : DepthInterval). nat_lt 0 r.depth) (coverage true strand entries records)
+unfolding coverage
+deep_coverage strand entries records = deep_all strand records entries
+
+-- ---- depth 0
+
+zero_again : (rs : List DepthInterval) → filter (λ (r : DepthInterval). eqb r.depth 0) rs ≡ map without_depth (map interval_at (filter (λ (r : DepthInterval). eqb r.depth 0) rs))
+zero_again [] = refl
+zero_again (r ∷ rs) = elim (cases_Bool (eqb r.depth 0)) [
+  | inl t ↦ subst (λ b. cond b (r ∷ filter (λ (r : DepthInterval). eqb r.depth 0) rs) (filter (λ (r : DepthInterval). eqb r.depth 0) rs) ≡ map without_depth (map interval_at (cond b (r ∷ filter (λ (r : DepthInterval). eqb r.depth 0) rs) (filter (λ (r : DepthInterval). eqb r.depth 0) rs)))) (sym t)
+      (ap₂ (λ a b. a ∷ b) (ap (λ d. record { chrom = r.chrom; start = r.start; stop = r.stop; depth = d }) (eqb-true r.depth 0 t)) (zero_again rs))
+  | inr f ↦ subst (λ b. cond b (r ∷ filter (λ (r : DepthInterval). eqb r.depth 0) rs) (filter (λ (r : DepthInterval). eqb r.depth 0) rs) ≡ map without_depth (map interval_at (cond b (r ∷ filter (λ (r : DepthInterval). eqb r.depth 0) rs) (filter (λ (r : DepthInterval). eqb r.depth 0) rs)))) (sym f) (zero_again rs)
+]
+
+pub zero_depths : depth_0_is_complement
+zero_depths inputs chromosomes well =
+    let records = first_records chromosomes inputs in
+    let entries = entries_in chromosomes in
+    let good = bed_good First (order_of chromosomes) inputs.first in
+    let gaps = complement false entries records in
+    let other = fault_as (Coverage true None) (Complement false) inputs chromosomes well (told_same (coverage_written entries true None) (complement_written entries false) (items_in good) good.fault) in (
+      coverage true None entries records,
+      gaps,
+      record { output = genomecov_whole true None inputs chromosomes well; faultless = well.faultless },
+      record { output = complement_whole false inputs chromosomes other; faultless = other.faultless },
+      zero_again (coverage true None entries records) ∙ ap (map without_depth) (sym (gaps_depth_0 entries records)),
+    )
+
+pub deep_depths : bg_is_bga_above_0
+deep_depths strand inputs chromosomes well =
+    let records = first_records chromosomes inputs in
+    let entries = entries_in chromosomes in
+    let good = bed_good First (order_of chromosomes) inputs.first in
+    let other = fault_as (Coverage true strand) (Coverage false strand) inputs chromosomes well (told_same (coverage_written entries true strand) (coverage_written entries false strand) (items_in good) good.fault) in (
+      coverage true strand entries records,
+      record { output = genomecov_whole true strand inputs chromosomes well; faultless = well.faultless },
+      record { output = genomecov_whole false strand inputs chromosomes other ∙ ap depth_lines (deep_coverage strand entries records); faultless = other.faultless },
+    )

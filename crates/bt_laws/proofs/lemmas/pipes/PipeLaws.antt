@@ -1,0 +1,279 @@
+-- The reports whose outputs go on as inputs.
+use Rattle.std.proofs.Common.{append-nil, append_assoc, ◌≡◌, ℕ, Bool, true, false, List, [], ◌∷◌, ◌++◌, map, filter, Option, Some, None, Result, Ok, Err, refl, sym, ap, ◌∙◌, subst}
+use Rattle.std.specs.Prelude.{◌≢◌, flat_map, if◌then◌else◌}
+use Rattle.std.specs.List.{AllByRecursion, list_all}
+use Rattle.std.specs.Option.{option_or}
+use Rattle.bt_lines.specs.model.Fault.{Told}
+use Rattle.bt_lines.specs.model.Handed.{Handed}
+use Rattle.bt_lines.specs.declared.fault.Input.TheVariants.{First, Genome, Second}
+use Rattle.bt_bed.specs.model.order.ByteOrder.{byte_order, bytes_total}
+use Rattle.bt_bed.specs.model.feature.Feature.{Feature, intervals_of}
+use Rattle.bt_bed.specs.model.order.Genome.{Entry, genome_handed, genome_names}
+use Rattle.bt_bed.specs.model.input.Good.{Good, Member, items_in}
+use Rattle.bt_bed.specs.model.input.GoodBed.{bed_good}
+use Rattle.bt_bed.specs.model.feature.Interval.{Interval}
+use Rattle.bt_bed.specs.model.feature.IntervalLine.{interval_lines}
+use Rattle.bt_bed.specs.model.order.Locus.{ArePlaced}
+use Rattle.bt_bed.specs.model.feature.LineKind.{fault_at_line}
+use Rattle.bt_lines.specs.declared.fault.Kind.TheVariants.{TooManyHeld}
+use Rattle.bt_bed.specs.model.input.Meeting.{Met, meet, written}
+use Rattle.bt_bed.specs.model.order.Order.{Order, IsTotal}
+use Rattle.bt_bed.specs.model.order.Rank.{AreDistinct}
+use Rattle.bt_bed.specs.inside.RankTotal.{ranks_total}
+use Rattle.bt_bed.specs.declared.record.strand.Strand.{Strand}
+use Rattle.bt_bed.proofs.lemmas.laws.GoodBedLemmas.{non_empty_good, placed_good}
+use Rattle.bt_runs.specs.calls.CoveredLevels.{interval_at}
+use Rattle.bt_runs.specs.model.Depth.{coverage, depth_lines}
+use Rattle.bt_runs.specs.model.Gaps.{complement}
+use Rattle.bt_runs.specs.model.RunOrder.{ordered_runs}
+use Rattle.bt_runs.specs.model.StrandRuns.{places_of, strand_runs}
+use Rattle.bt_runs.specs.declared.merge.merge_strand.MergeStrand.{MergeStrand}
+use Rattle.bt_runs.specs.declared.merge.merge_strand.MergeStrand.TheVariants.{All, Each, One}
+use Rattle.bt_runs.proofs.lemmas.merge.StrandOrder.{in_order}
+use Rattle.bt_sweep.specs.model.IntersectLines.{intersect}
+use Rattle.bt_sweep.specs.model.Limit.{are_too_many, cut_behind, limited}
+use Rattle.bt_sweep.specs.model.Subtract.{subtract_shape}
+use Rattle.bt_sweep.specs.model.SweepMeeting.{sweep_rule}
+use Rattle.bt_sweep.specs.declared.hits.hit_rule.HitRule.{HitRule}
+use Rattle.bt_sweep.specs.declared.output.shape.Shape.{Shape}
+use Rattle.bt_sweep.specs.declared.output.shape.Shape.TheVariants.{Whole}
+use Rattle.bt_sweep.proofs.lemmas.laws.SweepsLemmas.{faultless_all}
+use Rattle.bt_tool.specs.model.report.Behaviour.{behaviour_of, entries_in, order_of}
+use Rattle.bt_tool.specs.model.report.Inputs.{Inputs, or_empty}
+use Rattle.bt_tool.specs.model.report.RecordReport.{Report, report_by}
+use Rattle.bt_tool.specs.model.report.Report.{chromosomes_of, of_file, report_of, report_on}
+use Rattle.bt_tool.specs.model.report.SweepReport.{met_within}
+use Rattle.bt_tool.specs.model.report.Written.{Written, complement_written, coverage_written, merge_written}
+use Rattle.bt_tool.specs.declared.planning.plan_type.Command.{Command}
+use Rattle.bt_tool.specs.declared.planning.plan_type.Command.TheVariants.{Complement, Coverage, Intersect, Merge, Subtract}
+use Rattle.bt_laws.specs.pipes.Pipes.{IsInputAt, RunsWell, complement_is_input, cut_intersect_is_input, first_records, genomecov_is_input, intersect_is_input, merge_is_input, second_records, subtract_is_input, whole_subtract_is_input}
+use Rattle.bt_laws.specs.pipes.SweepLines.{begins_with_a, places_written}
+use Rattle.bt_laws.specs.pipes.Taken.{AreApart, AreDisjoint, EachPair, IsInput, four_columns, is_no_header, three_columns}
+use Rattle.bt_laws.proofs.lemmas.back.GapsBack.{coverage_back, depths_disjoint, gaps_back, gaps_pairs}
+use Rattle.bt_laws.proofs.lemmas.parts.report.PartShards.{distinct_in}
+use Rattle.bt_laws.proofs.lemmas.back.RunsBack.{intervals_back, merge_apart, merge_back, runs_back, strands_written}
+use Rattle.bt_laws.proofs.lemmas.back.SaidWell.{IsChrom, genome_chroms, good_are_said}
+use Rattle.bt_laws.proofs.lemmas.back.SweepBack.{cut_back, kept_back, pieces_back}
+
+-- ---- the order in use
+
+pub order_total : (chromosomes : Option (List Entry)) → IsTotal (order_of chromosomes)
+order_total None = bytes_total
+order_total (Some entries) = ranks_total (genome_names entries)
+
+file_is : (answer : Result (List Entry) Told) (entries : List Entry) → of_file answer ≡ Ok (Some entries) → answer ≡ Ok entries
+file_is (Ok found) entries e = cc
+file_is (Err fault) entries e = cc
+
+no_file : (answer : Result (List Entry) Told) → of_file answer ≡ Ok None → ⊥
+no_file (Ok found) e = cc
+no_file (Err fault) e = cc
+
+pub chroms_of : (genome : Option Handed) (entries : List Entry) → chromosomes_of genome ≡ Ok (Some entries) → AllByRecursion IsChrom entries × AreDistinct (genome_names entries)
+chroms_of None entries e = cc
+chroms_of (Some genome) entries e = (genome_chroms Genome genome entries (file_is (genome_handed Genome genome) entries e), distinct_in genome entries e)
+
+-- ---- a report of one input without a fault
+
+whole_by : {A : Type 0} (written : Written A) (members : List A) (fault : Option Told) → (report_by written members fault).fault ≡ None → (report_by written members fault).output ≡ written.whole members
+whole_by written members None e = refl
+whole_by written members (Some fault) e = cc
+
+module _ (command : Command) (inputs : Inputs) (chromosomes : Option (List Entry)) (well : RunsWell command inputs chromosomes) where
+  pub report_is : report_of command inputs ≡ (behaviour_of command chromosomes).report inputs.first inputs.second
+  unfolding report_of
+  report_is = ap (λ found. report_on command found inputs.first inputs.second) well.genome
+
+  pub well_there : ((behaviour_of command chromosomes).report inputs.first inputs.second).fault ≡ None
+  well_there = ap (λ (r : Report). r.fault) (sym report_is) ∙ well.faultless
+
+  pub output_is : (report_of command inputs).output ≡ ((behaviour_of command chromosomes).report inputs.first inputs.second).output
+  output_is = ap (λ (r : Report). r.output) report_is
+
+-- ---- merge
+
+pub merge_whole : (d : ℕ) (strand : MergeStrand) (inputs : Inputs) (chromosomes : Option (List Entry)) → RunsWell (Merge d strand) inputs chromosomes
+    → (report_of (Merge d strand) inputs).output ≡ (merge_written (order_of chromosomes) d strand).whole (first_records chromosomes inputs)
+merge_whole d strand inputs chromosomes well =
+    output_is (Merge d strand) inputs chromosomes well
+    ∙ whole_by (merge_written (order_of chromosomes) d strand) (first_records chromosomes inputs) (bed_good First (order_of chromosomes) inputs.first).fault (well_there (Merge d strand) inputs chromosomes well)
+
+module _ (d : ℕ) (inputs : Inputs) (chromosomes : Option (List Entry)) where
+  abbrev order_used : Order
+  order_used = order_of chromosomes
+
+  abbrev merged_records : List Feature
+  merged_records = first_records chromosomes inputs
+
+  total : IsTotal order_used
+  total = order_total chromosomes
+
+  placed : ArePlaced order_used (intervals_of merged_records)
+  placed = placed_good First order_used inputs.first total
+
+  pooled : (strand : MergeStrand) → RunsWell (Merge d strand) inputs chromosomes → (report_of (Merge d strand) inputs).output ≡ interval_lines (ordered_runs order_used d strand merged_records)
+      → (runs : List Interval) × ((report_of (Merge d strand) inputs).output ≡ interval_lines runs) × IsInput order_used (report_of (Merge d strand) inputs).output (map three_columns runs) × (strand ≢ Each → EachPair AreApart runs)
+  pooled strand well e = (
+    ordered_runs order_used d strand merged_records,
+    e,
+    subst (λ text. IsInput order_used text (map three_columns (ordered_runs order_used d strand merged_records))) (sym e) (merge_back order_used total d strand merged_records (good_are_said First order_used inputs.first) placed),
+    λ other. merge_apart order_used total d strand merged_records (good_are_said First order_used inputs.first) placed,
+  )
+
+pub merge_input : merge_is_input
+merge_input d All inputs chromosomes well = pooled d inputs chromosomes All well (merge_whole d All inputs chromosomes well)
+merge_input d (One strand) inputs chromosomes well = pooled d inputs chromosomes (One strand) well (merge_whole d (One strand) inputs chromosomes well)
+merge_input d Each inputs chromosomes well =
+    let records = first_records chromosomes inputs in
+    let order = order_of chromosomes in
+    let total = order_total chromosomes in
+    let e = merge_whole d Each inputs chromosomes well in
+    let runs = places_of (strand_runs d records) in (
+      runs,
+      e,
+      subst (λ text. IsInput order text (map three_columns runs)) (sym e)
+          (runs_back order total runs (strands_written order total d records (good_are_said First order inputs.first))
+          (in_order order d records total (placed_good First order inputs.first total) (non_empty_good First order inputs.first))),
+      λ other. absurd (other refl),
+    )
+
+-- ---- complement and genomecov
+
+module _ (limit : Bool) (inputs : Inputs) (chromosomes : Option (List Entry)) (well : RunsWell (Complement limit) inputs chromosomes) where
+  abbrev gaps_of_run : List Interval
+  gaps_of_run = complement limit (entries_in chromosomes) (first_records chromosomes inputs)
+
+  pub complement_whole : (report_of (Complement limit) inputs).output ≡ interval_lines gaps_of_run
+  complement_whole = output_is (Complement limit) inputs chromosomes well
+      ∙ whole_by (complement_written (entries_in chromosomes) limit) (first_records chromosomes inputs) (bed_good First (order_of chromosomes) inputs.first).fault (well_there (Complement limit) inputs chromosomes well)
+
+gaps_input : (limit : Bool) (genome : Option Handed) (chromosomes : Option (List Entry)) (records : List Feature) → chromosomes_of genome ≡ Ok chromosomes
+    → IsInput (order_of chromosomes) (interval_lines (complement limit (entries_in chromosomes) records)) (filter is_no_header (map three_columns (complement limit (entries_in chromosomes) records)))
+    × EachPair AreApart (complement limit (entries_in chromosomes) records)
+unfolding complement
+gaps_input limit genome None records e = (intervals_back byte_order bytes_total [] tt tt, tt)
+gaps_input limit genome (Some entries) records e =
+    let known = chroms_of genome entries e in
+    (gaps_back entries known.0 known.1 limit records, gaps_pairs entries known.0 known.1 limit records)
+
+pub complement_input : complement_is_input
+complement_input limit inputs chromosomes well =
+    let e = complement_whole limit inputs chromosomes well in
+    let is = gaps_input limit inputs.genome chromosomes (first_records chromosomes inputs) well.genome in
+    let gaps = complement limit (entries_in chromosomes) (first_records chromosomes inputs) in
+    (gaps, e, subst (λ text. IsInput (order_of chromosomes) text (filter is_no_header (map three_columns gaps))) (sym e) is.0, is.1)
+
+depths_input : (zeros : Bool) (strand : Option Strand) (genome : Option Handed) (chromosomes : Option (List Entry)) (records : List Feature) → chromosomes_of genome ≡ Ok chromosomes
+    → IsInput (order_of chromosomes) (depth_lines (coverage zeros strand (entries_in chromosomes) records)) (filter is_no_header (map four_columns (coverage zeros strand (entries_in chromosomes) records)))
+    × EachPair AreDisjoint (map interval_at (coverage zeros strand (entries_in chromosomes) records))
+unfolding coverage
+depths_input zeros strand genome None records e = (intervals_back byte_order bytes_total [] tt tt, tt)
+depths_input zeros strand genome (Some entries) records e =
+    let known = chroms_of genome entries e in
+    (coverage_back entries known.0 known.1 zeros strand records, depths_disjoint entries known.0 known.1 zeros strand records)
+
+pub genomecov_whole : (zeros : Bool) (strand : Option Strand) (inputs : Inputs) (chromosomes : Option (List Entry)) → RunsWell (Coverage zeros strand) inputs chromosomes
+    → (report_of (Coverage zeros strand) inputs).output ≡ depth_lines (coverage zeros strand (entries_in chromosomes) (first_records chromosomes inputs))
+genomecov_whole zeros strand inputs chromosomes well =
+    output_is (Coverage zeros strand) inputs chromosomes well
+    ∙ whole_by (coverage_written (entries_in chromosomes) zeros strand) (first_records chromosomes inputs) (bed_good First (order_of chromosomes) inputs.first).fault (well_there (Coverage zeros strand) inputs chromosomes well)
+
+pub genomecov_input : genomecov_is_input
+genomecov_input zeros strand inputs chromosomes well =
+    let depths = coverage zeros strand (entries_in chromosomes) (first_records chromosomes inputs) in
+    let e = genomecov_whole zeros strand inputs chromosomes well in
+    let is = depths_input zeros strand inputs.genome chromosomes (first_records chromosomes inputs) well.genome in
+    (depths, e, subst (λ text. IsInput (order_of chromosomes) text (filter is_no_header (map four_columns depths))) (sym e) is.0, is.1)
+
+-- ---- two inputs
+
+abbrev cut_either : Bool → Good Feature → Good Feature → Good Feature
+cut_either t one other = if t then one else other
+
+cut_whole_by : (t : Bool) (past : List (Member Feature)) (found : Told) (rest whole : Good Feature) → (rest.fault ≡ None → rest ≡ whole)
+    → (cut_either t (record { members = past; fault = Some found }) rest).fault ≡ None → cut_either t (record { members = past; fault = Some found }) rest ≡ whole
+cut_whole_by true past found rest whole h e = cc
+cut_whole_by false past found rest whole h e = h e
+
+-- a limit without a fault of its own changes nothing
+cut_whole : (too : List Feature → Bool) (past members : List (Member Feature)) (fault : Option Told) → (cut_behind too past members fault).fault ≡ None → cut_behind too past members fault ≡ record { members = past ++ members; fault = fault }
+cut_whole too past [] fault e = ap (λ ms. record { members = ms; fault = fault }) (sym (append-nil past))
+cut_whole too past (m ∷ more) fault e =
+    cut_whole_by (too (map (λ (m : Member Feature). m.item) (past ++ m ∷ []))) (past ++ m ∷ []) (fault_at_line Second m.line TooManyHeld) (cut_behind too (past ++ m ∷ []) more fault) (record { members = past ++ m ∷ more; fault = fault })
+    (λ none. cut_whole too (past ++ m ∷ []) more fault none ∙ ap (λ (ms : List (Member Feature)). record { members = ms; fault = fault }) (append_assoc past (m ∷ []) more)) e
+
+pub limit_whole : (order : Order) (limit : Option ℕ) (first : List Feature) (second : Good Feature) → (limited order limit first second).fault ≡ None → limited order limit first second ≡ second
+limit_whole order None first second e = refl
+limit_whole order (Some most) first second e = cut_whole (are_too_many order most first) [] second.members second.fault e
+
+abbrev either_met : Bool → List ℕ → List ℕ → Option Told → Option Told → Met ℕ Told
+either_met b lines other one fault = if b then record { lines = lines; fault = option_or one fault } else record { lines = other; fault = fault }
+
+either_fault : (b : Bool) (lines other : List ℕ) (one : Option Told) (fault : Option Told) → (either_met b lines other one fault).fault ≡ None → fault ≡ None
+either_fault true lines other None None e = refl
+either_fault true lines other None (Some f) e = cc
+either_fault true lines other (Some g) fault e = cc
+either_fault false lines other one fault e = e
+
+met_whole : (order : Order) (shape : Shape) (rule : HitRule) (first : Good Feature) (second : List Feature) (fault : Option Told) → fault ≡ None
+    → (meet (sweep_rule order shape rule second fault) (items_in first) first.fault).lines ≡ intersect shape rule (items_in first) second
+met_whole order shape rule first second None e = faultless_all order shape rule (items_in first) second first.fault
+met_whole order shape rule first second (Some fault) e = cc
+
+-- without a fault all pairs are written, with a limit or without one
+pub swept_whole : (order : Order) (shape : Shape) (rule : HitRule) (limit : Option ℕ) (first second : Good Feature) → (met_within order shape rule limit first second).fault ≡ None
+    → (met_within order shape rule limit first second).lines ≡ intersect shape rule (items_in first) (items_in second)
+swept_whole order shape rule limit first second e =
+    let seen = limited order limit (items_in first) second in
+    let rule_of = sweep_rule order shape rule (items_in seen) seen.fault in
+    let none : seen.fault ≡ None = either_fault (list_all rule_of.decided (items_in first)) (flat_map rule_of.lines (items_in first)) (written rule_of (items_in first)) first.fault seen.fault e in
+    met_whole order shape rule first (items_in seen) seen.fault none ∙ ap (λ g. intersect shape rule (items_in first) (items_in g)) (limit_whole order limit (items_in first) second none)
+
+module _ (shape : Shape) (rule : HitRule) (chromosomes : Option (List Entry)) (inputs : Inputs) where
+  abbrev firsts : List Feature
+  firsts = first_records chromosomes inputs
+
+  abbrev seconds : List Feature
+  seconds = second_records chromosomes inputs
+
+  kept_input : begins_with_a shape ≡ true → IsInputAt (order_of chromosomes) (intersect shape rule firsts seconds) (places_written shape rule firsts seconds)
+  kept_input begins =
+      kept_back (order_of chromosomes) (order_total chromosomes) shape rule firsts seconds (good_are_said First (order_of chromosomes) inputs.first) (good_are_said Second (order_of chromosomes) (or_empty inputs.second))
+      (placed_good First (order_of chromosomes) inputs.first (order_total chromosomes)) begins
+
+  cut_input : begins_with_a shape ≡ false → EachPair AreDisjoint (intervals_of firsts) → (records : List Feature) × IsInput (order_of chromosomes) (intersect shape rule firsts seconds) records
+  cut_input cuts apart =
+      cut_back (order_of chromosomes) (order_total chromosomes) shape rule firsts seconds (good_are_said First (order_of chromosomes) inputs.first) (good_are_said Second (order_of chromosomes) (or_empty inputs.second))
+      (placed_good First (order_of chromosomes) inputs.first (order_total chromosomes)) (placed_good Second (order_of chromosomes) (or_empty inputs.second) (order_total chromosomes)) apart cuts
+
+pub intersect_whole : (shape : Shape) (rule : HitRule) (held : Option ℕ) (inputs : Inputs) (chromosomes : Option (List Entry)) → RunsWell (Intersect shape rule held) inputs chromosomes
+    → (report_of (Intersect shape rule held) inputs).output ≡ intersect shape rule (first_records chromosomes inputs) (second_records chromosomes inputs)
+intersect_whole shape rule held inputs chromosomes well =
+    output_is (Intersect shape rule held) inputs chromosomes well
+    ∙ swept_whole (order_of chromosomes) shape rule held (bed_good First (order_of chromosomes) inputs.first) (bed_good Second (order_of chromosomes) (or_empty inputs.second)) (well_there (Intersect shape rule held) inputs chromosomes well)
+
+pub subtract_whole : (whole : Bool) (rule : HitRule) (held : Option ℕ) (inputs : Inputs) (chromosomes : Option (List Entry)) → RunsWell (Subtract whole rule held) inputs chromosomes
+    → (report_of (Subtract whole rule held) inputs).output ≡ intersect (subtract_shape whole) rule (first_records chromosomes inputs) (second_records chromosomes inputs)
+subtract_whole whole rule held inputs chromosomes well =
+    output_is (Subtract whole rule held) inputs chromosomes well
+    ∙ swept_whole (order_of chromosomes) (subtract_shape whole) rule held (bed_good First (order_of chromosomes) inputs.first) (bed_good Second (order_of chromosomes) (or_empty inputs.second)) (well_there (Subtract whole rule held) inputs chromosomes well)
+
+pub intersect_input : intersect_is_input
+intersect_input shape rule held inputs chromosomes begins well =
+    subst (λ text. IsInputAt (order_of chromosomes) text (places_written shape rule (first_records chromosomes inputs) (second_records chromosomes inputs))) (sym (intersect_whole shape rule held inputs chromosomes well))
+    (kept_input shape rule chromosomes inputs begins)
+
+pub whole_subtract_input : whole_subtract_is_input
+whole_subtract_input rule held inputs chromosomes well =
+    subst (λ text. IsInputAt (order_of chromosomes) text (places_written Whole rule (first_records chromosomes inputs) (second_records chromosomes inputs))) (sym (subtract_whole true rule held inputs chromosomes well))
+    (kept_input Whole rule chromosomes inputs refl)
+
+pub cut_intersect_input : cut_intersect_is_input
+cut_intersect_input shape rule held inputs chromosomes cuts well apart =
+    subst (λ text. (records : List Feature) × IsInput (order_of chromosomes) text records) (sym (intersect_whole shape rule held inputs chromosomes well)) (cut_input shape rule chromosomes inputs cuts apart)
+
+pub subtract_input : subtract_is_input
+subtract_input rule held inputs chromosomes well apart =
+    subst (λ text. (records : List Feature) × IsInput (order_of chromosomes) text records × EachPair AreDisjoint (intervals_of records)) (sym (subtract_whole false rule held inputs chromosomes well))
+    (pieces_back (order_of chromosomes) (order_total chromosomes) rule (first_records chromosomes inputs) (second_records chromosomes inputs) (good_are_said First (order_of chromosomes) inputs.first) (good_are_said Second (order_of chromosomes) (or_empty inputs.second))
+    (placed_good First (order_of chromosomes) inputs.first (order_total chromosomes)) (placed_good Second (order_of chromosomes) (or_empty inputs.second) (order_total chromosomes)) apart)

@@ -1,0 +1,179 @@
+-- Intervals chromosome by chromosome: they are in order, and those of different chromosomes have nothing in common.
+use Rattle.std.proofs.Common.{◌≡◌, ℕ, suc, ◌+◌, ◌<◌, ◌≤◌, Bool, true, false, cond, List, [], ◌∷◌, ◌++◌, map, filter, Option, Some, None, refl, sym, ap, ◌∙◌, subst, inl, inr, arith}
+use Rattle.std.specs.Prelude.{IsTrue, flat_map, bytes_eq, is_some, option_map}
+use Rattle.std.specs.List.{AllByRecursion}
+use Rattle.std.specs.declared.cmp.Ordering.TheVariants.{Less, Equal}
+use Rattle.std.proofs.lemmas.Bool.{or_parts}
+use Rattle.bt_bed.specs.model.feature.Interval.{Interval, Span, placed_on}
+use Rattle.bt_bed.specs.model.order.Locus.{ArePlaced, IsPlacedBefore}
+use Rattle.bt_bed.specs.model.order.Order.{Order, IsTotal}
+use Rattle.bt_bed.specs.model.order.Rank.{AreDistinct, compare_ranks, is_among, rank_of, rank_order}
+use Rattle.bt_bed.specs.model.feature.Stretches.{AreApartFrom}
+use Rattle.bt_bed.proofs.lemmas.parse.NameLemmas.{name_ne-sym}
+use Rattle.bt_runs.specs.model.RunOrder.{AreAscending, AreKnown}
+use Rattle.bt_runs.proofs.lemmas.laws.Standing.{cmp_less, less_cmp}
+use Rattle.bt_runs.proofs.lemmas.order.FileOrder.{rank_of-here, rank_of-later}
+use Rattle.bt_laws.specs.pipes.Taken.{AreApart, AreDisjoint, EachPair}
+use Rattle.bt_laws.proofs.lemmas.parts.text.PartLists.{all_any, all_both, all_filter, all_flat_map, all_map, all_so}
+
+-- ---- pairs
+
+pub all_unmap : {A B : Type 0} (P : B → Type 0) (f : A → B) (xs : List A) → AllByRecursion P (map f xs) → AllByRecursion (λ x. P (f x)) xs
+all_unmap P f [] h = tt
+all_unmap P f (x ∷ xs) h = (h.0, all_unmap P f xs h.1)
+
+pub all_zip : {A : Type 0} (P Q R : A → Type 0) (xs : List A) → ((x : A) → P x → Q x → R x) → AllByRecursion P xs → AllByRecursion Q xs → AllByRecursion R xs
+all_zip P Q R [] f h k = tt
+all_zip P Q R (x ∷ xs) f h k = (f x h.0 k.0, all_zip P Q R xs f h.1 k.1)
+
+all_with : {A : Type 0} (P : A → Type 0) (R S : A → A → Type 0) (x : A) (ys : List A) → ((y : A) → P y → R x y → S x y) → AllByRecursion P ys → AllByRecursion (R x) ys → AllByRecursion (S x) ys
+all_with P R S x [] f qs h = tt
+all_with P R S x (y ∷ ys) f qs h = (f y qs.0 h.0, all_with P R S x ys f qs.1 h.1)
+
+pub pairs_so : {A : Type 0} (P : A → Type 0) (R S : A → A → Type 0) (xs : List A) → ((x y : A) → P x → P y → R x y → S x y) → AllByRecursion P xs → EachPair R xs → EachPair S xs
+pairs_so P R S [] f ps h = tt
+pairs_so P R S (x ∷ xs) f ps h = (all_with P R S x xs (λ y q r. f x y ps.0 q r) ps.1 h.0, pairs_so P R S xs f ps.1 h.1)
+
+pairs_by : {A : Type 0} (R : A → A → Type 0) (b : Bool) (x : A) (xs : List A) → AllByRecursion (R x) xs → EachPair R xs → EachPair R (cond b (x ∷ xs) xs)
+pairs_by R true x xs h k = (h, k)
+pairs_by R false x xs h k = k
+
+pub pairs_filter : {A : Type 0} (R : A → A → Type 0) (t : A → Bool) (xs : List A) → EachPair R xs → EachPair R (filter t xs)
+pairs_filter R t [] h = tt
+pairs_filter R t (x ∷ xs) h = pairs_by R (t x) x (filter t xs) (all_filter (R x) t xs h.0) (pairs_filter R t xs h.1)
+
+pub pairs_map : {A B : Type 0} (R : B → B → Type 0) (f : A → B) (xs : List A) → EachPair (λ x y. R (f x) (f y)) xs → EachPair R (map f xs)
+pairs_map R f [] h = tt
+pairs_map R f (x ∷ xs) h = (all_map (R (f x)) f xs h.0, pairs_map R f xs h.1)
+
+pub pairs_from_map : {A B : Type 0} (R : B → B → Type 0) (f : A → B) (xs : List A) → EachPair R (map f xs) → EachPair (λ x y. R (f x) (f y)) xs
+pairs_from_map R f [] h = tt
+pairs_from_map R f (x ∷ xs) h = (all_unmap (R (f x)) f xs h.0, pairs_from_map R f xs h.1)
+
+pub pairs_both : {A : Type 0} (R : A → A → Type 0) (xs ys : List A) → EachPair R xs → EachPair R ys → AllByRecursion (λ x. AllByRecursion (R x) ys) xs → EachPair R (xs ++ ys)
+pairs_both R [] ys h k cross = k
+pairs_both R (x ∷ xs) ys h k cross = (all_both (R x) xs ys h.0 cross.0, pairs_both R xs ys h.1 k cross.1)
+
+-- ---- names in order
+
+module _ (order : Order) where
+  abbrev pub Earlier : List ℕ → List ℕ → Type 0
+  Earlier n m = order.compare n m ≡ Less
+
+  later_all : IsTotal order → (n m : List ℕ) (ns : List (List ℕ)) → IsTrue (order.knows n) → IsTrue (order.knows m) → AreKnown order ns → Earlier n m → AllByRecursion (Earlier m) ns → AllByRecursion (Earlier n) ns
+  later_all total n m [] known mid knowns less later = tt
+  later_all total n m (k ∷ ns) known mid knowns less later = (total.ascends n m k known mid knowns.0 less later.0, later_all total n m ns known mid knowns.1 less later.1)
+
+  pub ascending_pairs : IsTotal order → (names : List (List ℕ)) → AreKnown order names → AreAscending order names → EachPair Earlier names
+  ascending_pairs total [] known up = tt
+  ascending_pairs total (n ∷ []) known up = (tt, tt)
+  ascending_pairs total (n ∷ m ∷ ns) known up =
+      let rest = ascending_pairs total (m ∷ ns) known.1 up.1 in
+      ((up.0, later_all total n m ns known.0 known.1.0 known.1.1 up.0 rest.0), rest)
+
+-- ---- the names of a genome file
+
+some_rank : (b : Bool) (o : Option ℕ) → is_some o ≡ true → is_some (cond b (Some 0) (option_map (λ rank. suc rank) o)) ≡ true
+some_rank true o e = refl
+some_rank false (Some rank) e = refl
+some_rank false None e = cc
+
+pub known_names : (names : List (List ℕ)) → AllByRecursion (λ name. IsTrue ((rank_order names).knows name)) names
+known_names [] = tt
+known_names (n ∷ ns) = (
+  ap is_some (rank_of-here n n ns refl),
+  all_so (λ m. is_some (rank_of ns m) ≡ true) (λ m. is_some (rank_of (n ∷ ns) m) ≡ true) ns (λ m e. some_rank (bytes_eq n m) (rank_of ns m) e) (known_names ns),
+)
+
+others : (n : List ℕ) (ns : List (List ℕ)) → is_among ns n ≡ false → AllByRecursion (λ m. bytes_eq n m ≡ false) ns
+others n [] e = tt
+others n (m ∷ ns) e = let parts = or_parts (bytes_eq m n) (is_among ns n) e in (name_ne-sym m n parts.0, others n ns parts.1)
+
+less_shift : (o p : Option ℕ) → compare_ranks o p ≡ Less → compare_ranks (option_map (λ rank. suc rank) o) (option_map (λ rank. suc rank) p) ≡ Less
+less_shift None p e = cc
+less_shift (Some i) None e = cc
+less_shift (Some i) (Some j) e = cmp_less (suc i) (suc j) (omega (arith, less_cmp i j e))
+
+less_first : (o : Option ℕ) → is_some o ≡ true → compare_ranks (Some 0) (option_map (λ rank. suc rank) o) ≡ Less
+less_first None e = cc
+less_first (Some rank) e = cmp_less 0 (suc rank) (omega arith)
+
+pub names_pairs : (names : List (List ℕ)) → AreDistinct names → EachPair (Earlier (rank_order names)) names
+names_pairs [] distinct = tt
+names_pairs (n ∷ ns) distinct =
+    let away = others n ns distinct.0 in
+    let first : (m : List ℕ) → bytes_eq n m ≡ false → is_some (rank_of ns m) ≡ true → Earlier (rank_order (n ∷ ns)) n m = λ m off known.
+    ap (λ o. compare_ranks o (rank_of (n ∷ ns) m)) (rank_of-here n n ns refl) ∙ ap (compare_ranks (Some 0)) (rank_of-later n m ns off) ∙ less_first (rank_of ns m) known in
+    let more : (m k : List ℕ) → bytes_eq n m ≡ false → bytes_eq n k ≡ false → Earlier (rank_order ns) m k → Earlier (rank_order (n ∷ ns)) m k = λ m k one two less.
+    ap (λ o. compare_ranks o (rank_of (n ∷ ns) k)) (rank_of-later n m ns one) ∙ ap (compare_ranks (option_map (λ rank. suc rank) (rank_of ns m))) (rank_of-later n k ns two) ∙ less_shift (rank_of ns m) (rank_of ns k) less in (
+      all_zip (λ m. bytes_eq n m ≡ false) (λ m. is_some (rank_of ns m) ≡ true) (Earlier (rank_order (n ∷ ns)) n) ns first away (known_names ns),
+      pairs_so (λ m. bytes_eq n m ≡ false) (Earlier (rank_order ns)) (Earlier (rank_order (n ∷ ns))) ns more away (names_pairs ns distinct.1),
+    )
+
+-- ---- intervals chromosome by chromosome
+
+module _ (order : Order) (total : IsTotal order) where
+  first_before : (r : Interval) (ys : List Interval) → AllByRecursion (λ s. Earlier order r.chrom s.chrom) ys → IsPlacedBefore order r ys
+  first_before r [] h = tt
+  first_before r (s ∷ ys) h = inl h.0
+
+  placed_both : (xs ys : List Interval) → ArePlaced order xs → ArePlaced order ys → AllByRecursion (λ r. AllByRecursion (λ s. Earlier order r.chrom s.chrom) ys) xs → ArePlaced order (xs ++ ys)
+  placed_both [] ys one two early = two
+  placed_both (r ∷ []) ys one two early = (one.0, first_before r ys early.0, two)
+  placed_both (r ∷ s ∷ xs) ys one two early = (one.0, one.1, placed_both (s ∷ xs) ys one.2 two early.1)
+
+  earlier_apart : (n m : List ℕ) → IsTrue (order.knows n) → Earlier order n m → n ≡ m → ⊥
+  earlier_apart n m known less same =
+      let equal : order.compare n m ≡ Equal = subst (λ k. order.compare n k ≡ Equal) same (total.same n known) in
+      let both : Less ≡ Equal = sym less ∙ equal in cc
+
+  module _ {K : Type 0} (name : K → List ℕ) (part : K → List Interval) (on : (k : K) → AllByRecursion (λ r. r.chrom ≡ name k) (part k)) where
+    behind_parts : (k : K) (ks : List K) → AllByRecursion (λ j. Earlier order (name k) (name j)) ks → AllByRecursion (λ r. AllByRecursion (λ s. Earlier order r.chrom s.chrom) (flat_map part ks)) (part k)
+    behind_parts k ks later =
+        all_so (λ r. r.chrom ≡ name k) (λ r. AllByRecursion (λ s. Earlier order r.chrom s.chrom) (flat_map part ks)) (part k)
+        (λ r here. all_flat_map (λ s. Earlier order r.chrom s.chrom) part ks
+        (all_so (λ j. Earlier order (name k) (name j)) (λ j. AllByRecursion (λ s. Earlier order r.chrom s.chrom) (part j)) ks
+        (λ j less. all_so (λ s. s.chrom ≡ name j) (λ s. Earlier order r.chrom s.chrom) (part j) (λ s there. rw (here, there) less) (on j)) later))
+        (on k)
+
+    pub parts_placed : (ks : List K) → EachPair (λ j k. Earlier order (name j) (name k)) ks → AllByRecursion (λ k. ArePlaced order (part k)) ks → ArePlaced order (flat_map part ks)
+    parts_placed [] early placed = tt
+    parts_placed (k ∷ ks) early placed = placed_both (part k) (flat_map part ks) placed.0 (parts_placed ks early.1 placed.1) (behind_parts k ks early.0)
+
+    -- pairs of different chromosomes are as they may be
+    pub parts_pairs : (R : Interval → Interval → Type 0) → ((r s : Interval) → (r.chrom ≡ s.chrom → ⊥) → R r s) → (ks : List K) → AllByRecursion (λ k. IsTrue (order.knows (name k))) ks
+        → EachPair (λ j k. Earlier order (name j) (name k)) ks → AllByRecursion (λ k. EachPair R (part k)) ks → EachPair R (flat_map part ks)
+    parts_pairs R other [] known early pairs = tt
+    parts_pairs R other (k ∷ ks) known early pairs =
+        pairs_both R (part k) (flat_map part ks) pairs.0 (parts_pairs R other ks known.1 early.1 pairs.1)
+        (all_zip (λ r. r.chrom ≡ name k) (λ r. AllByRecursion (λ s. Earlier order r.chrom s.chrom) (flat_map part ks)) (λ r. AllByRecursion (R r) (flat_map part ks)) (part k)
+        (λ r here later. all_so (λ s. Earlier order r.chrom s.chrom) (R r) (flat_map part ks) (λ s less. other r s (earlier_apart r.chrom s.chrom (subst (λ n. IsTrue (order.knows n)) (sym here) known.0) less)) later)
+        (on k) (behind_parts k ks early.0))
+
+-- ---- spans of one chromosome
+
+pub on_name : (name : List ℕ) (spans : List Span) → AllByRecursion (λ (r : Interval). r.chrom ≡ name) (map (placed_on name) spans)
+on_name name spans = all_map (λ (r : Interval). r.chrom ≡ name) (placed_on name) spans (all_any (λ s. name ≡ name) spans (λ s. refl))
+
+apart_behind : (first stop : ℕ) (spans : List Span) → stop < first → AreApartFrom first spans → AllByRecursion (λ (t : Span). stop < t.start) spans
+apart_behind first stop [] up h = tt
+apart_behind first stop (t ∷ ts) up h = (omega (arith, up, h.0), apart_behind (t.stop + 1) stop ts (omega (arith, up, h.0, h.1)) h.2)
+
+pub apart_pairs : (first : ℕ) (spans : List Span) → AreApartFrom first spans → EachPair (λ (s t : Span). s.stop < t.start) spans
+apart_pairs first [] h = tt
+apart_pairs first (s ∷ ss) h = (apart_behind (s.stop + 1) s.stop ss (omega arith) h.2, apart_pairs (s.stop + 1) ss h.2)
+
+pub spans_apart : (name : List ℕ) (spans : List Span) → EachPair (λ (s t : Span). s.stop < t.start) spans → EachPair AreApart (map (placed_on name) spans)
+spans_apart name spans h = pairs_map AreApart (placed_on name) spans (pairs_so (λ s. Unit {0}) (λ (s t : Span). s.stop < t.start) (λ s t. AreApart (placed_on name s) (placed_on name t)) spans (λ s t p q less same. less) (all_any (λ s. Unit {0}) spans (λ s. tt)) h)
+
+pub apart_disjoint : (rs : List Interval) → EachPair AreApart rs → EachPair AreDisjoint rs
+apart_disjoint rs h = pairs_so (λ r. Unit {0}) AreApart AreDisjoint rs (λ r s p q apart same. omega (arith, apart same)) (all_any (λ r. Unit {0}) rs (λ r. tt)) h
+
+module _ (order : Order) (name : List ℕ) (known : IsTrue (order.knows name)) where
+  spans_before : (first : ℕ) (s : Span) (ss : List Span) → s.start ≤ first → AreApartFrom first ss → IsPlacedBefore order (placed_on name s) (map (placed_on name) ss)
+  spans_before first s [] up h = tt
+  spans_before first s (t ∷ ts) up h = inr (refl, omega (arith, up, h.0))
+
+  pub spans_placed : (first : ℕ) (spans : List Span) → AreApartFrom first spans → ArePlaced order (map (placed_on name) spans)
+  spans_placed first [] h = tt
+  spans_placed first (s ∷ ss) h = (known, spans_before (s.stop + 1) s ss (omega (arith, h.1)) h.2, spans_placed (s.stop + 1) ss h.2)

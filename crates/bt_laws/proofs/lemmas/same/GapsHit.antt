@@ -1,0 +1,212 @@
+-- What is left of a record lies in the gaps of the second input.
+use Rattle.std.proofs.Common.{◌≡◌, ℕ, ◌+◌, ◌<◌, ◌≤◌, true, false, cond, not, List, [], ◌∷◌, ◌++◌, append-nil, map, filter, max, min, Some, None, Ok, refl, sym, ap, ap₂, ◌∙◌, subst, inl, inr, arith}
+use Rattle.std.specs.Prelude.{bytes_eq, flat_map}
+use Rattle.std.specs.List.{AllByRecursion}
+use Rattle.std.proofs.lemmas.Bool.{cases_Bool, false≢true, or_parts}
+use Rattle.bt_lines.specs.model.Handed.{whole_text}
+use Rattle.bt_lines.specs.declared.fault.Input.TheVariants.{First, Second}
+use Rattle.bt_bed.specs.model.feature.Feature.{Feature, interval_of, intervals_of}
+use Rattle.bt_bed.specs.model.order.Genome.{Entry, genome_names}
+use Rattle.bt_bed.specs.model.input.Good.{items_in}
+use Rattle.bt_bed.specs.model.input.GoodBed.{bed_good}
+use Rattle.bt_bed.specs.model.feature.Header.{is_header}
+use Rattle.bt_bed.specs.model.feature.Interval.{Interval, Span, span_of, spans_on}
+use Rattle.bt_bed.specs.model.feature.IntervalLine.{interval_lines}
+use Rattle.bt_bed.specs.model.order.Order.{Order}
+use Rattle.bt_bed.specs.model.order.Rank.{AreDistinct, is_among}
+use Rattle.bt_bed.specs.model.feature.Stretches.{AreApartFrom, IsCovered, stretches_from}
+use Rattle.bt_bed.proofs.lemmas.parse.NameLemmas.{cases_name, name_eq}
+use Rattle.bt_runs.specs.model.Gaps.{IsBare, complement, gaps_of, gaps_on, is_asked, length_in}
+use Rattle.bt_runs.proofs.lemmas.order.ChromosomeLemmas.{spans_on-append, spans_on-elsewhere}
+use Rattle.bt_runs.proofs.lemmas.complement.OneGap.{are_gaps}
+use Rattle.bt_sweep.specs.model.Hits.{any_overlap, hits, hits_among}
+use Rattle.bt_sweep.specs.model.IntersectLines.{hit_line, intersect, lines_for, piece_line}
+use Rattle.bt_sweep.specs.model.Pieces.{pieces, spans_of}
+use Rattle.bt_sweep.specs.declared.output.shape.Shape.TheVariants.{Cut, Pieces}
+use Rattle.bt_sweep.proofs.lemmas.laws.PieceLemmas.{only_pieces}
+use Rattle.bt_tool.specs.model.report.Behaviour.{order_of}
+use Rattle.bt_tool.specs.model.report.Inputs.{Inputs, or_empty}
+use Rattle.bt_tool.specs.model.report.RecordReport.{Report}
+use Rattle.bt_tool.specs.model.report.Report.{chromosomes_of}
+use Rattle.bt_tool.specs.model.report.Written.{complement_written}
+use Rattle.bt_tool.specs.declared.planning.plan_type.Command.TheVariants.{Complement, Intersect, Subtract}
+use Rattle.bt_laws.specs.pipes.Pipes.{first_records, second_records}
+use Rattle.bt_laws.specs.same.SameLines.{Writes}
+use Rattle.bt_laws.specs.same.SameSweeps.{AreWithin, of_second, subtract_by_complement, with_second}
+use Rattle.bt_laws.specs.pipes.Taken.{AreApart, EachPair, IsInput, is_no_header, three_columns}
+use Rattle.bt_laws.proofs.lemmas.back.GapsBack.{gaps_back, gaps_pairs}
+use Rattle.bt_laws.proofs.lemmas.parts.text.PartLists.{all_any, all_map, all_so, filter_all, flat_map_same}
+use Rattle.bt_laws.proofs.lemmas.pipes.PipeLaws.{chroms_of, intersect_whole, subtract_whole, well_there}
+use Rattle.bt_laws.proofs.lemmas.pipes.Placing.{all_zip, pairs_filter, pairs_map, pairs_so}
+use Rattle.bt_laws.proofs.lemmas.same.RunsAgain.{here_all, none_there, report_there}
+use Rattle.bt_laws.proofs.lemmas.back.SaidWell.{IsChrom, IsSaid, good_are_said}
+use Rattle.bt_laws.proofs.lemmas.same.SameSweeps.{hit_back, hit_to, met_none, nones, other_input, output_by, sweeps_from}
+use Rattle.bt_laws.proofs.lemmas.back.SweepBack.{Hit, all_hits, cut_bounds, same_name as hit_name}
+
+-- ---- the gaps of one chromosome
+
+no_gaps : (spans : List Span) → gaps_of 0 spans ≡ []
+unfolding gaps_of stretches_from
+no_gaps spans = refl
+
+module _ (records : List Interval) where
+  gaps_absent : (name : List ℕ) (entries : List Entry) → is_among (genome_names entries) name ≡ false → spans_on name (flat_map (gaps_on records) entries) ≡ []
+  gaps_absent name [] e = refl
+  gaps_absent name (entry ∷ entries) e =
+      let parts = or_parts (bytes_eq entry.name name) (is_among (genome_names entries) name) e in
+      spans_on-append name (gaps_on records entry) (flat_map (gaps_on records) entries)
+      ∙ ap₂ (λ a b. a ++ b) (none_there name entry.name (gaps_of entry.length (spans_on entry.name records)) parts.0) (gaps_absent name entries parts.1)
+
+  pub gaps_there : (name : List ℕ) (entries : List Entry) → AreDistinct (genome_names entries) → spans_on name (flat_map (gaps_on records) entries) ≡ gaps_of (length_in entries name) (spans_on name records)
+  gaps_there name [] distinct = sym (no_gaps (spans_on name records))
+  gaps_there name (entry ∷ entries) distinct = elim (cases_name entry.name name) [
+    | inl same ↦
+        spans_on-append name (gaps_on records entry) (flat_map (gaps_on records) entries)
+        ∙ ap₂ (λ a b. a ++ b) (subst (λ n. spans_on n (gaps_on records entry) ≡ gaps_of entry.length (spans_on entry.name records)) same (here_all entry.name (gaps_of entry.length (spans_on entry.name records))))
+        (gaps_absent name entries (subst (λ n. is_among (genome_names entries) n ≡ false) same distinct.0))
+        ∙ append-nil (gaps_of entry.length (spans_on entry.name records))
+        ∙ ap (λ n. gaps_of entry.length (spans_on n records)) same
+        ∙ ap (λ b. gaps_of (cond b entry.length (length_in entries name)) (spans_on name records)) (sym (name_eq entry.name name same))
+    | inr other ↦
+        spans_on-append name (gaps_on records entry) (flat_map (gaps_on records) entries)
+        ∙ ap₂ (λ a b. a ++ b) (none_there name entry.name (gaps_of entry.length (spans_on entry.name records)) other) (gaps_there name entries distinct.1)
+        ∙ ap (λ b. gaps_of (cond b entry.length (length_in entries name)) (spans_on name records)) (sym other)
+  ]
+
+pub complement_spans : (entries : List Entry) (records : List Feature) (name : List ℕ) → AreDistinct (genome_names entries) → spans_on name (complement false entries records) ≡ gaps_of (length_in entries name) (spans_on name (intervals_of records))
+unfolding complement
+complement_spans entries records name distinct =
+    ap (λ es. spans_on name (flat_map (gaps_on (intervals_of records)) es)) (filter_all (is_asked false (intervals_of records)) entries (all_any _ entries (λ e. refl)))
+    ∙ gaps_there (intervals_of records) name entries distinct
+
+pub hidden_other : (chrom name : List ℕ) → not (is_header chrom) ≡ false → is_header name ≡ false → bytes_eq chrom name ≡ false
+hidden_other chrom name hidden plain = elim (cases_name chrom name) [
+  | inl same ↦ absurd (let e : not (is_header chrom) ≡ true = ap (λ n. not (is_header n)) same ∙ ap not plain in false≢true (sym hidden ∙ e))
+  | inr other ↦ other
+]
+
+-- lines of header words hide nothing of another chromosome
+pub unhidden : (name : List ℕ) (rs : List Interval) → is_header name ≡ false → spans_on name (intervals_of (filter is_no_header (map three_columns rs))) ≡ spans_on name rs
+unhidden name [] e = refl
+unhidden name (r ∷ rs) e = elim (cases_Bool (is_no_header (three_columns r))) [
+  | inl t ↦
+      ap (λ b. spans_on name (intervals_of (cond b (three_columns r ∷ filter is_no_header (map three_columns rs)) (filter is_no_header (map three_columns rs))))) t
+      ∙ ap (λ l. cond (bytes_eq r.chrom name) (span_of r ∷ l) l) (unhidden name rs e)
+  | inr f ↦
+      ap (λ b. spans_on name (intervals_of (cond b (three_columns r ∷ filter is_no_header (map three_columns rs)) (filter is_no_header (map three_columns rs))))) f
+      ∙ unhidden name rs e ∙ sym (spans_on-elsewhere name r rs (hidden_other r.chrom name f e))
+]
+
+-- ---- what a has in the gaps
+
+abbrev pub cut_span : Feature → Feature → Span
+cut_span a g = record { start = max a.start g.start; stop = min a.stop g.stop }
+
+cut_lines : (a : Feature) (found : List Feature) → flat_map (hit_line Cut a) found ≡ flat_map (piece_line a) (map (cut_span a) found)
+cut_lines a [] = refl
+cut_lines a (g ∷ found) = ap (λ l. hit_line Cut a g ++ l) (cut_lines a found)
+
+from_pairs : (first : ℕ) (spans : List Span) → AllByRecursion (λ (s : Span). (first ≤ s.start) × (s.start < s.stop)) spans → EachPair (λ (s t : Span). s.stop < t.start) spans → AreApartFrom first spans
+from_pairs first [] all pairs = tt
+from_pairs first (s ∷ ss) all pairs =
+    (all.0.0, all.0.1, from_pairs (s.stop + 1) ss (all_zip (λ (t : Span). (first ≤ t.start) × (t.start < t.stop)) (λ (t : Span). s.stop < t.start) (λ (t : Span). (s.stop + 1 ≤ t.start) × (t.start < t.stop)) ss (λ t h k. (omega (arith, k), h.1)) all.1 pairs.0) pairs.1)
+
+pub cut_covered : (a : Feature) (found : List Feature) (p : ℕ) → IsCovered (map (cut_span a) found) p → IsCovered (spans_of found) p × (a.start ≤ p) × (p < a.stop)
+cut_covered a [] p c = absurd c
+cut_covered a (g ∷ found) p (inl here) = (inl (omega (arith, here.0), omega (arith, here.1)), omega (arith, here.0), omega (arith, here.1))
+cut_covered a (g ∷ found) p (inr there) = let more = cut_covered a found p there in (inr more.0, more.1, more.2)
+
+pub covered_cut : (a : Feature) (found : List Feature) (p : ℕ) → a.start ≤ p → p < a.stop → IsCovered (spans_of found) p → IsCovered (map (cut_span a) found) p
+covered_cut a [] p from to c = absurd c
+covered_cut a (g ∷ found) p from to (inl here) = inl (omega (arith, here.0, from), omega (arith, here.1, to))
+covered_cut a (g ∷ found) p from to (inr there) = inr (covered_cut a found p from to there)
+
+module _ (a : Feature) (bs gs : List Feature) (size : ℕ) (within : a.stop ≤ size) (said : AllByRecursion IsSaid gs) (apart : EachPair (λ g h. AreApart (interval_of g) (interval_of h)) gs)
+    (are : spans_on a.chrom (intervals_of gs) ≡ gaps_of size (spans_on a.chrom (intervals_of bs))) where
+  abbrev found : List Feature
+  found = hits_among any_overlap a gs
+
+  found_hits : AllByRecursion (Hit any_overlap a) found
+  found_hits = all_hits any_overlap a gs said
+
+  found_apart : EachPair (λ g h. (cut_span a g).stop < (cut_span a h).start) found
+  found_apart = pairs_so (Hit any_overlap a) (λ g h. AreApart (interval_of g) (interval_of h)) (λ g h. (cut_span a g).stop < (cut_span a h).start) found
+      (λ g h one two far. omega (arith, far (sym (hit_name any_overlap a g one.1) ∙ hit_name any_overlap a h two.1))) found_hits (pairs_filter (λ g h. AreApart (interval_of g) (interval_of h)) (hits any_overlap a) gs apart)
+
+  cut_apart : AreApartFrom 0 (map (cut_span a) found)
+  cut_apart = from_pairs 0 (map (cut_span a) found) (all_map (λ (s : Span). (0 ≤ s.start) × (s.start < s.stop)) (cut_span a) found (all_so (Hit any_overlap a) (λ g. (0 ≤ (cut_span a g).start) × ((cut_span a g).start < (cut_span a g).stop)) found (λ g hit. (omega arith, cut_bounds any_overlap a g hit.1)) found_hits))
+      (pairs_map (λ (s t : Span). s.stop < t.start) (cut_span a) found found_apart)
+
+  pub left_in_gaps : map (cut_span a) found ≡ pieces a (hits_among any_overlap a bs)
+  left_in_gaps = only_pieces a (hits_among any_overlap a bs) (map (cut_span a) found) (record {
+    apart = cut_apart;
+    within = λ p c.
+        let is = cut_covered a found p c in
+        let gap = (are_gaps size (spans_on a.chrom (intervals_of bs))).within p (subst (λ l. IsCovered l p) are (hit_to a gs p is.0)) in
+        record { from_start = is.1; before_stop = is.2; bare = λ hit. gap.bare (hit_to a bs p hit) };
+    whole = λ p left.
+        let bare : IsBare size (spans_on a.chrom (intervals_of bs)) p = record { within = omega (arith, left.before_stop, within); bare = λ c. left.bare (hit_back a bs p left.from_start left.before_stop c) } in
+        covered_cut a found p left.from_start left.before_stop (hit_back a gs p left.from_start left.before_stop (subst (λ l. IsCovered l p) (sym are) ((are_gaps size (spans_on a.chrom (intervals_of bs))).whole p bare)));
+  })
+
+-- ---- the runs
+
+module _ (inputs : Inputs) (entries : List Entry) (genome : chromosomes_of inputs.genome ≡ Ok (Some entries)) (none : (bed_good Second (order_of (Some entries)) (or_empty inputs.second)).fault ≡ None) where
+  abbrev order : Order
+  order = order_of (Some entries)
+
+  abbrev seconds : List Feature
+  seconds = second_records (Some entries) inputs
+
+  abbrev gaps : List Interval
+  gaps = complement false entries seconds
+
+  abbrev gap_records : List Feature
+  gap_records = filter is_no_header (map three_columns gaps)
+
+  abbrev alone : Inputs
+  alone = record { genome = inputs.genome; first = or_empty inputs.second; second = None }
+
+  second_is : of_second (Complement false) inputs ≡ interval_lines gaps
+  second_is =
+      let good = bed_good First order (or_empty inputs.second) in
+      let other = other_input order (or_empty inputs.second) none in
+      ap (λ (r : Report). r.output) (report_there (Complement false) alone (Some entries) genome) ∙ output_by (complement_written entries false) (items_in good) good.fault other.1 ∙ ap (λ rs. interval_lines (complement false entries rs)) other.0
+
+  known : AllByRecursion IsChrom entries × AreDistinct (genome_names entries)
+  known = chroms_of inputs.genome entries genome
+
+  second_input : IsInput order (of_second (Complement false) inputs) gap_records
+  second_input = subst (λ text. IsInput order text gap_records) (sym second_is) (gaps_back entries known.0 known.1 false seconds)
+
+  abbrev read_gaps : List Feature
+  read_gaps = items_in (bed_good Second order (whole_text (of_second (Complement false) inputs)))
+
+  gaps_said : AllByRecursion IsSaid gap_records
+  gaps_said = subst (AllByRecursion IsSaid) (second_input.records_are Second) (good_are_said Second order (whole_text (of_second (Complement false) inputs)))
+
+  gaps_far : EachPair (λ (g h : Feature). AreApart (interval_of g) (interval_of h)) gap_records
+  gaps_far = pairs_filter (λ (g h : Feature). AreApart (interval_of g) (interval_of h)) is_no_header (map three_columns gaps)
+      (pairs_map (λ (g h : Feature). AreApart (interval_of g) (interval_of h)) three_columns gaps (gaps_pairs entries known.0 known.1 false seconds))
+
+  one_line : (a : Feature) → IsSaid a → a.stop ≤ length_in entries a.chrom → lines_for Cut any_overlap a gap_records ≡ lines_for Pieces any_overlap a seconds
+  unfolding lines_for
+  one_line a is within =
+      cut_lines a (hits_among any_overlap a gap_records)
+      ∙ ap (flat_map (piece_line a)) (left_in_gaps a seconds gap_records (length_in entries a.chrom) within gaps_said gaps_far (unhidden a.chrom gaps is.no_header ∙ complement_spans entries seconds a.chrom known.1))
+
+  all_lines : (as_read : List Feature) → AllByRecursion IsSaid as_read → AreWithin entries as_read → intersect Cut any_overlap as_read gap_records ≡ intersect Pieces any_overlap as_read seconds
+  all_lines as_read said within = flat_map_same (λ a. lines_for Cut any_overlap a gap_records) (λ a. lines_for Pieces any_overlap a seconds) as_read (all_zip IsSaid (λ (a : Feature). a.stop ≤ length_in entries a.chrom) (λ a. lines_for Cut any_overlap a gap_records ≡ lines_for Pieces any_overlap a seconds) as_read one_line said within)
+
+  pub by_gaps : (bed_good First order inputs.first).fault ≡ None → AreWithin entries (first_records (Some entries) inputs)
+      → Writes (Intersect Cut any_overlap None) (with_second (Complement false) inputs) (intersect Pieces any_overlap (first_records (Some entries) inputs) seconds)
+  by_gaps first_none within = sweeps_from (Intersect Cut any_overlap None) (with_second (Complement false) inputs) (Some entries) (intersect Pieces any_overlap (first_records (Some entries) inputs) seconds) genome
+      (met_none order Cut any_overlap (bed_good First order inputs.first) (bed_good Second order (whole_text (of_second (Complement false) inputs))) first_none (second_input.faultless Second))
+      (λ well. intersect_whole Cut any_overlap None (with_second (Complement false) inputs) (Some entries) well ∙ ap (intersect Cut any_overlap (first_records (Some entries) inputs)) (second_input.records_are Second)
+      ∙ all_lines (first_records (Some entries) inputs) (good_are_said First order inputs.first) within)
+
+pub subtract_gaps : subtract_by_complement
+subtract_gaps held inputs entries well within =
+    let none = nones Pieces held inputs (Some entries) (well_there (Subtract false any_overlap held) inputs (Some entries) well) in
+    subst (Writes (Intersect Cut any_overlap None) (with_second (Complement false) inputs)) (sym (subtract_whole false any_overlap held inputs (Some entries) well))
+    (by_gaps inputs entries well.genome none.1 none.0 within)

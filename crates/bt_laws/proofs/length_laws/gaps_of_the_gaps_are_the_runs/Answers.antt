@@ -1,5 +1,0 @@
-use Rattle.bt_laws.proofs.LengthLaws.{complements_twice}
-use Rattle.bt_laws.proofs.length_laws.gaps_of_the_gaps_are_the_runs.Goals as goal
-
-pub returns : goal.returns
-returns c = complements_twice

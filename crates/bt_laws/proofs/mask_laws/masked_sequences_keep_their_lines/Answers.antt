@@ -1,5 +1,0 @@
-use Rattle.bt_laws.proofs.MaskTwice.{layout_kept}
-use Rattle.bt_laws.proofs.mask_laws.masked_sequences_keep_their_lines.Goals as goal
-
-pub returns : goal.returns
-returns c = layout_kept

@@ -1,5 +1,0 @@
-use Rattle.bt_laws.proofs.PairSides.{two_sides}
-use Rattle.bt_laws.proofs.pair_sides.pairs_have_two_sides.Goals as goal
-
-pub returns : goal.returns
-returns c = two_sides

@@ -1,5 +1,0 @@
-use Rattle.bt_laws.proofs.PartBases.{parts_of_first}
-use Rattle.bt_laws.proofs.part_bases.intersect_and_subtract_part.Goals as goal
-
-pub returns : goal.returns
-returns c = parts_of_first

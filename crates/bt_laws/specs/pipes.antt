@@ -1,0 +1,8 @@
+-- Outputs that are inputs of the next command.
+pub mod ConvertPipes
+pub mod MaskPipes
+pub mod PipeExamples
+pub mod Pipes
+pub mod PipesApart
+pub mod SweepLines
+pub mod Taken

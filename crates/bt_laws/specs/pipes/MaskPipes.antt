@@ -1,0 +1,104 @@
+-- What maskfasta writes, as its input again.
+use Rattle.std.specs.Prelude.{◌≡◌, ◌≢◌, ◌<◌, ◌||◌, ℕ, ⊤, Bool, List, map, length, Option}
+use Rattle.std.specs.Prelude.{None}
+use Rattle.std.specs.List.{AllByRecursion, list_any}
+use Rattle.bt_lines.specs.model.Handed.{whole_text}
+use Rattle.bt_lines.specs.declared.fault.Input.TheVariants.{First, Second}
+use Rattle.bt_lines.specs.declared.reader.line.LineEnd.{LineEnd}
+use Rattle.bt_bed.specs.model.order.Genome.{Entry}
+use Rattle.bt_bed.specs.model.input.Good.{items_in}
+use Rattle.bt_bed.specs.model.input.GoodBlocks.{block_good}
+use Rattle.bt_seq.specs.model.Masked.{covers}
+use Rattle.bt_seq.specs.model.Owners.{own_records}
+use Rattle.bt_seq.specs.model.Sequences.{SequenceLine, sequence_good}
+use Rattle.bt_seq.specs.declared.mask.mask_how.MaskHow.{MaskHow}
+use Rattle.bt_seq.specs.declared.mask.mask_how.MaskHow.TheVariants.{Soft, Hard}
+use Rattle.bt_tool.specs.model.report.Inputs.{Inputs, or_empty}
+use Rattle.bt_tool.specs.model.report.Report.{report_of}
+use Rattle.bt_tool.specs.declared.planning.plan_type.Command.TheVariants.{MaskFasta}
+use Rattle.bt_laws.specs.pipes.Pipes.{RunsWell}
+use Rattle.bt_laws.specs.same.SameLines.{Writes}
+use Rattle.bt_laws.specs.same.SameRuns.{piped}
+
+-- A mask that can't begin a header or end a line. Options allow any printable character of ASCII:
+-- `>` is the one of these with which a masked line may become a header.
+abbrev pub KeepsLines : MaskHow → Type 0
+KeepsLines Soft = ⊤
+KeepsLines (Hard mask) = (13 < mask) × (mask ≢ 62)
+
+-- where a line is: its sequences' names, how many bases come before it, how many bytes it has,
+-- and its line end
+pub record Layout : Type 0 where
+  pub names : List (List ℕ)
+  pub before : ℕ
+  pub bytes : ℕ
+  pub ending : LineEnd
+
+abbrev pub layout_of : SequenceLine → Layout
+layout_of line = record {
+  names = line.names;
+  before = line.before;
+  bytes = length line.text;
+  ending = line.ending;
+}
+
+-- the sequences of the output have the names, the lengths and the lines of those of the input, so
+-- that what masks the input masks the output
+abbrev pub masked_keep_layout : Type 0
+masked_keep_layout =
+    (how : MaskHow) (full : Bool) (inputs : Inputs) (chromosomes : Option (List Entry))
+    → KeepsLines how → RunsWell (MaskFasta how full) inputs chromosomes
+    → let output = sequence_good full First (whole_text (report_of (MaskFasta how full) inputs).output) in
+    (output.fault ≡ None)
+    × (map layout_of (items_in output)
+    ≡ map layout_of (items_in (sequence_good full First inputs.first)))
+
+-- maskfasta twice is once
+abbrev pub masked_twice : Type 0
+masked_twice =
+    (how : MaskHow) (full : Bool) (inputs : Inputs) (chromosomes : Option (List Entry))
+    → KeepsLines how → RunsWell (MaskFasta how full) inputs chromosomes
+    → Writes (MaskFasta how full) (piped (MaskFasta how full) inputs)
+    (report_of (MaskFasta how full) inputs).output
+
+-- whether a position of a line's sequence is masked: a record of the block that belongs to that
+-- sequence covers it
+abbrev pub is_masked : Inputs → SequenceLine → ℕ → Bool
+is_masked inputs line position =
+    list_any (covers position)
+    (own_records line.names (items_in (block_good Second (or_empty inputs.second))))
+
+-- the lines of the first input
+abbrev pub lines_in : Bool → Inputs → List SequenceLine
+lines_in full inputs = items_in (sequence_good full First inputs.first)
+
+-- the same first input with another BED
+abbrev pub with_bed : Inputs → Inputs → Inputs
+with_bed inputs other =
+    record { genome = inputs.genome; first = inputs.first; second = other.second }
+
+-- Which positions of each sequence a BED masks is all that maskfasta sees of it: two that mask the
+-- same make it write the same bytes.
+abbrev pub masked_by_positions : Type 0
+masked_by_positions =
+    (how : MaskHow) (full : Bool) (inputs other : Inputs) (chromosomes : Option (List Entry))
+    → RunsWell (MaskFasta how full) inputs chromosomes
+    → RunsWell (MaskFasta how full) (with_bed inputs other) chromosomes
+    → AllByRecursion (λ line. (p : ℕ) → is_masked inputs line p ≡ is_masked other line p)
+    (lines_in full inputs)
+    → (report_of (MaskFasta how full) inputs).output
+    ≡ (report_of (MaskFasta how full) (with_bed inputs other)).output
+
+-- maskfasta by one BED and then by another is maskfasta by a BED that masks what either of them
+-- masks, as both sorted into one
+abbrev pub masked_by_both : Type 0
+masked_by_both =
+    (how : MaskHow) (full : Bool) (inputs other both : Inputs) (chromosomes : Option (List Entry))
+    → KeepsLines how → RunsWell (MaskFasta how full) inputs chromosomes
+    → RunsWell (MaskFasta how full) (with_bed inputs other) chromosomes
+    → RunsWell (MaskFasta how full) (with_bed inputs both) chromosomes
+    → AllByRecursion (λ line. (p : ℕ)
+    → is_masked both line p ≡ (is_masked inputs line p || is_masked other line p))
+    (lines_in full inputs)
+    → Writes (MaskFasta how full) (with_bed (piped (MaskFasta how full) inputs) other)
+    (report_of (MaskFasta how full) (with_bed inputs both)).output

@@ -1,0 +1,51 @@
+-- Small outputs that the next command refuses: why the laws on pipes have their premises.
+use Rattle.std.specs.Prelude.{◌≡◌, ℕ, true, false, List, Some, None, codes}
+use Rattle.bt_lines.specs.model.Handed.{whole_text}
+use Rattle.bt_lines.specs.declared.fault.Input.TheVariants.{First}
+use Rattle.bt_lines.specs.declared.fault.Kind.TheVariants.{OutOfOrder}
+use Rattle.bt_bed.specs.model.order.ByteOrder.{byte_order}
+use Rattle.bt_bed.specs.model.input.GoodBed.{bed_good}
+use Rattle.bt_bed.specs.model.feature.LineKind.{fault_at_line}
+use Rattle.bt_sweep.specs.model.Hits.{any_overlap}
+use Rattle.bt_sweep.specs.declared.output.shape.Shape.TheVariants.{Cut}
+use Rattle.bt_tool.specs.model.report.Inputs.{Inputs}
+use Rattle.bt_tool.specs.model.report.Report.{report_of}
+use Rattle.bt_tool.specs.declared.planning.plan_type.Command.{Command}
+use Rattle.bt_tool.specs.declared.planning.plan_type.Command.TheVariants.{BamToBed, Intersect, Subtract}
+
+-- the run writes these lines, and as an input they have a record that is out of order
+pub record IsRefused (command : Command) (inputs : Inputs) (output : List ℕ) (line : ℕ) : Type 0 where
+  pub written : report_of command inputs ≡ record { output = output; fault = None }
+  pub refused : (bed_good First byte_order (whole_text output)).fault
+      ≡ Some (fault_at_line First line OutOfOrder)
+
+-- two texts, by the order of the names' bytes
+abbrev pub texts : List ℕ → List ℕ → Inputs
+texts first second =
+    record { genome = None; first = whole_text first; second = Some (whole_text second) }
+
+-- intersect cuts two records that overlap: the cut of the second starts before that of the first
+abbrev pub cuts_go_back : Type 0
+cuts_go_back =
+    IsRefused (Intersect Cut any_overlap None)
+    (texts (codes "c\t0\t10\nc\t5\t6\n") (codes "c\t5\t6\nc\t7\t8\n"))
+    (codes "c\t5\t6\nc\t7\t8\nc\t5\t6\n") 3
+
+-- subtract leaves two pieces of the first, and then one that starts before the second of these
+abbrev pub pieces_go_back : Type 0
+pieces_go_back =
+    IsRefused (Subtract false any_overlap None)
+    (texts (codes "c\t0\t10\nc\t2\t4\n") (codes "c\t5\t6\n"))
+    (codes "c\t0\t5\nc\t6\t10\nc\t2\t4\n") 3
+
+-- the blocks of two alignments that are sorted
+abbrev pub blocks_go_back : Type 0
+blocks_go_back =
+    IsRefused (BamToBed true false)
+    (record {
+      genome = None;
+      first = whole_text
+          (codes "r\t0\tc\t1\t9\t2M5N2M\t*\t0\t0\t*\t*\nq\t0\tc\t2\t9\t3M\t*\t0\t0\t*\t*\n");
+      second = None;
+    })
+    (codes "c\t0\t2\tr\t9\t+\nc\t7\t9\tr\t9\t+\nc\t1\t4\tq\t9\t+\n") 3

@@ -1,0 +1,34 @@
+-- Which lines of intersect and subtract begin with records of the first input, and how many.
+use Rattle.std.specs.Prelude.{ℕ, zero, suc, Bool, true, false, List, flat_map, length, replicate}
+use Rattle.bt_bed.specs.model.feature.Feature.{Feature, interval_of}
+use Rattle.bt_bed.specs.model.feature.Interval.{Interval}
+use Rattle.bt_sweep.specs.model.Hits.{hits_among}
+use Rattle.bt_sweep.specs.declared.hits.hit_rule.HitRule.{HitRule}
+use Rattle.bt_sweep.specs.declared.output.shape.Shape.{Shape}
+use Rattle.bt_sweep.specs.declared.output.shape.Shape.TheVariants.{Count, Cut, CutAndB, Missing, Once}
+use Rattle.bt_sweep.specs.declared.output.shape.Shape.TheVariants.{Pieces, Whole}
+
+-- whether each line begins with a record of the first input, as it lies: without a shape and with
+-- -wb its start and its end are cut, and subtract writes its pieces
+abbrev pub begins_with_a : Shape → Bool
+begins_with_a Cut = false
+begins_with_a CutAndB = false
+begins_with_a Pieces = false
+begins_with_a _ = true
+
+-- how many lines begin with a record, by how many records hit it
+abbrev pub line_count : Shape → ℕ → ℕ
+line_count Once zero = 0
+line_count Once (suc n) = 1
+line_count Missing zero = 1
+line_count Missing (suc n) = 0
+line_count Whole zero = 1
+line_count Whole (suc n) = 0
+line_count Count n = 1
+line_count _ n = n
+
+-- where the records of the first input lie, each as often as a line begins with it
+abbrev pub places_written : Shape → HitRule → List Feature → List Feature → List Interval
+places_written shape rule first second =
+    flat_map (λ a. replicate (line_count shape (length (hits_among rule a second))) (interval_of a))
+    first

@@ -1,0 +1,54 @@
+-- The pairs of intersect -wa -wb, from both sides.
+use Rattle.std.specs.Prelude.{◌≡◌, ◌⊎◌, ℕ, true, List, [], ◌∷◌, map, flat_map, IsPermutation}
+use Rattle.std.specs.Prelude.{Option, Some, None}
+use Rattle.bt_bed.specs.model.feature.Feature.{Feature}
+use Rattle.bt_bed.specs.model.order.Genome.{Entry}
+use Rattle.bt_bed.specs.model.feature.Record.{bed_text}
+use Rattle.bt_sweep.specs.model.Hits.{hits_among}
+use Rattle.bt_sweep.specs.model.IntersectLines.{line_with}
+use Rattle.bt_sweep.specs.declared.hits.hit_rule.HitRule.{HitRule}
+use Rattle.bt_sweep.specs.declared.output.shape.Shape.TheVariants.{OrigBoth}
+use Rattle.bt_tool.specs.model.report.Inputs.{Inputs, or_empty}
+use Rattle.bt_tool.specs.declared.planning.plan_type.Command.TheVariants.{Intersect}
+use Rattle.bt_laws.specs.pipes.Pipes.{RunsWell}
+use Rattle.bt_laws.specs.same.SameLines.{Writes}
+
+-- two records that hit one another
+pub record Pair : Type 0 where
+  pub left : Feature
+  pub right : Feature
+
+-- each record of the first list with each of the second that hits it
+abbrev pub pairs_of : HitRule → List Feature → List Feature → List Pair
+pairs_of rule first second =
+    flat_map (λ a. map (λ b. record { left = a; right = b }) (hits_among rule a second)) first
+
+-- the line of a pair, and of one with its sides exchanged
+abbrev pub pair_line : Pair → List ℕ
+pair_line p = line_with (bed_text p.left ∷ bed_text p.right ∷ [])
+
+abbrev pub turned : Pair → Pair
+turned p = record { left = p.right; right = p.left }
+
+-- without -f, or with -f and -r, a rule that asks the same of both sides
+abbrev pub IsEven : HitRule → Type 0
+IsEven rule = (rule.billionths ≡ 0) ⊎ (rule.both ≡ true)
+
+-- the inputs, exchanged
+abbrev pub exchanged : Inputs → Inputs
+exchanged inputs = record {
+  genome = inputs.genome;
+  first = or_empty inputs.second;
+  second = Some inputs.first;
+}
+
+-- What intersect -wa -wb writes of both inputs are the lines of some pairs; of the inputs exchanged
+-- it writes the lines of the same pairs, with their sides exchanged, in another order.
+abbrev pub pairs_have_two_sides : Type 0
+pairs_have_two_sides =
+    (rule : HitRule) (held : Option ℕ) (inputs : Inputs) (chromosomes : Option (List Entry))
+    → IsEven rule → RunsWell (Intersect OrigBoth rule held) inputs chromosomes
+    → (pairs others : List Pair)
+    × Writes (Intersect OrigBoth rule held) inputs (flat_map pair_line pairs)
+    × Writes (Intersect OrigBoth rule None) (exchanged inputs) (flat_map pair_line others)
+    × IsPermutation (map turned pairs) others

@@ -1,0 +1,113 @@
+-- Runs of merge, complement and genomecov that write the same bytes.
+use Rattle.std.specs.Prelude.{◌≡◌, ◌≢◌, ◌==◌, ℕ, Bool, true, false, List, ◌∷◌, ◌++◌}
+use Rattle.std.specs.Prelude.{Option, None, map, filter, nat_lt}
+use Rattle.bt_lines.specs.model.Handed.{whole_text}
+use Rattle.bt_bed.specs.model.feature.Feature.{Feature}
+use Rattle.bt_bed.specs.model.order.Genome.{Entry}
+use Rattle.bt_bed.specs.model.feature.Interval.{Interval}
+use Rattle.bt_bed.specs.model.feature.IntervalLine.{interval_lines}
+use Rattle.bt_bed.specs.declared.record.strand.Strand.{Strand}
+use Rattle.bt_runs.specs.model.Depth.{DepthInterval, depth_lines}
+use Rattle.bt_runs.specs.declared.merge.merge_strand.MergeStrand.{MergeStrand}
+use Rattle.bt_runs.specs.declared.merge.merge_strand.MergeStrand.TheVariants.{All, Each}
+use Rattle.bt_tool.specs.model.report.Inputs.{Inputs}
+use Rattle.bt_tool.specs.model.report.Report.{report_of}
+use Rattle.bt_tool.specs.declared.planning.plan_type.Command.{Command}
+use Rattle.bt_tool.specs.declared.planning.plan_type.Command.TheVariants.{Merge, Complement, Coverage}
+use Rattle.bt_laws.specs.pipes.Pipes.{RunsWell, first_records}
+use Rattle.bt_laws.specs.same.SameLines.{Writes}
+
+-- the inputs of the next run in a pipe: the output of the first run in place of its first input
+abbrev pub piped : Command → Inputs → Inputs
+piped command inputs = record {
+  genome = inputs.genome;
+  first = whole_text (report_of command inputs).output;
+  second = inputs.second;
+}
+
+-- merge of merge is merge, with the same -d; the first may have been of one strand
+abbrev pub merge_of_merge : Type 0
+merge_of_merge =
+    (d : ℕ) (strand : MergeStrand) (inputs : Inputs) (chromosomes : Option (List Entry))
+    → strand ≢ Each → RunsWell (Merge d strand) inputs chromosomes
+    → Writes (Merge d All) (piped (Merge d strand) inputs) (report_of (Merge d strand) inputs).output
+
+-- complement of merge is complement, with and without -L
+abbrev pub complement_of_merge : Type 0
+complement_of_merge =
+    (limit : Bool) (inputs : Inputs) (chromosomes : Option (List Entry))
+    → RunsWell (Complement limit) inputs chromosomes
+    → Writes (Complement limit) (piped (Merge 0 All) inputs)
+    (report_of (Complement limit) inputs).output
+
+-- the same records, except that two neighbours of one chromosome come the other way round; where
+-- both lists are in order, the two have one start
+pub record AreExchanged (rs ss : List Feature) : Type 0 where
+  pub before : List Feature
+  pub after : List Feature
+  pub one : Feature
+  pub other : Feature
+  pub same : one.chrom ≡ other.chrom
+  pub first : rs ≡ before ++ one ∷ other ∷ after
+  pub second : ss ≡ before ++ other ∷ one ∷ after
+
+-- the same records, except that one comes twice
+pub record IsRepeated (rs ss : List Feature) : Type 0 where
+  pub before : List Feature
+  pub after : List Feature
+  pub twice : Feature
+  pub first : rs ≡ before ++ twice ∷ after
+  pub second : ss ≡ before ++ twice ∷ twice ∷ after
+
+-- a command writes the same bytes of two first inputs, where their records are alike and both runs
+-- are without a fault
+abbrev pub WritesSame : (List Feature → List Feature → Type 0) → Command → Type 0
+WritesSame Alike command =
+    (inputs others : Inputs) (chromosomes : Option (List Entry))
+    → RunsWell command inputs chromosomes → RunsWell command others chromosomes
+    → Alike (first_records chromosomes inputs) (first_records chromosomes others)
+    → (report_of command inputs).output ≡ (report_of command others).output
+
+-- records of equal chromosome and start may be exchanged
+abbrev pub exchanged_merge : Type 0
+exchanged_merge =
+    (d : ℕ) (strand : MergeStrand) → strand ≢ Each → WritesSame AreExchanged (Merge d strand)
+
+abbrev pub exchanged_complement : Type 0
+exchanged_complement = (limit : Bool) → WritesSame AreExchanged (Complement limit)
+
+abbrev pub exchanged_genomecov : Type 0
+exchanged_genomecov =
+    (zeros : Bool) (strand : Option Strand) → WritesSame AreExchanged (Coverage zeros strand)
+
+-- a record given twice changes nothing in merge and complement
+abbrev pub repeated_merge : Type 0
+repeated_merge =
+    (d : ℕ) (strand : MergeStrand) → strand ≢ Each → WritesSame IsRepeated (Merge d strand)
+
+abbrev pub repeated_complement : Type 0
+repeated_complement = (limit : Bool) → WritesSame IsRepeated (Complement limit)
+
+-- a gap, as an interval of depth 0
+abbrev pub without_depth : Interval → DepthInterval
+without_depth r = record { chrom = r.chrom; start = r.start; stop = r.stop; depth = 0 }
+
+-- The lines of depth 0 of genomecov -bga are those of complement with a column 0. One of the two
+-- runs without a fault is enough.
+abbrev pub depth_0_is_complement : Type 0
+depth_0_is_complement =
+    (inputs : Inputs) (chromosomes : Option (List Entry))
+    → RunsWell (Coverage true None) inputs chromosomes
+    → (depths : List DepthInterval) × (gaps : List Interval)
+    × Writes (Coverage true None) inputs (depth_lines depths)
+    × Writes (Complement false) inputs (interval_lines gaps)
+    × (filter (λ r. r.depth == 0) depths ≡ map without_depth gaps)
+
+-- genomecov -bg is -bga without these lines
+abbrev pub bg_is_bga_above_0 : Type 0
+bg_is_bga_above_0 =
+    (strand : Option Strand) (inputs : Inputs) (chromosomes : Option (List Entry))
+    → RunsWell (Coverage true strand) inputs chromosomes
+    → (depths : List DepthInterval)
+    × Writes (Coverage true strand) inputs (depth_lines depths)
+    × Writes (Coverage false strand) inputs (depth_lines (filter (λ r. nat_lt 0 r.depth) depths))

@@ -1,8 +1,0 @@
-//! The bases that intersect writes and those that subtract leaves, as the contract of a function that does nothing.
-
-ghost use Rattle.bt_laws.specs.PartBases.{intersect_and_subtract_part};
-
-/// What intersect and subtract write part the bases of the first input.
-pub fn intersect_and_subtract_part()
-    ensures { intersect_and_subtract_part }
-{}

@@ -1,0 +1,14 @@
+//! Runs of merge, complement and genomecov that write the same bytes, as far as the lengths of the genome file go: each
+//! law is the contract of a function that does nothing.
+
+ghost use Rattle.bt_laws.specs.same.LengthLaws.{complement_of_complement, merge_of_genomecov};
+
+/// Complement of complement is merge, cut at the lengths.
+pub fn gaps_of_the_gaps_are_the_runs()
+    ensures { complement_of_complement }
+{}
+
+/// merge of genomecov -bg is merge, where the records lie within the lengths.
+pub fn depths_are_merged()
+    ensures { merge_of_genomecov }
+{}

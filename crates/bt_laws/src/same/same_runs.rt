@@ -1,0 +1,43 @@
+//! Runs of merge, complement and genomecov that write the same bytes: each law is the contract of a function that does
+//! nothing.
+
+ghost use Rattle.bt_laws.specs.same.SameRuns.{
+  bg_is_bga_above_0,
+  complement_of_merge,
+  depth_0_is_complement,
+  exchanged_complement,
+  exchanged_genomecov,
+  exchanged_merge,
+  merge_of_merge,
+  repeated_complement,
+  repeated_merge,
+};
+
+/// merge of merge is merge, with the same -d.
+pub fn merge_is_merged()
+    ensures { merge_of_merge }
+{}
+
+/// complement of merge is complement.
+pub fn merge_leaves_the_gaps()
+    ensures { complement_of_merge }
+{}
+
+/// Records of equal chromosome and start may be exchanged.
+pub fn equal_starts_may_be_exchanged()
+    ensures merge { exchanged_merge }
+    ensures complement { exchanged_complement }
+    ensures genomecov { exchanged_genomecov }
+{}
+
+/// A record given twice changes nothing in merge and complement.
+pub fn a_record_may_come_twice()
+    ensures merge { repeated_merge }
+    ensures complement { repeated_complement }
+{}
+
+/// The lines of depth 0 of genomecov -bga are complement's, and -bg has the others.
+pub fn depths_leave_the_gaps()
+    ensures zero { depth_0_is_complement }
+    ensures others { bg_is_bga_above_0 }
+{}

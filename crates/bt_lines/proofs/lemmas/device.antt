@@ -1,0 +1,2 @@
+-- Lemmas on device.
+pub mod ScriptLemmas

@@ -1,0 +1,4 @@
+-- Lemmas on numbers.
+pub mod DigitLemmas
+pub mod EightLemmas
+pub mod NumberLemmas

@@ -1,0 +1,549 @@
+-- Lemmas on eight bytes that are read as one number, the first in its lowest byte.
+use Rattle.std.proofs.Common.{zero, suc, inl, inr, ◌≡◌, ℕ, ◌+◌, ◌-◌, ◌*◌, ◌/◌, ◌%◌, ◌^◌, ◌<◌, ◌≤◌, true, false, List, [], ◌∷◌, length, get_or, Some, None, refl, sym, ap, ◌∙◌, arith, bit_and, bit_or, bit_xor, take, w64, ltb, leb}
+use Rattle.std.proofs.lemmas.Bool.{cases_Bool, and_parts}
+use Rattle.std.proofs.lemmas.Bool.Decides.{nat_tests}
+use Rattle.std.proofs.lemmas.Nat.{and_assoc, and_block, and_comm, and_le_l, and_le_r, and_mask, and_or_apart, and_or_self, mod_below, or_comm, shr_split, xor_block, xor_of_8}
+use Rattle.std.proofs.lemmas.Nat.Bits.{and_high}
+use Rattle.std.specs.Char.{is_ascii_digit, digit_value}
+use Rattle.std.specs.Int.{from_le_bytes}
+use Rattle.std.specs.Int.Bits.{and_zero_r, xor_add_and, xor_zero_r}
+use Rattle.std.specs.List.{list_all}
+use Rattle.std.specs.Str.Parse.{digits_value}
+use Rattle.bt_lines.proofs.lemmas.numbers.NumberLemmas.{digit_is, refused_second, value_of_digits}
+use Rattle.bt_lines.specs.inside.Digits.{AreOnes}
+use Rattle.bt_lines.specs.model.Number.{value_of}
+
+-- the number whose bytes these are, the first the lowest
+abbrev pub worth : List ℕ → ℕ
+worth [] = 0
+worth (byte ∷ bytes) = worth bytes * 2 ^ 8 + byte
+
+-- each is within these bounds
+abbrev pub AreWithin : ℕ → ℕ → List ℕ → Type 0
+AreWithin low high [] = Unit {0}
+AreWithin low high (byte ∷ bytes) = (low ≤ byte) × (byte ≤ high) × AreWithin low high bytes
+
+-- as many bytes that are all the same
+abbrev pub all_of : ℕ → List ℕ → List ℕ
+all_of byte [] = []
+all_of byte (b ∷ bytes) = byte ∷ all_of byte bytes
+
+-- each with a mask
+abbrev pub masked : List ℕ → ℕ → List ℕ
+masked [] mask = []
+masked (byte ∷ bytes) mask = bit_and byte mask ∷ masked bytes mask
+
+-- each with this added
+abbrev pub raised : List ℕ → ℕ → List ℕ
+raised [] more = []
+raised (byte ∷ bytes) more = (byte + more) ∷ raised bytes more
+
+-- a mask is applied byte by byte
+and_worth : (bytes : List ℕ) (mask : ℕ) → mask < 256 → AreWithin 0 255 bytes → bit_and (worth bytes) (worth (all_of mask bytes)) ≡ worth (masked bytes mask)
+and_worth [] mask h all = refl
+and_worth (byte ∷ bytes) mask h all =
+    let low : byte < 2 ^ 8 = omega arith in
+    and_block 8 (worth bytes) (worth (all_of mask bytes)) byte mask low h ∙ ap (λ n. n * 2 ^ 8 + bit_and byte mask) (and_worth bytes mask h all.2)
+
+raised_worth : (bytes : List ℕ) (more : ℕ) → worth bytes + worth (all_of more bytes) ≡ worth (raised bytes more)
+raised_worth [] more = refl
+raised_worth (byte ∷ bytes) more = let rest = raised_worth bytes more in omega arith
+
+raised_masks : (bytes : List ℕ) (more mask : ℕ) → all_of mask (raised bytes more) ≡ all_of mask bytes
+raised_masks [] more mask = refl
+raised_masks (byte ∷ bytes) more mask = ap (λ l. mask ∷ l) (raised_masks bytes more mask)
+
+raised_within : (bytes : List ℕ) (low high more : ℕ) → AreWithin low high bytes → AreWithin 0 (high + more) (raised bytes more)
+raised_within [] low high more all = tt
+raised_within (byte ∷ bytes) low high more all = (omega arith, omega arith, raised_within bytes low high more all.2)
+
+looser : (bytes : List ℕ) (low high lower higher : ℕ) → lower ≤ low → high ≤ higher → AreWithin low high bytes → AreWithin lower higher bytes
+looser [] low high lower higher l h all = tt
+looser (byte ∷ bytes) low high lower higher l h all = (omega arith, omega arith, looser bytes low high lower higher l h all.2)
+
+-- each with the bits of a zero's code flipped
+abbrev pub flipped : List ℕ → List ℕ
+flipped [] = []
+flipped (byte ∷ bytes) = bit_xor byte 48 ∷ flipped bytes
+
+flipped_length : (bytes : List ℕ) → length (flipped bytes) ≡ length bytes
+flipped_length [] = refl
+flipped_length (byte ∷ bytes) = ap suc (flipped_length bytes)
+
+flipped_worth : (bytes : List ℕ) → AreWithin 0 255 bytes → bit_xor (worth bytes) (worth (all_of 48 bytes)) ≡ worth (flipped bytes)
+flipped_worth [] all = refl
+flipped_worth (byte ∷ bytes) all =
+    let low : byte < 2 ^ 8 = omega arith in
+    let zero : 48 < 2 ^ 8 = omega arith in
+    xor_block 8 (worth bytes) (worth (all_of 48 bytes)) byte 48 low zero ∙ ap (λ n. n * 2 ^ 8 + bit_xor byte 48) (flipped_worth bytes all.2)
+
+flipped_within : (bytes : List ℕ) → AreWithin 0 255 bytes → AreWithin 0 255 (flipped bytes)
+flipped_within [] all = tt
+flipped_within (byte ∷ bytes) all =
+    let small = xor_of_8 byte 48 (omega arith) (omega arith) in
+    (omega arith, omega arith, flipped_within bytes all.2)
+
+-- both halves of a byte whose bits are flipped
+flipped_byte : (byte : ℕ) → bit_xor byte 48 ≡ bit_xor (byte / 16) 3 * 16 + byte % 16
+flipped_byte byte =
+    ap (λ b. bit_xor b 48) (sym (shr_split byte 4))
+    ∙ xor_block 4 (byte / 16) 3 (byte % 16) 0 (mod_below byte 16 (omega arith)) (omega arith)
+    ∙ ap (λ n. bit_xor (byte / 16) 3 * 16 + n) (xor_zero_r (byte % 16))
+
+flipped_digit : (byte : ℕ) → 48 ≤ byte → byte ≤ 57 → bit_xor byte 48 ≡ byte - 48
+flipped_digit byte low high =
+    let upper : byte / 16 ≡ 3 = omega arith in
+    flipped_byte byte ∙ ap (λ n. bit_xor n 3 * 16 + byte % 16) upper ∙ omega arith
+
+-- a byte that is small with its bits flipped is a digit
+digit_flipped : (byte : ℕ) → bit_xor byte 48 ≤ 9 → (48 ≤ byte) × (byte ≤ 57)
+digit_flipped byte small =
+    let is = flipped_byte byte in
+    let sum = xor_add_and (byte / 16) 3 in
+    let most = and_le_r (byte / 16) 3 in
+    let own = and_le_l (byte / 16) 3 in
+    let none : bit_xor (byte / 16) 3 ≡ 0 = omega arith in
+    (omega arith, omega arith)
+
+flipped_digits : (bytes : List ℕ) → AreWithin 48 57 bytes → AreWithin 0 9 (flipped bytes)
+flipped_digits [] all = tt
+flipped_digits (byte ∷ bytes) all =
+    let is = flipped_digit byte all.0 all.1 in
+    (omega arith, omega arith, flipped_digits bytes all.2)
+
+digits_flipped : (bytes : List ℕ) → AreWithin 0 9 (flipped bytes) → AreWithin 48 57 bytes
+digits_flipped [] all = tt
+digits_flipped (byte ∷ bytes) all =
+    let is = digit_flipped byte all.1 in
+    (is.0, is.1, digits_flipped bytes all.2)
+
+-- the upper half of a byte
+upper : (byte : ℕ) → bit_and byte 240 ≡ (byte / 16 % 16) * 16
+upper byte = and_high byte 4 4
+
+-- bytes whose upper halves are 0
+uppers : (bytes : List ℕ) → AreWithin 0 255 bytes → worth (masked bytes 240) ≡ 0 → AreWithin 0 15 bytes
+uppers [] all e = tt
+uppers (byte ∷ bytes) all e =
+    let is = upper byte in
+    let rest : worth (masked bytes 240) ≡ 0 = omega arith in
+    (omega arith, omega arith, uppers bytes all.2 rest)
+
+no_uppers : (bytes : List ℕ) → AreWithin 0 15 bytes → worth (masked bytes 240) ≡ 0
+no_uppers [] all = refl
+no_uppers (byte ∷ bytes) all =
+    let is = upper byte in
+    let rest = no_uppers bytes all.2 in
+    omega arith
+
+lowered_within : (bytes : List ℕ) (high more : ℕ) → AreWithin 0 (high + more) (raised bytes more) → AreWithin 0 high bytes
+lowered_within [] high more all = tt
+lowered_within (byte ∷ bytes) high more all = (omega arith, omega arith, lowered_within bytes high more all.2)
+
+digit_within : (byte : ℕ) → is_ascii_digit byte ≡ true → (48 ≤ byte) × (byte ≤ 57)
+digit_within byte digit = (grind (arith, nat_tests), grind (arith, nat_tests))
+
+within_digit : (byte : ℕ) → 48 ≤ byte → byte ≤ 57 → is_ascii_digit byte ≡ true
+within_digit byte low high = grind (arith, nat_tests)
+
+digits_within : (bytes : List ℕ) → list_all is_ascii_digit bytes ≡ true → AreWithin 48 57 bytes
+digits_within [] all = tt
+digits_within (byte ∷ bytes) all =
+    let parts = and_parts (is_ascii_digit byte) (list_all is_ascii_digit bytes) all in
+    let here = digit_within byte parts.0 in
+    (here.0, here.1, digits_within bytes parts.1)
+
+within_digits : (bytes : List ℕ) → AreWithin 48 57 bytes → list_all is_ascii_digit bytes ≡ true
+within_digits [] all = refl
+within_digits (byte ∷ bytes) all = rw (within_digit byte all.0 all.1, within_digits bytes all.2) refl
+
+-- what is read of eight bytes, and the masks of eight bytes
+pub record Eight (bytes : List ℕ) : Type 0 where
+  pub word : from_le_bytes w64 bytes ≡ worth bytes
+  uppers : worth (all_of 240 bytes) ≡ 17361641481138401520
+  zeros : worth (all_of 48 bytes) ≡ 3472328296227680304
+  sixes : worth (all_of 6 bytes) ≡ 434041037028460038
+  nines : worth (all_of 9 bytes) ≡ 651061555542690057
+  fifteens : worth (all_of 15 bytes) ≡ 1085102592571150095
+
+eight : (bytes : List ℕ) → length bytes ≡ 8 → Eight bytes
+eight (a ∷ b ∷ c ∷ d ∷ e ∷ f ∷ g ∷ h ∷ []) n = record { word = (let sum : from_le_bytes w64 (a ∷ b ∷ c ∷ d ∷ e ∷ f ∷ g ∷ h ∷ []) ≡ a + b * 256 + c * 65536 + d * 16777216 + e * 4294967296 + f * 1099511627776 + g * 281474976710656 + h * 72057594037927936 = refl in omega arith); uppers = refl; zeros = refl; sixes = refl; nines = refl; fifteens = refl }
+eight [] n = absurd (omega arith)
+eight (a ∷ []) n = absurd (omega arith)
+eight (a ∷ b ∷ []) n = absurd (omega arith)
+eight (a ∷ b ∷ c ∷ []) n = absurd (omega arith)
+eight (a ∷ b ∷ c ∷ d ∷ []) n = absurd (omega arith)
+eight (a ∷ b ∷ c ∷ d ∷ e ∷ []) n = absurd (omega arith)
+eight (a ∷ b ∷ c ∷ d ∷ e ∷ f ∷ []) n = absurd (omega arith)
+eight (a ∷ b ∷ c ∷ d ∷ e ∷ f ∷ g ∷ []) n = absurd (omega arith)
+eight (a ∷ b ∷ c ∷ d ∷ e ∷ f ∷ g ∷ h ∷ i ∷ more) n = absurd (omega arith)
+
+no_digits : (bytes : List ℕ) → list_all is_ascii_digit bytes ≡ false → None ≡ value_of bytes
+unfolding value_of
+no_digits bytes e =
+    sym (refused_second (ltb 0 (length bytes)) (list_all is_ascii_digit bytes) (leb (digits_value 10 bytes) 999999999999) (Some (digits_value 10 bytes)) None e)
+
+-- eight bytes as one number with the bits of the zeros' codes flipped
+abbrev pub ones_in : List ℕ → ℕ
+ones_in bytes = bit_xor (from_le_bytes w64 bytes) 3472328296227680304
+
+ones_are : (bytes : List ℕ) → length bytes ≡ 8 → AreWithin 0 255 bytes → ones_in bytes ≡ worth (flipped bytes)
+ones_are bytes n all = let e = eight bytes n in rw (e.word, ← e.zeros) (flipped_worth bytes all)
+
+-- the masks of as many flipped bytes
+masks : (bytes : List ℕ) → length bytes ≡ 8 → Eight (flipped bytes)
+masks bytes n = eight (flipped bytes) (flipped_length bytes ∙ n)
+
+upper_ones : (bytes : List ℕ) → length bytes ≡ 8 → AreWithin 0 255 bytes → bit_and (ones_in bytes) 17361641481138401520 ≡ worth (masked (flipped bytes) 240)
+upper_ones bytes n all = rw (ones_are bytes n all, ← (masks bytes n).uppers) (and_worth (flipped bytes) 240 (omega arith) (flipped_within bytes all))
+
+upper_sums : (bytes : List ℕ) → length bytes ≡ 8 → AreWithin 0 255 bytes → AreWithin 0 15 (flipped bytes)
+    → bit_and (ones_in bytes + 434041037028460038) 17361641481138401520 ≡ worth (masked (raised (flipped bytes) 6) 240)
+upper_sums bytes n all small =
+    let fs = flipped bytes in
+    let within = looser (raised fs 6) 0 21 0 255 (omega arith) (omega arith) (raised_within fs 0 15 6 small) in
+    rw (ones_are bytes n all, ← (masks bytes n).sixes, raised_worth fs 6, ← (masks bytes n).uppers, ← raised_masks fs 6 240)
+    (and_worth (raised fs 6) 240 (omega arith) within)
+
+-- the upper halves are 0
+some_uppers : (bytes : List ℕ) → length bytes ≡ 8 → AreWithin 0 255 bytes → bit_and (ones_in bytes) 17361641481138401520 ≡ 0 → AreWithin 0 15 (flipped bytes)
+some_uppers bytes n all same = uppers (flipped bytes) (flipped_within bytes all) (sym (upper_ones bytes n all) ∙ same)
+
+worth_up_to : (bytes : List ℕ) (low high : ℕ) → AreWithin low high bytes → worth bytes ≤ worth (all_of high bytes)
+worth_up_to [] low high all = omega arith
+worth_up_to (byte ∷ bytes) low high all = let rest = worth_up_to bytes low high all.2 in omega arith
+
+-- so large is what is read at most
+ones_up_to : (bytes : List ℕ) → length bytes ≡ 8 → AreWithin 0 255 bytes → AreWithin 0 15 (flipped bytes) → ones_in bytes ≤ 1085102592571150095
+ones_up_to bytes n all small = rw (ones_are bytes n all, ← (masks bytes n).fifteens) (worth_up_to (flipped bytes) 0 15 small)
+
+-- what shares no bit with a mask beside another number shares none alone
+no_bit : (a b mask : ℕ) → bit_and (bit_or a b) mask ≡ 0 → bit_and b mask ≡ 0
+no_bit a b mask none =
+    ap (λ n. bit_and n mask) (sym (and_or_self b a) ∙ and_comm (bit_or a b) b)
+    ∙ and_assoc mask b (bit_or a b) ∙ ap (bit_and b) none ∙ and_zero_r b
+
+-- the upper halves of the bytes as they are, and with six more
+abbrev pub halves_in : ℕ → ℕ
+halves_in ones = bit_and (bit_or ones ((ones + 434041037028460038) % 18446744073709551616)) 17361641481138401520
+
+-- six more are no more than eight bytes hold, if the upper halves are 0
+sixes_fit : (bytes : List ℕ) → length bytes ≡ 8 → AreWithin 0 255 bytes → AreWithin 0 15 (flipped bytes)
+    → (ones_in bytes + 434041037028460038) % 18446744073709551616 ≡ ones_in bytes + 434041037028460038
+sixes_fit bytes n all small = let most = ones_up_to bytes n all small in omega arith
+
+-- some half isn't 0
+pub none_by_halves : (bytes : List ℕ) → length bytes ≡ 8 → AreWithin 0 255 bytes → (halves_in (ones_in bytes) ≡ 0 → ⊥) → None ≡ value_of bytes
+none_by_halves bytes n all other = elim (cases_Bool (list_all is_ascii_digit bytes)) [
+  | inl digits ↦
+      let nines = flipped_digits bytes (digits_within bytes digits) in
+      let small = looser (flipped bytes) 0 9 0 15 (omega arith) (omega arith) nines in
+      let lower = upper_ones bytes n all ∙ no_uppers (flipped bytes) small in
+      let sums = upper_sums bytes n all small ∙ no_uppers (raised (flipped bytes) 6) (raised_within (flipped bytes) 0 9 6 nines) in
+      absurd (other (rw (sixes_fit bytes n all small) (and_or_apart 17361641481138401520 (ones_in bytes) (ones_in bytes + 434041037028460038) sums ∙ lower)))
+  | inr none ↦ no_digits bytes none
+]
+
+-- all eight are digits
+all_digits : (bytes : List ℕ) → length bytes ≡ 8 → AreWithin 0 255 bytes → AreWithin 0 15 (flipped bytes)
+    → bit_and (ones_in bytes + 434041037028460038) 17361641481138401520 ≡ 0 → AreWithin 48 57 bytes
+all_digits bytes n all small same =
+    let fs = flipped bytes in
+    let within = looser (raised fs 6) 0 21 0 255 (omega arith) (omega arith) (raised_within fs 0 15 6 small) in
+    digits_flipped bytes (lowered_within fs 9 6 (uppers (raised fs 6) within (sym (upper_sums bytes n all small) ∙ same)))
+
+-- all halves are 0
+pub digits_by_halves : (bytes : List ℕ) → length bytes ≡ 8 → AreWithin 0 255 bytes → halves_in (ones_in bytes) ≡ 0 → AreWithin 48 57 bytes
+digits_by_halves bytes n all none =
+    let ones = ones_in bytes in
+    let sixes = (ones + 434041037028460038) % 18446744073709551616 in
+    let small = some_uppers bytes n all (no_bit sixes ones 17361641481138401520 (ap (λ x. bit_and x 17361641481138401520) (or_comm sixes ones) ∙ none)) in
+    all_digits bytes n all small (ap (λ x. bit_and x 17361641481138401520) (sym (sixes_fit bytes n all small)) ∙ no_bit ones sixes 17361641481138401520 none)
+
+-- bytes by their index
+pub are_bytes : (bytes : List ℕ) → ((i : ℕ) → get_or bytes i 0 < 256) → AreWithin 0 255 bytes
+are_bytes [] all = tt
+are_bytes (byte ∷ bytes) all = let here = all 0 in (omega arith, omega arith, are_bytes bytes (λ i. all (suc i)))
+
+-- every second byte of a number
+even_bytes : (n m a b : ℕ) → a < 256 → b < 256 → bit_and ((n * 2 ^ 8 + b) * 2 ^ 8 + a) ((m * 2 ^ 8 + 0) * 2 ^ 8 + 255) ≡ (bit_and n m * 2 ^ 8 + 0) * 2 ^ 8 + a
+even_bytes n m a b small odd =
+    let here : bit_and a 255 ≡ a = and_mask a 8 ∙ omega arith in
+    let next : bit_and (n * 2 ^ 8 + b) (m * 2 ^ 8 + 0) ≡ bit_and n m * 2 ^ 8 + 0 = and_block 8 n m b 0 odd (omega arith) ∙ ap (λ x. bit_and n m * 2 ^ 8 + x) (and_zero_r b) in
+    and_block 8 (n * 2 ^ 8 + b) (m * 2 ^ 8 + 0) a 255 small (omega arith) ∙ rw (here, next) refl
+
+-- the bytes 0, 2, 4 and 6 of eight
+four_bytes : (a b c d e f g h : ℕ) → a < 256 → b < 256 → c < 256 → d < 256 → e < 256 → f < 256 → g < 256 → h < 256
+    → bit_and (worth (a ∷ b ∷ c ∷ d ∷ e ∷ f ∷ g ∷ h ∷ [])) 71777214294589695 ≡ worth (a ∷ 0 ∷ c ∷ 0 ∷ e ∷ 0 ∷ g ∷ 0 ∷ [])
+four_bytes a b c d e f g h i j k l m n o p =
+    even_bytes (worth (c ∷ d ∷ e ∷ f ∷ g ∷ h ∷ [])) 1095233372415 a b i j
+    ∙ ap (λ x. (x * 2 ^ 8 + 0) * 2 ^ 8 + a) (
+    even_bytes (worth (e ∷ f ∷ g ∷ h ∷ [])) 16711935 c d k l
+    ∙ ap (λ x. (x * 2 ^ 8 + 0) * 2 ^ 8 + c) (
+    even_bytes (worth (g ∷ h ∷ [])) 255 e f m n
+    ∙ ap (λ x. (x * 2 ^ 8 + 0) * 2 ^ 8 + e) (even_bytes 0 0 g h o p)))
+
+-- what the code makes of eight digits: the values of two, of four and of all
+abbrev pub pairs_in : ℕ → ℕ
+pairs_in ones = bit_and (ones * 10 + ones / 256) 71777214294589695
+
+abbrev pub value_in : ℕ → ℕ
+value_in pairs = (pairs * 100 + pairs / 65536) % 65536 * 10000 + (pairs * 100 + pairs / 65536) / 4294967296 % 65536
+
+value_small : (pairs : ℕ) → value_in pairs ≤ 999999999999
+value_small pairs = omega arith
+
+value_fours : (a c e g : ℕ) → a ≤ 99 → c ≤ 99 → e ≤ 99 → g ≤ 99
+    → value_in (worth (a ∷ 0 ∷ c ∷ 0 ∷ e ∷ 0 ∷ g ∷ 0 ∷ [])) ≡ a * 1000000 + c * 10000 + e * 100 + g
+value_fours a c e g i j k l =
+    let pairs = worth (a ∷ 0 ∷ c ∷ 0 ∷ e ∷ 0 ∷ g ∷ 0 ∷ []) in
+    let rest : pairs / 65536 ≡ c + e * 65536 + g * 4294967296 = omega arith in
+    let fours : pairs * 100 + pairs / 65536 ≡ (100 * a + c) + (100 * c + e) * 65536 + (100 * e + g) * 4294967296 + (100 * g) * 281474976710656 = omega arith in
+    rw fours (omega arith)
+
+value_eight : (a b c d e f g h ones : ℕ) → a ≤ 9 → b ≤ 9 → c ≤ 9 → d ≤ 9 → e ≤ 9 → f ≤ 9 → g ≤ 9 → h ≤ 9
+    → ones ≡ worth (a ∷ b ∷ c ∷ d ∷ e ∷ f ∷ g ∷ h ∷ [])
+    → value_in (pairs_in ones) ≡ a * 10000000 + b * 1000000 + c * 100000 + d * 10000 + e * 1000 + f * 100 + g * 10 + h
+value_eight a b c d e f g h ones i j k l m n o p is =
+    let rest : ones / 256 ≡ b + c * 256 + d * 65536 + e * 16777216 + f * 4294967296 + g * 1099511627776 + h * 281474976710656 = omega arith in
+    let pairs : ones * 10 + ones / 256 ≡ worth ((10 * a + b) ∷ (10 * b + c) ∷ (10 * c + d) ∷ (10 * d + e) ∷ (10 * e + f) ∷ (10 * f + g) ∷ (10 * g + h) ∷ (10 * h) ∷ []) = omega arith in
+    rw (
+      pairs,
+      four_bytes (10 * a + b) (10 * b + c) (10 * c + d) (10 * d + e) (10 * e + f) (10 * f + g) (10 * g + h) (10 * h)
+          (omega arith) (omega arith) (omega arith) (omega arith) (omega arith) (omega arith) (omega arith) (omega arith),
+    )
+    (value_fours (10 * a + b) (10 * c + d) (10 * e + f) (10 * g + h) (omega arith) (omega arith) (omega arith) (omega arith) ∙ omega arith)
+
+digit_at : (byte : ℕ) → 48 ≤ byte → byte ≤ 57 → digit_value byte ≡ byte - 48
+digit_at byte low high = digit_is byte (within_digit byte low high)
+
+-- each with 48 taken off
+abbrev pub lowered : List ℕ → List ℕ
+lowered [] = []
+lowered (byte ∷ bytes) = (byte - 48) ∷ lowered bytes
+
+flipped_lowered : (bytes : List ℕ) → AreWithin 48 57 bytes → flipped bytes ≡ lowered bytes
+flipped_lowered [] all = refl
+flipped_lowered (byte ∷ bytes) all = rw (flipped_digit byte all.0 all.1, flipped_lowered bytes all.2) refl
+
+ones_lowered : (bytes : List ℕ) → length bytes ≡ 8 → AreWithin 48 57 bytes → ones_in bytes ≡ worth (lowered bytes)
+ones_lowered bytes n all = ones_are bytes n (looser bytes 48 57 0 255 (omega arith) (omega arith) all) ∙ ap worth (flipped_lowered bytes all)
+
+place_values : (a b c d e f g h : ℕ) → a * 10000000 + b * 1000000 + c * 100000 + d * 10000 + e * 1000 + f * 100 + g * 10 + h ≡ (((((((0 * 10 + a) * 10 + b) * 10 + c) * 10 + d) * 10 + e) * 10 + f) * 10 + g) * 10 + h
+place_values a b c d e f g h = omega arith
+
+digits_of : (a b c d e f g h : ℕ) → digits_value 10 (a ∷ b ∷ c ∷ d ∷ e ∷ f ∷ g ∷ h ∷ []) ≡ (((((((0 * 10 + digit_value a) * 10 + digit_value b) * 10 + digit_value c) * 10 + digit_value d) * 10 + digit_value e) * 10 + digit_value f) * 10 + digit_value g) * 10 + digit_value h
+digits_of a b c d e f g h = refl
+
+small_digit : (byte : ℕ) → 48 ≤ byte → byte ≤ 57 → byte - 48 ≤ 9
+small_digit byte low high = omega arith
+
+value_of_eight : (a b c d e f g h : ℕ) → AreWithin 48 57 (a ∷ b ∷ c ∷ d ∷ e ∷ f ∷ g ∷ h ∷ [])
+    → value_in (pairs_in (ones_in (a ∷ b ∷ c ∷ d ∷ e ∷ f ∷ g ∷ h ∷ []))) ≡ digits_value 10 (a ∷ b ∷ c ∷ d ∷ e ∷ f ∷ g ∷ h ∷ [])
+value_of_eight a b c d e f g h (a1, a2, (b1, b2, (c1, c2, (d1, d2, (e1, e2, (f1, f2, (g1, g2, (h1, h2, none)))))))) =
+    value_eight (a - 48) (b - 48) (c - 48) (d - 48) (e - 48) (f - 48) (g - 48) (h - 48) _
+    (small_digit a a1 a2) (small_digit b b1 b2) (small_digit c c1 c2) (small_digit d d1 d2) (small_digit e e1 e2) (small_digit f f1 f2) (small_digit g g1 g2) (small_digit h h1 h2)
+    (ones_lowered (a ∷ b ∷ c ∷ d ∷ e ∷ f ∷ g ∷ h ∷ []) refl (a1, a2, (b1, b2, (c1, c2, (d1, d2, (e1, e2, (f1, f2, (g1, g2, (h1, h2, none)))))))))
+    ∙ rw (digits_of a b c d e f g h, digit_at a a1 a2, digit_at b b1 b2, digit_at c c1 c2, digit_at d d1 d2, digit_at e e1 e2, digit_at f f1 f2, digit_at g g1 g2, digit_at h h1 h2)
+    (place_values (a - 48) (b - 48) (c - 48) (d - 48) (e - 48) (f - 48) (g - 48) (h - 48))
+
+eight_small : (bytes : List ℕ) → length bytes ≡ 8 → AreWithin 48 57 bytes → (value_in (pairs_in (ones_in bytes)) ≡ digits_value 10 bytes) × (digits_value 10 bytes ≤ 999999999999)
+eight_small (a ∷ b ∷ c ∷ d ∷ e ∷ f ∷ g ∷ h ∷ []) n all =
+    let is = value_of_eight a b c d e f g h all in
+    (is, rw (← is) (value_small (pairs_in (ones_in (a ∷ b ∷ c ∷ d ∷ e ∷ f ∷ g ∷ h ∷ [])))))
+eight_small [] n all = absurd (omega arith)
+eight_small (a ∷ []) n all = absurd (omega arith)
+eight_small (a ∷ b ∷ []) n all = absurd (omega arith)
+eight_small (a ∷ b ∷ c ∷ []) n all = absurd (omega arith)
+eight_small (a ∷ b ∷ c ∷ d ∷ []) n all = absurd (omega arith)
+eight_small (a ∷ b ∷ c ∷ d ∷ e ∷ []) n all = absurd (omega arith)
+eight_small (a ∷ b ∷ c ∷ d ∷ e ∷ f ∷ []) n all = absurd (omega arith)
+eight_small (a ∷ b ∷ c ∷ d ∷ e ∷ f ∷ g ∷ []) n all = absurd (omega arith)
+eight_small (a ∷ b ∷ c ∷ d ∷ e ∷ f ∷ g ∷ h ∷ i ∷ more) n all = absurd (omega arith)
+
+-- eight digits denote their value
+pub value_of_eight_digits : (bytes : List ℕ) → length bytes ≡ 8 → AreWithin 48 57 bytes → Some (digits_value 10 bytes) ≡ value_of bytes
+value_of_eight_digits bytes n all =
+    let is = eight_small bytes n all in
+    value_of_digits bytes (omega arith) (within_digits bytes all) is.1
+
+-- the first `count` of eight bytes, padded with zeros on the left
+pub record Behind (bytes : List ℕ) (count : ℕ) : Type 0 where
+  pub padded : List ℕ
+  pub size : length padded ≡ 8
+  pub within : AreWithin 0 255 padded
+  pub shifted : ones_in bytes * 2 ^ (64 - 8 * count) % 18446744073709551616 ≡ ones_in padded
+  pub digits : AreWithin 48 57 (take count bytes) → AreWithin 48 57 padded
+  pub same : digits_value 10 padded ≡ digits_value 10 (take count bytes)
+
+shift_1 : (a b c d e f g h : ℕ) → AreWithin 0 255 (a ∷ b ∷ c ∷ d ∷ e ∷ f ∷ g ∷ h ∷ [])
+    → worth (a ∷ b ∷ c ∷ d ∷ e ∷ f ∷ g ∷ h ∷ []) * 72057594037927936 % 18446744073709551616 ≡ worth (0 ∷ 0 ∷ 0 ∷ 0 ∷ 0 ∷ 0 ∷ 0 ∷ a ∷ [])
+shift_1 a b c d e f g h (a1, a2, (b1, b2, (c1, c2, (d1, d2, (e1, e2, (f1, f2, (g1, g2, (h1, h2, none)))))))) = omega arith
+
+shift_2 : (a b c d e f g h : ℕ) → AreWithin 0 255 (a ∷ b ∷ c ∷ d ∷ e ∷ f ∷ g ∷ h ∷ [])
+    → worth (a ∷ b ∷ c ∷ d ∷ e ∷ f ∷ g ∷ h ∷ []) * 281474976710656 % 18446744073709551616 ≡ worth (0 ∷ 0 ∷ 0 ∷ 0 ∷ 0 ∷ 0 ∷ a ∷ b ∷ [])
+shift_2 a b c d e f g h (a1, a2, (b1, b2, (c1, c2, (d1, d2, (e1, e2, (f1, f2, (g1, g2, (h1, h2, none)))))))) = omega arith
+
+shift_3 : (a b c d e f g h : ℕ) → AreWithin 0 255 (a ∷ b ∷ c ∷ d ∷ e ∷ f ∷ g ∷ h ∷ [])
+    → worth (a ∷ b ∷ c ∷ d ∷ e ∷ f ∷ g ∷ h ∷ []) * 1099511627776 % 18446744073709551616 ≡ worth (0 ∷ 0 ∷ 0 ∷ 0 ∷ 0 ∷ a ∷ b ∷ c ∷ [])
+shift_3 a b c d e f g h (a1, a2, (b1, b2, (c1, c2, (d1, d2, (e1, e2, (f1, f2, (g1, g2, (h1, h2, none)))))))) = omega arith
+
+shift_4 : (a b c d e f g h : ℕ) → AreWithin 0 255 (a ∷ b ∷ c ∷ d ∷ e ∷ f ∷ g ∷ h ∷ [])
+    → worth (a ∷ b ∷ c ∷ d ∷ e ∷ f ∷ g ∷ h ∷ []) * 4294967296 % 18446744073709551616 ≡ worth (0 ∷ 0 ∷ 0 ∷ 0 ∷ a ∷ b ∷ c ∷ d ∷ [])
+shift_4 a b c d e f g h (a1, a2, (b1, b2, (c1, c2, (d1, d2, (e1, e2, (f1, f2, (g1, g2, (h1, h2, none)))))))) = omega arith
+
+shift_5 : (a b c d e f g h : ℕ) → AreWithin 0 255 (a ∷ b ∷ c ∷ d ∷ e ∷ f ∷ g ∷ h ∷ [])
+    → worth (a ∷ b ∷ c ∷ d ∷ e ∷ f ∷ g ∷ h ∷ []) * 16777216 % 18446744073709551616 ≡ worth (0 ∷ 0 ∷ 0 ∷ a ∷ b ∷ c ∷ d ∷ e ∷ [])
+shift_5 a b c d e f g h (a1, a2, (b1, b2, (c1, c2, (d1, d2, (e1, e2, (f1, f2, (g1, g2, (h1, h2, none)))))))) = omega arith
+
+shift_6 : (a b c d e f g h : ℕ) → AreWithin 0 255 (a ∷ b ∷ c ∷ d ∷ e ∷ f ∷ g ∷ h ∷ [])
+    → worth (a ∷ b ∷ c ∷ d ∷ e ∷ f ∷ g ∷ h ∷ []) * 65536 % 18446744073709551616 ≡ worth (0 ∷ 0 ∷ a ∷ b ∷ c ∷ d ∷ e ∷ f ∷ [])
+shift_6 a b c d e f g h (a1, a2, (b1, b2, (c1, c2, (d1, d2, (e1, e2, (f1, f2, (g1, g2, (h1, h2, none)))))))) = omega arith
+
+shift_7 : (a b c d e f g h : ℕ) → AreWithin 0 255 (a ∷ b ∷ c ∷ d ∷ e ∷ f ∷ g ∷ h ∷ [])
+    → worth (a ∷ b ∷ c ∷ d ∷ e ∷ f ∷ g ∷ h ∷ []) * 256 % 18446744073709551616 ≡ worth (0 ∷ a ∷ b ∷ c ∷ d ∷ e ∷ f ∷ g ∷ [])
+shift_7 a b c d e f g h (a1, a2, (b1, b2, (c1, c2, (d1, d2, (e1, e2, (f1, f2, (g1, g2, (h1, h2, none)))))))) = omega arith
+
+behind : (a b c d e f g h count : ℕ) → 0 < count → count ≤ 8 → AreWithin 0 255 (a ∷ b ∷ c ∷ d ∷ e ∷ f ∷ g ∷ h ∷ []) → Behind (a ∷ b ∷ c ∷ d ∷ e ∷ f ∷ g ∷ h ∷ []) count
+behind a b c d e f g h zero some few all = absurd (omega (arith, some))
+behind a b c d e f g h (suc zero) some few (a1, a2, (b1, b2, (c1, c2, (d1, d2, (e1, e2, (f1, f2, (g1, g2, (h1, h2, none)))))))) =
+    let all : AreWithin 0 255 (a ∷ b ∷ c ∷ d ∷ e ∷ f ∷ g ∷ h ∷ []) = (a1, a2, (b1, b2, (c1, c2, (d1, d2, (e1, e2, (f1, f2, (g1, g2, (h1, h2, tt)))))))) in
+    let within : AreWithin 0 255 (48 ∷ 48 ∷ 48 ∷ 48 ∷ 48 ∷ 48 ∷ 48 ∷ a ∷ []) = (omega arith, omega arith, (omega arith, omega arith, (omega arith, omega arith, (omega arith, omega arith, (omega arith, omega arith, (omega arith, omega arith, (omega arith, omega arith, (a1, a2, tt)))))))) in
+    record {
+      padded = (48 ∷ 48 ∷ 48 ∷ 48 ∷ 48 ∷ 48 ∷ 48 ∷ a ∷ []);
+      size = refl;
+      within = within;
+      shifted =
+          ap (λ n. n * 72057594037927936 % 18446744073709551616) (ones_are (a ∷ b ∷ c ∷ d ∷ e ∷ f ∷ g ∷ h ∷ []) refl all)
+          ∙ shift_1 (bit_xor a 48) (bit_xor b 48) (bit_xor c 48) (bit_xor d 48) (bit_xor e 48) (bit_xor f 48) (bit_xor g 48) (bit_xor h 48) (flipped_within (a ∷ b ∷ c ∷ d ∷ e ∷ f ∷ g ∷ h ∷ []) all)
+          ∙ sym (ones_are (48 ∷ 48 ∷ 48 ∷ 48 ∷ 48 ∷ 48 ∷ 48 ∷ a ∷ []) refl within);
+      digits = λ digits. (omega arith, omega arith, (omega arith, omega arith, (omega arith, omega arith, (omega arith, omega arith, (omega arith, omega arith, (omega arith, omega arith, (omega arith, omega arith, digits)))))));
+      same = refl;
+    }
+behind a b c d e f g h (suc (suc zero)) some few (a1, a2, (b1, b2, (c1, c2, (d1, d2, (e1, e2, (f1, f2, (g1, g2, (h1, h2, none)))))))) =
+    let all : AreWithin 0 255 (a ∷ b ∷ c ∷ d ∷ e ∷ f ∷ g ∷ h ∷ []) = (a1, a2, (b1, b2, (c1, c2, (d1, d2, (e1, e2, (f1, f2, (g1, g2, (h1, h2, tt)))))))) in
+    let within : AreWithin 0 255 (48 ∷ 48 ∷ 48 ∷ 48 ∷ 48 ∷ 48 ∷ a ∷ b ∷ []) = (omega arith, omega arith, (omega arith, omega arith, (omega arith, omega arith, (omega arith, omega arith, (omega arith, omega arith, (omega arith, omega arith, (a1, a2, (b1, b2, tt)))))))) in
+    record {
+      padded = (48 ∷ 48 ∷ 48 ∷ 48 ∷ 48 ∷ 48 ∷ a ∷ b ∷ []);
+      size = refl;
+      within = within;
+      shifted =
+          ap (λ n. n * 281474976710656 % 18446744073709551616) (ones_are (a ∷ b ∷ c ∷ d ∷ e ∷ f ∷ g ∷ h ∷ []) refl all)
+          ∙ shift_2 (bit_xor a 48) (bit_xor b 48) (bit_xor c 48) (bit_xor d 48) (bit_xor e 48) (bit_xor f 48) (bit_xor g 48) (bit_xor h 48) (flipped_within (a ∷ b ∷ c ∷ d ∷ e ∷ f ∷ g ∷ h ∷ []) all)
+          ∙ sym (ones_are (48 ∷ 48 ∷ 48 ∷ 48 ∷ 48 ∷ 48 ∷ a ∷ b ∷ []) refl within);
+      digits = λ digits. (omega arith, omega arith, (omega arith, omega arith, (omega arith, omega arith, (omega arith, omega arith, (omega arith, omega arith, (omega arith, omega arith, digits))))));
+      same = refl;
+    }
+behind a b c d e f g h (suc (suc (suc zero))) some few (a1, a2, (b1, b2, (c1, c2, (d1, d2, (e1, e2, (f1, f2, (g1, g2, (h1, h2, none)))))))) =
+    let all : AreWithin 0 255 (a ∷ b ∷ c ∷ d ∷ e ∷ f ∷ g ∷ h ∷ []) = (a1, a2, (b1, b2, (c1, c2, (d1, d2, (e1, e2, (f1, f2, (g1, g2, (h1, h2, tt)))))))) in
+    let within : AreWithin 0 255 (48 ∷ 48 ∷ 48 ∷ 48 ∷ 48 ∷ a ∷ b ∷ c ∷ []) = (omega arith, omega arith, (omega arith, omega arith, (omega arith, omega arith, (omega arith, omega arith, (omega arith, omega arith, (a1, a2, (b1, b2, (c1, c2, tt)))))))) in
+    record {
+      padded = (48 ∷ 48 ∷ 48 ∷ 48 ∷ 48 ∷ a ∷ b ∷ c ∷ []);
+      size = refl;
+      within = within;
+      shifted =
+          ap (λ n. n * 1099511627776 % 18446744073709551616) (ones_are (a ∷ b ∷ c ∷ d ∷ e ∷ f ∷ g ∷ h ∷ []) refl all)
+          ∙ shift_3 (bit_xor a 48) (bit_xor b 48) (bit_xor c 48) (bit_xor d 48) (bit_xor e 48) (bit_xor f 48) (bit_xor g 48) (bit_xor h 48) (flipped_within (a ∷ b ∷ c ∷ d ∷ e ∷ f ∷ g ∷ h ∷ []) all)
+          ∙ sym (ones_are (48 ∷ 48 ∷ 48 ∷ 48 ∷ 48 ∷ a ∷ b ∷ c ∷ []) refl within);
+      digits = λ digits. (omega arith, omega arith, (omega arith, omega arith, (omega arith, omega arith, (omega arith, omega arith, (omega arith, omega arith, digits)))));
+      same = refl;
+    }
+behind a b c d e f g h (suc (suc (suc (suc zero)))) some few (a1, a2, (b1, b2, (c1, c2, (d1, d2, (e1, e2, (f1, f2, (g1, g2, (h1, h2, none)))))))) =
+    let all : AreWithin 0 255 (a ∷ b ∷ c ∷ d ∷ e ∷ f ∷ g ∷ h ∷ []) = (a1, a2, (b1, b2, (c1, c2, (d1, d2, (e1, e2, (f1, f2, (g1, g2, (h1, h2, tt)))))))) in
+    let within : AreWithin 0 255 (48 ∷ 48 ∷ 48 ∷ 48 ∷ a ∷ b ∷ c ∷ d ∷ []) = (omega arith, omega arith, (omega arith, omega arith, (omega arith, omega arith, (omega arith, omega arith, (a1, a2, (b1, b2, (c1, c2, (d1, d2, tt)))))))) in
+    record {
+      padded = (48 ∷ 48 ∷ 48 ∷ 48 ∷ a ∷ b ∷ c ∷ d ∷ []);
+      size = refl;
+      within = within;
+      shifted =
+          ap (λ n. n * 4294967296 % 18446744073709551616) (ones_are (a ∷ b ∷ c ∷ d ∷ e ∷ f ∷ g ∷ h ∷ []) refl all)
+          ∙ shift_4 (bit_xor a 48) (bit_xor b 48) (bit_xor c 48) (bit_xor d 48) (bit_xor e 48) (bit_xor f 48) (bit_xor g 48) (bit_xor h 48) (flipped_within (a ∷ b ∷ c ∷ d ∷ e ∷ f ∷ g ∷ h ∷ []) all)
+          ∙ sym (ones_are (48 ∷ 48 ∷ 48 ∷ 48 ∷ a ∷ b ∷ c ∷ d ∷ []) refl within);
+      digits = λ digits. (omega arith, omega arith, (omega arith, omega arith, (omega arith, omega arith, (omega arith, omega arith, digits))));
+      same = refl;
+    }
+behind a b c d e f g h (suc (suc (suc (suc (suc zero))))) some few (a1, a2, (b1, b2, (c1, c2, (d1, d2, (e1, e2, (f1, f2, (g1, g2, (h1, h2, none)))))))) =
+    let all : AreWithin 0 255 (a ∷ b ∷ c ∷ d ∷ e ∷ f ∷ g ∷ h ∷ []) = (a1, a2, (b1, b2, (c1, c2, (d1, d2, (e1, e2, (f1, f2, (g1, g2, (h1, h2, tt)))))))) in
+    let within : AreWithin 0 255 (48 ∷ 48 ∷ 48 ∷ a ∷ b ∷ c ∷ d ∷ e ∷ []) = (omega arith, omega arith, (omega arith, omega arith, (omega arith, omega arith, (a1, a2, (b1, b2, (c1, c2, (d1, d2, (e1, e2, tt)))))))) in
+    record {
+      padded = (48 ∷ 48 ∷ 48 ∷ a ∷ b ∷ c ∷ d ∷ e ∷ []);
+      size = refl;
+      within = within;
+      shifted =
+          ap (λ n. n * 16777216 % 18446744073709551616) (ones_are (a ∷ b ∷ c ∷ d ∷ e ∷ f ∷ g ∷ h ∷ []) refl all)
+          ∙ shift_5 (bit_xor a 48) (bit_xor b 48) (bit_xor c 48) (bit_xor d 48) (bit_xor e 48) (bit_xor f 48) (bit_xor g 48) (bit_xor h 48) (flipped_within (a ∷ b ∷ c ∷ d ∷ e ∷ f ∷ g ∷ h ∷ []) all)
+          ∙ sym (ones_are (48 ∷ 48 ∷ 48 ∷ a ∷ b ∷ c ∷ d ∷ e ∷ []) refl within);
+      digits = λ digits. (omega arith, omega arith, (omega arith, omega arith, (omega arith, omega arith, digits)));
+      same = refl;
+    }
+behind a b c d e f g h (suc (suc (suc (suc (suc (suc zero)))))) some few (a1, a2, (b1, b2, (c1, c2, (d1, d2, (e1, e2, (f1, f2, (g1, g2, (h1, h2, none)))))))) =
+    let all : AreWithin 0 255 (a ∷ b ∷ c ∷ d ∷ e ∷ f ∷ g ∷ h ∷ []) = (a1, a2, (b1, b2, (c1, c2, (d1, d2, (e1, e2, (f1, f2, (g1, g2, (h1, h2, tt)))))))) in
+    let within : AreWithin 0 255 (48 ∷ 48 ∷ a ∷ b ∷ c ∷ d ∷ e ∷ f ∷ []) = (omega arith, omega arith, (omega arith, omega arith, (a1, a2, (b1, b2, (c1, c2, (d1, d2, (e1, e2, (f1, f2, tt)))))))) in
+    record {
+      padded = (48 ∷ 48 ∷ a ∷ b ∷ c ∷ d ∷ e ∷ f ∷ []);
+      size = refl;
+      within = within;
+      shifted =
+          ap (λ n. n * 65536 % 18446744073709551616) (ones_are (a ∷ b ∷ c ∷ d ∷ e ∷ f ∷ g ∷ h ∷ []) refl all)
+          ∙ shift_6 (bit_xor a 48) (bit_xor b 48) (bit_xor c 48) (bit_xor d 48) (bit_xor e 48) (bit_xor f 48) (bit_xor g 48) (bit_xor h 48) (flipped_within (a ∷ b ∷ c ∷ d ∷ e ∷ f ∷ g ∷ h ∷ []) all)
+          ∙ sym (ones_are (48 ∷ 48 ∷ a ∷ b ∷ c ∷ d ∷ e ∷ f ∷ []) refl within);
+      digits = λ digits. (omega arith, omega arith, (omega arith, omega arith, digits));
+      same = refl;
+    }
+behind a b c d e f g h (suc (suc (suc (suc (suc (suc (suc zero))))))) some few (a1, a2, (b1, b2, (c1, c2, (d1, d2, (e1, e2, (f1, f2, (g1, g2, (h1, h2, none)))))))) =
+    let all : AreWithin 0 255 (a ∷ b ∷ c ∷ d ∷ e ∷ f ∷ g ∷ h ∷ []) = (a1, a2, (b1, b2, (c1, c2, (d1, d2, (e1, e2, (f1, f2, (g1, g2, (h1, h2, tt)))))))) in
+    let within : AreWithin 0 255 (48 ∷ a ∷ b ∷ c ∷ d ∷ e ∷ f ∷ g ∷ []) = (omega arith, omega arith, (a1, a2, (b1, b2, (c1, c2, (d1, d2, (e1, e2, (f1, f2, (g1, g2, tt)))))))) in
+    record {
+      padded = (48 ∷ a ∷ b ∷ c ∷ d ∷ e ∷ f ∷ g ∷ []);
+      size = refl;
+      within = within;
+      shifted =
+          ap (λ n. n * 256 % 18446744073709551616) (ones_are (a ∷ b ∷ c ∷ d ∷ e ∷ f ∷ g ∷ h ∷ []) refl all)
+          ∙ shift_7 (bit_xor a 48) (bit_xor b 48) (bit_xor c 48) (bit_xor d 48) (bit_xor e 48) (bit_xor f 48) (bit_xor g 48) (bit_xor h 48) (flipped_within (a ∷ b ∷ c ∷ d ∷ e ∷ f ∷ g ∷ h ∷ []) all)
+          ∙ sym (ones_are (48 ∷ a ∷ b ∷ c ∷ d ∷ e ∷ f ∷ g ∷ []) refl within);
+      digits = λ digits. (omega arith, omega arith, digits);
+      same = refl;
+    }
+behind a b c d e f g h (suc (suc (suc (suc (suc (suc (suc (suc zero)))))))) some few all =
+    let most : ones_in (a ∷ b ∷ c ∷ d ∷ e ∷ f ∷ g ∷ h ∷ []) ≤ 18446744073709551615 =
+    rw (ones_are (a ∷ b ∷ c ∷ d ∷ e ∷ f ∷ g ∷ h ∷ []) refl all) (worth_up_to (flipped (a ∷ b ∷ c ∷ d ∷ e ∷ f ∷ g ∷ h ∷ [])) 0 255 (flipped_within (a ∷ b ∷ c ∷ d ∷ e ∷ f ∷ g ∷ h ∷ []) all)) in
+    record {
+      padded = (a ∷ b ∷ c ∷ d ∷ e ∷ f ∷ g ∷ h ∷ []);
+      size = refl;
+      within = all;
+      shifted = omega arith;
+      digits = λ digits. digits;
+      same = refl;
+    }
+behind a b c d e f g h (suc (suc (suc (suc (suc (suc (suc (suc (suc count))))))))) some few all = absurd (omega (arith, few))
+
+pub few_behind : (bytes : List ℕ) (count : ℕ) → length bytes ≡ 8 → 0 < count → count ≤ 8 → AreWithin 0 255 bytes → Behind bytes count
+few_behind (a ∷ b ∷ c ∷ d ∷ e ∷ f ∷ g ∷ h ∷ []) count n some few all = behind a b c d e f g h count some few all
+few_behind [] count n some few all = absurd (omega arith)
+few_behind (a ∷ []) count n some few all = absurd (omega arith)
+few_behind (a ∷ b ∷ []) count n some few all = absurd (omega arith)
+few_behind (a ∷ b ∷ c ∷ []) count n some few all = absurd (omega arith)
+few_behind (a ∷ b ∷ c ∷ d ∷ []) count n some few all = absurd (omega arith)
+few_behind (a ∷ b ∷ c ∷ d ∷ e ∷ []) count n some few all = absurd (omega arith)
+few_behind (a ∷ b ∷ c ∷ d ∷ e ∷ f ∷ []) count n some few all = absurd (omega arith)
+few_behind (a ∷ b ∷ c ∷ d ∷ e ∷ f ∷ g ∷ []) count n some few all = absurd (omega arith)
+few_behind (a ∷ b ∷ c ∷ d ∷ e ∷ f ∷ g ∷ h ∷ i ∷ more) count n some few all = absurd (omega arith)
+
+-- eight digits' values are so large at most
+ones_of_digits : (bytes : List ℕ) → length bytes ≡ 8 → AreWithin 48 57 bytes → ones_in bytes ≤ 651061555542690057
+ones_of_digits bytes n all =
+    rw (ones_are bytes n (looser bytes 48 57 0 255 (omega arith) (omega arith) all), ← (masks bytes n).nines)
+    (worth_up_to (flipped bytes) 0 9 (flipped_digits bytes all))
+
+-- what is read of eight digits
+pub ones_read : (bytes : List ℕ) → length bytes ≡ 8 → AreWithin 48 57 bytes → (ones_in bytes ≤ 651061555542690057) × AreOnes bytes (ones_in bytes)
+ones_read bytes n all = (ones_of_digits bytes n all, (n, within_digits bytes all, refl))
+
+-- and the code's value is theirs
+pub joined_value : (digits : List ℕ) (ones : ℕ) → AreOnes digits ones → value_in (pairs_in ones) ≡ digits_value 10 digits
+joined_value digits ones (n, all, is) = rw is ((eight_small digits n (digits_within digits all)).0)
+
+-- the digits that come first, padded with zeros
+pub few_read : (bytes : List ℕ) (count : ℕ) (b : Behind bytes count) → list_all is_ascii_digit (take count bytes) ≡ true
+    → (ones_in b.padded ≤ 651061555542690057) × AreOnes b.padded (ones_in b.padded)
+few_read bytes count b all = ones_read b.padded b.size (b.digits (digits_within (take count bytes) all))

@@ -1,0 +1,3 @@
+-- Lemmas on reader.
+pub mod block
+pub mod lines

@@ -1,0 +1,202 @@
+-- Lemmas on making a line buffered, and on the step to the next line by it.
+use Rattle.std.proofs.Common.{◌≡◌, ◌⊎◌, inl, inr, ℕ, suc, ◌-◌, ◌<◌, Bool, true, false, List, [], ◌++◌, length, take, Option, Result, None, Some, Ok, Err, refl, sym, ap, ◌∙◌, subst, append_assoc, append-nil, length-append, add-zero, arith}
+use Rattle.std.specs.Prelude.{option_map, is_some, IfSome}
+use Rattle.std.proofs.lemmas.Bool.{false≢true}
+use Rattle.std.proofs.KnownBytes.{Consumes-nil}
+use Rattle.bt_lines.proofs.lemmas.reader.lines.ReaderLemmas.{hands_both, hands_none}
+use Rattle.bt_lines.proofs.lemmas.reader.block.ReadsLemmas.{has_read_then}
+use Rattle.bt_lines.proofs.lemmas.reader.lines.StateLemmas.{some_state}
+use Rattle.bt_lines.proofs.lemmas.reader.lines.StepLemmas.{none_told, some_length}
+use Rattle.bt_lines.proofs.lemmas.reader.lines.TextLemmas.{line_feeds-append}
+use Rattle.bt_lines.specs.model.Fault.{Told}
+use Rattle.bt_lines.specs.calls.LentLine.{GivesFirst}
+use Rattle.bt_lines.specs.model.Lines.{TextLine, line_feeds, lines_from}
+use Rattle.bt_lines.specs.calls.Names.{told}
+use Rattle.bt_lines.specs.inside.ReadBuffer.{complete, unread}
+use Rattle.bt_lines.specs.calls.Reader.{CutsFirst, FillsLines, HasRead, TellsOwnFailure, GivesLine, MakesLine, SameLines, Stepped, StepsTo, buffered_bytes, bytes_left, bytes_taken, end_told, fault_kept, feeds_taken, has_ended, held, input_of, left_at, lines_given, lines_left, source_of}
+use Rattle.bt_lines.specs.inside.ReaderState.{ended_at, fault_at, lends_at, open_at, taken_at, text_at}
+use Rattle.bt_lines.specs.inside.Shape.{held_at}
+use Rattle.bt_lines.specs.declared.fault.Fault.{Fault}
+use Rattle.bt_lines.specs.declared.fault.Input.{Input}
+use Rattle.bt_lines.specs.declared.reader.line_reader.LineReader.{LineReader}
+use Rattle.bt_lines.specs.declared.reader.line_reader.State.{State}
+use Rattle.bt_lines.specs.declared.reader.line_reader.State.TheVariants.{Reading, LastLine, Ended, ReadFailed, TooLong, NoMemory}
+
+same_lines : (lines : Option (List TextLine)) → SameLines lines lines
+same_lines None = tt
+same_lines (Some xs) = refl
+
+first_of_same : (xs : List TextLine) (b : Option (List TextLine)) (line : TextLine) (c : Option (List TextLine)) → b ≡ Some xs → GivesFirst b line c → GivesFirst (Some xs) line c
+first_of_same xs b line c e first = subst (λ (o : Option (List TextLine)). GivesFirst o line c) e first
+
+first_after : (a b : Option (List TextLine)) (line : TextLine) (c : Option (List TextLine)) → SameLines a b → GivesFirst b line c → GivesFirst a line c
+first_after None b line c same first = tt
+first_after (Some xs) b line c same first = first_of_same xs b line c same first
+
+going_by : (state : State) (input : Input) (lines taken : ℕ) → (state ≡ Reading) ⊎ (state ≡ LastLine) → (fault_at state input lines ≡ None) × (ended_at state ≡ false) × (taken_at state taken ≡ taken)
+going_by state input lines taken (inl e) = rw e (refl, refl, refl)
+going_by state input lines taken (inr e) = rw e (refl, refl, refl)
+
+text_none : (state : State) (lines : ℕ) (text : List ℕ) → ended_at state ≡ true → text_at state lines text ≡ None
+text_none Reading lines text e = absurd (false≢true e)
+text_none LastLine lines text e = absurd (false≢true e)
+text_none Ended lines text e = refl
+text_none ReadFailed lines text e = absurd (false≢true e)
+text_none TooLong lines text e = absurd (false≢true e)
+text_none NoMemory lines text e = absurd (false≢true e)
+
+some_told : (fault : Fault) (kept : Option Told) → kept ≡ Some (told fault) → kept ≡ None → ⊥
+some_told fault kept e f = false≢true (ap is_some (sym f ∙ e))
+
+none_left_at : (told : Bool) (held : List ℕ) (n : ℕ) (a : Option (List ℕ)) → told ≡ true → held ≡ [] → IfSome (option_map (lines_from n) (left_at told held a)) (λ lines. lines ≡ [])
+none_left_at true held n a e none = none_told n a held none
+none_left_at false held n a e none = absurd (false≢true e)
+
+-- no line is left once the end was reported and nothing is held
+none_left_told : {S : Type 0} (left : S → Option (List ℕ)) (reader : LineReader S) → end_told reader ≡ true → held reader ≡ [] → IfSome (lines_left left reader) (λ lines. lines ≡ [])
+unfolding bytes_left
+none_left_told left reader e none = none_left_at (end_told reader) (held reader) (suc (lines_given reader)) (left (source_of reader)) e none
+
+module _ {S : Type 0} (left : S → Option (List ℕ)) (failed end : S → Bool) where
+  -- a line is buffered already
+  pub fills_ready : (reader : LineReader S) → (length (complete reader.buffer) ≡ 0 → ⊥) → FillsLines left failed end reader (Ok true) reader
+  unfolding buffered_bytes fault_kept has_ended bytes_taken
+  fills_ready reader some =
+      let lends : (lends_at reader.state ≡ false → ⊥) = λ e. some (ap length (reader.quiet e)) in
+      let going = going_by reader.state reader.input reader.lines reader.taken (some_state reader.state lends) in
+      record {
+        answers = record {
+          some = some_length (complete reader.buffer) some;
+          bytes = ([], hands_none left reader, sym (append-nil (held reader)));
+          same = same_lines (lines_left left reader);
+          counted = refl;
+          ready = λ h. refl;
+          served = refl;
+          was_going = (going.0, going.1);
+          goes = going.0;
+          within = rw going.2 reader.counted;
+        };
+        unread = λ h. refl;
+        kept = λ h. h;
+      }
+
+  -- after the last line comes the end
+  pub fills_after_last : (old new : LineReader S) → complete old.buffer ≡ [] → old.state ≡ LastLine → new.source ≡ old.source → new.buffer ≡ old.buffer → new.taken ≡ old.taken → new.lines ≡ old.lines
+      → new.input ≡ old.input → new.state ≡ Ended → FillsLines left failed end old (Ok false) new
+  unfolding source_of input_of lines_given bytes_taken held fault_kept has_ended end_told feeds_taken buffered_bytes
+  fills_after_last old new none was same_source same_buffer same_taken same_lines same_input ended =
+      let gone : held_at (open_at old.state) (complete old.buffer) (unread old.buffer) ≡ [] = rw was (ap (λ l. take (length l - 1) l) none) in
+      let no_more : unread old.buffer ≡ [] = old.last.none_behind (rw was refl) in
+      let now : held_at (open_at new.state) (complete new.buffer) (unread new.buffer) ≡ [] = rw (ended, same_buffer, none, no_more) refl in
+      record {
+        answers = record {
+          none_left = none_left_told left old (rw was refl) gone;
+          none_comes = none_left_told left new (rw ended refl) now;
+          nothing_held = now;
+          counted = same_lines;
+          bytes = (
+            [],
+            record {
+              left_over = rw same_source (Consumes-nil (left old.source));
+              counted = rw (was, ended, same_taken, add-zero) refl;
+              same_input = same_input;
+              fed = λ t b. absurd (false≢true (sym t ∙ rw ended refl));
+              told_stays = λ t. rw ended refl;
+            },
+            append-nil _ ∙ gone,
+          );
+          served = ap failed same_source;
+          was_going = rw was refl;
+          goes = rw ended refl;
+          ends = rw ended refl;
+          told = rw ended refl;
+          again = λ e. absurd (false≢true (sym (rw was refl) ∙ e));
+        };
+        unread = λ h. absurd (omega (arith, h, ap length none));
+        kept = λ h. record {
+          end = λ e. let before = h.end (rw was refl) in rw same_source before;
+          within = λ e. rw ended new.counted;
+        };
+      }
+
+  pub fills_again : (old : LineReader S) → complete old.buffer ≡ [] → old.state ≡ Ended → FillsLines left failed end old (Ok false) old
+  unfolding source_of lines_given bytes_taken held fault_kept has_ended end_told buffered_bytes
+  fills_again old none was =
+      let no_more : unread old.buffer ≡ [] = old.last.none_behind (rw was refl) in
+      let gone : held_at (open_at old.state) (complete old.buffer) (unread old.buffer) ≡ [] = rw (was, none, no_more) refl in
+      record {
+        answers = record {
+          none_left = none_left_told left old (rw was refl) gone;
+          none_comes = none_left_told left old (rw was refl) gone;
+          nothing_held = gone;
+          counted = refl;
+          bytes = ([], hands_none left old, append-nil _ ∙ gone);
+          served = refl;
+          was_going = rw was refl;
+          goes = rw was refl;
+          ends = rw was refl;
+          told = rw was refl;
+          again = λ e. refl;
+        };
+        unread = λ h. refl;
+        kept = λ h. h;
+      }
+
+  -- a line that was made buffered, and then given
+  gives_after : (old mid new : LineReader S) (line : TextLine) → MakesLine left failed old mid → GivesLine left failed mid line new → GivesLine left failed old line new
+  gives_after old mid new line made gives =
+      let one = made.bytes in
+      let two = gives.bytes in
+      record {
+        first = first_after (lines_left left old) (lines_left left mid) line (lines_left left new) made.same gives.first;
+        bytes = (
+          one.0 ++ two.0,
+          hands_both left old mid new one.0 two.0 one.1 two.1,
+          sym (append_assoc (held old) one.0 two.0) ∙ ap (λ l. l ++ two.0) (sym one.2) ∙ two.2,
+        );
+        ahead = gives.ahead;
+        ready = λ h. gives.ready (omega (arith, h, ap line_feeds one.2, line_feeds-append (held old) one.0)) ∙ made.ready h;
+        number = gives.number ∙ ap suc made.counted;
+        at = gives.at;
+        counted = gives.counted ∙ ap suc made.counted;
+        below = gives.below;
+        shrinks = omega (arith, gives.shrinks, one.1.counted, ap length one.2, length-append (held old) one.0, made.within);
+        served = gives.served ∙ made.served;
+        was_going = made.was_going;
+        goes = gives.goes;
+      }
+
+  pub steps_on : (old mid new : LineReader S) → FillsLines left failed end old (Ok true) mid → CutsFirst left failed end mid new → Stepped left failed end old (Ok (tt {0})) new
+  steps_on old mid new fills cuts = record {
+    answers = subst (λ l. StepsTo left failed old l new) (sym cuts.at) (gives_after old mid new cuts.line fills.answers cuts.gives);
+    sound = λ h. cuts.sound (fills.kept (record { end = h.end; within = h.within }));
+  }
+
+  pub steps_to_fault : (old new : LineReader S) (fault : Fault) → FillsLines left failed end old (Err fault) new → Stepped {A = Unit {0}} left failed end old (Err fault) new
+  steps_to_fault old new fault fills = record {
+    answers = fills.answers;
+    sound = λ h. let kept = fills.kept (record { end = h.end; within = h.within }) in
+        record { end = kept.end; within = kept.within; near = λ e. absurd (some_told fault (fault_kept new) fills.answers.kept e) };
+  }
+
+  cuts_by : (b : Bool) (mid : LineReader S) → 0 < length (buffered_bytes mid) → (b ≡ false → complete mid.buffer ≡ []) → b ≡ true
+  unfolding buffered_bytes
+  cuts_by true mid some none = refl
+  cuts_by false mid some none = absurd (omega (arith, some, ap length (none refl)))
+
+  filled : (old mid : LineReader S) (answer : Result Bool Fault) → answer ≡ Ok true → FillsLines left failed end old answer mid → FillsLines left failed end old (Ok true) mid
+  filled old mid answer e fills = subst (λ (r : Result Bool Fault). FillsLines left failed end old r mid) e fills
+
+  -- when one is buffered, it is taken
+  pub is_cut : (old mid : LineReader S) (answer : Result Bool Fault) (b : Bool) → answer ≡ Ok true → FillsLines left failed end old answer mid → (b ≡ false → complete mid.buffer ≡ []) → b ≡ true
+  is_cut old mid answer b e fills none = let made = (filled old mid answer e fills).answers in cuts_by b mid made.some none
+
+  pub steps_by : (old mid new : LineReader S) (answer : Result Bool Fault) (b : Bool) → answer ≡ Ok true → FillsLines left failed end old answer mid → (b ≡ false → complete mid.buffer ≡ [])
+      → (b ≡ true → CutsFirst left failed end mid new) → Stepped left failed end old (Ok (tt {0})) new
+  steps_by old mid new answer b e fills none cuts = steps_on old mid new (filled old mid answer e fills) (cuts (is_cut old mid answer b e fills none))
+
+  pub reads_by : (IsRead : S → Option ℕ → S → Type 0) (old mid new : LineReader S) (answer : Result Bool Fault) (b : Bool) → answer ≡ Ok true → FillsLines left failed end old answer mid
+      → (b ≡ false → complete mid.buffer ≡ []) → TellsOwnFailure IsRead old answer mid → (b ≡ true → HasRead IsRead mid new) → HasRead IsRead old new
+  reads_by IsRead old mid new answer b e fills none read then =
+      let first : HasRead IsRead old mid = subst (λ (r : Result Bool Fault). TellsOwnFailure IsRead old r mid) e read in
+      has_read_then IsRead old mid new first (then (is_cut old mid answer b e fills none))

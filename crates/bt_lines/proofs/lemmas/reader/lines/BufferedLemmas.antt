@@ -1,0 +1,91 @@
+-- Lemmas on the lines that are left of those buffered.
+use Rattle.std.proofs.Common.{◌≡◌, ℕ, suc, ◌+◌, ◌-◌, ◌^◌, ◌<◌, ◌≤◌, Bool, true, false, List, [], ◌∷◌, ◌++◌, length, take, drop, Option, None, Some, refl, sym, ap, ◌∙◌, length-append, arith}
+use Rattle.std.specs.Prelude.{option_map, nat_lt, IfSome, IfNone}
+use Rattle.std.proofs.Math.Seq.{take-append_seam}
+use Rattle.std.proofs.lemmas.List.{drop-drop, length-drop}
+use Rattle.bt_lines.proofs.lemmas.reader.block.BufferLemmas.{fed_clear, fed_drop}
+use Rattle.bt_lines.proofs.lemmas.reader.lines.CutLemmas.{alone, some_size}
+use Rattle.bt_lines.proofs.lemmas.reader.lines.LinesLemmas.{lines_from-last, lines_from-nil}
+use Rattle.bt_lines.proofs.lemmas.reader.lines.StepLemmas.{last_line-some}
+use Rattle.bt_lines.proofs.lemmas.reader.lines.TextLemmas.{whole_lines_from-fed, whole_lines_from-last}
+use Rattle.bt_lines.specs.calls.Buffered.{BeginsLines, buffered_lines, line_of, lines_after, lines_in, rest_in}
+use Rattle.bt_lines.specs.calls.FirstLine.{Cut, IsFirst, Shown, ending_at, line_shown}
+use Rattle.bt_lines.specs.calls.LentLine.{NoLineFeed}
+use Rattle.bt_lines.specs.model.Lines.{TextLine, fed_line, lines_from, whole_lines_from}
+use Rattle.bt_lines.specs.inside.Shape.{IsLast, is_fed}
+use Rattle.bt_lines.specs.declared.reader.buffered_lines.BufferedLines.{BufferedLines}
+use Rattle.bt_lines.specs.declared.reader.buffered_lines.LineText.{LineText}
+
+abbrev pub shown_line : Bool → ℕ → Shown → TextLine
+shown_line is_open lines line = record { number = suc lines; text = line.text; ending = ending_at is_open (nat_lt (length line.text + 1) line.size) }
+
+-- the first line
+pub lines_first : (is_open : Bool) (lines : ℕ) (bytes : List ℕ) (line : Shown) → Cut bytes line → is_fed bytes ≡ true → IsLast is_open is_open bytes []
+    → buffered_lines is_open lines bytes ≡ shown_line is_open lines line ∷ buffered_lines is_open (lines + 1) (drop line.size bytes)
+lines_first false lines bytes line cut fed last =
+    let more : lines + 1 ≡ suc lines = omega arith in
+    let same : fed_line (suc lines) cut.piece ≡ shown_line false lines line =
+    rw (cut.returned, cut.stripped) refl in
+    ap (whole_lines_from (suc lines)) cut.cut ∙ whole_lines_from-fed (suc lines) cut.piece (drop line.size bytes) cut.clear
+    ∙ ap (λ l. l ∷ whole_lines_from (suc (suc lines)) (drop line.size bytes)) same
+    ∙ ap (λ (n : ℕ). shown_line false lines line ∷ whole_lines_from (suc n) (drop line.size bytes)) (sym more)
+lines_first true lines bytes line cut fed last =
+    let gone : drop line.size bytes ≡ [] = alone bytes cut.piece (drop line.size bytes) cut.cut cut.clear (last.one refl) (fed_drop line.size bytes fed) in
+    let whole : bytes ≡ cut.piece ++ 10 ∷ [] = cut.cut ∙ ap (λ l. cut.piece ++ 10 ∷ l) gone in
+    let size : length bytes ≡ length cut.piece + 1 = omega (arith, ap length whole, length-append cut.piece (10 ∷ [])) in
+    let less : length bytes - 1 ≡ length cut.piece = omega (arith, size) in
+    let front : take (length bytes - 1) bytes ≡ cut.piece = ap (λ n. take n bytes) less ∙ ap (take (length cut.piece)) whole ∙ take-append_seam cut.piece (10 ∷ []) in
+    let some : 0 < length cut.piece = some_size (length bytes) cut.piece size (last.some refl) in
+    let none : lines_from (suc (lines + 1)) (take (length (drop line.size bytes) - 1) (drop line.size bytes)) ≡ [] =
+    ap (λ l. lines_from (suc (lines + 1)) (take (length l - 1) l)) gone ∙ lines_from-nil (suc (lines + 1)) in
+    let one : lines_from (suc lines) cut.piece ≡ shown_line true lines line ∷ [] =
+    lines_from-last (suc lines) cut.piece cut.clear ∙ last_line-some (suc lines) cut.piece some ∙ rw (cut.returned, cut.stripped) refl in
+    ap (lines_from (suc lines)) front ∙ one ∙ ap (λ l. shown_line true lines line ∷ l) (sym none)
+
+-- none is left if there is no line feed
+lines_none : (is_open : Bool) (lines : ℕ) (bytes : List ℕ) → NoLineFeed bytes → is_fed bytes ≡ true → buffered_lines is_open lines bytes ≡ []
+lines_none false lines bytes clear fed = whole_lines_from-last (suc lines) bytes clear
+lines_none true lines bytes clear fed = ap (λ l. lines_from (suc lines) (take (length l - 1) l)) (fed_clear bytes fed clear) ∙ lines_from-nil (suc lines)
+
+pub first_some : (cursor : BufferedLines) (found : Option LineText) → IsFirst (rest_in cursor) (option_map line_shown found)
+    → IfSome found (λ line. lines_in cursor ≡ line_of cursor (line_shown line) ∷ lines_after cursor line.size)
+unfolding rest_in lines_in
+first_some cursor None first = tt
+first_some cursor (Some line) first = lines_first cursor.is_open cursor.lines (drop cursor.at cursor.all.now) (line_shown line) first cursor.fed cursor.last
+
+pub first_none : (cursor : BufferedLines) (found : Option LineText) → IsFirst (rest_in cursor) (option_map line_shown found) → IfNone found (lines_in cursor ≡ [])
+unfolding rest_in lines_in
+first_none cursor None first = lines_none cursor.is_open cursor.lines (drop cursor.at cursor.all.now) first cursor.fed
+first_none cursor (Some line) first = tt
+
+-- what a cursor keeps when a line is consumed
+pub record Kept (all : List ℕ) (at lines : ℕ) (is_open : Bool) : Type 0 where
+  pub within : at ≤ length all
+  pub a_byte_each : lines + length all ≤ 2 ^ 63 + at
+  pub fed : is_fed (drop at all) ≡ true
+  pub last : IsLast is_open is_open (drop at all) []
+
+pub kept_after : (cursor : BufferedLines) (line : Shown) (size : ℕ) → Cut (rest_in cursor) line → line.size ≡ size → Kept cursor.all.now (cursor.at + size) (cursor.lines + 1) cursor.is_open
+unfolding rest_in
+kept_after cursor line size cut e =
+    let rest = drop cursor.at cursor.all.now in
+    let behind : drop (cursor.at + size) cursor.all.now ≡ drop line.size rest = sym (drop-drop size cursor.at cursor.all.now) ∙ ap (λ n. drop n rest) (sym e) in
+    let fed : is_fed (drop line.size rest) ≡ true = fed_drop line.size rest cursor.fed in
+    let gone : cursor.is_open ≡ true → drop line.size rest ≡ [] = λ h. alone rest cut.piece (drop line.size rest) cut.cut cut.clear (cursor.last.one h) fed in
+    record {
+      within = omega (arith, cursor.within, cut.size_is, e, ap length cut.cut, length-append cut.piece (10 ∷ drop line.size rest), length-drop cursor.at cursor.all.now);
+      a_byte_each = omega (arith, cursor.a_byte_each, cut.size_is, e);
+      fed = rw behind fed;
+      last = rw behind (record { none_behind = λ h. refl; one = λ h. rw (gone h) (omega arith); some = λ h. rw (gone h) refl });
+    }
+
+-- a cursor that begins has all lines
+pub begins_lines : (cursor : BufferedLines) (bytes : List ℕ) (lines : ℕ) (is_open : Bool) → BeginsLines bytes lines is_open cursor → lines_in cursor ≡ buffered_lines is_open lines bytes
+unfolding lines_in rest_in
+begins_lines cursor bytes lines is_open b =
+    ap (λ l. buffered_lines cursor.is_open cursor.lines l) (ap (λ n. drop n cursor.all.now) b.at ∙ b.bytes_are)
+    ∙ ap (λ n. buffered_lines cursor.is_open n bytes) b.given ∙ ap (λ o. buffered_lines o lines bytes) b.open_is
+
+-- none is left of no bytes
+pub none_left : (lines : ℕ) (bytes : List ℕ) → bytes ≡ [] → buffered_lines false lines bytes ≡ []
+none_left lines bytes e = ap (buffered_lines false lines) e ∙ whole_lines_from-last (suc lines) [] (λ k d below. absurd (omega (arith, below)))

@@ -1,0 +1,557 @@
+-- Lemmas on a step of the reader of lines.
+use Rattle.std.proofs.Common.{◌≡◌, ℕ, suc, ◌+◌, ◌-◌, ◌^◌, ◌<◌, ◌≤◌, ◌⊎◌, inl, inr, Bool, true, false, cond, List, [], ◌∷◌, ◌++◌, length, Option, None, Some, Ok, Err, take, drop, refl, sym, ap, ◌∙◌, subst, append_assoc, append-nil, add-zero, length-append, arith}
+use Rattle.std.specs.Prelude.{option_map, is_some, IfSome, flat_map}
+use Rattle.std.proofs.lemmas.List.{nil_from_length, take_all}
+use Rattle.std.proofs.lemmas.Bool.{false≢true}
+use Rattle.std.proofs.Math.Seq.{take-append-add, take-append_seam}
+use Rattle.std.proofs.KnownBytes.{Consumes-nil}
+use Rattle.std.specs.Io.KnownBytes.{Consumes, IsAtEnd, prepend_known}
+use Rattle.std.specs.Io.BufRead.{ends_with_byte, strip_last}
+use Rattle.bt_lines.proofs.lemmas.reader.block.BlockLemmas.{unread_fits}
+use Rattle.bt_lines.proofs.lemmas.reader.lines.LinesLemmas.{lines_from-fed, lines_from-last, lines_from-nil, spelled-fed, spelled-last}
+use Rattle.bt_lines.proofs.lemmas.reader.lines.TextLemmas.{line_feeds-append, line_feeds-none, line_feeds-fed, bytes_behind_first}
+use Rattle.bt_lines.specs.inside.ReadBuffer.{complete, unread}
+use Rattle.bt_lines.specs.model.Lines.{TextLine, fed_line, last_line, lines_from, line_feeds, bytes_in, spelled}
+use Rattle.bt_lines.specs.model.Fault.{Told, read_failed, no_memory}
+use Rattle.bt_lines.specs.inside.ReaderState.{ended_at, fault_at, going_at, open_at, taken_at, told_at}
+use Rattle.bt_lines.specs.inside.Shape.{held_at}
+use Rattle.bt_lines.specs.inside.Spill.{Buffers, closed}
+use Rattle.bt_lines.specs.calls.Output.{block_size}
+use Rattle.bt_lines.specs.calls.LentLine.{GivesFirst, NoLineFeed}
+use Rattle.bt_lines.specs.calls.Names.{told}
+use Rattle.bt_lines.specs.calls.Reader.{FillsLines, IsKept, IsSound, MakesLine, SameLines, buffered_bytes, is_going, Hands, IsNear, FailsToRead, end_told, GivesLine, line_at, source_of, input_of, lines_given, bytes_taken, held, fault_kept, has_ended, bytes_left, feeds_taken}
+use Rattle.bt_lines.specs.declared.fault.Fault.{Fault}
+use Rattle.bt_lines.specs.declared.fault.Input.{Input}
+use Rattle.bt_lines.specs.declared.reader.spill.Stop.{Stop}
+use Rattle.bt_lines.specs.declared.reader.spill.Stop.TheVariants.{Failed, LineFeed as StopLineFeed, End as StopEnd, TooLong as StopTooLong, NoMemory as StopNoMemory}
+use Rattle.bt_lines.specs.declared.reader.line.LineEnd.TheVariants.{Absent, Cr}
+use Rattle.bt_lines.specs.declared.reader.line_reader.LineReader.{LineReader}
+use Rattle.bt_lines.specs.declared.reader.line_reader.State.{State}
+use Rattle.bt_lines.specs.declared.reader.line_reader.State.TheVariants.{Reading, LastLine, Ended, ReadFailed, TooLong, NoMemory}
+
+-- ---- what a reader shows, by how far it is
+
+-- a reader that goes on holds the bytes of its buffer
+pub record Goes {S : Type 0} (reader : LineReader S) : Type 0 where
+  pub holds : held reader ≡ complete reader.buffer ++ unread reader.buffer
+  pub good : fault_kept reader ≡ None
+  pub open_ended : has_ended reader ≡ false
+  pub untold : end_told reader ≡ false
+  pub taken : bytes_taken reader ≡ reader.taken
+
+goes_at : (state : State) → going_at state ≡ true → (input : Input) (lines taken : ℕ)
+    → (open_at state ≡ false) × (fault_at state input lines ≡ None) × (ended_at state ≡ false) × (told_at state ≡ false) × (taken_at state taken ≡ taken)
+goes_at Reading e input lines taken = (refl, refl, refl, refl, refl)
+goes_at LastLine e input lines taken = absurd (false≢true e)
+goes_at Ended e input lines taken = absurd (false≢true e)
+goes_at ReadFailed e input lines taken = absurd (false≢true e)
+goes_at TooLong e input lines taken = absurd (false≢true e)
+goes_at NoMemory e input lines taken = absurd (false≢true e)
+
+pub goes : {S : Type 0} (reader : LineReader S) → is_going reader ≡ true → Goes reader
+unfolding held fault_kept has_ended end_told bytes_taken
+goes reader e =
+    let at = goes_at reader.state e reader.input reader.lines reader.taken in
+    record { holds = rw at.0 refl; good = at.1; open_ended = at.2; untold = at.3; taken = at.4 }
+
+-- a reader to which the end was reported
+pub record IsTold {S : Type 0} (reader : LineReader S) : Type 0 where
+  pub good : fault_kept reader ≡ None
+  pub is_told : end_told reader ≡ true
+  pub taken : bytes_taken reader ≡ reader.taken
+
+pub told_last : {S : Type 0} (reader : LineReader S) → reader.state ≡ LastLine → IsTold reader
+unfolding fault_kept end_told bytes_taken
+told_last reader e = record { good = rw e refl; is_told = rw e refl; taken = rw e refl }
+
+pub told_ended : {S : Type 0} (reader : LineReader S) → reader.state ≡ Ended → IsTold reader
+unfolding fault_kept end_told bytes_taken
+told_ended reader e = record { good = rw e refl; is_told = rw e refl; taken = rw e refl }
+
+-- ---- lines of known bytes
+
+-- the first of them, after the bytes that are held
+first_of_known : (n : ℕ) (a b : Option (List ℕ)) (block bytes rest : List ℕ) (line : TextLine) → Consumes a b bytes
+    → ((ys : List ℕ) → lines_from n ((block ++ bytes) ++ ys) ≡ line ∷ lines_from (suc n) (rest ++ ys))
+    → GivesFirst (option_map (lines_from n) (prepend_known block a)) line (option_map (lines_from (suc n)) (prepend_known rest b))
+first_of_known n None b block bytes rest line c h = tt
+first_of_known n (Some xs) None block bytes rest line c h = absurd c
+first_of_known n (Some xs) (Some ys) block bytes rest line c h =
+    ap (lines_from n) (ap (λ l. block ++ l) c ∙ sym (append_assoc block bytes ys)) ∙ h ys
+
+-- the last one, which was held
+last_of_known : (n : ℕ) (a : Option (List ℕ)) (piece rest : List ℕ) (line : TextLine) → lines_from n piece ≡ line ∷ [] → rest ≡ []
+    → GivesFirst (option_map (lines_from n) (option_map (λ ys. piece) a)) line (option_map (lines_from (suc n)) (option_map (λ ys. rest) a))
+last_of_known n None piece rest line h e = tt
+last_of_known n (Some xs) piece rest line h e = h ∙ ap (λ l. line ∷ l) (sym (ap (lines_from (suc n)) e ∙ lines_from-nil (suc n)))
+
+-- those that are left stay the same while more bytes are taken
+same_known : (n : ℕ) (a b : Option (List ℕ)) (old new bytes : List ℕ) → Consumes a b bytes → new ≡ old ++ bytes
+    → SameLines (option_map (lines_from n) (prepend_known old a)) (option_map (lines_from n) (prepend_known new b))
+same_known n None b old new bytes c e = tt
+same_known n (Some xs) None old new bytes c e = absurd c
+same_known n (Some xs) (Some ys) old new bytes c e =
+    ap (λ l. Some (lines_from n l)) (ap (λ l. l ++ ys) e ∙ append_assoc old bytes ys ∙ ap (λ l. old ++ l) (sym c))
+
+-- nor when the end is reported
+same_at_end : (n : ℕ) (a b : Option (List ℕ)) (old new bytes : List ℕ) → Consumes a b bytes → IsAtEnd b → new ≡ old ++ bytes
+    → SameLines (option_map (lines_from n) (prepend_known old a)) (option_map (lines_from n) (option_map (λ ys. new) b))
+same_at_end n None b old new bytes c end e = tt
+same_at_end n (Some xs) None old new bytes c end e = absurd c
+same_at_end n (Some xs) (Some ys) old new bytes c end e =
+    ap (λ l. Some (lines_from n l)) (e ∙ ap (λ l. old ++ l) (sym (c ∙ ap (λ l. bytes ++ l) end ∙ append-nil bytes)))
+
+-- none is left once the end was reported and nothing is held
+pub none_told : (n : ℕ) (a : Option (List ℕ)) (held : List ℕ) → held ≡ [] → IfSome (option_map (lines_from n) (option_map (λ ys. held) a)) (λ lines. lines ≡ [])
+none_told n None held e = tt
+none_told n (Some xs) held e = ap (lines_from n) e ∙ lines_from-nil n
+
+-- none is left of bytes that have ended
+none_of_known : (n : ℕ) (a b : Option (List ℕ)) (block bytes : List ℕ) → Consumes a b bytes → IsAtEnd b → block ++ bytes ≡ []
+    → IfSome (option_map (lines_from n) (prepend_known block a)) (λ lines. lines ≡ [])
+none_of_known n None b block bytes c e none = tt
+none_of_known n (Some xs) None block bytes c e none = absurd c
+none_of_known n (Some xs) (Some ys) block bytes c e none =
+    ap (lines_from n) (ap (λ l. block ++ l) (c ∙ ap (λ l. bytes ++ l) e ∙ append-nil bytes) ∙ none) ∙ lines_from-nil n
+
+-- those after the first are what is left, except what was taken after a prefix without a line feed
+near_known : (n : ℕ) (a b : Option (List ℕ)) (block bytes front back : List ℕ) (k : ℕ) → NoLineFeed front → length back ≤ k → Consumes a b bytes → block ++ bytes ≡ front ++ back
+    → IfSome (option_map (lines_from n) (prepend_known block a)) (λ lines. IfSome b (λ rest. bytes_in (drop 1 lines) ≤ length rest + k))
+near_known n None b block bytes front back k clear short c e = tt
+near_known n (Some xs) None block bytes front back k clear short c e = absurd c
+near_known n (Some xs) (Some ys) block bytes front back k clear short c e =
+    let whole : block ++ xs ≡ front ++ (back ++ ys) =
+    ap (λ l. block ++ l) c ∙ sym (append_assoc block bytes ys) ∙ ap (λ l. l ++ ys) e ∙ append_assoc front back ys in
+    rw whole (omega (arith, bytes_behind_first n front (back ++ ys) clear, length-append back ys))
+
+-- a last piece with a byte is one line
+pub last_line-some : (n : ℕ) (piece : List ℕ) → 0 < length piece
+    → last_line n piece ≡ record { number = n; text = strip_last 13 piece; ending = cond (ends_with_byte 13 piece) Cr Absent } ∷ []
+last_line-some n [] h = absurd (omega arith)
+last_line-some n (byte ∷ bytes) h = refl
+
+-- ---- a line with a line feed
+
+module _ {S : Type 0} (left : S → Option (List ℕ)) (failed end : S → Bool) (old new : LineReader S) (bytes piece : List ℕ) (was : Goes old) (is : Goes new)
+    (same : input_of new ≡ input_of old) (more : lines_given new ≡ suc (lines_given old)) (consumed : Consumes (left (source_of old)) (left (source_of new)) bytes)
+    (counted : new.taken ≡ old.taken + length bytes) (joined : held old ++ bytes ≡ piece ++ 10 ∷ held new) (clear : NoLineFeed piece)
+    (at : line_at new ≡ Some (fed_line (suc (lines_given old)) piece)) (near : length (held new) ≤ block_size) (ready : 0 < line_feeds (held old) → source_of new ≡ source_of old) (served : failed (source_of new) ≡ failed (source_of old)) where
+  fed_first : (ys : List ℕ) → lines_from (suc (lines_given old)) ((held old ++ bytes) ++ ys)
+      ≡ fed_line (suc (lines_given old)) piece ∷ lines_from (suc (suc (lines_given old))) (held new ++ ys)
+  fed_first ys =
+      ap (λ l. lines_from (suc (lines_given old)) (l ++ ys)) joined ∙ ap (lines_from (suc (lines_given old))) (append_assoc piece (10 ∷ held new) ys)
+      ∙ lines_from-fed (suc (lines_given old)) piece (held new ++ ys) clear
+
+  fed_counts : lines_given new + line_feeds (held new) ≡ lines_given old + line_feeds (held old) + line_feeds bytes
+  fed_counts =
+      rw more
+      (omega (arith, line_feeds-append (held old) bytes, ap line_feeds joined, line_feeds-fed piece (held new) clear))
+
+  fed_size : length (held old) + length bytes ≡ length piece + suc (length (held new))
+  fed_size = omega (arith, length-append (held old) bytes, ap length joined, length-append piece (10 ∷ held new))
+
+  taken_more : bytes_taken new ≡ bytes_taken old + length bytes
+  taken_more = is.taken ∙ counted ∙ ap (λ n. n + length bytes) (sym was.taken)
+
+  within : bytes_taken new < 2 ^ 63
+  within = rw is.taken new.counted
+
+  fed_below : lines_given new < 2 ^ 63
+  unfolding lines_given
+  fed_below = omega (arith, new.a_byte_each, new.counted)
+
+  fed_hands : Hands left old bytes new
+  unfolding feeds_taken
+  fed_hands = record {
+    left_over = consumed;
+    counted = taken_more;
+    same_input = same;
+    fed = λ t b. fed_counts;
+    told_stays = λ t. absurd (false≢true (sym was.untold ∙ t));
+  }
+
+  fed_held : held old ++ bytes ≡ spelled (fed_line (suc (lines_given old)) piece) ++ held new
+  fed_held =
+      rw (spelled-fed (suc (lines_given old)) piece) (joined ∙ sym (append_assoc piece (10 ∷ []) (held new)))
+
+  pub gives_fed : GivesLine left failed old (fed_line (suc (lines_given old)) piece) new
+  unfolding bytes_left
+  gives_fed = record {
+    first = rw (was.untold, is.untold, more)
+        (first_of_known (suc (lines_given old)) (left (source_of old)) (left (source_of new)) (held old) bytes (held new) (fed_line (suc (lines_given old)) piece) consumed fed_first);
+    bytes = (bytes, fed_hands, fed_held);
+    ahead = near;
+    ready = ready;
+    number = refl;
+    at = at;
+    counted = more;
+    below = fed_below;
+    shrinks = omega (arith, taken_more, within, fed_size);
+    served = served;
+    was_going = (was.good, was.open_ended);
+    goes = is.good;
+  }
+
+  pub sound_fed : IsKept left end old → IsSound left end new
+  sound_fed h = record {
+    end = λ e. absurd (false≢true (sym is.untold ∙ e));
+    within = λ e. within;
+    near = λ e. near;
+  }
+
+-- ---- the last line, which has no line feed
+
+module _ {S : Type 0} (left : S → Option (List ℕ)) (failed end : S → Bool) (old new : LineReader S) (piece : List ℕ) (was : IsTold old) (is : IsTold new) (ended : has_ended old ≡ false)
+    (same : input_of new ≡ input_of old) (same_source : source_of new ≡ source_of old) (same_taken : new.taken ≡ old.taken)
+    (holds : held old ≡ piece) (gone : held new ≡ []) (clear : NoLineFeed piece) (more : lines_given new ≡ suc (lines_given old)) (some : 0 < length piece) where
+  abbrev pub line : TextLine
+  line = record { number = suc (lines_given old); text = strip_last 13 piece; ending = cond (ends_with_byte 13 piece) Cr Absent }
+
+  one : last_line (suc (lines_given old)) piece ≡ line ∷ []
+  one = last_line-some (suc (lines_given old)) piece some
+
+  last_hands : Hands left old [] new
+  last_hands = record {
+    left_over = rw same_source (Consumes-nil (left (source_of old)));
+    counted = is.taken ∙ same_taken ∙ sym was.taken ∙ sym (add-zero (bytes_taken old));
+    same_input = same;
+    fed = λ t b. absurd (false≢true (sym t ∙ is.is_told));
+    told_stays = λ t. is.is_told;
+  }
+
+  last_held : held old ++ [] ≡ spelled line ++ held new
+  last_held =
+      let stood : spelled line ++ [] ≡ piece = ap (flat_map spelled) (sym one) ∙ spelled-last (suc (lines_given old)) piece in
+      append-nil (held old) ∙ holds ∙ sym stood ∙ ap (λ l. spelled line ++ l) (sym gone)
+
+  last_below : lines_given new < 2 ^ 63
+  unfolding lines_given
+  last_below = omega (arith, new.a_byte_each, new.counted)
+
+  last_within : bytes_taken old < 2 ^ 63
+  last_within = rw was.taken old.counted
+
+  module _ (at : line_at new ≡ Some line) where
+    pub gives_last : GivesLine left failed old line new
+    unfolding bytes_left
+    gives_last = record {
+      first = rw (was.is_told, is.is_told, more, same_source)
+          (last_of_known (suc (lines_given old)) (left (source_of old)) (held old) (held new) line (ap (lines_from (suc (lines_given old))) holds ∙ lines_from-last (suc (lines_given old)) piece clear ∙ one) gone);
+      bytes = ([], last_hands, last_held);
+      ahead = rw gone (omega arith);
+      ready = λ h. same_source;
+      number = refl;
+      at = at;
+      counted = more;
+      below = last_below;
+      shrinks = rw gone (omega (arith, last_hands.counted, last_within, ap length holds, some));
+      served = ap failed same_source;
+      was_going = (was.good, ended);
+      goes = is.good;
+    }
+
+    pub sound_last : IsKept left end old → IsSound left end new
+    sound_last h = record {
+      end = λ e. let before = h.end was.is_told in rw same_source before;
+      within = λ e. rw is.taken new.counted;
+      near = λ e. rw gone (omega arith);
+    }
+
+-- ---- a line that was made buffered
+
+module _ {S : Type 0} (left : S → Option (List ℕ)) (failed end : S → Bool) (old new : LineReader S) (bytes : List ℕ) (was : Goes old)
+    (same : input_of new ≡ input_of old) (same_lines : lines_given new ≡ lines_given old) (consumed : Consumes (left (source_of old)) (left (source_of new)) bytes)
+    (taken : bytes_taken new ≡ bytes_taken old + length bytes) (holds : held new ≡ held old ++ bytes) (good : fault_kept new ≡ None)
+    (ready : 0 < line_feeds (held old) → source_of new ≡ source_of old) (served : failed (source_of new) ≡ failed (source_of old))
+    (some : 0 < length (buffered_bytes new)) (within : bytes_taken new < 2 ^ 63) (empty : buffered_bytes old ≡ []) where
+  made_hands : Hands left old bytes new
+  unfolding feeds_taken
+  made_hands = record {
+    left_over = consumed;
+    counted = taken;
+    same_input = same;
+    fed = λ t b. rw (same_lines, holds) (omega (arith, line_feeds-append (held old) bytes));
+    told_stays = λ t. absurd (false≢true (sym was.untold ∙ t));
+  }
+
+  made_by : SameLines (option_map (lines_from (suc (lines_given old))) (bytes_left left old)) (option_map (lines_from (suc (lines_given new))) (bytes_left left new)) → MakesLine left failed old new
+  made_by kept = record {
+    some = some;
+    bytes = (bytes, made_hands, holds);
+    same = kept;
+    counted = same_lines;
+    ready = ready;
+    served = served;
+    was_going = (was.good, was.open_ended);
+    goes = good;
+    within = within;
+  }
+
+  pub makes_line : end_told new ≡ false → FillsLines left failed end old (Ok true) new
+  unfolding bytes_left
+  makes_line untold = record {
+    answers = made_by (rw (was.untold, untold, same_lines) (same_known (suc (lines_given old)) (left (source_of old)) (left (source_of new)) (held old) (held new) bytes consumed holds));
+    unread = λ h. absurd (omega (arith, h, ap length empty));
+    kept = λ h. record { end = λ e. absurd (false≢true (sym untold ∙ e)); within = λ e. within };
+  }
+
+  pub makes_last : end_told new ≡ true → end (source_of new) ≡ true → IsAtEnd (left (source_of new)) → FillsLines left failed end old (Ok true) new
+  unfolding bytes_left
+  makes_last is_told told none = record {
+    answers = made_by (rw (was.untold, is_told, same_lines) (same_at_end (suc (lines_given old)) (left (source_of old)) (left (source_of new)) (held old) (held new) bytes consumed none holds));
+    unread = λ h. absurd (omega (arith, h, ap length empty));
+    kept = λ h. record { end = λ e. (told, none); within = λ e. within };
+  }
+
+-- ---- the end of the text
+
+module _ {S : Type 0} (left : S → Option (List ℕ)) (failed end : S → Bool) (old new : LineReader S) (bytes : List ℕ) (was : Goes old) (is : IsTold new)
+    (same : input_of new ≡ input_of old) (same_lines : lines_given new ≡ lines_given old) (consumed : Consumes (left (source_of old)) (left (source_of new)) bytes)
+    (counted : new.taken ≡ old.taken + length bytes) (nothing : held old ++ bytes ≡ []) (gone : held new ≡ [])
+    (served : failed (source_of new) ≡ failed (source_of old)) (told : end (source_of new) ≡ true) (none : IsAtEnd (left (source_of new))) (ended : has_ended new ≡ true) (empty : buffered_bytes old ≡ []) where
+  end_hands : Hands left old bytes new
+  end_hands = record {
+    left_over = consumed;
+    counted = is.taken ∙ counted ∙ ap (λ n. n + length bytes) (sym was.taken);
+    same_input = same;
+    fed = λ t b. absurd (false≢true (sym t ∙ is.is_told));
+    told_stays = λ t. is.is_told;
+  }
+
+  pub fills_end : FillsLines left failed end old (Ok false) new
+  unfolding bytes_left
+  fills_end = record {
+    answers = record {
+      none_left = rw was.untold (none_of_known (suc (lines_given old)) (left (source_of old)) (left (source_of new)) (held old) bytes consumed none nothing);
+      none_comes = rw is.is_told (none_told (suc (lines_given new)) (left (source_of new)) (held new) gone);
+      nothing_held = gone;
+      counted = same_lines;
+      bytes = (bytes, end_hands, nothing);
+      served = served;
+      was_going = was.good;
+      goes = is.good;
+      ends = ended;
+      told = is.is_told;
+      again = λ e. absurd (false≢true (sym was.open_ended ∙ e));
+    };
+    unread = λ h. absurd (omega (arith, h, ap length empty));
+    kept = λ h. record { end = λ e. (told, none); within = λ e. rw is.taken new.counted };
+  }
+
+-- ---- a line that couldn't be given
+
+-- no fault is none
+some_fault : (fault : Told) → None ≡ Some fault → ⊥
+some_fault fault e = false≢true (ap is_some e)
+
+-- a failed read has a place
+some_place : {input : Input} {line : ℕ} → read_failed input line ≡ no_memory → ⊥
+some_place e = false≢true (sym (ap (λ fault. is_some fault.place) e))
+
+-- a prefix of bytes that were joined, without the bytes after it
+front_of_joined : (block bytes text behind : List ℕ) → block ++ bytes ≡ text ++ behind → length behind ≤ length bytes → text ≡ block ++ take (length bytes - length behind) bytes
+front_of_joined block bytes text behind e short =
+    let size : length text ≡ length block + (length bytes - length behind) =
+    omega (arith, ap length e, length-append block bytes, length-append text behind) in
+    sym (take-append_seam text behind) ∙ ap (take (length text)) (sym e) ∙ ap (λ k. take k (block ++ bytes)) size
+    ∙ take-append-add block bytes (length bytes - length behind)
+
+-- what was taken of the line has no line feed, except in the bytes after it
+module _ {S : Type 0} (left : S → Option (List ℕ)) (failed end : S → Bool) (old new : LineReader S) (bytes text behind : List ℕ) (fault : Fault) (was : Goes old) (no_line : line_feeds (held old) ≡ 0)
+    (same : input_of new ≡ input_of old) (same_lines : lines_given new ≡ lines_given old) (consumed : Consumes (left (source_of old)) (left (source_of new)) bytes)
+    (counted : bytes_taken new ≡ bytes_taken old + length bytes) (joined : held old ++ bytes ≡ text ++ behind) (clear : NoLineFeed text)
+    (short : length behind ≤ block_size) (holds : bytes_taken new < 2 ^ 63 → lines_given old + line_feeds (held new) ≡ lines_given old + line_feeds (held old) + line_feeds bytes)
+    (kept : fault_kept new ≡ Some (told fault)) (untold : end_told new ≡ false) (empty : buffered_bytes old ≡ []) where
+  cut_counts : bytes_taken new < 2 ^ 63 → lines_given new + line_feeds (held new) ≡ lines_given old + line_feeds (held old) + line_feeds bytes
+  cut_counts below =
+      rw same_lines (holds below)
+
+  cut_hands : Hands left old bytes new
+  unfolding feeds_taken
+  cut_hands = record {
+    left_over = consumed;
+    counted = counted;
+    same_input = same;
+    fed = λ t b. cut_counts b;
+    told_stays = λ t. absurd (false≢true (sym was.untold ∙ t));
+  }
+
+  cut_near : IsNear left old new
+  unfolding bytes_left
+  cut_near =
+      let one : suc (lines_given new) - lines_given old ≡ 1 = omega (arith, same_lines) in
+      rw (one, was.untold)
+      (near_known (suc (lines_given old)) (left (source_of old)) (left (source_of new)) (held old) bytes text behind block_size clear short consumed joined)
+
+  cut_given : text ≡ held old ++ take (2 ^ 63 - 1 - bytes_taken old) bytes
+      → lines_given new ≡ feeds_taken old + line_feeds (take (2 ^ 63 - 1 - bytes_taken old) bytes)
+  unfolding feeds_taken
+  cut_given e =
+      (omega (arith, same_lines, line_feeds-append (held old) (take (2 ^ 63 - 1 - bytes_taken old) bytes), ap line_feeds e, line_feeds-none text clear))
+
+  pub stepped_cut : (told fault ≡ read_failed (input_of old) (suc (lines_given old)) → text ≡ held old ++ take (2 ^ 63 - 1 - bytes_taken old) bytes)
+      → FailsToRead left failed old (told fault) new ⊎ (told fault ≡ no_memory) → (told fault ≡ no_memory → failed (source_of new) ≡ failed (source_of old))
+      → FillsLines left failed end old (Err fault) new
+  stepped_cut cut cause served = record {
+    answers = record {
+      kept = kept;
+      bytes = (bytes, cut_hands);
+      counted = same_lines;
+      again = λ before e. absurd (some_fault before (sym was.good ∙ e));
+      was_going = was.open_ended;
+      before_end = λ e. was.untold;
+      no_line = λ e. no_line;
+      first = λ e. cause;
+      cut_off = λ e f. record { bytes = bytes; hands = cut_hands; given = cut_given (cut f) };
+      near = λ e. cut_near;
+      served = served;
+    };
+    unread = λ h. absurd (omega (arith, h, ap length empty));
+    kept = λ h. record {
+      end = λ e. absurd (false≢true (sym untold ∙ e));
+      within = λ e. absurd (some_fault (told fault) (sym e ∙ kept));
+    };
+  }
+
+-- ---- the same, by the fields of the reader
+
+pub held_told : (complete unread : List ℕ) → complete ≡ [] → held_at true complete unread ≡ []
+held_told complete unread e = ap (λ l. take (length l - 1) l) e
+
+-- a last piece with its line feed holds the piece
+pub held_closed : (all complete unread : List ℕ) → complete ≡ closed all → held_at true complete unread ≡ all
+held_closed [] complete unread e = held_told complete unread e
+held_closed (x ∷ xs) complete unread e =
+    let whole : List ℕ = x ∷ xs in
+    let size : length (whole ++ 10 ∷ []) - 1 ≡ length whole = omega (arith, length-append whole (10 ∷ [])) in
+    ap (λ l. take (length l - 1) l) e ∙ ap (λ n. take n (whole ++ 10 ∷ [])) size ∙ take-append_seam whole (10 ∷ [])
+
+failed_is_none : StopLineFeed ≡ Failed → ⊥
+failed_is_none e = cc
+
+long_is_none : StopLineFeed ≡ StopTooLong → ⊥
+long_is_none e = cc
+
+refused_is_none : StopLineFeed ≡ StopNoMemory → ⊥
+refused_is_none e = cc
+
+no_feeds_by : (stop : Stop) (n : ℕ) → (stop ≡ StopLineFeed → ⊥) → (n ≡ 0) ⊎ (stop ≡ StopLineFeed) → n ≡ 0
+no_feeds_by stop n other (inl e) = e
+no_feeds_by stop n other (inr e) = absurd (other e)
+
+pub some_length : (xs : List ℕ) → (length xs ≡ 0 → ⊥) → 0 < length xs
+some_length [] h = absurd (h refl)
+some_length (x ∷ xs) h = omega arith
+
+closed_none : (xs : List ℕ) → closed xs ≡ [] → xs ≡ []
+closed_none [] e = refl
+closed_none (x ∷ xs) e = absurd (omega (arith, ap length e))
+
+module _ {S : Type 0} (left : S → Option (List ℕ)) (failed end : S → Bool) (old new : LineReader S) (going : is_going old ≡ true) (none : complete old.buffer ≡ [])
+    (same : new.input ≡ old.input) (same_lines : new.lines ≡ old.lines) (stop : Stop)
+    (buffers : Buffers left failed end old.source (unread old.buffer) old.taken stop new.source (complete new.buffer) (unread new.buffer) new.taken) where
+  old_holds : held old ≡ unread old.buffer
+  old_holds = (goes old going).holds ∙ ap (λ l. l ++ unread old.buffer) none
+
+  nothing_buffered : buffered_bytes old ≡ []
+  unfolding buffered_bytes
+  nothing_buffered = none
+
+  pub line_step : stop ≡ StopLineFeed → new.state ≡ Reading → FillsLines left failed end old (Ok true) new
+  unfolding source_of input_of lines_given buffered_bytes
+  line_step is state =
+      let b = rw is at buffers in
+      let was = goes old going in
+      let now = goes new (rw state refl) in
+      let counted : new.taken ≡ old.taken + length b.bytes = omega (arith, b.counted) in
+      makes_line left failed end old new b.bytes was same same_lines b.consumed (now.taken ∙ counted ∙ ap (λ n. n + length b.bytes) (sym was.taken))
+      (now.holds ∙ sym b.stopped.0 ∙ ap (λ l. l ++ b.bytes) (sym old_holds)) now.good (λ h. b.ready (rw old_holds at h)) b.stopped.2 b.stopped.1 (rw now.taken b.within) nothing_buffered now.untold
+
+  pub last_step : stop ≡ StopEnd → (length (complete new.buffer) ≡ 0 → ⊥) → new.state ≡ LastLine → FillsLines left failed end old (Ok true) new
+  unfolding source_of input_of lines_given held buffered_bytes end_told
+  last_step is some state =
+      let b = rw is at buffers in
+      let was = goes old going in
+      let now = told_last new state in
+      let counted : new.taken ≡ old.taken + length b.bytes = omega (arith, b.counted) in
+      let holds : held new ≡ held old ++ b.bytes = rw state (held_closed (unread old.buffer ++ b.bytes) (complete new.buffer) (unread new.buffer) b.stopped.1) ∙ ap (λ l. l ++ b.bytes) (sym old_holds) in
+      makes_last left failed end old new b.bytes was same same_lines b.consumed (now.taken ∙ counted ∙ ap (λ n. n + length b.bytes) (sym was.taken))
+      holds now.good (λ h. b.ready (rw old_holds at h)) b.stopped.3 (some_length (complete new.buffer) some) (rw now.taken b.within) nothing_buffered now.is_told b.stopped.4 b.stopped.5
+
+  pub end_step : stop ≡ StopEnd → length (complete new.buffer) ≡ 0 → new.state ≡ Ended → FillsLines left failed end old (Ok false) new
+  unfolding source_of input_of lines_given held has_ended
+  end_step is empty state =
+      let b = rw is at buffers in
+      let was = goes old going in
+      let lines : complete new.buffer ≡ [] = nil_from_length (complete new.buffer) empty in
+      let all : unread old.buffer ++ b.bytes ≡ [] = closed_none (unread old.buffer ++ b.bytes) (sym b.stopped.1 ∙ lines) in
+      fills_end left failed end old new b.bytes was (told_ended new state) same same_lines b.consumed (omega (arith, b.counted))
+      (ap (λ l. l ++ b.bytes) old_holds ∙ all) (rw (state, lines, b.stopped.2) refl) b.stopped.3 b.stopped.4 b.stopped.5 (rw state refl) nothing_buffered
+
+  no_feeds : (stop ≡ StopLineFeed → ⊥) → line_feeds (held old) ≡ 0
+  no_feeds other = rw old_holds (no_feeds_by stop (line_feeds (unread old.buffer)) other buffers.first)
+
+  joined_all : (all bytes : List ℕ) → unread old.buffer ++ bytes ≡ all → held old ++ bytes ≡ all
+  joined_all all bytes e = ap (λ l. l ++ bytes) old_holds ∙ e
+
+  module _ (fault : Fault) where
+    is_read_failed : told fault ≡ read_failed (input_of new) (suc (lines_given new)) → told fault ≡ read_failed old.input (suc old.lines)
+    unfolding input_of lines_given
+    is_read_failed at = at ∙ ap (λ i. read_failed i (suc new.lines)) same ∙ ap (λ n. read_failed old.input (suc n)) same_lines
+
+    -- the source failed
+    pub failed_step : stop ≡ Failed → told fault ≡ read_failed (input_of new) (suc (lines_given new)) → new.state ≡ ReadFailed → FillsLines left failed end old (Err fault) new
+    unfolding source_of input_of lines_given bytes_taken held fault_kept end_told
+    failed_step is at state =
+        let b = rw is at buffers in
+        let was = goes old going in
+        let is_fault = is_read_failed at in
+        let counted : new.taken ≡ old.taken + length b.bytes = omega (arith, b.counted) in
+        let room : length b.bytes ≤ 2 ^ 63 - 1 - old.taken = omega (arith, counted, new.counted) in
+        let all : held old ++ b.bytes ≡ unread old.buffer ++ b.bytes = joined_all (unread old.buffer ++ b.bytes) b.bytes refl in
+        let clear : NoLineFeed (held old ++ b.bytes) = subst NoLineFeed (sym all) b.stopped.0 in
+        let kept : held new ≡ unread new.buffer = rw (state, b.stopped.1) refl in
+        let none : line_feeds (held new) ≡ 0 = rw kept (line_feeds-none (unread new.buffer) b.stopped.2) in
+        stepped_cut left failed end old new b.bytes (held old ++ b.bytes) [] fault was (no_feeds (λ e. failed_is_none (sym e ∙ is))) same same_lines b.consumed
+        (rw (state, was.taken) counted) (sym (append-nil (held old ++ b.bytes))) clear (omega arith)
+        (λ below. omega (arith, none, line_feeds-none (held old ++ b.bytes) clear, line_feeds-append (held old) b.bytes)) (rw (state, is_fault, same, same_lines) refl) (rw state refl) nothing_buffered
+        (λ e. rw (was.taken, take_all (2 ^ 63 - 1 - old.taken) b.bytes room) refl)
+        (inl (record { is = is_fault; cause = inl b.stopped.3 }))
+        (λ e. absurd (some_place (sym is_fault ∙ e)))
+
+    -- the text is too long
+    pub long_step : stop ≡ StopTooLong → told fault ≡ read_failed (input_of new) (suc (lines_given new)) → new.state ≡ TooLong → FillsLines left failed end old (Err fault) new
+    unfolding source_of input_of lines_given bytes_taken held fault_kept end_told
+    long_step is at state =
+        let b = rw is at buffers in
+        let was = goes old going in
+        let is_fault = is_read_failed at in
+        let cut = b.stopped.0 in
+        let counted : suc new.taken ≡ old.taken + length b.bytes = omega (arith, b.counted) in
+        let room : length b.bytes - length cut.1 ≡ 2 ^ 63 - 1 - old.taken = omega (arith, counted, cut.4, b.stopped.3) in
+        let some : length cut.1 ≤ length b.bytes = omega (arith, counted, cut.4, b.stopped.3, old.counted) in
+        let joined : held old ++ b.bytes ≡ cut.0 ++ cut.1 = joined_all (cut.0 ++ cut.1) b.bytes cut.3 in
+        stepped_cut left failed end old new b.bytes cut.0 cut.1 fault was (no_feeds (λ e. long_is_none (sym e ∙ is))) same same_lines b.consumed
+        (rw (state, was.taken) counted) joined cut.2 (omega (arith, cut.4))
+        (λ below. absurd (omega (arith, b.stopped.3, rw state at below))) (rw (state, is_fault, same, same_lines) refl) (rw state refl) nothing_buffered
+        (λ e. rw (was.taken, ← room) (front_of_joined (held old) b.bytes cut.0 cut.1 joined some))
+        (inl (record { is = is_fault; cause = inr (rw state (omega (arith, b.stopped.3))) }))
+        (λ e. absurd (some_place (sym is_fault ∙ e)))
+
+    -- the line couldn't grow
+    pub refused_step : stop ≡ StopNoMemory → told fault ≡ no_memory → new.state ≡ NoMemory → FillsLines left failed end old (Err fault) new
+    unfolding source_of input_of lines_given bytes_taken held fault_kept end_told
+    refused_step is is_fault state =
+        let b = rw is at buffers in
+        let was = goes old going in
+        let cut = b.stopped.0 in
+        let counted : new.taken ≡ old.taken + length b.bytes = omega (arith, b.counted) in
+        let joined : held old ++ b.bytes ≡ cut.0 ++ unread new.buffer = joined_all (cut.0 ++ unread new.buffer) b.bytes cut.2 in
+        let kept : held new ≡ unread new.buffer = rw (state, b.stopped.1) refl in
+        stepped_cut left failed end old new b.bytes cut.0 (unread new.buffer) fault was (no_feeds (λ e. refused_is_none (sym e ∙ is))) same same_lines b.consumed
+        (rw (state, was.taken) counted) joined cut.1 (unread_fits new.buffer)
+        (λ below. omega (arith, ap line_feeds kept, ap line_feeds joined, line_feeds-append (held old) b.bytes, line_feeds-append cut.0 (unread new.buffer), line_feeds-none cut.0 cut.1))
+        (rw (state, is_fault) refl) (rw state refl) nothing_buffered
+        (λ e. absurd (some_place (sym e ∙ is_fault)))
+        (inr is_fault)
+        (λ e. b.stopped.2)

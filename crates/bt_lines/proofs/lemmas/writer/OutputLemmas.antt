@@ -1,0 +1,52 @@
+-- Lemmas on what was put and what was taken.
+use Rattle.std.proofs.Common.{◌≡◌, ◌≤◌, ℕ, length, List, ◌++◌, Option, None, Some, refl, sym, ap, ◌∙◌, append_assoc, take, drop, take-append-drop}
+use Rattle.std.proofs.KnownBytes.{Appends-trans}
+use Rattle.std.specs.Io.KnownBytes.{Appends, Keeps, append_known}
+use Rattle.bt_lines.specs.calls.Output.{IsFrontOf, Grows, HoldsBlock, block_size}
+
+-- a part of the piece was taken, and then nothing
+pub front_part : (old mid new : Option (List ℕ)) (taken rest piece : List ℕ) → piece ≡ taken ++ rest → Appends old mid taken → Keeps mid new → IsFrontOf new old piece
+front_part old mid None taken rest piece e p q = tt
+front_part None mid (Some new) taken rest piece e p q = tt
+front_part (Some old) None (Some new) taken rest piece e p q = absurd p
+front_part (Some old) (Some mid) (Some new) taken rest piece e p q =
+    (rest, ap (λ l. l ++ rest) (q ∙ p) ∙ append_assoc old taken rest ∙ ap (λ l. old ++ l) (sym e))
+
+-- one more part was taken
+pub more_taken : (old mid new : Option (List ℕ)) (taken rest piece : List ℕ) (n : ℕ) → piece ≡ taken ++ rest → Appends old mid taken → Appends mid new (take n rest)
+    → (piece ≡ (taken ++ take n rest) ++ drop n rest) × Appends old new (taken ++ take n rest)
+more_taken old mid new taken rest piece n e p q =
+    (e ∙ ap (λ l. taken ++ l) (sym (take-append-drop n rest)) ∙ sym (append_assoc taken (take n rest) (drop n rest)), Appends-trans old mid new taken (take n rest) p q)
+
+-- what was taken is a prefix of itself and of what is held back
+pub front_held : (took : Option (List ℕ)) (held more : List ℕ) → IsFrontOf took (append_known took held) more
+front_held None held more = tt
+front_held (Some took) held more = (held ++ more, sym (append_assoc took held more))
+
+-- a prefix of the first bytes of a piece is one of the piece
+pub front_first : (old new : Option (List ℕ)) (piece : List ℕ) (n : ℕ) → IsFrontOf new old (take n piece) → IsFrontOf new old piece
+front_first None None piece n h = tt
+front_first (Some old) None piece n h = tt
+front_first None (Some new) piece n h = tt
+front_first (Some old) (Some new) piece n h = (
+  h.0 ++ drop n piece,
+  sym (append_assoc new h.0 (drop n piece)) ∙ ap (λ l. l ++ drop n piece) h.1 ∙ append_assoc old (take n piece) (drop n piece)
+      ∙ ap (λ l. old ++ l) (take-append-drop n piece),
+)
+
+-- a prefix of what is held back and of the first bytes of a piece
+pub front_filled : (old new : Option (List ℕ)) (held piece : List ℕ) (n : ℕ) → IsFrontOf new old (held ++ take n piece) → IsFrontOf new (append_known old held) piece
+front_filled None None held piece n h = tt
+front_filled (Some old) None held piece n h = tt
+front_filled None (Some new) held piece n h = tt
+front_filled (Some old) (Some new) held piece n h =
+    front_first (Some (old ++ held)) (Some new) piece n (h.0, h.1 ∙ sym (append_assoc old held (take n piece)))
+
+-- what was taken grows, and grows again
+pub grows_both : (old mid new : Option (List ℕ)) → Grows old mid → Grows mid new → Grows old new
+grows_both old mid new p q = (p.0 ++ q.0, Appends-trans old mid new p.0 q.0 p.1 q.1)
+
+-- what is held back is what was put and not taken
+pub holds_held : (took : Option (List ℕ)) (held : List ℕ) → length held ≤ block_size → HoldsBlock took (append_known took held)
+holds_held None held short = (held, tt, short)
+holds_held (Some took) held short = (held, refl, short)

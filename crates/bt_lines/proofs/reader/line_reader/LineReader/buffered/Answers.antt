@@ -1,0 +1,30 @@
+use Rattle.std.proofs.Common.{◌∙◌}
+use Rattle.bt_lines.proofs.lemmas.reader.lines.BufferedLemmas.{begins_lines}
+use Rattle.bt_lines.proofs.lemmas.reader.lines.CutLemmas.{are_fed}
+use Rattle.bt_lines.proofs.lemmas.reader.lines.TakingLemmas.{is_prefix}
+use Rattle.bt_lines.specs.calls.Reader.{buffered_bytes, is_open, lines_given}
+use Rattle.bt_lines.proofs.reader.line_reader.LineReader.buffered.Goals as goal
+
+pub new-requires-clause-fed : goal.new-requires-clause-fed
+new-requires-clause-fed g c = rw c.lines.ensures (are_fed c.args.self.now.buffer).fed
+
+pub returns-clause-begins : goal.returns-clause-begins
+unfolding buffered_bytes lines_given is_open
+returns-clause-begins g c = record {
+  bytes_are = c.new.ensures.begins.bytes_are ∙ c.lines.ensures;
+  at = c.new.ensures.begins.at;
+  given = c.new.ensures.begins.given;
+  open_is = c.new.ensures.begins.open_is ∙ c.is_open.ensures;
+}
+
+pub returns-clause-lines : goal.returns-clause-lines
+unfolding buffered_bytes lines_given is_open
+returns-clause-lines g c = begins_lines c.new.result _ _ _ (record {
+  bytes_are = c.new.ensures.begins.bytes_are ∙ c.lines.ensures;
+  at = c.new.ensures.begins.at;
+  given = c.new.ensures.begins.given;
+  open_is = c.new.ensures.begins.open_is ∙ c.is_open.ensures;
+})
+
+pub returns-clause-prefix : goal.returns-clause-prefix
+returns-clause-prefix g c = is_prefix g.S.Source.left c.args.self.now

@@ -1,0 +1,42 @@
+use Rattle.std.proofs.Common.{◌∙◌, ◌+◌, ◌∷◌, ◌++◌, ap, length, refl, sym}
+use Rattle.std.specs.Prelude.{nat_lt}
+use Rattle.bt_lines.proofs.lemmas.reader.block.BufferLemmas.{fed_clear}
+use Rattle.bt_lines.proofs.lemmas.reader.lines.CutLemmas.{are_fed, cuts_first, last_cut, quiet_cut, some_at, spaced_cut}
+use Rattle.bt_lines.proofs.lemmas.reader.block.ReadsLemmas.{counts_none}
+use Rattle.bt_lines.specs.calls.FirstLine.{ending_at, line_shown}
+use Rattle.bt_lines.specs.inside.ReadBuffer.{complete, unread}
+use Rattle.bt_lines.specs.calls.Reader.{bytes_taken, source_of}
+use Rattle.bt_lines.proofs.reader.line_reader.LineReader.cuts_line.Goals as goal
+
+pub returns-clause-cut : goal.returns-clause-cut
+returns-clause-cut g c = λ e.
+    cuts_first _ _ _ c.args.self.now _ (line_shown c.in-Some.field-0) refl refl refl refl refl (rw c.lines.ensures at c.in-Some.ensures)
+    (c.take_line.ensures.lines) c.take_line.ensures.unread c.take_line.ensures.text c.take_line.ensures.spilled
+    (c.ending_of-self.ensures ∙ ap (λ b. ending_at b (nat_lt (length c.in-Some.field-0.text.now + 1) c.in-Some.field-0.size)) c.is_open.ensures)
+
+pub returns-clause-at : goal.returns-clause-at
+returns-clause-at g c = λ e.
+    let cuts = cuts_first g.S.Source.left g.S.Source.has_failed g.S.Source.end_told c.args.self.now _ (line_shown c.in-Some.field-0) refl refl refl refl refl (rw c.lines.ensures at c.in-Some.ensures)
+    (c.take_line.ensures.lines) c.take_line.ensures.unread c.take_line.ensures.text c.take_line.ensures.spilled
+    (c.ending_of-self.ensures ∙ ap (λ b. ending_at b (nat_lt (length c.in-Some.field-0.text.now + 1) c.in-Some.field-0.size)) c.is_open.ensures) in
+    some_at _ cuts.line cuts.at
+
+pub returns-clause-reads_nothing : goal.returns-clause-reads_nothing
+unfolding source_of bytes_taken
+returns-clause-reads_nothing g c = λ e. counts_none g.S.Source.is_read _ _ _ _ refl refl
+
+pub returns-in_default-clause-none : goal.returns-in_default-clause-none
+returns-in_default-clause-none g c = λ e. fed_clear _ (are_fed c.args.self.now.buffer).fed (rw c.lines.ensures at c.in_default.ensures)
+
+pub invariant_of-self : goal.invariant_of-self
+invariant_of-self g c =
+    let old = c.args.self.now in
+    let cut = rw c.lines.ensures at c.in-Some.ensures in
+    let parts = cut.cut ∙ ap (λ l. cut.piece ++ 10 ∷ l) (sym c.take_line.ensures.lines) in
+    let fed = (are_fed c.take_line.new.self).fed in
+    record {
+      counted = old.counted;
+      a_byte_each = spaced_cut old.state (complete old.buffer) (unread old.buffer) (complete c.take_line.new.self) (unread c.take_line.new.self) old.lines old.taken cut.piece cut.clear parts c.take_line.ensures.unread fed old.last old.quiet old.a_byte_each;
+      quiet = quiet_cut old.state (complete old.buffer) (unread old.buffer) (complete c.take_line.new.self) (unread c.take_line.new.self) old.lines old.taken cut.piece cut.clear parts c.take_line.ensures.unread fed old.last old.quiet old.a_byte_each;
+      last = last_cut old.state (complete old.buffer) (unread old.buffer) (complete c.take_line.new.self) (unread c.take_line.new.self) old.lines old.taken cut.piece cut.clear parts c.take_line.ensures.unread fed old.last old.quiet old.a_byte_each;
+    }

@@ -1,0 +1,81 @@
+use Rattle.std.proofs.Common.{◌∙◌, ◌++◌, ap, eqb, length, refl, sym}
+use Rattle.std.proofs.lemmas.Bool.{eqb-true, false≢true}
+use Rattle.bt_lines.specs.inside.ReadBuffer.{complete, unread}
+use Rattle.bt_lines.proofs.lemmas.reader.lines.StateLemmas.{last_closed, last_going, last_of_none, quiet_going, reading_of, spaced, spaced_fault, spaced_last}
+use Rattle.bt_lines.proofs.lemmas.reader.lines.StepLemmas.{line_step, last_step, end_step, failed_step, long_step, refused_step}
+use Rattle.bt_lines.proofs.lemmas.reader.block.ReadsLemmas.{tells_unread, unread_by}
+use Rattle.bt_lines.proofs.reader.line_reader.LineReader.read_more.Goals as goal
+
+pub invariant_of-self : goal.invariant_of-self
+invariant_of-self g c =
+    let old = c.args.self.now in
+    let b = c.in-LineFeed.ensures.buffers in
+    record {
+      counted = b.within;
+      a_byte_each = spaced old.lines (complete old.buffer) (unread old.buffer) b.bytes _ _ c.requires.none b.counted old.state c.requires.going old.a_byte_each _ _ b.stopped.0;
+      quiet = λ e. absurd (quiet_going old.state c.requires.going e);
+      last = last_going old.state c.requires.going _ _;
+    }
+
+pub invariant_of-self-in-End-2 : goal.invariant_of-self-in-End-2
+invariant_of-self-in-End-2 g c =
+    let old = c.args.self.now in
+    let b = c.in-End.ensures.buffers in
+    record {
+      counted = b.within;
+      a_byte_each = spaced_last old.lines (complete old.buffer) (unread old.buffer) b.bytes _ _ c.requires.none b.counted old.state c.requires.going old.a_byte_each (complete c.read_lines.new.buffer) (unread c.read_lines.new.buffer) b.stopped.1;
+      quiet = λ e. absurd (false≢true (sym e));
+      last = last_closed (unread old.buffer ++ b.bytes) _ _ b.stopped.0 b.stopped.1 b.stopped.2;
+    }
+
+pub invariant_of-self-in-Failed : goal.invariant_of-self-in-Failed
+invariant_of-self-in-Failed g c =
+    let old = c.args.self.now in
+    let b = c.in-Failed.ensures.buffers in
+    record {
+      counted = b.within;
+      a_byte_each = spaced_fault old.lines (complete old.buffer) (unread old.buffer) b.bytes _ _ c.requires.none b.counted old.state c.requires.going old.a_byte_each _ _ b.stopped.4.0 b.stopped.1 b.stopped.4.1;
+      quiet = λ e. b.stopped.1;
+      last = last_of_none _ _;
+    }
+
+pub invariant_of-self-in-NoMemory : goal.invariant_of-self-in-NoMemory
+invariant_of-self-in-NoMemory g c =
+    let old = c.args.self.now in
+    let b = c.in-NoMemory.ensures.buffers in
+    record {
+      counted = b.within;
+      a_byte_each = spaced_fault old.lines (complete old.buffer) (unread old.buffer) b.bytes _ _ c.requires.none b.counted old.state c.requires.going old.a_byte_each _ _ b.stopped.0.0 b.stopped.1 b.stopped.0.2;
+      quiet = λ e. b.stopped.1;
+      last = last_of_none _ _;
+    }
+
+pub returns-in-LineFeed-clause-fills : goal.returns-in-LineFeed-clause-fills
+returns-in-LineFeed-clause-fills g c =
+    line_step _ _ _ c.args.self.now _ c.requires.going c.requires.none refl refl _ c.in-LineFeed.ensures.buffers refl (reading_of c.args.self.now.state c.requires.going)
+
+pub returns-in-End-clause-fills : goal.returns-in-End-clause-fills
+returns-in-End-clause-fills g c =
+    end_step _ _ _ c.args.self.now _ c.requires.going c.requires.none refl refl _ c.in-End.ensures.buffers refl
+    (ap length (sym c.lines.ensures) ∙ eqb-true _ _ (sym c.if-is_empty.ensures)) refl
+
+pub returns-in-End-2-clause-fills : goal.returns-in-End-2-clause-fills
+returns-in-End-2-clause-fills g c =
+    last_step _ _ _ c.args.self.now _ c.requires.going c.requires.none refl refl _ c.in-End.ensures.buffers refl
+    (λ e. false≢true (c.if-is_empty.ensures ∙ ap (λ n. eqb n 0) (ap length c.lines.ensures ∙ e))) refl
+
+pub returns-in-Failed-clause-fills : goal.returns-in-Failed-clause-fills
+returns-in-Failed-clause-fills g c =
+    failed_step _ _ _ c.args.self.now _ c.requires.going c.requires.none refl refl _ c.in-Failed.ensures.buffers c.read_failed.result refl c.read_failed.ensures refl
+
+pub returns-in-TooLong-clause-fills : goal.returns-in-TooLong-clause-fills
+returns-in-TooLong-clause-fills g c =
+    long_step _ _ _ c.args.self.now _ c.requires.going c.requires.none refl refl _ c.in-TooLong.ensures.buffers c.read_failed-in-TooLong.result refl c.read_failed-in-TooLong.ensures refl
+
+pub returns-in-NoMemory-clause-fills : goal.returns-in-NoMemory-clause-fills
+returns-in-NoMemory-clause-fills g c =
+    refused_step _ _ _ c.args.self.now _ c.requires.going c.requires.none refl refl _ c.in-NoMemory.ensures.buffers c.no_memory.result refl c.no_memory.ensures refl
+
+pub returns-in-Failed-clause-own_failure : goal.returns-in-Failed-clause-own_failure
+returns-in-Failed-clause-own_failure g c = λ was.
+    tells_unread g.S.Source.is_read c.args.self.now _ _ _ _ c.read_failed.ensures (unread_by g.S.Source.is_read c.args.self.now _ c.in-Failed.ensures.counted)

@@ -1,0 +1,16 @@
+use Rattle.std.proofs.Common.{◌-◌, ◌≤◌, length, take}
+use Rattle.bt_lines.specs.inside.Newline.{Lacks}
+use Rattle.bt_lines.proofs.reader.newline.late_length.Given as goal
+
+-- it isn't in what was searched
+abbrev pub invariant-loop-near : goal.invariant-loop-near
+invariant-loop-near l = (l.at ≤ length l.text) × Lacks l.byte (take l.at l.text)
+
+abbrev pub decreases-loop-near : goal.decreases-loop-near
+decreases-loop-near l = length l.text - l.at
+
+abbrev pub invariant-loop-at : goal.invariant-loop-at
+invariant-loop-at l = (l.at ≤ length l.text) × Lacks l.byte (take l.at l.text)
+
+abbrev pub decreases-loop-at : goal.decreases-loop-at
+decreases-loop-at l = length l.text - l.at

@@ -1,0 +1,40 @@
+use Rattle.std.proofs.Common.{◌≡◌, ◌≤◌, ◌<◌, ◌+◌, arith, length, rules, set, slice_range, subst, sym}
+use Rattle.bt_lines.proofs.lemmas.reader.block.BufferLemmas.{are_in_block, end_added, fed_push, length-range, none_searched}
+use Rattle.bt_lines.specs.inside.ReadBuffer.{complete, unread}
+use Rattle.bt_lines.specs.inside.Shape.{AreComplete}
+use Rattle.bt_lines.proofs.reader.read_buffer.ReadBuffer.end_line.Goals as goal
+
+pub invariant_of-self-clause-ordered : goal.invariant_of-self-clause-ordered
+invariant_of-self-clause-ordered c =
+    let old = c.args.self.now in
+    omega (arith, old.whole_searched, old.searched_within)
+
+pub invariant_of-self-clause-within : goal.invariant_of-self-clause-within
+unfolding unread
+invariant_of-self-clause-within c =
+    let old = c.args.self.now in
+    let size : length old.bytes ≡ 8192 = search rules in
+    let fits : old.end ≤ length old.bytes = omega (arith, size, old.within) in
+    omega (arith, length-range old.bytes old.whole old.end fits, c.requires.front, c.requires.room)
+
+pub invariant_of-self-clause-clear : goal.invariant_of-self-clause-clear
+invariant_of-self-clause-clear c = none_searched (set c.args.self.now.bytes c.args.self.now.end 10) (c.args.self.now.end + 1)
+
+pub invariant_of-self-clause-are_complete : goal.invariant_of-self-clause-are_complete
+unfolding unread
+invariant_of-self-clause-are_complete c =
+    let old = c.args.self.now in
+    let size : length old.bytes ≡ 8192 = search rules in
+    let ordered : old.whole ≤ old.end = omega (arith, old.whole_searched, old.searched_within) in
+    let fits : old.end ≤ length old.bytes = omega (arith, size, old.within) in
+    let below : old.end < length old.bytes = omega (arith, size, length-range old.bytes old.whole old.end fits, c.requires.front, c.requires.room) in
+    subst (AreComplete _) (sym (end_added old.bytes old.whole old.end ordered below)) (are_in_block _ (fed_push (slice_range old.bytes old.whole old.end)))
+
+pub returns-clause-lines : goal.returns-clause-lines
+unfolding complete unread
+returns-clause-lines c =
+    let old = c.args.self.now in
+    let size : length old.bytes ≡ 8192 = search rules in
+    let fits : old.end ≤ length old.bytes = omega (arith, size, old.within) in
+    let below : old.end < length old.bytes = omega (arith, size, length-range old.bytes old.whole old.end fits, c.requires.front, c.requires.room) in
+    end_added old.bytes old.whole old.end (omega (arith, old.whole_searched, old.searched_within)) below

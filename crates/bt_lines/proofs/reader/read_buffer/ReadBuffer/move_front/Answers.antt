@@ -1,0 +1,32 @@
+use Rattle.std.proofs.Common.{◌≡◌, arith, length, rules, subst, sym}
+use Rattle.bt_lines.proofs.lemmas.reader.block.BufferLemmas.{front_to, length-range}
+use Rattle.bt_lines.specs.inside.ReadBuffer.{unread}
+use Rattle.bt_lines.specs.inside.Shape.{IsSearched}
+use Rattle.bt_lines.proofs.reader.read_buffer.ReadBuffer.move_front.Goals as goal
+
+pub invariant_of-self-clause-clear : goal.invariant_of-self-clause-clear
+invariant_of-self-clause-clear c =
+    let old = c.args.self.now in
+    let size : length old.bytes ≡ 8192 = search rules in
+    subst IsSearched (sym (front_to old.bytes _ old.whole old.searched old.end old.whole_searched old.searched_within (omega (arith, size, old.within)) c.copy_within.ensures.after)) old.clear
+
+pub returns-clause-unread : goal.returns-clause-unread
+unfolding unread
+returns-clause-unread c =
+    let old = c.args.self.now in
+    let size : length old.bytes ≡ 8192 = search rules in
+    front_to old.bytes _ old.whole old.end old.end (omega (arith, old.whole_searched, old.searched_within)) (omega arith) (omega (arith, size, old.within)) c.copy_within.ensures.after
+
+pub returns-clause-end : goal.returns-clause-end
+unfolding unread
+returns-clause-end c =
+    let old = c.args.self.now in
+    let size : length old.bytes ≡ 8192 = search rules in
+    sym (length-range old.bytes old.whole old.end (omega (arith, size, old.within)))
+
+pub returns-then-self-eq0-clause-end : goal.returns-then-self-eq0-clause-end
+unfolding unread
+returns-then-self-eq0-clause-end c =
+    let old = c.args.self.now in
+    let size : length old.bytes ≡ 8192 = search rules in
+    omega (arith, length-range old.bytes old.whole old.end (omega (arith, size, old.within)), c.if-self-eq0.true, c.clear_lines.ensures.searched.1)

@@ -1,0 +1,14 @@
+use Rattle.std.proofs.Common.{◌≡◌, ◌-◌, ◌^◌, []}
+use Rattle.bt_lines.specs.inside.ReadBuffer.{complete, unread}
+use Rattle.bt_lines.specs.calls.Device.{ReadsCounted}
+use Rattle.bt_lines.proofs.lemmas.reader.block.BuffersLemmas.{ReadSoFar}
+use Rattle.bt_lines.proofs.reader.spill.read_lines.Given as goal
+
+abbrev pub invariant-loop-buffer : goal.invariant-loop-buffer
+invariant-loop-buffer g l =
+    ReadSoFar g.S.Source.left g.S.Source.has_failed g.S.Source.end_told l.initial.source (unread l.initial.buffer) l.initial.taken l.source (unread l.buffer) l.taken
+    × ReadsCounted g.S.Source.is_read l.initial.source l.initial.taken l.source l.taken
+    × (complete l.buffer ≡ [])
+
+abbrev pub decreases-loop-buffer : goal.decreases-loop-buffer
+decreases-loop-buffer g l = 2 ^ 63 - l.taken

@@ -1,0 +1,14 @@
+use Rattle.std.proofs.Common.{◌≡◌, ◌-◌, ◌^◌, [], false}
+use Rattle.bt_lines.specs.inside.ReadBuffer.{complete, unread}
+use Rattle.bt_lines.specs.calls.Device.{ReadsCounted}
+use Rattle.bt_lines.proofs.lemmas.reader.block.SpillLemmas.{SoFar}
+use Rattle.bt_lines.proofs.reader.spill.read_spilled.Given as goal
+
+abbrev pub invariant-reads : goal.invariant-reads
+invariant-reads g l =
+    SoFar g.S.Source.left g.S.Source.has_failed g.S.Source.end_told l.initial.source (unread l.initial.buffer) l.initial.taken l.source (unread l.buffer) l.buffer.spilled.items l.taken
+    × ReadsCounted g.S.Source.is_read l.initial.source l.initial.taken l.source l.taken
+    × (complete l.buffer ≡ []) × (l.buffer.is_spilled ≡ false)
+
+abbrev pub decreases-reads : goal.decreases-reads
+decreases-reads g l = 2 ^ 63 - l.taken

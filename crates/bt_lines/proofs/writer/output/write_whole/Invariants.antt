@@ -1,0 +1,13 @@
+use Rattle.std.proofs.Common.{◌≡◌, ℕ, List, ◌++◌, length}
+use Rattle.std.specs.Io.KnownBytes.{Appends}
+use Rattle.bt_lines.proofs.writer.output.write_whole.Given as goal
+
+-- the sink has taken the piece except the rest
+abbrev pub invariant-loop-rest : goal.invariant-loop-rest
+invariant-loop-rest g l =
+    (taken : List ℕ) × (l.piece ≡ taken ++ l.rest)
+    × Appends (g.K.Sink.took l.initial.sink) (g.K.Sink.took l.sink) taken
+    × (g.K.Sink.has_failed l.sink ≡ g.K.Sink.has_failed l.initial.sink)
+
+abbrev pub decreases-loop-rest : goal.decreases-loop-rest
+decreases-loop-rest g l = length l.rest

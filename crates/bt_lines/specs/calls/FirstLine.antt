@@ -1,0 +1,34 @@
+-- The first line of some bytes.
+use Rattle.std.specs.Prelude.{◌≡◌, ℕ, ◌+◌, Bool, true, false, List, ◌∷◌, ◌++◌, drop, length, take, nat_lt, Option, Some, None, if◌then◌else◌}
+use Rattle.std.specs.Io.BufRead.{ends_with_byte, strip_last}
+use Rattle.bt_lines.specs.calls.LentLine.{NoLineFeed}
+use Rattle.bt_lines.specs.declared.reader.buffered_lines.LineText.{LineText}
+use Rattle.bt_lines.specs.declared.reader.line.LineEnd.{LineEnd}
+use Rattle.bt_lines.specs.declared.reader.line.LineEnd.TheVariants.{Absent, Lf, CrLf, Cr}
+
+-- the text of a line and its size
+pub record Shown : Type 0 where
+  pub text : List ℕ
+  pub size : ℕ
+
+abbrev pub line_shown : LineText → Shown
+line_shown line = record { text = line.text.now; size = line.size }
+
+-- the line's bytes without its line feed, and what follows them
+pub record Cut (bytes : List ℕ) (line : Shown) : Type 0 where
+  pub piece : List ℕ
+  pub clear : NoLineFeed piece
+  pub size_is : line.size ≡ length piece + 1
+  pub cut : bytes ≡ piece ++ 10 ∷ drop line.size bytes
+  pub stripped : line.text ≡ strip_last 13 piece
+  pub front : take (length line.text) bytes ≡ line.text
+  pub returned : nat_lt (length line.text + 1) line.size ≡ ends_with_byte 13 piece
+
+abbrev pub IsFirst : List ℕ → Option Shown → Type 0
+IsFirst bytes None = NoLineFeed bytes
+IsFirst bytes (Some line) = Cut bytes line
+
+-- how a line ends
+abbrev pub ending_at : Bool → Bool → LineEnd
+ending_at false has_return = if has_return then CrLf else Lf
+ending_at true has_return = if has_return then Cr else Absent

@@ -1,0 +1,375 @@
+-- What a reader of lines holds, and what one call of `next` does.
+use Rattle.std.specs.Prelude.{◌≡◌, ◌≢◌, ℕ, suc, ◌+◌, ◌-◌, ◌^◌, ◌<◌, ◌≤◌, ◌⊎◌, Bool, true, false, List}
+use Rattle.std.specs.Prelude.{[], ◌++◌, length, Option, Some, None, option_map, Result, Ok, Err}
+use Rattle.std.specs.Prelude.{IfSome, IsSome, take, drop, ⊤}
+use Rattle.std.specs.Io.KnownBytes.{Consumes, IsAtEnd, prepend_known}
+use Rattle.bt_lines.specs.inside.ReadBuffer.{complete, text_in, unread}
+use Rattle.bt_lines.specs.inside.ReaderState.{ended_at, fault_at, going_at, open_at, taken_at, text_at, told_at}
+use Rattle.bt_lines.specs.inside.Shape.{held_at, is_fed}
+use Rattle.bt_lines.specs.calls.Buffered.{buffered_lines}
+use Rattle.bt_lines.specs.calls.Device.{ReadsCounted, ReadsFail}
+use Rattle.bt_lines.specs.model.Lines.{TextLine, lines_from, line_feeds, bytes_in, spelled}
+use Rattle.bt_lines.specs.calls.Output.{block_size}
+use Rattle.bt_lines.specs.model.Fault.{Told, read_failed, no_memory}
+use Rattle.bt_lines.specs.calls.Names.{told}
+use Rattle.bt_lines.specs.calls.LentLine.{line_seen, GivesFirst}
+use Rattle.bt_lines.specs.declared.fault.Input.{Input}
+use Rattle.bt_lines.specs.declared.fault.Fault.{Fault}
+use Rattle.bt_lines.specs.declared.reader.buffered_lines.ConsumedLines.{ConsumedLines}
+use Rattle.bt_lines.specs.declared.reader.line.Line.{Line}
+use Rattle.bt_lines.specs.declared.reader.line_reader.LineReader.{LineReader}
+
+-- the bytes that come after the lines given: once the end was reported, only those that are held
+abbrev pub left_at : Bool → List ℕ → Option (List ℕ) → Option (List ℕ)
+left_at true held left = option_map (λ bytes. held) left
+left_at false held left = prepend_known held left
+
+-- the first `count` lines are gone, if they were known
+abbrev pub DropsLines : Option (List TextLine) → ℕ → Option (List TextLine) → Type 0
+DropsLines None count new = ⊤
+DropsLines (Some lines) count new = new ≡ Some (drop count lines)
+
+-- the lines are the same, if they were known
+abbrev pub SameLines : Option (List TextLine) → Option (List TextLine) → Type 0
+SameLines None new = ⊤
+SameLines (Some lines) new = new ≡ Some lines
+
+module _ {S : Type 0} where
+  -- the source
+  unfoldable pub source_of : LineReader S → S
+  source_of reader = reader.source
+
+  -- the input that the reader stands for
+  unfoldable pub input_of : LineReader S → Input
+  input_of reader = reader.input
+
+  -- how many lines were given
+  unfoldable pub lines_given : LineReader S → ℕ
+  lines_given reader = reader.lines
+
+  -- how many bytes were taken from the source
+  unfoldable pub bytes_taken : LineReader S → ℕ
+  bytes_taken reader = taken_at reader.state reader.taken
+
+  -- the bytes that were taken from the source and not given as lines
+  unfoldable pub held : LineReader S → List ℕ
+  held reader = held_at (open_at reader.state) (complete reader.buffer) (unread reader.buffer)
+
+  unfoldable pub fault_kept : LineReader S → Option Told
+  fault_kept reader = fault_at reader.state reader.input reader.lines
+
+  -- whether it goes on
+  abbrev pub is_going : LineReader S → Bool
+  is_going reader = going_at reader.state
+
+  -- whether the end was reported to it
+  unfoldable pub end_told : LineReader S → Bool
+  end_told reader = told_at reader.state
+
+  -- whether it is after the last line
+  unfoldable pub has_ended : LineReader S → Bool
+  has_ended reader = ended_at reader.state
+
+  -- how many bytes may still come: it falls with each line given
+  abbrev pub room : LineReader S → ℕ
+  room reader = (2 ^ 63 - bytes_taken reader) + length (held reader)
+
+  -- the bytes that come after the lines given, if they are known
+  unfoldable pub bytes_left : (S → Option (List ℕ)) → LineReader S → Option (List ℕ)
+  bytes_left left reader = left_at (end_told reader) (held reader) (left (source_of reader))
+
+  -- the lines that come after those given, if they are known
+  abbrev pub lines_left : (S → Option (List ℕ)) → LineReader S → Option (List TextLine)
+  lines_left left reader =
+      option_map (lines_from (suc (lines_given reader))) (bytes_left left reader)
+
+  -- how many line feeds were taken: each ended a line that was given, or is held
+  unfoldable pub feeds_taken : LineReader S → ℕ
+  feeds_taken reader = lines_given reader + line_feeds (held reader)
+
+  -- what holds of a reader whose lines are given one at a time: `new` establishes it, and `next` keeps it; `fill` and
+  -- `consume` keep `IsKept`
+  pub record IsSound (left : S → Option (List ℕ)) (told : S → Bool)
+      (reader : LineReader S) : Type 0 where
+    -- once the end was reported to a reader, its source has reported it, and none of the known bytes is left
+    pub end : end_told reader ≡ true
+        → (told (source_of reader) ≡ true) × IsAtEnd (left (source_of reader))
+    -- without a fault, fewer than 2^63 bytes were taken
+    pub within : fault_kept reader ≡ None → bytes_taken reader < 2 ^ 63
+    -- without a fault, at most a block is held after the lines given
+    pub near : fault_kept reader ≡ None → length (held reader) ≤ block_size
+
+  -- the line that a reader is at
+  unfoldable pub line_at : LineReader S → Option TextLine
+  line_at reader =
+      option_map (λ text. record { number = reader.lines; text = text; ending = reader.ending })
+      (text_at reader.state reader.lines (text_in reader.buffer))
+
+  -- the source handed over these bytes in the call
+  pub record Hands (left : S → Option (List ℕ)) (old : LineReader S) (bytes : List ℕ)
+      (new : LineReader S) : Type 0 where
+    pub left_over : Consumes (left (source_of old)) (left (source_of new)) bytes
+    pub counted : bytes_taken new ≡ bytes_taken old + length bytes
+    pub same_input : input_of new ≡ input_of old
+    -- line feeds are counted as bytes are, unless the end was reported or the text passed the bound
+    pub fed : end_told new ≡ false → bytes_taken new < 2 ^ 63
+        → feeds_taken new ≡ feeds_taken old + line_feeds bytes
+    -- an end that was reported stays reported
+    pub told_stays : end_told old ≡ true → end_told new ≡ true
+
+  -- a line was given
+  pub record GivesLine (left : S → Option (List ℕ)) (failed : S → Bool) (old : LineReader S)
+      (line : TextLine) (new : LineReader S) : Type 0 where
+    -- it is the first of the lines left, if these are known
+    pub first : GivesFirst (lines_left left old) line (lines_left left new)
+    -- the bytes taken are the line's and at most a block more, known or not
+    pub bytes : (bytes : List ℕ) × Hands left old bytes new
+        × (held old ++ bytes ≡ spelled line ++ held new)
+    pub ahead : length (held new) ≤ block_size
+    -- nothing is read while a complete line is held
+    pub ready : 0 < line_feeds (held old) → source_of new ≡ source_of old
+    pub number : line.number ≡ suc (lines_given old)
+    -- the reader is at it
+    pub at : line_at new ≡ Some line
+    pub counted : lines_given new ≡ suc (lines_given old)
+    pub below : lines_given new < 2 ^ 63
+    pub shrinks : room new < room old
+    pub served : failed (source_of new) ≡ failed (source_of old)
+    pub was_going : (fault_kept old ≡ None) × (has_ended old ≡ false)
+    pub goes : fault_kept new ≡ None
+
+  -- the end was reached
+  pub record GivesEnd (left : S → Option (List ℕ)) (failed : S → Bool)
+      (old new : LineReader S) : Type 0 where
+    -- no line was left, if they are known, and none is
+    pub none_left : IfSome (lines_left left old) (λ lines. lines ≡ [])
+    pub none_comes : IfSome (lines_left left new) (λ lines. lines ≡ [])
+    pub nothing_held : held new ≡ []
+    pub counted : lines_given new ≡ lines_given old
+    pub bytes : (bytes : List ℕ) × Hands left old bytes new × (held old ++ bytes ≡ [])
+    pub served : failed (source_of new) ≡ failed (source_of old)
+    pub was_going : fault_kept old ≡ None
+    pub goes : fault_kept new ≡ None
+    pub ends : has_ended new ≡ true
+    pub told : end_told new ≡ true
+    -- once it is reached, nothing more is read
+    pub again : has_ended old ≡ true → new ≡ old
+
+  -- a failed read: the source has failed, or the text is too long (that a read of this call
+  -- failed `TellsReads` says)
+  pub record FailsToRead (left : S → Option (List ℕ)) (failed : S → Bool) (old : LineReader S)
+      (fault : Told) (new : LineReader S) : Type 0 where
+    pub is : fault ≡ read_failed (input_of old) (suc (lines_given old))
+    pub cause : (failed (source_of new) ≡ true) ⊎ (2 ^ 63 ≤ bytes_taken new)
+
+  -- the piece that was cut off is no line: the line feeds among the bytes taken, the last one past
+  -- the bound aside, all end lines that were given
+  pub record CutsOff (left : S → Option (List ℕ)) (old new : LineReader S) : Type 0 where
+    pub bytes : List ℕ
+    pub hands : Hands left old bytes new
+    pub given : lines_given new
+        ≡ feeds_taken old + line_feeds (take (2 ^ 63 - 1 - bytes_taken old) bytes)
+
+  -- of known bytes, those after the lines given and one more line are left,
+  -- except at most a block
+  abbrev pub IsNear : (S → Option (List ℕ)) → LineReader S → LineReader S → Type 0
+  IsNear left old new =
+      IfSome (lines_left left old) (λ lines. IfSome (left (source_of new)) (λ rest.
+      bytes_in (drop (suc (lines_given new) - lines_given old) lines) ≤ length rest + block_size))
+
+  -- a fault was returned
+  pub record GivesFault (left : S → Option (List ℕ)) (failed : S → Bool) (old : LineReader S)
+      (fault : Told) (new : LineReader S) : Type 0 where
+    pub kept : fault_kept new ≡ Some fault
+    pub bytes : (bytes : List ℕ) × Hands left old bytes new
+    pub counted : lines_given new ≡ lines_given old
+    -- a fault is returned again, and nothing is read
+    pub again : (before : Told) → fault_kept old ≡ Some before → (fault ≡ before) × (new ≡ old)
+    -- after the end no fault comes
+    pub was_going : has_ended old ≡ false
+    pub before_end : fault_kept old ≡ None → end_told old ≡ false
+    -- nor while a complete line is held
+    pub no_line : fault_kept old ≡ None → line_feeds (held old) ≡ 0
+    pub first : fault_kept old ≡ None → FailsToRead left failed old fault new ⊎ (fault ≡ no_memory)
+    pub cut_off : fault_kept old ≡ None → fault ≡ read_failed (input_of old) (suc (lines_given old))
+        → CutsOff left old new
+    -- of known bytes, those after the line that couldn't be given are left,
+    -- except at most a block
+    pub near : fault_kept old ≡ None → IsNear left old new
+    pub served : fault ≡ no_memory → failed (source_of new) ≡ failed (source_of old)
+
+  -- what a result says
+  abbrev pub Answers : (S → Option (List ℕ)) → (S → Bool) → LineReader S
+      → Result (Option Line) Fault → LineReader S → Type 0
+  Answers left failed old (Ok (Some line)) new = GivesLine left failed old (line_seen line) new
+  Answers left failed old (Ok None) new = GivesEnd left failed old new
+  Answers left failed old (Err fault) new = GivesFault left failed old (told fault) new
+
+  -- the reads of the source in between all served, and gave as many bytes as the reader counts
+  abbrev pub HasRead : (S → Option ℕ → S → Type 0) → LineReader S → LineReader S → Type 0
+  HasRead IsRead old new =
+      ReadsCounted IsRead (source_of old) (bytes_taken old) (source_of new) (bytes_taken new)
+
+  -- a read in between failed, or the reads up to now gave more bytes than a text may have
+  abbrev pub IsUnread : (S → Option ℕ → S → Type 0) → LineReader S → LineReader S → Type 0
+  IsUnread IsRead old new = ReadsFail IsRead (source_of old) (source_of new)
+      ⊎ (HasRead IsRead old new × (2 ^ 63 ≤ bytes_taken new))
+
+  -- a failed read is reported exactly if one of the reads in between failed or the text is too long
+  pub record TellsReads (IsRead : S → Option ℕ → S → Type 0) (old : LineReader S)
+      (fault : Option Told) (new : LineReader S) : Type 0 where
+    pub unread : (input : Input) (line : ℕ) → fault ≡ Some (read_failed input line)
+        → IsUnread IsRead old new
+    pub read : ((input : Input) (line : ℕ) → fault ≢ Some (read_failed input line))
+        → HasRead IsRead old new
+
+  -- A failed read is reported for the first time only if a read of this call failed, or if the text is
+  -- too long by what its reads gave. What the source did before doesn't matter. Else all reads of the
+  -- call succeeded.
+  abbrev pub TellsOwnFailure : {A : Type 0} → (S → Option ℕ → S → Type 0) → LineReader S
+      → Result A Fault → LineReader S → Type 0
+  TellsOwnFailure IsRead old (Ok done) new = HasRead IsRead old new
+  TellsOwnFailure IsRead old (Err fault) new = fault_kept old ≡ None
+      → TellsReads IsRead old (Some (told fault)) new
+
+  -- one call of `next`
+  pub record NextLine (left : S → Option (List ℕ)) (failed : S → Bool) (end : S → Bool)
+      (IsRead : S → Option ℕ → S → Type 0) (old : LineReader S)
+      (answer : Result (Option Line) Fault)
+      (new : LineReader S) : Type 0 where
+    pub answers : Answers left failed old answer new
+    pub own_failure : TellsOwnFailure IsRead old answer new
+    pub sound : IsSound left end old → IsSound left end new
+
+  -- what a step to the next line gives, or to the end if there is none
+  abbrev pub StepsTo : (S → Option (List ℕ)) → (S → Bool) → LineReader S → Option TextLine
+      → LineReader S → Type 0
+  StepsTo left failed old (Some line) new = GivesLine left failed old line new
+  StepsTo left failed old None new = GivesEnd left failed old new
+
+  abbrev pub StepAnswers : {A : Type 0} → (S → Option (List ℕ)) → (S → Bool) → LineReader S
+      → Result A Fault → LineReader S → Type 0
+  StepAnswers left failed old (Ok done) new = StepsTo left failed old (line_at new) new
+  StepAnswers left failed old (Err fault) new = GivesFault left failed old (told fault) new
+
+  -- the same call of `next`, with the line held instead of borrowed
+  pub record Stepped {A : Type 0} (left : S → Option (List ℕ)) (failed : S → Bool) (end : S → Bool)
+      (old : LineReader S) (answer : Result A Fault) (new : LineReader S) : Type 0 where
+    pub answers : StepAnswers left failed old answer new
+    pub sound : IsSound left end old → IsSound left end new
+
+  -- a step that met no fault
+  pub record Moves (left : S → Option (List ℕ)) (failed : S → Bool) (end : S → Bool)
+      (IsRead : S → Option ℕ → S → Type 0) (old new : LineReader S) : Type 0 where
+    pub steps : StepsTo left failed old (line_at new) new
+    pub read : HasRead IsRead old new
+    pub sound : IsSound left end old → IsSound left end new
+
+  -- a step that met a fault, which the reader keeps
+  pub record Stops (left : S → Option (List ℕ)) (failed : S → Bool) (end : S → Bool)
+      (IsRead : S → Option ℕ → S → Type 0) (old new : LineReader S) : Type 0 where
+    pub kept : IsSome (fault_kept new)
+    -- whatever has this fault as its result
+    pub answers : (fault : Fault) → fault_kept new ≡ Some (told fault)
+        → GivesFault left failed old (told fault) new
+    pub own_failure : (fault : Fault) → fault_kept new ≡ Some (told fault)
+        → TellsOwnFailure {A = Option Line} IsRead old (Err fault) new
+    pub sound : IsSound left end old → IsSound left end new
+
+  -- the complete lines that are buffered, as bytes
+  unfoldable pub buffered_bytes : LineReader S → List ℕ
+  buffered_bytes reader = complete reader.buffer
+
+  -- a line was made buffered
+  pub record MakesLine (left : S → Option (List ℕ)) (failed : S → Bool) (old new : LineReader S)
+      : Type 0 where
+    pub some : 0 < length (buffered_bytes new)
+    pub bytes : (bytes : List ℕ) × Hands left old bytes new × (held new ≡ held old ++ bytes)
+    pub same : SameLines (lines_left left old) (lines_left left new)
+    pub counted : lines_given new ≡ lines_given old
+    -- nothing is read while a complete line is held
+    pub ready : 0 < line_feeds (held old) → source_of new ≡ source_of old
+    pub served : failed (source_of new) ≡ failed (source_of old)
+    pub was_going : (fault_kept old ≡ None) × (has_ended old ≡ false)
+    pub goes : fault_kept new ≡ None
+    pub within : bytes_taken new < 2 ^ 63
+
+  abbrev pub FillAnswers : (S → Option (List ℕ)) → (S → Bool) → LineReader S → Result Bool Fault
+      → LineReader S → Type 0
+  FillAnswers left failed old (Ok true) new = MakesLine left failed old new
+  FillAnswers left failed old (Ok false) new = GivesEnd left failed old new
+  FillAnswers left failed old (Err fault) new = GivesFault left failed old (told fault) new
+
+  -- what holds of a reader at all times, except how much it has buffered
+  pub record IsKept (left : S → Option (List ℕ)) (told : S → Bool) (reader : LineReader S) : Type 0 where
+    pub end : end_told reader ≡ true
+        → (told (source_of reader) ≡ true) × IsAtEnd (left (source_of reader))
+    pub within : fault_kept reader ≡ None → bytes_taken reader < 2 ^ 63
+
+  -- a call of `fill`
+  pub record FillsLines (left : S → Option (List ℕ)) (failed : S → Bool) (end : S → Bool)
+      (old : LineReader S) (answer : Result Bool Fault) (new : LineReader S) : Type 0 where
+    pub answers : FillAnswers left failed old answer new
+    -- if a line is buffered, nothing changes
+    pub unread : 0 < length (buffered_bytes old) → new ≡ old
+    pub kept : IsKept left end old → IsKept left end new
+
+  -- the first line that is buffered was given
+  pub record CutsFirst (left : S → Option (List ℕ)) (failed : S → Bool) (end : S → Bool)
+      (old new : LineReader S) : Type 0 where
+    pub line : TextLine
+    pub at : line_at new ≡ Some line
+    pub gives : GivesLine left failed old line new
+    pub sound : IsKept left end old → IsSound left end new
+
+  -- whether the last line that is buffered has no line feed of its own
+  unfoldable pub is_open : LineReader S → Bool
+  is_open reader = open_at reader.state
+
+  -- the lines that are buffered
+  abbrev pub buffered_in : LineReader S → List TextLine
+  buffered_in reader = buffered_lines (is_open reader) (lines_given reader) (buffered_bytes reader)
+
+  -- the lines that are left begin with those that are buffered
+  abbrev pub IsPrefix : (S → Option (List ℕ)) → LineReader S → Type 0
+  IsPrefix left reader = IfSome (lines_left left reader) (λ lines.
+      take (length (buffered_in reader)) lines ≡ buffered_in reader)
+
+  -- lines were consumed of those that are buffered
+  pub record IsTaken (reader : LineReader S) (consumed : ConsumedLines) : Type 0 where
+    pub within : consumed.bytes ≤ length (buffered_bytes reader)
+    pub fed : is_fed (take consumed.bytes (buffered_bytes reader)) ≡ true
+    pub lines : consumed.lines
+        ≡ lines_given reader + line_feeds (take consumed.bytes (buffered_bytes reader))
+
+  -- `count` lines were
+  pub record TakenLines (reader : LineReader S) (consumed : ConsumedLines) (count : ℕ) : Type 0 where
+    pub taken : IsTaken reader consumed
+    pub feeds : line_feeds (take consumed.bytes (buffered_bytes reader)) ≡ count
+    pub given : consumed.lines ≡ lines_given reader + count
+    pub left_is : buffered_lines (is_open reader) consumed.lines (drop consumed.bytes (buffered_bytes reader))
+        ≡ drop count (buffered_in reader)
+
+  -- they were taken
+  pub record TakesLines (left : S → Option (List ℕ)) (end : S → Bool) (old : LineReader S)
+      (consumed : ConsumedLines) (new : LineReader S) : Type 0 where
+    pub kept : IsKept left end old → IsKept left end new
+    -- after the lines at most a block is held
+    pub near : 0 < consumed.bytes → length (held new) ≤ block_size
+    -- of the lines that were left, the first `count` are gone
+    pub left_is : DropsLines (lines_left left old)
+        (line_feeds (take consumed.bytes (buffered_bytes old))) (lines_left left new)
+    pub bytes : buffered_bytes new ≡ drop consumed.bytes (buffered_bytes old)
+    pub given : lines_given new ≡ consumed.lines
+    pub below : lines_given new < 2 ^ 63
+    pub source_is : source_of new ≡ source_of old
+    pub input_is : input_of new ≡ input_of old
+    pub taken_is : bytes_taken new ≡ bytes_taken old
+    pub open_is : is_open new ≡ is_open old
+    pub fault_is : fault_kept new ≡ fault_kept old
+    pub told_is : end_told new ≡ end_told old
+    pub ended_is : has_ended new ≡ has_ended old
+    -- nothing is handed over
+    pub hands : Hands left old [] new
+    -- and so much less is held
+    pub shrinks : length (held new) + line_feeds (take consumed.bytes (buffered_bytes old)) ≤ length (held old)

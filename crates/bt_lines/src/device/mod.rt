@@ -1,0 +1,78 @@
+//! Where bytes come from and where they go to.
+
+pub(crate) mod from_read;
+pub(crate) mod script_sink;
+pub(crate) mod script_source;
+pub(crate) mod to_write;
+
+ghost use Rattle.std.specs.Prelude.{◌≡◌, ℕ, ◌<◌, ◌≤◌, Bool, true, Option, Some, None, List, length, IfOk, OnOk, OnErr};
+ghost use Rattle.std.specs.Io.KnownBytes.{Keeps, ReadConsumes, WriteAppends};
+ghost use Rattle.bt_lines.specs.calls.Device.{TellsEnd};
+
+/// A call of a device failed. Which error it was stays with the device.
+#[derive(Clone, Copy, Debug, PartialEq, Eq)]
+pub struct DeviceFailed;
+
+/// Where bytes come from.
+pub trait Source {
+    // The bytes still to come, if they are known; those that a failing source never hands over
+    // among them.
+    ghost left: { Self → Option (List ℕ) };
+
+    // Whether a read has failed.
+    ghost has_failed: { Self → Bool };
+
+    // Whether a read has reported the end, by returning 0 for a block with room.
+    ghost end_told: { Self → Bool };
+
+    // A read took the one source to the other and gave this many bytes, or failed if there is no count.
+    // Only `read` gives it.
+    ghost is_read: { Self → Option ℕ → Self → Type 0 };
+
+    /// Hands over the next bytes, as many as it likes of those that fit the block, and 0 for a block
+    /// with room only at the end. An error isn't tried again.
+    fn read(&mut self, block: &mut [u8]) -> Result<usize, DeviceFailed>
+        ensures within { IfOk result (λ n. n ≤ length block.new) }
+        ensures bytes { ReadConsumes (left self.old) (left self.new) result block.new }
+        ensures served { OnOk result (has_failed self.new ≡ has_failed self.old) }
+        ensures failed { OnErr result (has_failed self.new ≡ true) }
+        ensures counted { IfOk result (λ n. is_read self.old (Some n) self.new) }
+        ensures refused { OnErr result (is_read self.old None self.new) }
+        ensures end { TellsEnd (end_told self.old) (end_told self.new) result block.new };
+
+    /// Whether a read has failed. Once true, it stays so.
+    fn failed(&self) -> bool
+        ensures { result ≡ has_failed self.now };
+}
+
+/// Where bytes go to.
+pub trait Sink {
+    // The bytes that it took, if they are known.
+    ghost took: { Self → Option (List ℕ) };
+
+    // Whether a write or a flush has failed.
+    ghost has_failed: { Self → Bool };
+
+    // Whether it has passed on all that it took, by a flush at the latest.
+    ghost is_flushed: { Self → Bool };
+
+    /// Takes a prefix of the bytes, at least one byte if there is one, and returns how many. An error
+    /// takes none of them, and isn't tried again.
+    fn write(&mut self, bytes: &[u8]) -> Result<usize, DeviceFailed>
+        ensures within { IfOk result (λ n. n ≤ length bytes.now) }
+        ensures progress { IfOk result (λ n. 0 < length bytes.now → 0 < n) }
+        ensures bytes { WriteAppends (took self.old) (took self.new) result bytes.now }
+        ensures served { OnOk result (has_failed self.new ≡ has_failed self.old) }
+        ensures failed { OnErr result (has_failed self.new ≡ true) };
+
+    /// Passes on what it may still hold back.
+    fn flush(&mut self) -> Result<(), DeviceFailed>
+        ensures bytes { Keeps (took self.old) (took self.new) }
+        ensures flushed { OnOk result (is_flushed self.new ≡ true) }
+        ensures served { OnOk result (has_failed self.new ≡ has_failed self.old) }
+        ensures failed { OnErr result (has_failed self.new ≡ true) };
+
+    /// Whether a write or a flush has failed. Once true, it stays so.
+    fn failed(&self) -> bool
+        ensures { result ≡ has_failed self.now };
+}

@@ -1,0 +1,144 @@
+//! A sink that plays a script, for tests.
+
+ghost use Rattle.std.specs.Prelude.{◌≡◌, ℕ, ◌+◌, ◌<◌, ◌≤◌, ◌++◌, [], IsTrue, IsErr, IsOk, length, IfOk, OnOk, OnErr, Some, true, false, take};
+ghost use Rattle.std.specs.Io.KnownBytes.{Keeps, WriteAppends};
+ghost use Rattle.bt_lines.specs.calls.Script.{is_spent, takes_of};
+
+use crate::device::{DeviceFailed, Sink};
+use std::alloc::Global;
+use std::marker::Model;
+
+/// Takes bytes, at most `step` of them a call, and fails at the next piece with a byte once `good`
+/// bytes were taken. If it can't grow it has failed. Once failed, it takes nothing more.
+#[derive(Drop, Debug)]
+pub struct ScriptSink {
+    // What was taken, also once it has failed.
+    taken: Vec<u8>,
+    // At least 1.
+    step: usize,
+    // How many bytes go well; `None` if all do.
+    good: Option<usize>,
+    // Whether a call has failed; it stays so.
+    has_failed: bool,
+}
+
+impl Model for ScriptSink {
+    ghost use Rattle.std.specs.Prelude.{◌<◌};
+    ghost use Rattle.bt_lines.specs.calls.Script.{Writing};
+
+    ghost Value = { Writing };
+
+    ghost view = { λ s. record {
+      taken = s.taken.items;
+      step = s.step;
+      good = s.good;
+      has_failed = s.has_failed;
+    } };
+
+    ghost invariant = { λ s. 0 < s.step };
+}
+
+impl ScriptSink {
+    /// A sink that has taken nothing yet.
+    pub fn new(alloc: Global, step: usize, good: Option<usize>) -> ScriptSink
+        requires { 0 < step }
+        ensures { result ≡ record { taken = []; step = step; good = good; has_failed = false } }
+    {
+        ScriptSink {
+            taken: Vec::new(alloc),
+            step,
+            good,
+            has_failed: false,
+        }
+    }
+
+    /// The bytes that it has taken.
+    pub fn taken(&self) -> &[u8]
+        ensures { result.now ≡ self.now.taken }
+    {
+        self.taken.as_slice()
+    }
+
+    // Whether the good bytes are used up.
+    fn is_spent(&self) -> bool
+        ensures { result ≡ is_spent self.now.good (length self.now.taken) }
+    {
+        match self.good {
+            Some(good) => good <= self.taken.len(),
+            None => false,
+        }
+    }
+
+    // How many of the bytes offered the next write takes.
+    fn count_of(&self, offered: usize) -> usize
+        requires { is_spent self.now.good (length self.now.taken) ≡ false }
+        ensures count { result ≡ takes_of self.now offered }
+        ensures within { result ≤ offered }
+        ensures some { 0 < offered → 0 < result }
+    {
+        let count = self.step.min(offered);
+        match self.good {
+            Some(good) => count.min(good - self.taken.len()),
+            None => count,
+        }
+    }
+}
+
+impl Sink for ScriptSink {
+    ghost took = { λ s. Some s.taken };
+
+    ghost has_failed = { λ s. s.has_failed };
+
+    ghost is_flushed = { λ _. true };
+
+    fn write(&mut self, bytes: &[u8]) -> Result<usize, DeviceFailed>
+        ensures within { IfOk result (λ n. n ≤ length bytes.now) }
+        ensures progress { IfOk result (λ n. 0 < length bytes.now → 0 < n) }
+        ensures bytes { WriteAppends (Some self.old.taken) (Some self.new.taken) result bytes.now }
+        ensures served { OnOk result (self.new.has_failed ≡ self.old.has_failed) }
+        ensures failed { OnErr result (self.new.has_failed ≡ true) }
+
+        ensures count { IfOk result (λ n. 0 < length bytes.now
+            → n ≡ takes_of self.old (length bytes.now)) }
+        ensures spent { IsTrue (is_spent self.old.good (length self.old.taken))
+            → 0 < length bytes.now → IsErr result }
+        ensures for_good { IsTrue self.old.has_failed → IsErr result × (self.new ≡ self.old) }
+        ensures nothing { self.old.has_failed ≡ false → length bytes.now ≡ 0 → IsOk result }
+        ensures same_script { (self.new.step ≡ self.old.step) × (self.new.good ≡ self.old.good) }
+    {
+        if self.has_failed {
+            return Err(DeviceFailed);
+        }
+        if bytes.is_empty() {
+            return Ok(0);
+        }
+        if self.is_spent() {
+            self.has_failed = true;
+            return Err(DeviceFailed);
+        }
+        let count = self.count_of(bytes.len());
+        if self.taken.extend_from_slice(&bytes[..count]).is_err() {
+            self.has_failed = true;
+            return Err(DeviceFailed);
+        }
+        Ok(count)
+    }
+
+    fn flush(&mut self) -> Result<(), DeviceFailed>
+        ensures bytes { Keeps (Some self.old.taken) (Some self.new.taken) }
+        ensures served { OnOk result (self.new.has_failed ≡ self.old.has_failed) }
+        ensures failed { OnErr result (self.new.has_failed ≡ true) }
+        ensures only_after { OnErr result (self.old.has_failed ≡ true) }
+        ensures for_good { IsTrue self.old.has_failed → IsErr result }
+        ensures unchanged { self.new ≡ self.old }
+    {
+        if self.has_failed {
+            return Err(DeviceFailed);
+        }
+        Ok(())
+    }
+
+    fn failed(&self) -> bool {
+        self.has_failed
+    }
+}

@@ -1,0 +1,103 @@
+//! A writer of std as a sink.
+
+ghost use Rattle.std.specs.Prelude.{◌≡◌, ℕ, ◌<◌, ◌≤◌, false, true, IsTrue, IsErr, length, IfOk, OnOk, OnErr};
+ghost use Rattle.std.specs.Io.KnownBytes.{Keeps, WriteAppends};
+ghost use Rattle.bt_lines.specs.inside.Adapter.{writer_of, write_has_failed, write_is_flushed};
+
+use crate::device::{DeviceFailed, Sink};
+use std::io::Write;
+
+/// A sink over a writer. An error, an interrupted call among them, isn't tried again, and a write
+/// that takes none of a piece with bytes is a failure. Once failed, the writer isn't written to again.
+#[derive(Drop, Debug)]
+pub struct ToWrite<W> {
+    // Not written to again once it has failed.
+    writer: W,
+    // Whether a call has failed; it stays so.
+    has_failed: bool,
+    // Whether nothing was written since the last flush that went well.
+    is_flushed: bool,
+}
+
+impl<W> ToWrite<W> {
+    /// A sink that hands bytes to the writer.
+    pub fn new(writer: W) -> ToWrite<W>
+        ensures writer { writer_of result ≡ writer }
+        ensures served { write_has_failed result ≡ false }
+        ensures unflushed { write_is_flushed result ≡ false }
+    {
+        ToWrite {
+            writer,
+            has_failed: false,
+            is_flushed: false,
+        }
+    }
+
+    /// The writer.
+    pub fn into_inner(self) -> W
+        ensures { result ≡ writer_of self }
+    {
+        let ToWrite {
+            writer,
+            has_failed: _,
+            is_flushed: _,
+        } = self;
+        writer
+    }
+}
+
+impl<W: Write> Sink for ToWrite<W> {
+    ghost took = { λ s. W.contents (writer_of s) };
+
+    ghost has_failed = { write_has_failed };
+
+    ghost is_flushed = { write_is_flushed };
+
+    fn write(&mut self, bytes: &[u8]) -> Result<usize, DeviceFailed>
+        ensures within { IfOk result (λ n. n ≤ length bytes.now) }
+        ensures progress { IfOk result (λ n. 0 < length bytes.now → 0 < n) }
+        ensures bytes { WriteAppends (W.contents (writer_of self.old))
+            (W.contents (writer_of self.new)) result bytes.now }
+        ensures served { OnOk result (write_has_failed self.new ≡ write_has_failed self.old) }
+        ensures failed { OnErr result (write_has_failed self.new ≡ true) }
+        ensures for_good { IsTrue (write_has_failed self.old)
+            → IsErr result × (self.new ≡ self.old) }
+        ensures unflushed { write_has_failed self.old ≡ false
+            → write_is_flushed self.new ≡ false }
+    {
+        if self.has_failed {
+            return Err(DeviceFailed);
+        }
+        self.is_flushed = false;
+        match self.writer.write(bytes) {
+            Ok(count) if count > 0 || bytes.is_empty() => Ok(count),
+            _ => {
+                self.has_failed = true;
+                Err(DeviceFailed)
+            }
+        }
+    }
+
+    fn flush(&mut self) -> Result<(), DeviceFailed>
+        ensures bytes { Keeps (W.contents (writer_of self.old)) (W.contents (writer_of self.new)) }
+        ensures flushed { OnOk result (write_is_flushed self.new ≡ true) }
+        ensures served { OnOk result (write_has_failed self.new ≡ write_has_failed self.old) }
+        ensures failed { OnErr result (write_has_failed self.new ≡ true) }
+        ensures for_good { IsTrue (write_has_failed self.old)
+            → IsErr result × (self.new ≡ self.old) }
+    {
+        if self.has_failed {
+            return Err(DeviceFailed);
+        }
+        if self.writer.flush().is_err() {
+            self.has_failed = true;
+            return Err(DeviceFailed);
+        }
+        self.is_flushed = true;
+        Ok(())
+    }
+
+    fn failed(&self) -> bool {
+        self.has_failed
+    }
+}

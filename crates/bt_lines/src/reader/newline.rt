@@ -1,0 +1,84 @@
+//! The first byte of a value among some bytes, as a line feed or a tab.
+
+ghost use Rattle.std.specs.Prelude.{◌≡◌, ◌≤◌, length, take};
+ghost use Rattle.bt_lines.specs.inside.Newline.{IsBefore, IsFirstFeed, IsFirstOf, Lacks};
+
+use memchr::memchr;
+
+// How many bytes are searched at once.
+const NEAR: usize = 32;
+
+// Where the first line feed of a text is.
+#[inline(always)]
+pub(crate) fn find_newline(text: &[u8]) -> Option<usize>
+    ensures { IsFirstFeed text.now result }
+{
+    let length = line_length(text);
+    if length < text.len() {
+        return Some(length);
+    }
+    None
+}
+
+// How many bytes come before the first line feed, or in all. Most lines end in the first sixty-four bytes.
+#[inline(always)]
+fn line_length(text: &[u8]) -> usize
+    ensures { IsBefore 10 text.now result }
+{
+    let Some(near) = text.first_chunk::<NEAR>() else {
+        return late_length(b'\n', text, 0);
+    };
+    if let Some(at) = find_near(b'\n', near) {
+        return at;
+    }
+    let Some(next) = text[NEAR..].first_chunk::<NEAR>() else {
+        return late_length(b'\n', text, NEAR);
+    };
+    if let Some(at) = find_near(b'\n', next) {
+        return NEAR + at;
+    }
+    late_length(b'\n', text, 2 * NEAR)
+}
+
+/// How many bytes come before the first of this value, or in all: most often less than thirty-two.
+#[inline(always)]
+pub fn length_before(byte: u8, text: &[u8]) -> usize
+    ensures { IsBefore byte text.now result }
+{
+    let Some(near) = text.first_chunk::<NEAR>() else {
+        return late_length(byte, text, 0);
+    };
+    if let Some(at) = find_near(byte, near) {
+        return at;
+    }
+    late_length(byte, text, NEAR)
+}
+
+// The same when it isn't among the first `from` bytes. It returns a number, for which the caller makes no room.
+#[inline(never)]
+fn late_length(byte: u8, text: &[u8], from: usize) -> usize
+    requires within { from ≤ length text.now }
+    requires clear { Lacks byte (take from text.now) }
+    ensures { IsBefore byte text.now result }
+{
+    let mut at = from;
+    while let Some(near) = text[at..].first_chunk::<NEAR>() {
+        if let Some(place) = find_near(byte, near) {
+            return at + place;
+        }
+        at += NEAR;
+    }
+    while at < text.len() && text[at] != byte {
+        at += 1;
+    }
+    at
+}
+
+// Where a byte first occurs among thirty-two. This is the only call of `memchr`, which is inlined and folded into a few
+// instructions while there is no other.
+#[inline]
+fn find_near(byte: u8, bytes: &[u8; NEAR]) -> Option<usize>
+    ensures { IsFirstOf byte bytes.now result }
+{
+    memchr(byte, bytes)
+}

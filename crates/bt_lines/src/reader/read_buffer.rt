@@ -1,0 +1,376 @@
+//! The bytes that a reader has buffered.
+
+ghost use Rattle.std.specs.Prelude.{◌≡◌, ◌+◌, ◌<◌, ◌≤◌, ◌++◌, cond, drop, length, slice_range, take, IfOk, OnOk, OnErr, true};
+ghost use Rattle.std.specs.Io.KnownBytes.{Consumes, IsAtEnd, Keeps};
+ghost use Rattle.bt_lines.specs.calls.Output.{block_size};
+ghost use Rattle.bt_lines.specs.inside.Shape.{AreComplete, IsSearched};
+
+use crate::device::{DeviceFailed, Source};
+use crate::reader::newline::find_newline;
+use memchr::memrchr;
+use std::alloc::{AllocError, Global};
+
+/// How many bytes a reader buffers at most, and an output holds back.
+pub const BLOCK: usize = 8192;
+
+// Complete lines, and what was read after them. The lines are `start..whole` of the block, or if a line is longer than
+// the block what comes from `start` on of `spilled`; `whole..end` of the block comes after them.
+#[derive(Drop)]
+pub(crate) struct ReadBuffer {
+    bytes: [u8; BLOCK],
+    // The text of the line that was taken last, where the lines are, until more is read.
+    from: usize,
+    stop: usize,
+    start: usize,
+    whole: usize,
+    end: usize,
+    // Up to here there is no line feed after the lines.
+    searched: usize,
+    // A line that is longer than the block, with a line feed.
+    spilled: Vec<u8>,
+    is_spilled: bool,
+    ghost text_ordered: { from ≤ stop },
+    ghost text_within: { stop ≤ cond is_spilled (length spilled.items) block_size },
+    ghost ordered: { start ≤ cond is_spilled (length spilled.items) whole },
+    ghost whole_searched: { whole ≤ searched },
+    ghost searched_within: { searched ≤ end },
+    ghost within: { end ≤ block_size },
+    ghost clear: { IsSearched (slice_range bytes whole searched) },
+    ghost are_complete: { AreComplete is_spilled (cond is_spilled (drop start spilled.items) (slice_range bytes start whole)) },
+}
+
+#[tactic(auto, unfolding(crate::specs::inside::ReadBuffer::complete, crate::specs::inside::ReadBuffer::unread, crate::specs::inside::ReadBuffer::text_in))]
+impl ReadBuffer {
+    ghost use Rattle.std.specs.Prelude.{◌≡◌, ℕ, List, ◌<◌, ◌≤◌, ◌++◌, ◌∷◌, [], drop, false, length, nat_eq, take, IfOk, OnOk, OnErr, Some, None};
+    ghost use Rattle.bt_lines.specs.inside.ReadBuffer.{FindsLines, MovesPiece, complete, text_in, unread};
+    ghost use Rattle.bt_lines.specs.inside.Shape.{is_fed};
+    ghost use Rattle.bt_lines.specs.model.Lines.{line_feeds};
+    ghost use Rattle.bt_lines.specs.inside.Spill.{closed};
+
+    // No byte.
+    pub(crate) fn new(alloc: Global) -> ReadBuffer
+        ensures none { complete result ≡ [] }
+        ensures unread { unread result ≡ [] }
+        ensures plain { result.is_spilled ≡ false }
+    {
+        ReadBuffer {
+            bytes: [0; BLOCK],
+            from: 0,
+            stop: 0,
+            start: 0,
+            whole: 0,
+            end: 0,
+            searched: 0,
+            spilled: Vec::new(alloc),
+            is_spilled: false,
+        }
+    }
+
+    // The complete lines.
+    #[inline(always)]
+    pub(crate) fn lines(&self) -> &[u8]
+        ensures { result.now ≡ complete self.now }
+    {
+        if self.is_spilled {
+            return &self.spilled[self.start..];
+        }
+        &self.bytes[self.start..self.whole]
+    }
+
+    // What was read after them.
+    pub(crate) fn unread(&self) -> &[u8]
+        ensures { result.now ≡ unread self.now }
+    {
+        &self.bytes[self.whole..self.end]
+    }
+
+    // The text of the line that was taken last.
+    pub(crate) fn text(&self) -> &[u8]
+        ensures { result.now ≡ text_in self.now }
+    {
+        if self.is_spilled {
+            return &self.spilled[self.from..self.stop];
+        }
+        &self.bytes[self.from..self.stop]
+    }
+
+    // Takes bytes from the start of the lines.
+    pub(crate) fn consume(&mut self, count: usize)
+        requires { count ≤ length (complete self.old) }
+        ensures lines { complete self.new ≡ drop count (complete self.old) }
+        ensures unread { unread self.new ≡ unread self.old }
+        ensures spilled { self.new.is_spilled ≡ self.old.is_spilled }
+    {
+        self.start += count;
+    }
+
+    // Takes the first line, and keeps where its text is.
+    #[inline(always)]
+    pub(crate) fn take_line(&mut self, text: usize, line: usize)
+        requires text { text ≤ line }
+        requires line { line ≤ length (complete self.old) }
+        ensures text { text_in self.new ≡ take text (complete self.old) }
+        ensures lines { complete self.new ≡ drop line (complete self.old) }
+        ensures unread { unread self.new ≡ unread self.old }
+        ensures spilled { self.new.is_spilled ≡ self.old.is_spilled }
+    {
+        self.from = self.start;
+        self.stop = self.start + text;
+        self.start += line;
+    }
+
+    // If no complete line is left, finds those in what was read after them.
+    pub(crate) fn find_lines(&mut self) -> bool
+        requires { complete self.old ≡ [] }
+        ensures finds { FindsLines self.old result self.new }
+        ensures plain { result ≡ true → self.new.is_spilled ≡ false }
+    {
+        let from = self.searched;
+        let Some(last) = memrchr(b'\n', &self.bytes[from..self.end]) else {
+            self.searched = self.end;
+            return false;
+        };
+        self.is_spilled = false;
+        self.from = 0;
+        self.stop = 0;
+        self.start = self.whole;
+        self.whole = from + last + 1;
+        self.searched = self.end;
+        true
+    }
+
+    // Whether what was read after the lines fills the block.
+    pub(crate) fn is_full(&self) -> bool
+        ensures { result ≡ nat_eq (length (unread self.now)) block_size }
+    {
+        self.end - self.whole == BLOCK
+    }
+
+    // Whether nothing was read after the lines.
+    pub(crate) fn is_line_start(&self) -> bool
+        ensures { result ≡ nat_eq (length (unread self.now)) 0 }
+    {
+        self.whole == self.end
+    }
+
+    // If no complete line is left, moves what was read after them to the start of the block, and reads up to `most`
+    // bytes after it.
+    pub(crate) fn read_more<S: Source>(
+        &mut self,
+        source: &mut S,
+        most: u64,
+    ) -> Result<usize, DeviceFailed>
+        requires none { complete self.old ≡ [] }
+        requires some { 0 < most }
+        requires room { length (unread self.old) < block_size }
+        ensures bytes { IfOk result (λ n. n ≤ most × ((piece : List ℕ) × (n ≡ length piece)
+            × Consumes (S.left source.old) (S.left source.new) piece × (unread self.new ≡ unread self.old ++ piece))) }
+        ensures end { IfOk result (λ n. n ≡ 0
+            → (S.end_told source.new ≡ true) × IsAtEnd (S.left source.new)) }
+        ensures served { OnOk result (S.has_failed source.new ≡ S.has_failed source.old) }
+        ensures failed { OnErr result ((S.has_failed source.new ≡ true)
+            × (unread self.new ≡ unread self.old) × Keeps (S.left source.old) (S.left source.new)) }
+        ensures none { complete self.new ≡ [] }
+        ensures plain { self.new.is_spilled ≡ false }
+        ensures front { self.new.whole ≡ 0 }
+        ensures spilled { self.new.spilled ≡ self.old.spilled }
+        ensures counted { IfOk result (λ n. S.is_read source.old (Some n) source.new) }
+        ensures refused { OnErr result (S.is_read source.old None source.new) }
+    {
+        self.move_front();
+        let room = BLOCK - self.end;
+        let most = (room as u64).min(most) as usize;
+        match read_behind(source, &mut self.bytes, self.end, most) {
+            Ok(count) => {
+                self.end += count;
+                Ok(count)
+            }
+            Err(failed) => Err(failed),
+        }
+    }
+
+    // If no complete line is left, ends what was read after them by a line feed: it is a line then.
+    pub(crate) fn end_line(&mut self)
+        requires none { complete self.old ≡ [] }
+        requires room { length (unread self.old) < block_size }
+        requires front { self.old.whole ≡ 0 }
+        ensures lines { complete self.new ≡ unread self.old ++ 10 ∷ [] }
+        ensures unread { unread self.new ≡ [] }
+        ensures plain { self.new.is_spilled ≡ false }
+    {
+        self.bytes[self.end] = b'\n';
+        self.is_spilled = false;
+        self.from = 0;
+        self.stop = 0;
+        self.start = self.whole;
+        self.end += 1;
+        self.whole = self.end;
+        self.searched = self.end;
+    }
+
+    // If no complete line is left, ends the text: a last line without a line feed is given one.
+    pub(crate) fn end_text(&mut self)
+        requires none { complete self.old ≡ [] }
+        requires room { length (unread self.old) < block_size }
+        requires front { self.old.whole ≡ 0 }
+        ensures lines { complete self.new ≡ closed (unread self.old) }
+        ensures unread { unread self.new ≡ [] }
+    {
+        if !self.is_line_start() {
+            self.end_line();
+        }
+    }
+
+    // Clears the vector for a line that is longer than the block.
+    pub(crate) fn begin_spill(&mut self)
+        requires { complete self.old ≡ [] }
+        ensures none { complete self.new ≡ [] }
+        ensures unread { unread self.new ≡ unread self.old }
+        ensures plain { self.new.is_spilled ≡ false }
+        ensures empty { self.new.spilled.items ≡ [] }
+    {
+        self.clear_lines();
+        self.spilled.clear();
+    }
+
+    // Moves what was read up to its first line feed, or else all, to the end of the vector. Returns true if there was a
+    // line feed.
+    pub(crate) fn spill(&mut self) -> Result<bool, AllocError>
+        requires none { complete self.old ≡ [] }
+        requires plain { self.old.is_spilled ≡ false }
+        ensures moves { MovesPiece (unread self.old) self.old.spilled.items result (unread self.new) self.new.spilled.items }
+        ensures none { complete self.new ≡ [] }
+        ensures plain { self.new.is_spilled ≡ false }
+    {
+        let from = self.whole;
+        match find_newline(self.unread()) {
+            Some(length) => {
+                let line = from + length + 1;
+                append_part(&mut self.spilled, &self.bytes, from, line)?;
+                self.whole = line;
+                self.start = line;
+                self.searched = line;
+                Ok(true)
+            }
+            None => {
+                append_part(&mut self.spilled, &self.bytes, from, self.end)?;
+                self.clear_unread();
+                Ok(false)
+            }
+        }
+    }
+
+    // Drops what was read after the lines.
+    pub(crate) fn clear_unread(&mut self)
+        ensures lines { complete self.new ≡ complete self.old }
+        ensures unread { unread self.new ≡ [] }
+        ensures whole { self.new.whole ≡ self.old.whole }
+        ensures plain { self.new.is_spilled ≡ self.old.is_spilled }
+        ensures spilled { self.new.spilled ≡ self.old.spilled }
+    {
+        self.end = self.whole;
+        self.searched = self.whole;
+    }
+
+    // Ends a last line in the vector by a line feed.
+    pub(crate) fn end_spilled(&mut self) -> Result<(), AllocError>
+        requires { self.old.is_spilled ≡ false }
+        ensures ended { OnOk result (self.new.spilled.items ≡ self.old.spilled.items ++ 10 ∷ []) }
+        ensures lines { complete self.new ≡ complete self.old }
+        ensures unread { unread self.new ≡ unread self.old }
+        ensures plain { self.new.is_spilled ≡ false }
+    {
+        self.spilled.extend_from_slice(b"\n")
+    }
+
+    // The line in the vector is the complete one.
+    pub(crate) fn use_spilled(&mut self)
+        requires fed { is_fed self.old.spilled.items ≡ true }
+        requires one { line_feeds self.old.spilled.items ≤ 1 }
+        ensures lines { complete self.new ≡ self.old.spilled.items }
+        ensures unread { unread self.new ≡ unread self.old }
+    {
+        self.is_spilled = true;
+        self.from = 0;
+        self.stop = 0;
+        self.start = 0;
+    }
+
+    // No complete line.
+    fn clear_lines(&mut self)
+        ensures none { complete self.new ≡ [] }
+        ensures unread { unread self.new ≡ unread self.old }
+        ensures plain { self.new.is_spilled ≡ false }
+        ensures spilled { self.new.spilled ≡ self.old.spilled }
+        ensures whole { (self.new.whole ≡ self.old.whole) × (self.new.start ≡ self.old.whole) }
+        ensures searched { (self.new.searched ≡ self.old.searched) × (self.new.end ≡ self.old.end) × (self.new.bytes ≡ self.old.bytes) }
+    {
+        self.is_spilled = false;
+        self.from = 0;
+        self.stop = 0;
+        self.start = self.whole;
+    }
+
+    // Moves what was read after the lines to the start of the block.
+    fn move_front(&mut self)
+        ensures none { complete self.new ≡ [] }
+        ensures unread { unread self.new ≡ unread self.old }
+        ensures front { self.new.whole ≡ 0 }
+        ensures end { self.new.end ≡ length (unread self.old) }
+        ensures plain { self.new.is_spilled ≡ false }
+        ensures spilled { self.new.spilled ≡ self.old.spilled }
+    {
+        if self.whole == 0 {
+            self.clear_lines();
+            return;
+        }
+        self.bytes.copy_within(self.whole..self.end, 0);
+        self.is_spilled = false;
+        self.from = 0;
+        self.stop = 0;
+        self.start = 0;
+        self.end -= self.whole;
+        self.searched -= self.whole;
+        self.whole = 0;
+    }
+}
+
+// Adds the bytes from one place to another to the end of a vector.
+fn append_part(
+    to: &mut Vec<u8>,
+    bytes: &[u8; BLOCK],
+    from: usize,
+    stop: usize,
+) -> Result<(), AllocError>
+    requires ordered { from ≤ stop }
+    requires within { stop ≤ block_size }
+    ensures added { OnOk result (to.new.items ≡ to.old.items ++ slice_range bytes.now from stop) }
+    ensures same { OnErr result (to.new.items ≡ to.old.items) }
+{
+    to.extend_from_slice(&bytes[from..stop])
+}
+
+// Reads up to `most` bytes after the first ones.
+fn read_behind<S: Source>(
+    source: &mut S,
+    bytes: &mut [u8; BLOCK],
+    from: usize,
+    most: usize,
+) -> Result<usize, DeviceFailed>
+    requires some { 0 < most }
+    requires fits { from + most ≤ block_size }
+    ensures count { IfOk result (λ n. n ≤ most) }
+    ensures size { length bytes.new ≡ 8192 }
+    ensures before { take from bytes.new ≡ take from bytes.old }
+    ensures bytes { IfOk result (λ n.
+        Consumes (S.left source.old) (S.left source.new) (slice_range bytes.new from (from + n))) }
+    ensures end { IfOk result (λ n. n ≡ 0
+        → (S.end_told source.new ≡ true) × IsAtEnd (S.left source.new)) }
+    ensures served { OnOk result (S.has_failed source.new ≡ S.has_failed source.old) }
+    ensures failed { OnErr result ((S.has_failed source.new ≡ true)
+        × Keeps (S.left source.old) (S.left source.new)) }
+    ensures counted { IfOk result (λ n. S.is_read source.old (Some n) source.new) }
+    ensures refused { OnErr result (S.is_read source.old None source.new) }
+{
+    source.read(&mut bytes[from..from + most])
+}

@@ -1,0 +1,154 @@
+//! A line that is longer than a block, and the reads of a source.
+
+ghost use Rattle.std.specs.Prelude.{◌≡◌, ◌<◌, ◌^◌, [], false, length};
+ghost use Rattle.bt_lines.specs.calls.Output.{block_size};
+ghost use Rattle.bt_lines.specs.inside.ReadBuffer.{complete, unread};
+ghost use Rattle.bt_lines.specs.calls.LentLine.{NoLineFeed};
+ghost use Rattle.bt_lines.specs.inside.Spill.{AreCounted, AsksMore, Buffers, Fills, IsCounted};
+
+use crate::device::Source;
+use crate::reader::read_buffer::ReadBuffer;
+
+// As many bytes of a text are read at most.
+const BOUND: u64 = (1 << 63) - 1;
+
+// Why the reading of a line stopped.
+#[derive(Clone, Copy, Debug)]
+pub(crate) enum Stop {
+    // A line feed.
+    LineFeed,
+    // The end of the text.
+    End,
+    // The source failed.
+    Failed,
+    // A byte came after the last one that may be read.
+    TooLong,
+    // The line couldn't grow.
+    NoMemory,
+}
+
+// The outcome of a read for more bytes.
+#[derive(Clone, Copy, Debug)]
+pub(crate) enum More {
+    // Bytes, in the block.
+    Bytes,
+    // None, since the text has ended.
+    NoBytes,
+    // None, since the source failed.
+    BadRead,
+    // A byte past the bound.
+    PastBound,
+}
+
+// Makes at least one line buffered, or the end, if none is. It counts all bytes that it takes.
+pub(crate) fn read_lines<S: Source>(
+    source: &mut S,
+    buffer: &mut ReadBuffer,
+    taken: &mut u64,
+) -> Stop
+    requires counted { taken.old < 2 ^ 63 }
+    requires none { complete buffer.old ≡ [] }
+    ensures buffers { Buffers S.left S.has_failed S.end_told source.old (unread buffer.old) taken.old result
+        source.new (complete buffer.new) (unread buffer.new) taken.new }
+    ensures counted { AreCounted S.is_read result source.old taken.old source.new taken.new }
+{
+    while !buffer.find_lines() {
+        if buffer.is_full() {
+            return read_long(source, buffer, taken);
+        }
+        match ask_more(source, buffer, taken) {
+            More::Bytes => {}
+            More::NoBytes => {
+                buffer.end_text();
+                return Stop::End;
+            }
+            More::BadRead => return Stop::Failed,
+            More::PastBound => return Stop::TooLong,
+        }
+    }
+    Stop::LineFeed
+}
+
+// The same if what was read of a line fills the block.
+fn read_long<S: Source>(source: &mut S, buffer: &mut ReadBuffer, taken: &mut u64) -> Stop
+    requires counted { taken.old < 2 ^ 63 }
+    requires none { complete buffer.old ≡ [] }
+    requires clear { NoLineFeed (unread buffer.old) }
+    requires some { 0 < length (unread buffer.old) }
+    ensures buffers { Buffers S.left S.has_failed S.end_told source.old (unread buffer.old) taken.old result
+        source.new (complete buffer.new) (unread buffer.new) taken.new }
+    ensures counted { AreCounted S.is_read result source.old taken.old source.new taken.new }
+{
+    buffer.begin_spill();
+    match read_spilled(source, buffer, taken) {
+        Stop::LineFeed => {
+            buffer.use_spilled();
+            Stop::LineFeed
+        }
+        Stop::End => match buffer.end_spilled() {
+            Ok(()) => {
+                buffer.use_spilled();
+                Stop::End
+            }
+            Err(_refused) => Stop::NoMemory,
+        },
+        Stop::Failed => Stop::Failed,
+        Stop::TooLong => Stop::TooLong,
+        Stop::NoMemory => Stop::NoMemory,
+    }
+}
+
+// Moves what was read of a line to an empty vector, and reads on up to its line feed. It counts all bytes that it takes.
+fn read_spilled<S: Source>(source: &mut S, buffer: &mut ReadBuffer, taken: &mut u64) -> Stop
+    requires counted { taken.old < 2 ^ 63 }
+    requires empty { buffer.old.spilled.items ≡ [] }
+    requires none { complete buffer.old ≡ [] }
+    requires plain { buffer.old.is_spilled ≡ false }
+    ensures fills { Fills S.left S.has_failed S.end_told source.old (unread buffer.old) taken.old result
+        source.new (unread buffer.new) buffer.new.spilled.items taken.new }
+    ensures none { complete buffer.new ≡ [] }
+    ensures plain { buffer.new.is_spilled ≡ false }
+    ensures counted { AreCounted S.is_read result source.old taken.old source.new taken.new }
+{
+    'reads: loop {
+        match buffer.spill() {
+            Err(_refused) => return Stop::NoMemory,
+            Ok(true) => return Stop::LineFeed,
+            Ok(false) => {}
+        }
+        match ask_more(source, buffer, taken) {
+            More::Bytes => {}
+            More::NoBytes => return Stop::End,
+            More::BadRead => return Stop::Failed,
+            More::PastBound => return Stop::TooLong,
+        }
+    }
+}
+
+// Reads more bytes, and one past the bound only once the bound is reached.
+fn ask_more<S: Source>(source: &mut S, buffer: &mut ReadBuffer, taken: &mut u64) -> More
+    requires counted { taken.old < 2 ^ 63 }
+    requires none { complete buffer.old ≡ [] }
+    requires room { length (unread buffer.old) < block_size }
+    ensures asks { AsksMore S.left S.has_failed S.end_told source.old (unread buffer.old) taken.old result
+        source.new (unread buffer.new) taken.new }
+    ensures none { complete buffer.new ≡ [] }
+    ensures plain { buffer.new.is_spilled ≡ false }
+    ensures front { buffer.new.whole ≡ 0 }
+    ensures spilled { buffer.new.spilled.items ≡ buffer.old.spilled.items }
+    ensures counted { IsCounted S.is_read result source.old taken.old source.new taken.new }
+{
+    let room = BOUND - *taken;
+    match buffer.read_more(source, room.max(1)) {
+        Err(_failed) => More::BadRead,
+        Ok(0) => More::NoBytes,
+        Ok(_byte) if room == 0 => {
+            buffer.clear_unread();
+            More::PastBound
+        }
+        Ok(count) => {
+            *taken += count as u64;
+            More::Bytes
+        }
+    }
+}

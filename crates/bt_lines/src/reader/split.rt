@@ -1,0 +1,31 @@
+//! Cutting a line into its columns.
+
+ghost use Rattle.std.specs.Prelude.{◌≡◌, IfSome};
+ghost use Rattle.bt_lines.specs.calls.Columns.{CutAt, IsFirstTab, columns_left};
+ghost use Rattle.bt_lines.specs.model.Lines.{pieces};
+
+use crate::reader::column_iter::Columns;
+
+/// The pieces of a text between tabs. A text without a tab is one column, the empty text too.
+pub fn columns(text: &[u8]) -> Columns<'_>
+    ensures { columns_left result ≡ pieces 9 text.now }
+{
+    Columns { rest: Some(text) }
+}
+
+/// How many bytes come before the first tab of a text, if it has one. It is searched byte by byte, which for a short
+/// column takes less time than `find_byte`.
+#[inline]
+pub fn first_tab(text: &[u8]) -> Option<usize>
+    ensures first { IfSome result (IsFirstTab text.now) }
+    ensures cut { CutAt text.now result }
+{
+    let mut end = 0;
+    while end < text.len() {
+        if text[end] == b'\t' {
+            return Some(end);
+        }
+        end += 1;
+    }
+    None
+}

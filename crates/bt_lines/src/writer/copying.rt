@@ -1,0 +1,228 @@
+//! Short pieces, copied without a call.
+
+ghost use Rattle.std.specs.Prelude.{◌≡◌, ◌≤◌, length, true};
+ghost use Rattle.bt_lines.specs.inside.Copying.{Covers, IsEnd, IsShort, IsWide};
+
+use std::simd::prelude::*;
+
+// Whether a piece is copied without a call: it has 1 to 64 bytes, as most have.
+#[inline(always)]
+pub(crate) fn is_short(size: usize) -> bool
+    ensures { result ≡ true → IsShort size }
+{
+    size >= 1 && size <= 64
+}
+
+// Whether a piece is copied by vectors: it has 4 to 64 bytes.
+#[inline(always)]
+pub(crate) fn is_wide(size: usize) -> bool
+    ensures { result ≡ true → IsWide size }
+{
+    size >= 4 && size <= 64
+}
+
+// Whether a piece is copied by vectors, or is a single byte, as most line ends are.
+#[inline(always)]
+pub(crate) fn is_end(size: usize) -> bool
+    ensures { result ≡ true → IsEnd size }
+{
+    size == 1 || is_wide(size)
+}
+
+// Copies a short piece to as many bytes.
+#[inline(always)]
+pub(crate) fn copy_short(to: &mut [u8], piece: &[u8])
+    requires same { length to.old ≡ length piece.now }
+    requires short { IsShort (length piece.now) }
+    ensures { to.new ≡ piece.now }
+{
+    if piece.len() < 4 {
+        copy_few(to, piece);
+    } else {
+        copy_wide(to, piece);
+    }
+}
+
+// Copies a piece to as many bytes: its first ones and its last ones, by one vector each, which may overlap.
+#[inline(always)]
+pub(crate) fn copy_wide(to: &mut [u8], piece: &[u8])
+    requires same { length to.old ≡ length piece.now }
+    requires wide { IsWide (length piece.now) }
+    ensures { to.new ≡ piece.now }
+{
+    let size = piece.len();
+    if size > 16 {
+        if size > 32 {
+            copy_thirty_twos(to, piece);
+        } else {
+            copy_sixteens(to, piece);
+        }
+    } else if size > 8 {
+        copy_eights(to, piece);
+    } else {
+        copy_fours(to, piece);
+    }
+}
+
+/// Copies a piece to as many bytes, as `copy_from_slice` does: without a call if it has 4 to 64 bytes.
+#[inline(always)]
+pub fn copy_piece(to: &mut [u8], piece: &[u8])
+    requires { length to.old ≡ length piece.now }
+    ensures { to.new ≡ piece.now }
+{
+    if is_wide(piece.len()) {
+        copy_wide(to, piece);
+    } else if !piece.is_empty() {
+        copy_any(to, piece);
+    }
+}
+
+// Copies a piece of any length to as many bytes.
+#[inline(never)]
+fn copy_any(to: &mut [u8], piece: &[u8])
+    requires { length to.old ≡ length piece.now }
+    ensures { to.new ≡ piece.now }
+{
+    to.copy_from_slice(piece);
+}
+
+// Copies a piece by vectors, or a single byte, to as many bytes.
+#[inline(always)]
+pub(crate) fn copy_end(to: &mut [u8], piece: &[u8])
+    requires same { length to.old ≡ length piece.now }
+    requires end { IsEnd (length piece.now) }
+    ensures { to.new ≡ piece.now }
+{
+    if piece.len() == 1 {
+        copy_byte(to, piece);
+    } else {
+        copy_wide(to, piece);
+    }
+}
+
+// Copies a single byte.
+fn copy_byte(to: &mut [u8], piece: &[u8])
+    requires to { length to.old ≡ 1 }
+    requires piece { length piece.now ≡ 1 }
+    ensures { to.new ≡ piece.now }
+{
+    to[0] = piece[0];
+}
+
+// Copies the first byte, the middle one and the last.
+fn copy_few(to: &mut [u8], piece: &[u8])
+    requires same { length to.old ≡ length piece.now }
+    requires some { 1 ≤ length piece.now }
+    requires few { length piece.now ≤ 3 }
+    ensures { to.new ≡ piece.now }
+{
+    let last = piece.len() - 1;
+    let middle = piece.len() / 2;
+    to[0] = piece[0];
+    to[middle] = piece[middle];
+    to[last] = piece[last];
+}
+
+// Copies the first and the last four bytes.
+fn copy_fours(to: &mut [u8], piece: &[u8])
+    requires same { length to.old ≡ length piece.now }
+    requires covers { Covers 4 (length piece.now) }
+    ensures { to.new ≡ piece.now }
+{
+    let last = piece.len() - 4;
+    u8x4::from_slice(piece).copy_to_slice(to);
+    u8x4::from_slice(&piece[last..]).copy_to_slice(&mut to[last..]);
+}
+
+// Copies the first and the last eight bytes.
+fn copy_eights(to: &mut [u8], piece: &[u8])
+    requires same { length to.old ≡ length piece.now }
+    requires covers { Covers 8 (length piece.now) }
+    ensures { to.new ≡ piece.now }
+{
+    let last = piece.len() - 8;
+    u8x8::from_slice(piece).copy_to_slice(to);
+    u8x8::from_slice(&piece[last..]).copy_to_slice(&mut to[last..]);
+}
+
+// Copies the first and the last sixteen bytes.
+fn copy_sixteens(to: &mut [u8], piece: &[u8])
+    requires same { length to.old ≡ length piece.now }
+    requires covers { Covers 16 (length piece.now) }
+    ensures { to.new ≡ piece.now }
+{
+    let last = piece.len() - 16;
+    u8x16::from_slice(piece).copy_to_slice(to);
+    u8x16::from_slice(&piece[last..]).copy_to_slice(&mut to[last..]);
+}
+
+// Copies the first and the last thirty-two bytes.
+fn copy_thirty_twos(to: &mut [u8], piece: &[u8])
+    requires same { length to.old ≡ length piece.now }
+    requires covers { Covers 32 (length piece.now) }
+    ensures { to.new ≡ piece.now }
+{
+    let last = piece.len() - 32;
+    u8x32::from_slice(piece).copy_to_slice(to);
+    u8x32::from_slice(&piece[last..]).copy_to_slice(&mut to[last..]);
+}
+
+#[cfg(test)]
+mod tests {
+    use super::*;
+
+    // No byte, as many as each way copies, and more than all of them.
+    const PIECES: [&[u8]; 9] = [
+        b"",
+        b"a",
+        b"ab",
+        b"abc",
+        b"abcd",
+        b"abcdefghi",
+        b"abcdefghijklmnopq",
+        b"abcdefghijklmnopqrstuvwxyz0123456789",
+        b"abcdefghijklmnopqrstuvwxyz0123456789abcdefghijklmnopqrstuvwxyz0123456789",
+    ];
+
+    // Whether a piece was copied after the first byte of a text, and nothing else was changed.
+    fn is_copied(text: &[u8; 80], piece: &[u8]) -> bool {
+        let behind = &text[piece.len().min(72) + 1..];
+        text[0] == b'.' && text.get(1..piece.len() + 1) == Some(piece) && behind[0] == b'.'
+    }
+
+    // The first piece of a table that is copied otherwise, or with bytes beside it.
+    fn first_miscopied(pieces: &[&'static [u8]]) -> Option<&'static [u8]> {
+        for piece in pieces {
+            let mut text = [b'.'; 80];
+            if let Some(to) = text.get_mut(1..piece.len() + 1) {
+                copy_piece(to, piece);
+            }
+            if !is_copied(&text, piece) {
+                return Some(*piece);
+            }
+        }
+        None
+    }
+
+    // The first piece of a table that isn't short, or is copied otherwise as a short one.
+    fn first_miscopied_short(pieces: &[&'static [u8]]) -> Option<&'static [u8]> {
+        for piece in pieces {
+            let mut text = [b'.'; 80];
+            if let Some(to) = text.get_mut(1..piece.len() + 1) {
+                if is_short(piece.len()) {
+                    copy_short(to, piece);
+                }
+            }
+            if !is_copied(&text, piece) {
+                return Some(*piece);
+            }
+        }
+        None
+    }
+
+    #[test]
+    fn pieces_of_each_way_are_copied(rt: HostRuntime) {
+        assert_eq!(rt; first_miscopied(&PIECES), None);
+        assert_eq!(rt; first_miscopied_short(&PIECES[1..8]), None);
+    }
+}

@@ -1,0 +1,290 @@
+//! Bytes out, in order, to a sink.
+
+ghost use Rattle.std.specs.Prelude.{◌≡◌, ◌++◌, ◌+◌, ◌%◌, ℕ, ◌≤◌, ◌<◌, false, true, List, [], length, OnOk, OnErr, IfErr, IsErr, Some, None};
+ghost use Rattle.std.specs.Io.KnownBytes.{Appends, Keeps, append_known};
+ghost use Rattle.bt_lines.specs.calls.Output.{HoldsBlock, IsFrontOf, Grows, block_size};
+ghost use Rattle.bt_lines.specs.model.Fault.{write_failed};
+ghost use Rattle.bt_lines.specs.calls.Names.{told};
+ghost use Rattle.bt_lines.specs.calls.Putting.{PutsAll};
+ghost use Rattle.bt_lines.specs.inside.Span.{span_text};
+
+use crate::device::{DeviceFailed, Sink};
+use crate::fault::Fault;
+use crate::fault::faults::write_failed;
+use crate::reader::read_buffer::BLOCK;
+use crate::writer::copying::is_short;
+use crate::writer::held_back::{HeldBack, SPAN_ROOM};
+use std::marker::Model;
+
+/// Puts bytes to a sink in order, a block at a time: at most [`BLOCK`] bytes are held back until a
+/// `flush`. Once the sink has failed, nothing more is written, and each call
+/// says that writing failed.
+#[derive(Drop)]
+pub struct Out<K: Sink> {
+    // Not written to after it has failed.
+    sink: K,
+    // What was put and not yet written; lost once the sink has failed.
+    held: HeldBack,
+    // Whether a write or a flush has failed; it stays so.
+    has_failed: bool,
+}
+
+impl<K: Sink> Model for Out<K> {
+    ghost use Rattle.std.specs.Prelude.{◌≡◌, true};
+    ghost use Rattle.std.specs.Io.KnownBytes.{append_known};
+    ghost use Rattle.bt_lines.specs.calls.Output.{OutputOver};
+
+    ghost Value = { OutputOver K };
+
+    ghost view = { λ o. record {
+      output = record {
+        put = append_known (K.took o.sink) o.held;
+        took = K.took o.sink;
+        has_failed = o.has_failed;
+        sink_has_failed = K.has_failed o.sink;
+        sink_is_flushed = K.is_flushed o.sink;
+      };
+      sink = o.sink;
+    } };
+
+    ghost invariant = { λ o. o.has_failed ≡ true → K.has_failed o.sink ≡ true };
+}
+
+impl<K: Sink> Out<K> {
+    /// An output that has put nothing yet beside what the sink took before.
+    pub fn new(sink: K) -> Out<K>
+        ensures { result ≡ record {
+          output = record {
+            put = K.took sink;
+            took = K.took sink;
+            has_failed = false;
+            sink_has_failed = K.has_failed sink;
+            sink_is_flushed = K.is_flushed sink;
+          };
+          sink = sink;
+        } }
+    {
+        Out {
+            sink,
+            held: HeldBack::new(),
+            has_failed: false,
+        }
+    }
+
+    /// Puts a piece after what was put before. It may not reach the sink until a `flush`. It fails with `WriteFailed`,
+    /// only if the sink has failed: then the sink took a prefix of all bytes put, and each later call fails too.
+    pub fn put(&mut self, piece: &[u8]) -> Result<(), Fault>
+        ensures put { OnOk result (Appends self.old.output.put self.new.output.put piece.now) }
+        ensures block { OnOk result (HoldsBlock self.new.output.took self.new.output.put) }
+        ensures front { OnErr result (IsFrontOf self.new.output.took self.old.output.put piece.now) }
+        ensures grows { Grows self.old.output.took self.new.output.took }
+
+        ensures served { OnOk result ((self.new.output.has_failed ≡ false)
+            × (self.old.output.has_failed ≡ false)
+            × (self.new.output.sink_has_failed ≡ self.old.output.sink_has_failed)) }
+        ensures fault { IfErr result (λ fault. told fault ≡ write_failed) }
+        ensures cause { OnErr result ((self.new.output.has_failed ≡ true)
+            × (self.new.output.sink_has_failed ≡ true)) }
+        ensures again { self.old.output.has_failed ≡ true → IsErr result × (self.new.output ≡ self.old.output) }
+        ensures unasked { self.old.output.has_failed ≡ true → self.new.sink ≡ self.old.sink }
+    {
+        if self.has_failed {
+            return Err(write_failed());
+        }
+        if piece.len() <= self.held.room() {
+            self.held.append(piece);
+            return Ok(());
+        }
+        if put_across(&mut self.sink, &mut self.held, piece).is_err() {
+            self.has_failed = true;
+            return Err(write_failed());
+        }
+        Ok(())
+    }
+
+    /// For how many bytes [`Out::hold_both`] has room, if no write has failed: at most [`BLOCK`].
+    pub fn room(&self) -> usize
+        ensures { result ≤ block_size }
+    {
+        self.held.room()
+    }
+
+    /// Puts a piece and a short one after it and returns true, if no write has failed and there is room for
+    /// both; else nothing changes. It writes nothing to the sink.
+    #[inline(always)]
+    pub fn hold_both(&mut self, piece: &[u8], end: &[u8]) -> bool
+        ensures held { result ≡ true → PutsAll self.old.output (piece.now ++ end.now) self.new.output }
+        ensures untaken { self.new.output.took ≡ self.old.output.took }
+        ensures unasked { self.new.sink ≡ self.old.sink }
+        ensures unchanged { result ≡ false → self.new.output ≡ self.old.output }
+    {
+        if self.has_failed || self.held.room() < piece.len() + end.len() {
+            return false;
+        }
+        self.held.append_both(piece, end);
+        true
+    }
+
+    // Puts two short pieces, as `hold_both` does, and no others: so nothing is called where they are put.
+    #[inline(always)]
+    pub(crate) fn hold_short(&mut self, piece: &[u8], next: &[u8]) -> bool
+        ensures held { result ≡ true → PutsAll self.old.output (piece.now ++ next.now) self.new.output }
+        ensures unasked { self.new.sink ≡ self.old.sink }
+        ensures unchanged { result ≡ false → self.new.output ≡ self.old.output }
+    {
+        if self.has_failed || self.held.room() < piece.len() + next.len() {
+            return false;
+        }
+        if !is_short(piece.len()) || !is_short(next.len()) {
+            return false;
+        }
+        self.held.append_short(piece, next);
+        true
+    }
+
+    /// Puts a name, a start and a stop in the columns after it, and a byte that ends them, and returns true. If a write has
+    /// failed, the name doesn't have 1 to 64 bytes, or there is no room for it and 106 bytes more, it returns false and
+    /// nothing changes. It writes nothing to the sink.
+    #[inline(always)]
+    pub fn hold_span(&mut self, name: &[u8], start: u64, stop: u64, end: u8) -> bool
+        ensures held { result ≡ true → PutsAll self.old.output (name.now ++ span_text start stop end) self.new.output }
+        ensures untaken { self.new.output.took ≡ self.old.output.took }
+        ensures unasked { self.new.sink ≡ self.old.sink }
+        ensures unchanged { result ≡ false → self.new.output ≡ self.old.output }
+    {
+        if self.has_failed || !is_short(name.len()) || self.held.room() < name.len() + SPAN_ROOM {
+            return false;
+        }
+        self.held.append_span(name, start, stop, end);
+        true
+    }
+
+    /// Hands all bytes put to the sink, and flushes it. After an `Ok` the sink has taken them. It fails as [`Out::put`]
+    /// does.
+    pub fn flush(&mut self) -> Result<(), Fault>
+        ensures put { OnOk result (Keeps self.old.output.put self.new.output.put) }
+        ensures taken { OnOk result (Keeps self.new.output.put self.new.output.took) }
+        ensures flushed { OnOk result (self.new.output.sink_is_flushed ≡ true) }
+        ensures front { OnErr result (IsFrontOf self.new.output.took self.old.output.put []) }
+        ensures grows { Grows self.old.output.took self.new.output.took }
+
+        ensures served { OnOk result ((self.new.output.has_failed ≡ false)
+            × (self.old.output.has_failed ≡ false)
+            × (self.new.output.sink_has_failed ≡ self.old.output.sink_has_failed)) }
+        ensures fault { IfErr result (λ fault. told fault ≡ write_failed) }
+        ensures cause { OnErr result ((self.new.output.has_failed ≡ true)
+            × (self.new.output.sink_has_failed ≡ true)) }
+        ensures again { self.old.output.has_failed ≡ true → IsErr result × (self.new.output ≡ self.old.output) }
+        ensures unasked { self.old.output.has_failed ≡ true → self.new.sink ≡ self.old.sink }
+    {
+        if self.has_failed {
+            return Err(write_failed());
+        }
+        if send_all(&mut self.sink, &mut self.held).is_err() {
+            self.has_failed = true;
+            return Err(write_failed());
+        }
+        Ok(())
+    }
+
+    /// Gives back the sink. What was held back and not flushed is lost.
+    pub fn into_sink(self) -> K
+        ensures sink { result ≡ self.sink }
+        ensures took { K.took result ≡ self.output.took }
+        ensures failed { K.has_failed result ≡ self.output.sink_has_failed }
+        ensures flushed { K.is_flushed result ≡ self.output.sink_is_flushed }
+    {
+        let Out {
+            sink,
+            held: _,
+            has_failed: _,
+        } = self;
+        sink
+    }
+}
+
+// Puts a piece for which there is no room after the bytes that are held back. It fills up their block,
+// which goes to the sink, as do the next full blocks of the piece. So until a flush the sink is given
+// full blocks, as long as it takes each in full.
+#[cold]
+#[inline(never)]
+fn put_across<K: Sink>(sink: &mut K, held: &mut HeldBack, piece: &[u8]) -> Result<(), DeviceFailed>
+    requires fits { length held.old ≤ block_size }
+    requires across { block_size < length held.old + length piece.now }
+    ensures put { OnOk result (Appends (append_known (K.took sink.old) held.old)
+        (append_known (K.took sink.new) held.new) piece.now) }
+    ensures block { length held.new ≤ block_size }
+    ensures front { OnErr result
+        (IsFrontOf (K.took sink.new) (append_known (K.took sink.old) held.old) piece.now) }
+    ensures grows { Grows (K.took sink.old) (K.took sink.new) }
+    ensures served { OnOk result (K.has_failed sink.new ≡ K.has_failed sink.old) }
+    ensures failed { OnErr result (K.has_failed sink.new ≡ true) }
+{
+    let room = held.room();
+    held.append(&piece[..room]);
+    send(sink, held)?;
+    put_blocks(sink, held, &piece[room..])
+}
+
+// Hands the full blocks of a piece to the sink, and holds back what is left of it.
+fn put_blocks<K: Sink>(sink: &mut K, held: &mut HeldBack, piece: &[u8]) -> Result<(), DeviceFailed>
+    requires { held.old ≡ [] }
+    ensures put { OnOk result (Appends (K.took sink.old) (append_known (K.took sink.new) held.new) piece.now) }
+    ensures rest { OnOk result (length held.new ≡ length piece.now % block_size) }
+    ensures block { length held.new ≤ block_size }
+    ensures front { OnErr result (IsFrontOf (K.took sink.new) (K.took sink.old) piece.now) }
+    ensures grows { Grows (K.took sink.old) (K.took sink.new) }
+    ensures served { OnOk result (K.has_failed sink.new ≡ K.has_failed sink.old) }
+    ensures failed { OnErr result (K.has_failed sink.new ≡ true) }
+{
+    let whole = piece.len() - piece.len() % BLOCK;
+    write_whole(sink, &piece[..whole])?;
+    held.append(&piece[whole..]);
+    Ok(())
+}
+
+// Hands on the bytes that are held back, and flushes the sink.
+fn send_all<K: Sink>(sink: &mut K, held: &mut HeldBack) -> Result<(), DeviceFailed>
+    ensures taken { OnOk result
+        (Keeps (append_known (K.took sink.old) held.old) (K.took sink.new)) }
+    ensures empty { held.new ≡ [] }
+    ensures flushed { OnOk result (K.is_flushed sink.new ≡ true) }
+    ensures front { OnErr result
+        (IsFrontOf (K.took sink.new) (append_known (K.took sink.old) held.old) []) }
+    ensures grows { Grows (K.took sink.old) (K.took sink.new) }
+    ensures served { OnOk result (K.has_failed sink.new ≡ K.has_failed sink.old) }
+    ensures failed { OnErr result (K.has_failed sink.new ≡ true) }
+{
+    send(sink, held)?;
+    sink.flush()
+}
+
+// Hands on the bytes that are held back. If the sink fails they are lost, and never sent again.
+fn send<K: Sink>(sink: &mut K, held: &mut HeldBack) -> Result<(), DeviceFailed>
+    ensures whole { OnOk result (Appends (K.took sink.old) (K.took sink.new) held.old) }
+    ensures empty { held.new ≡ [] }
+    ensures front { OnErr result (IsFrontOf (K.took sink.new) (K.took sink.old) held.old) }
+    ensures grows { Grows (K.took sink.old) (K.took sink.new) }
+    ensures served { OnOk result (K.has_failed sink.new ≡ K.has_failed sink.old) }
+    ensures failed { OnErr result (K.has_failed sink.new ≡ true) }
+{
+    let sent = write_whole(sink, held.as_slice());
+    held.clear();
+    sent
+}
+
+// Hands a whole piece to the sink, by as many writes as it takes.
+fn write_whole<K: Sink>(sink: &mut K, piece: &[u8]) -> Result<(), DeviceFailed>
+    ensures whole { OnOk result (Appends (K.took sink.old) (K.took sink.new) piece.now) }
+    ensures front { OnErr result (IsFrontOf (K.took sink.new) (K.took sink.old) piece.now) }
+    ensures grows { Grows (K.took sink.old) (K.took sink.new) }
+    ensures served { OnOk result (K.has_failed sink.new ≡ K.has_failed sink.old) }
+    ensures failed { OnErr result (K.has_failed sink.new ≡ true) }
+{
+    let mut rest = piece;
+    while !rest.is_empty() {
+        let count = sink.write(rest)?;
+        rest = &rest[count..];
+    }
+    Ok(())
+}

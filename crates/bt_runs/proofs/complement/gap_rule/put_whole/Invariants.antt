@@ -1,0 +1,10 @@
+use Rattle.std.proofs.Common.{flat_map, slice_range}
+use Rattle.bt_bed.specs.calls.GenomeTable.{entries}
+use Rattle.bt_runs.specs.inside.walk.GapStep.{whole_of}
+use Rattle.bt_bed.specs.model.feature.IntervalLine.{interval_lines}
+use Rattle.bt_lines.specs.calls.Putting.{Grown}
+use Rattle.bt_runs.proofs.complement.gap_rule.put_whole.Given as goal
+
+-- the chromosomes so far were written
+abbrev pub invariant-loop-rank : goal.invariant-loop-rank
+invariant-loop-rank g l = Grown l.fn.out.output (interval_lines (flat_map whole_of (slice_range (entries l.genome) l.first l.rank))) l.out.output

@@ -1,0 +1,10 @@
+use Rattle.std.proofs.Common.{flat_map, slice_range}
+use Rattle.bt_bed.specs.calls.GenomeTable.{entries}
+use Rattle.bt_lines.specs.calls.Putting.{Grown}
+use Rattle.bt_runs.specs.model.Depth.{depth_lines}
+use Rattle.bt_runs.specs.inside.coverage.DepthStep.{bare_of}
+use Rattle.bt_runs.proofs.coverage.depth_rule.put_bares.Given as goal
+
+-- the chromosomes so far were written
+abbrev pub invariant-loop-rank : goal.invariant-loop-rank
+invariant-loop-rank g l = Grown l.fn.out.output (depth_lines (flat_map (bare_of l.zeros) (slice_range (entries l.genome) l.first l.rank))) l.out.output

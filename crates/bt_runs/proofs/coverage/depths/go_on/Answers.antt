@@ -1,0 +1,115 @@
+use Rattle.std.proofs.Common.{ℕ, refl, ◌≡◌, ◌-◌, ◌+◌, ◌<◌, ◌≤◌, ◌++◌, List, Ok, All, arith, length, max, sym, subst, ap, ◌∙◌}
+use Rattle.std.proofs.lemmas.List.Elements.{All-weaker}
+use Rattle.std.proofs.lemmas.Result.{err_from_is_err_and}
+use Rattle.bt_lines.proofs.lemmas.writer.PuttingLemmas.{grown_none}
+use Rattle.bt_bed.specs.model.feature.Interval.{Span}
+use Rattle.bt_runs.specs.inside.coverage.CountSeen.{begun_seen}
+use Rattle.bt_runs.specs.model.Depth.{depth_of, reported}
+use Rattle.bt_runs.specs.inside.coverage.DepthStep.{still_open}
+use Rattle.bt_runs.specs.model.Levels.{ended_after, next_begun, next_ended}
+use Rattle.bt_runs.specs.inside.coverage.OpenRecords.{OpenAt, open_from}
+use Rattle.bt_runs.proofs.lemmas.coverage.DepthLines.{adds_levels, cut_levels}
+use Rattle.bt_runs.proofs.lemmas.coverage.DepthWalk.{here_depth, no_begun, no_ended, run_depth, turn_begun, turn_ended, turn_more}
+use Rattle.bt_runs.proofs.lemmas.coverage.OpenLemmas.{all_open}
+use Rattle.bt_runs.proofs.coverage.depths.go_on.Goals as goal
+
+abbrev with_at : ℕ → List Span → OpenAt
+with_at at spans = record { at = at; spans = spans }
+
+pub loop-position-init : goal.loop-position-init
+loop-position-init g c =
+    let u = depth_of c.args.zeros c.args.held.now.spans in
+    let known = c.args.held.now.at in
+    let begun = begun_seen c.args.begun in
+    rw c.at-position.ensures (record {
+      from = omega arith;
+      to = omega arith;
+      here = omega arith;
+      left = all_open known c.args.held.now.spans;
+      same = refl;
+      puts = rw (no_ended u known (known - known) begun (omega arith)) (grown_none c.args.out.now.output);
+      begun = sym (no_begun u known (known - known) begun (omega arith));
+    })
+
+pub returns-in_err-begun-clause-adds : goal.returns-in_err-begun-clause-adds
+returns-in_err-begun-clause-adds g c =
+    let p = err_from_is_err_and c.from_residual.result c.from_residual.ensures.1 in
+    let i = c.loop-position.invariant in
+    let held = c.args.held.now in
+    let u = depth_of c.args.zeros held.spans in
+    let at = c.loop-position.position in
+    let first = begun_seen c.args.begun in
+    let begun = begun_seen c.loop-position.begun in
+    let value = c.reported-depth.result in
+    let test = c.loop-position-test.true in
+    let next : max c.loop-position.held.at (at + 1) ≡ at + 1 = omega (arith, i.here) in
+    let now : c.go_on.new.self ≡ record { at = at + 1; spans = c.loop-position.held.spans } = c.go_on.ensures.at ∙ ap (λ n. with_at n c.loop-position.held.spans) next in
+    let is : value ≡ reported c.args.zeros (length (still_open (at + 1) c.loop-position.held.spans)) = c.reported-depth.ensures ∙ ap (reported c.args.zeros) (c.depth.ensures ∙ ap (λ (h : OpenAt). length (still_open h.at h.spans)) now) in
+    let here = here_depth c.args.zeros c.loop-position.held.at at held.spans c.loop-position.held.spans i.here (ap (still_open at) i.same) c.go_on.ensures.started value is in
+    let more = turn_more u held.at at c.args.stop first begun value i.from (omega arith) here i.begun in
+    rw (p.1, p.2) (cut_levels c.args.chrom.now c.args.out.now.output c.loop-position.out.output c.put_next.new.out.output (ended_after u held.at (at - held.at) first) (next_ended at value begun) (ended_after u held.at (c.args.stop - held.at) first) more.0 c.in_err-begun.field-0.0 more.1 i.puts c.in_err-begun.ensures.adds)
+
+pub loop-position-preserved : goal.loop-position-preserved
+loop-position-preserved g c =
+    let i = c.loop-position.invariant in
+    let held = c.args.held.now in
+    let u = depth_of c.args.zeros held.spans in
+    let at = c.loop-position.position in
+    let next = c.first_end-position.result in
+    let first = begun_seen c.args.begun in
+    let begun = begun_seen c.loop-position.begun in
+    let value = c.reported-depth.result in
+    let spans = c.loop-position.held.spans in
+    let test = c.loop-position-test.true in
+    let later : max c.loop-position.held.at (at + 1) ≡ at + 1 = omega (arith, i.here) in
+    let now : c.go_on.new.self ≡ record { at = at + 1; spans = spans } = c.go_on.ensures.at ∙ ap (λ n. with_at n spans) later in
+    let here : c.go_on.new.self.at ≡ at + 1 = ap (λ h. h.at) now in
+    let is : value ≡ reported c.args.zeros (length (still_open (at + 1) spans)) = c.reported-depth.ensures ∙ ap (reported c.args.zeros) (c.depth.ensures ∙ ap (λ (h : OpenAt). length (still_open h.at h.spans)) now) in
+    let within = c.first_end-position.ensures.within in
+    let up : c.go_on.new.self.at ≤ next = c.first_end-position.ensures.behind (omega arith) in
+    let ends : All (λ s. next ≤ s.stop) (still_open (at + 1) spans) = subst (λ (h : OpenAt). All (λ s. next ≤ s.stop) (still_open h.at h.spans)) now c.first_end-position.ensures.ends in
+    let run = run_depth c.args.zeros c.loop-position.held.at at held.spans spans i.here (ap (still_open at) i.same) c.go_on.ensures.started value is next ends in
+    let low = i.from in
+    let behind : at < next = omega arith in
+    let ended = turn_ended u held.at at next first value low behind run ∙ ap (λ b. ended_after u held.at (at - held.at) first ++ next_ended at value b) (sym i.begun) in
+    record {
+      from = omega arith;
+      to = omega arith;
+      here = omega arith;
+      left = c.first_end-position.ensures.ends;
+      same = ap (λ h. h.spans) now ∙ i.same;
+      puts = adds_levels c.args.chrom.now c.args.out.now.output c.loop-position.out.output c.put_next.new.out.output (ended_after u held.at (at - held.at) first) (next_ended at value begun) (ended_after u held.at (next - held.at) first) {A = Unit {0}} (Ok tt) ended i.puts c.in_ok-begun.ensures.adds;
+      begun = c.in_ok-begun.ensures.begun ∙ ap (next_begun at value) i.begun ∙ sym (turn_begun u held.at at next first value low behind run);
+    }
+
+pub settle-requires : goal.settle-requires
+settle-requires g c =
+    let now = c.loop-position.held in
+    All-weaker (λ s. c.loop-position.position ≤ s.stop) (λ s. c.args.stop ≤ s.stop) (λ s low. omega arith) (still_open now.at now.spans) c.loop-position.invariant.left
+
+pub returns-clause-adds : goal.returns-clause-adds
+returns-clause-adds g c =
+    let i = c.loop-position.invariant in
+    let to = i.to in
+    let from = i.from in
+    let all : c.loop-position.position - c.args.held.now.at ≡ c.args.stop - c.args.held.now.at = omega arith in
+    rw (← all) i.puts
+
+pub returns-clause-begun : goal.returns-clause-begun
+returns-clause-begun g c =
+    let i = c.loop-position.invariant in
+    let to = i.to in
+    let from = i.from in
+    let all : c.loop-position.position - c.args.held.now.at ≡ c.args.stop - c.args.held.now.at = omega arith in
+    rw (← all) i.begun
+
+pub returns-clause-held : goal.returns-clause-held
+returns-clause-held g c = λ up.
+    let i = c.loop-position.invariant in
+    let now = c.loop-position.held in
+    let held = c.args.held.now in
+    let from = i.from in
+    let to = i.to in
+    let there : c.loop-position.position ≡ c.args.stop = omega arith in
+    let all : max now.at c.args.stop ≡ c.args.stop = omega (arith, i.here) in
+    c.settle.ensures ∙ ap (λ n. open_from n now) all ∙ ap (λ l. with_at c.args.stop (still_open c.args.stop l)) i.same

@@ -1,0 +1,22 @@
+use Rattle.std.proofs.Common.{◌≡◌, ◌-◌, ◌≤◌, All}
+use Rattle.bt_lines.specs.calls.Putting.{Grown}
+use Rattle.bt_runs.specs.inside.coverage.CountSeen.{begun_seen}
+use Rattle.bt_runs.specs.model.Depth.{depth_lines, depth_of}
+use Rattle.bt_runs.specs.inside.coverage.DepthStep.{levels_on, still_open}
+use Rattle.bt_runs.specs.model.Levels.{begun_after, ended_after}
+use Rattle.bt_runs.proofs.coverage.depths.go_on.Given as goal
+
+-- the intervals so far were written, and none that is open ends before
+abbrev pub invariant-loop-position : goal.invariant-loop-position
+invariant-loop-position g l = record {
+  from : l.fn.held.at ≤ l.position;
+  to : l.position - l.fn.held.at ≤ l.stop - l.fn.held.at;
+  here : l.held.at ≤ l.position;
+  left : All (λ s. l.position ≤ s.stop) (still_open l.held.at l.held.spans);
+  same : l.held.spans ≡ l.fn.held.spans;
+  puts : Grown l.fn.out.output (depth_lines (levels_on l.chrom (ended_after (depth_of l.zeros l.fn.held.spans) l.fn.held.at (l.position - l.fn.held.at) (begun_seen l.fn.begun)))) l.out.output;
+  begun : begun_seen l.begun ≡ begun_after (depth_of l.zeros l.fn.held.spans) l.fn.held.at (l.position - l.fn.held.at) (begun_seen l.fn.begun);
+}
+
+abbrev pub decreases-loop-position : goal.decreases-loop-position
+decreases-loop-position g l = l.stop - l.position

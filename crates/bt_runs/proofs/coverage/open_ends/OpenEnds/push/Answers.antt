@@ -1,0 +1,10 @@
+use Rattle.std.specs.BinaryHeap.{heap_items}
+use Rattle.std.proofs.Common.{◌∷◌}
+use Rattle.bt_runs.specs.inside.coverage.OpenEnds.{ends_of}
+use Rattle.bt_runs.proofs.lemmas.coverage.OpenLemmas.{ends_permuted, same_count}
+use Rattle.bt_runs.proofs.coverage.open_ends.OpenEnds.push.Goals as goal
+
+pub returns-clause-added : goal.returns-clause-added
+returns-clause-added c =
+    let new = heap_items c.push.new.self in
+    rw (← c.self.view_is) (λ test. same_count test (c.args.end ∷ ends_of (heap_items c.self.inside.heap)) (ends_of new) (ends_permuted _ new c.in_ok-push.ensures.permutation))

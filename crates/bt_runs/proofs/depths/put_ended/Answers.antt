@@ -1,8 +1,0 @@
-use Rattle.bt_runs.specs.Depth.{DepthInterval}
-use Rattle.bt_runs.proofs.DepthLines.{adds_line}
-use Rattle.bt_runs.proofs.depths.put_ended.Goals as goal
-
-pub returns-in-Some : goal.returns-in-Some
-returns-in-Some g c =
-    let r : DepthInterval = record { chrom = c.args.chrom.now; start = c.in-Some.stretch.start; stop = c.args.stop; depth = c.in-Some.stretch.depth } in
-    rw (c.in-Some.is) (adds_line r c.args.out.now.output c.put_depth.new.out.output c.put_depth.result c.put_depth.ensures)

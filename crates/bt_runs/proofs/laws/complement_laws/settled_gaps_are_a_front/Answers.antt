@@ -1,0 +1,11 @@
+use Rattle.bt_runs.specs.model.Gaps.{AreTaken, complement, settled_gaps}
+use Rattle.bt_runs.proofs.lemmas.complement.GapSteps.{one_kept, settles_gaps}
+use Rattle.bt_runs.proofs.lemmas.laws.SettlingLemmas.{begins, stays}
+use Rattle.bt_runs.proofs.laws.complement_laws.settled_gaps_are_a_front.Goals as goal
+
+pub returns : goal.returns
+returns c = record {
+  stay = λ limit entries. stays (settled_gaps limit entries) (complement limit entries) (AreTaken entries) (settles_gaps limit entries);
+  begin = λ limit entries. begins (settled_gaps limit entries) (complement limit entries) (AreTaken entries) (settles_gaps limit entries);
+  kept = one_kept;
+}

@@ -1,0 +1,291 @@
+-- What the rule of a complement does with a record: by the step of its walk, and so after every past.
+use Rattle.std.proofs.Common.{◌≡◌, ◌⊎◌, ℕ, List, [], ◌∷◌, ◌++◌, refl, sym, ap, ap₂, subst, ◌∙◌, inl, inr, arith, suc, min, max, length, nat_lt, bytes_eq, eqb, Bool, true, false, Option, None, Some, Result, Ok, Err, IfOk, OnOk, option_map}
+use Rattle.std.specs.Option.{option_eq}
+use Rattle.std.proofs.lemmas.Bool.{cases_Bool, cond-true, cond-false, eqb-false, eqb-true, le-ltb}
+use Rattle.std.proofs.lemmas.Grind.{flat_map-append}
+use Rattle.bt_lines.specs.model.Fault.{Told, no_memory, write_failed}
+use Rattle.bt_lines.specs.calls.Names.{told}
+use Rattle.bt_lines.specs.calls.Output.{Output}
+use Rattle.bt_lines.specs.calls.Putting.{Adds, FailsToAdd, Grown}
+use Rattle.bt_lines.specs.declared.fault.Fault.{Fault}
+use Rattle.bt_lines.proofs.lemmas.writer.PuttingLemmas.{adds_lines, cut_lines}
+use Rattle.bt_bed.specs.model.feature.Feature.{Feature}
+use Rattle.bt_bed.specs.model.order.Genome.{Entry, genome_names}
+use Rattle.bt_bed.specs.calls.GenomeTable.{entries}
+use Rattle.bt_bed.specs.model.feature.Interval.{Interval}
+use Rattle.bt_bed.specs.model.feature.IntervalLine.{interval_line, interval_lines}
+use Rattle.bt_bed.specs.model.order.Rank.{rank_of}
+use Rattle.bt_bed.proofs.lemmas.parse.NameLemmas.{name_eq, name_ne, same_name}
+use Rattle.bt_runs.specs.calls.Complementing.{Complementing, held_count, is_quiet, kept_in, may_take, settled_lines, stands_after, whole_output}
+use Rattle.bt_runs.specs.calls.Engine.{AfterEach, AtEnd}
+use Rattle.bt_runs.specs.inside.walk.GapCursor.{Covers, gap_before, seen}
+use Rattle.bt_runs.specs.inside.walk.GapRule.{CoversRecord, IsOnChrom, complement_at, next_gaps, with_record}
+use Rattle.bt_runs.specs.model.Gaps.{kept_place, length_in, settled_gaps}
+use Rattle.bt_runs.specs.inside.walk.GapStep.{bare_gap, gap_between, gap_walk, last_gap}
+use Rattle.bt_runs.specs.inside.walk.Rule.{EnterAnswers, RuleFeeds, RuleFinishes, Taken, WantsMemory}
+use Rattle.bt_runs.specs.inside.walk.Walk.{AreReached, IsNamed, IsPlaced, Place, entry_at, going, is_on, left_before, step_from, taking, walk_step}
+use Rattle.bt_runs.specs.declared.complement.gap_cursor.GapCursor.{GapCursor}
+use Rattle.bt_runs.proofs.lemmas.complement.GapSteps.{held_kept, leaves, moves}
+use Rattle.bt_runs.proofs.lemmas.order.GenomeRanks.{found_at, found_entry, name_at, size_ranked}
+use Rattle.bt_runs.proofs.lemmas.complement.RuleSteps.{quiet_adds_none, rule_cut, rule_finishes, rule_taken}
+use Rattle.bt_runs.proofs.lemmas.laws.Standing.{found}
+use Rattle.bt_runs.proofs.lemmas.complement.Walks.{going_on, going_to, step_goes, step_starts}
+
+none_mapped : (o : Option ℕ) → option_map (λ n. suc n) o ≡ None → o ≡ None
+none_mapped None e = refl
+none_mapped (Some n) e = cc
+
+-- a chromosome that the genome file lacks has no bases
+pub no_bases : (table : List Entry) (name : List ℕ) → rank_of (genome_names table) name ≡ None → length_in table name ≡ 0
+no_bases [] name none = refl
+no_bases (entry ∷ table) name none =
+    let rest = rank_of (genome_names table) name in
+    elim (cases_Bool (bytes_eq entry.name name)) [
+      | inl t ↦ let first = cond-true (bytes_eq entry.name name) (Some 0) (option_map (λ n. suc n) rest) t in absurd (cc)
+      | inr f ↦
+          let later = cond-false (bytes_eq entry.name name) (Some 0) (option_map (λ n. suc n) rest) f in
+          cond-false (bytes_eq entry.name name) entry.length (length_in table name) f ∙ no_bases table name (none_mapped rest (sym later ∙ none))
+    ]
+
+-- the chromosome of the rank of a name has that name
+pub on_found : (table : List Entry) (name : List ℕ) (rank : ℕ) → rank_of (genome_names table) name ≡ Some rank → bytes_eq (entry_at table rank).name name ≡ true
+on_found table name rank is =
+    let f = found name_at table name rank is in
+    name_eq (entry_at table rank).name name (ap (λ (e : Entry). e.name) (found_entry table name rank f) ∙ f.is)
+
+-- one that was reached is the one of a name, if that is its name
+module _ (table : List Entry) (place : Place ℕ) (at : IsPlaced table place.rank) (name : List ℕ) where
+  rank_on : is_on table (Some place) name ≡ true → rank_of (genome_names table) name ≡ Some place.rank
+  rank_on on = ap (rank_of (genome_names table)) (sym (same_name (entry_at table place.rank).name name on)) ∙ at.named
+
+  pub not_on : (rank_of (genome_names table) name ≡ Some place.rank → ⊥) → is_on table (Some place) name ≡ false
+  not_on other = name_ne (entry_at table place.rank).name name (λ e. other (ap (rank_of (genome_names table)) (sym e) ∙ at.named))
+
+-- if no base counts, a record settles nothing
+no_gap_before : (name : List ℕ) (end start : ℕ) → gap_between name end (min start 0) ≡ []
+no_gap_before name end start =
+    let gap : Interval = record { chrom = name; start = end; stop = min start 0 } in
+    cond-false (nat_lt end (min start 0)) (gap ∷ []) [] (le-ltb end (min start 0) (omega arith))
+
+abbrev place_at : ℕ → Option ℕ → Option (Place ℕ)
+place_at end rank = option_map (λ rank. record { rank = rank; known = end }) rank
+
+-- the step of the walk on the chromosome that the records are on
+module _ (limit : Bool) (table : List Entry) (r : Feature) (name : List ℕ) (end bases : ℕ) (is : bases ≡ length_in table r.chrom) where
+  -- if none counts
+  nothing : (rank : Option ℕ) → bases ≡ 0 → ◌≡◌ {A = Option (Place ℕ) × List Interval} (place_at end rank, []) (place_at (max end (min r.stop bases)) rank, gap_between name end (min r.start bases))
+  nothing rank none =
+      let same : end ≡ max end (min r.stop bases) = omega arith in
+      let gaps = sym (ap (λ n. gap_between name end (min r.start n)) none ∙ no_gap_before name end r.start) in
+      ap₂ (λ (n : ℕ) (gaps : List Interval). (place_at n rank, gaps)) same gaps
+
+  pub step_at : (rank : Option ℕ) → ((n : ℕ) → rank ≡ Some n → IsNamed table n name)
+      → (is_on table (place_at end rank) r.chrom ≡ true) ⊎ (rank_of (genome_names table) r.chrom ≡ None)
+      → walk_step (gap_walk limit) table (place_at end rank) r ≡ (place_at (max end (min r.stop bases)) rank, gap_between name end (min r.start bases))
+  step_at None named (inl on) = absurd (cc)
+  step_at None named (inr none) =
+      ap (step_from (gap_walk limit) table None r) (going_to (gap_walk limit) table None r.chrom None refl (sym none))
+      ∙ nothing None (is ∙ no_bases table r.chrom none)
+  step_at (Some rank) named (inl on) =
+      let place : Place ℕ = record { rank = rank; known = end } in
+      let here = named rank refl in
+      let size = sym (size_ranked table r.chrom rank (rank_on table place here.placed r.chrom on)) ∙ sym is in
+      step_goes (gap_walk limit) table (Some place) r place [] (going_on (gap_walk limit) table (Some place) r.chrom on)
+      ∙ ap₂ (λ (name : List ℕ) (size : ℕ). (place_at (max end (min r.stop size)) (Some rank), gap_between name end (min r.start size))) here.is size
+  step_at (Some rank) named (inr none) =
+      let place : Place ℕ = record { rank = rank; known = end } in
+      let off = not_on table place (named rank refl).placed r.chrom (λ e. let n = none in absurd (cc)) in
+      ap (step_from (gap_walk limit) table (Some place) r) (going_to (gap_walk limit) table (Some place) r.chrom None off (sym none))
+      ∙ nothing (Some rank) (is ∙ no_bases table r.chrom none)
+
+-- one that was reached is one of the table
+reached_at : (table : List Entry) (name : List ℕ) (end : ℕ) (rank : Option ℕ) → ((n : ℕ) → rank ≡ Some n → IsNamed table n name) → AreReached table (option_map (λ rank. record { rank = rank; known = end }) rank)
+reached_at table name end None named = tt
+reached_at table name end (Some rank) named = (named rank refl).placed
+
+pub cursor_reached : (cursor : GapCursor) → AreReached (entries cursor.genome.now) (seen cursor)
+cursor_reached cursor = reached_at (entries cursor.genome.now) cursor.name.now cursor.end cursor.rank cursor.named
+
+same_complement : (a b : Complementing) → a.entries ≡ b.entries → a.limit ≡ b.limit → a.current ≡ b.current → a.bases ≡ b.bases → a ≡ b
+same_complement a b e l c n = rw (e, l, c, n) refl
+
+other_fault : {answer : Told} → answer ≡ no_memory → answer ≡ write_failed → ⊥
+other_fault memory write = let apart : no_memory.kind ≡ write_failed.kind = ap (λ (t : Told). t.kind) (sym memory ∙ write) in cc
+
+abbrev none_wanted : Complementing → Feature → Type 0
+none_wanted rule r = ⊥
+
+-- a rule of gaps and one more record
+module _ (old : Complementing) (at : AreReached old.entries old.current) (out : Output) where
+  -- whatever complement took the records of the past, it has this table and limit, and its place is the one that is kept
+  record Same (first : Complementing) (past : List Feature) : Type 0 where
+    same_entries : first.entries ≡ old.entries
+    same_limit : first.limit ≡ old.limit
+    kept : kept_in old ≡ kept_place old.entries past
+
+  same : (first : Complementing) (past : List Feature) → stands_after first past old → Same first past
+  same first past stands = record {
+    same_entries = sym stands.same_entries;
+    same_limit = sym stands.same_limit;
+    kept = stands.kept ∙ ap (λ e. kept_place e past) (sym stands.same_entries);
+  }
+
+  module _ (r : Feature) where
+    abbrev step_lines : List ℕ
+    step_lines = interval_lines (next_gaps old r)
+
+    -- the lines of the step are those that the record settles
+    next_lines : AfterEach may_take stands_after old r (λ first past. settled_lines first (past ++ r ∷ []) ≡ settled_lines first past ++ step_lines)
+    next_lines first past stands taken =
+        let s = same first past stands in
+        rw (s.same_entries, s.same_limit) (ap interval_lines (moves old.limit old.entries past r old.current (rw s.same_entries at taken) at s.kept).settles
+        ∙ flat_map-append interval_line (settled_gaps old.limit old.entries past) (next_gaps old r))
+
+    none : AfterEach may_take stands_after old r (λ first past. is_quiet first past r → step_lines ≡ [])
+    none = quiet_adds_none may_take stands_after settled_lines old out step_lines held_count r next_lines
+
+    -- the complement is after the record too
+    stands_next : AfterEach may_take stands_after old r (λ first past. stands_after first (past ++ r ∷ []) (with_record old r))
+    stands_next first past stands taken =
+        let s = same first past stands in
+        let more = rw s.same_entries at taken in
+        record {
+          same_entries = sym s.same_entries;
+          same_limit = sym s.same_limit;
+          kept = rw s.same_entries (held_kept old.limit old.entries (past ++ r ∷ []) _ more.distinct (moves old.limit old.entries past r old.current more at s.kept).held);
+        }
+
+    pub gap_feeds : (result : Result (Unit {0}) Fault) (new : Complementing) (grown : Output) → CoversRecord old r out result new grown
+        → RuleFeeds may_take stands_after settled_lines old r out is_quiet result new grown
+    gap_feeds (Ok done) new grown d =
+        rule_taken may_take stands_after settled_lines old out step_lines is_quiet r next_lines none done new grown
+        (subst (λ (new : Complementing). AfterEach may_take stands_after old r (λ first past. stands_after first (past ++ r ∷ []) new)) (sym d.next) stands_next) d.adds
+    gap_feeds (Err e) new grown d =
+        rule_cut may_take stands_after settled_lines old out step_lines is_quiet r next_lines none {A = Unit {0}} e new grown d.adds
+
+    -- and no memory is needed
+    pub gap_memory : (result : Result (Unit {0}) Fault) (new : Complementing) (grown : Output) → CoversRecord old r out result new grown → WantsMemory none_wanted old r result
+    gap_memory (Ok done) new grown d = tt
+    gap_memory (Err e) new grown d = λ memory. absurd (other_fault memory d.adds.puts.is)
+
+    pub gap_taken : (result : Result (Unit {0}) Fault) (new : Complementing) (grown : Output) → CoversRecord old r out result new grown
+        → Taken may_take stands_after settled_lines is_quiet none_wanted CoversRecord old r out result new grown
+    gap_taken result new grown d = record { exact = d; feeds = gap_feeds result new grown d; memory = gap_memory result new grown d }
+
+  -- the lines that are left
+  abbrev left : ℕ → List Interval
+  left stop = left_before last_gap (bare_gap old.limit) old.entries old.current stop
+
+  lines_left : (stop : ℕ) → stop ≡ length old.entries → AtEnd may_take stands_after old (λ first past. whole_output first past ≡ settled_lines first past ++ interval_lines (left stop))
+  lines_left stop all first past stands taken =
+      let s = same first past stands in
+      rw (s.same_entries, s.same_limit, all) (ap interval_lines (leaves old.limit old.entries past old.current (rw s.same_entries at taken) at s.kept)
+      ∙ flat_map-append interval_line (settled_gaps old.limit old.entries past) (left (length old.entries)))
+
+  pub gap_finishes : {A : Type 0} (stop : ℕ) (result : Result A Fault) (grown : Output) → stop ≡ length old.entries → Adds out (interval_lines (left stop)) result grown
+      → RuleFinishes may_take stands_after settled_lines old whole_output out result grown
+  gap_finishes stop result grown all p =
+      rule_finishes may_take stands_after settled_lines old out (interval_lines (left stop)) whole_output (lines_left stop all) result grown p
+
+  -- a chromosome is entered
+  module _ (chrom : List ℕ) where
+    abbrev Enters : Result (Unit {0}) Fault → Complementing → Output → Type 0
+    Enters result new grown = EnterAnswers CoversRecord (Taken may_take stands_after settled_lines is_quiet none_wanted CoversRecord) old chrom out result new grown
+
+    -- the one that was reached, or one that the genome file lacks
+    pub enters_here : (bases : ℕ) → Enters (Ok tt) (record { entries = old.entries; limit = old.limit; current = old.current; bases = bases }) out
+    enters_here bases = λ r on result next later d. gap_taken r result next later (record { adds = d.adds; next = d.next })
+
+    module _ (place : Place ℕ) (items : List Interval) (goes : going (gap_walk old.limit) old.entries old.current chrom ≡ (Some place, items)) where
+      -- the next one, after what is left before it
+      pub enters_next : (bases : ℕ) (mid : Output) → is_on old.entries (Some place) chrom ≡ true → Grown out (interval_lines items) mid
+          → Enters (Ok tt) (record { entries = old.entries; limit = old.limit; current = Some place; bases = bases }) mid
+      enters_next bases mid at_place p = λ r on result next later d.
+          let walk = gap_walk old.limit in
+          let way : going walk old.entries old.current r.chrom ≡ (Some place, items) = ap (going walk old.entries old.current) on ∙ goes in
+          let here : is_on old.entries (Some place) r.chrom ≡ true = ap (is_on old.entries (Some place)) on ∙ at_place in
+          let from_old = step_goes walk old.entries old.current r place items way in
+          let from_new = step_goes walk old.entries (Some place) r place [] (going_on walk old.entries (Some place) r.chrom here) in
+          let step = taking walk old.entries place r in
+          let last : Adds mid (interval_lines step.1) result later = subst (λ (gaps : List Interval). Adds mid (interval_lines gaps) result later) (ap (λ s. s.1) from_new) d.adds in
+          let all : Adds out (interval_lines (items ++ step.1)) result later = adds_lines interval_line out mid later items step.1 result p last in
+          let currents = ap (λ s. s.0) from_new ∙ sym (ap (λ s. s.0) from_old) in
+          gap_taken r result next later (record {
+            adds = subst (λ (gaps : List Interval). Adds out (interval_lines gaps) result later) (sym (ap (λ s. s.1) from_old)) all;
+            next = subst (λ (current : Option (Place ℕ)). IfOk result (λ done. next ≡ record { entries = old.entries; limit = old.limit; current = current; bases = length_in old.entries r.chrom })) currents d.next;
+          })
+
+      -- what is left before it can't be written
+      pub enters_cut : (fault : Fault) (new : Complementing) (grown : Output) → FailsToAdd out (interval_lines items) (told fault) grown → Enters (Err fault) new grown
+      enters_cut fault new grown p = λ r on.
+          let walk = gap_walk old.limit in
+          let way : going walk old.entries old.current r.chrom ≡ (Some place, items) = ap (going walk old.entries old.current) on ∙ goes in
+          let starts = step_starts walk old.entries old.current r in
+          let more = cut_lines interval_line out grown items starts.0 (told fault) p in
+          let same : (next_gaps old r) ≡ items ++ starts.0 = starts.1 ∙ ap (λ s. s.1 ++ starts.0) way in
+          gap_taken r (Err fault) new grown (record {
+            adds = subst (λ (gaps : List Interval). FailsToAdd out (interval_lines gaps) (told fault) grown) (sym same) more;
+            next = tt;
+          })
+
+-- a cursor takes a record on its chromosome
+module _ (limit : Bool) (old : GapCursor) (r : Feature) (on : IsOnChrom (complement_at limit old) r.chrom) where
+  step_is : walk_step (gap_walk limit) (entries old.genome.now) (seen old) r ≡ (place_at (max old.end (min r.stop old.length)) old.rank, gap_before old r.start)
+  step_is = step_at limit (entries old.genome.now) r old.name.now old.end old.length on.bases old.rank old.named on.at
+
+  covered : (new : GapCursor) → Covers old r.stop new → complement_at limit new ≡ with_record (complement_at limit old) r
+  covered new c = same_complement (complement_at limit new) (with_record (complement_at limit old) r) c.same_entries refl
+      (ap₂ (λ (end : ℕ) (rank : Option ℕ). place_at end rank) c.end c.same_rank ∙ sym (ap (λ s. s.0) step_is)) (c.same_length ∙ on.bases)
+
+  next_is : (result : Result (Unit {0}) Fault) (new : GapCursor) → OnOk result (Covers old r.stop new) → IfOk result (λ done. complement_at limit new ≡ with_record (complement_at limit old) r)
+  next_is (Ok done) new c = covered new c
+  next_is (Err e) new c = tt
+
+  pub cursor_covers : (out : Output) (result : Result (Unit {0}) Fault) (new : GapCursor) (grown : Output) → Adds out (interval_lines (gap_before old r.start)) result grown → OnOk result (Covers old r.stop new)
+      → CoversRecord (complement_at limit old) r out result (complement_at limit new) grown
+  cursor_covers out result new grown p c = record {
+    adds = subst (λ (gaps : List Interval). Adds out (interval_lines gaps) result grown) (sym (ap (λ s. s.1) step_is)) p;
+    next = next_is result new c;
+  }
+
+-- whether the chromosome of a rank is the one that was reached
+pub same_rank : (o : Option ℕ) (rank : ℕ) (test : Bool) → test ≡ option_eq eqb o (Some rank) → test ≡ true → o ≡ Some rank
+same_rank None rank test is t = absurd (cc)
+same_rank (Some n) rank test is t = ap Some (eqb-true n rank (sym is ∙ t))
+
+pub other_rank : (o : Option ℕ) (rank : ℕ) (test : Bool) → test ≡ option_eq eqb o (Some rank) → test ≡ false → o ≡ Some rank → ⊥
+other_rank None rank test is f e = absurd (cc)
+other_rank (Some n) rank test is f e = let same : n ≡ rank = cc in eqb-false n rank (sym is ∙ f) same
+
+off_at : (table : List Entry) (name : List ℕ) (end : ℕ) (chrom : List ℕ) (rank : ℕ) → rank_of (genome_names table) chrom ≡ Some rank
+    → (o : Option ℕ) → ((n : ℕ) → o ≡ Some n → IsNamed table n name) → (o ≡ Some rank → ⊥) → is_on table (place_at end o) chrom ≡ false
+off_at table name end chrom rank is None named other = refl
+off_at table name end chrom rank is (Some n) named other =
+    not_on table (record { rank = n; known = end }) (named n refl).placed chrom (λ e. other (sym e ∙ is))
+
+-- a cursor on the way to the chromosome of a name
+module _ (limit : Bool) (cursor : GapCursor) (chrom : List ℕ) where
+  abbrev table : List Entry
+  table = entries cursor.genome.now
+
+  abbrev on_chrom : Option (Place ℕ) → ℕ → Complementing
+  on_chrom current bases = record { entries = table; limit = limit; current = current; bases = bases }
+
+  -- one that the genome file lacks
+  pub lacks_chrom : rank_of (genome_names table) chrom ≡ None → IsOnChrom (on_chrom (seen cursor) 0) chrom
+  lacks_chrom none = record { bases = sym (no_bases table chrom none); at = inr none }
+
+  module _ (rank : ℕ) (is : rank_of (genome_names table) chrom ≡ Some rank) where
+    -- the one that was reached
+    pub has_chrom : (end bases : ℕ) (current : Option (Place ℕ)) → current ≡ place_at end (Some rank) → (entry_at table rank).length ≡ bases → IsOnChrom (on_chrom current bases) chrom
+    has_chrom end bases current here size = record {
+      bases = sym size ∙ sym (size_ranked table chrom rank is);
+      at = inl (ap (λ current. is_on table current chrom) here ∙ on_found table chrom rank is);
+    }
+
+    -- another one
+    pub goes_other : (cursor.rank ≡ Some rank → ⊥) → going (gap_walk limit) table (seen cursor) chrom ≡ (place_at 0 (Some rank), left_before last_gap (bare_gap limit) table (seen cursor) rank)
+    goes_other other = going_to (gap_walk limit) table (seen cursor) chrom (Some rank) (off_at table cursor.name.now cursor.end chrom rank is cursor.rank cursor.named other) (sym is)
+
+    pub rank_placed : IsPlaced table rank
+    rank_placed = found_at table chrom rank is

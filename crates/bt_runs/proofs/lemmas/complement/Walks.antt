@@ -1,0 +1,206 @@
+-- An engine that goes through the chromosomes of a genome file. One more record moves what is settled and what is reached as its walk's step says. At the end what its walk leaves is left. Complement and coverage are such engines; `ComplementForm` and `CoverageForm` have what each owes of one chromosome.
+use Rattle.std.proofs.Common.{◌≡◌, ℕ, ◌+◌, ◌≤◌, inl, inr, List, [], ◌∷◌, ◌++◌, refl, sym, ap, ap₂, ◌∙◌, subst, arith, append-nil, append_assoc, flat_map, length, length-append, slice_range, true, false, Option, Some, None}
+use Rattle.bt_bed.specs.model.feature.Feature.{Feature, interval_of, intervals_of}
+use Rattle.bt_bed.specs.model.order.Genome.{Entry, genome_names}
+use Rattle.bt_bed.specs.model.feature.Interval.{Interval}
+use Rattle.bt_bed.specs.model.order.Locus.{Locus}
+use Rattle.bt_bed.specs.model.order.Rank.{AreDistinct, rank_of}
+use Rattle.bt_bed.proofs.lemmas.parse.NameLemmas.{name_eq}
+use Rattle.bt_runs.specs.model.Gaps.{AreTaken}
+use Rattle.bt_runs.specs.calls.Settling.{Settles}
+use Rattle.bt_runs.specs.inside.walk.Walk.{AreReached, IsPlaced, Place, Walk, entry_at, going, going_at, is_on, left_before, places, step_from, taking, walk_step}
+use Rattle.bt_runs.proofs.lemmas.order.ByChromosome.{Begun, Form, InOrder, Moves, Owes, Standing, Written, begun, full_last, goes_first, goes_next, goes_on, goes_to, order_front, parts_none, settling, whole_left}
+use Rattle.bt_runs.proofs.lemmas.order.GenomeRanks.{entry_there, name_at, slice_between}
+use Rattle.bt_runs.proofs.lemmas.laws.Standing.{GoesTo, begins_at, last_rank, none_at_first}
+
+-- what such an engine says of its items: how it walks, and what else its `Form` has
+pub record Walked (T S : Type 0) : Type 0 where
+  pub walk : Walk T S
+  pub part : Entry → List Feature → List T
+  pub pick : Interval → List T → List T
+  pub whole : List Feature → List T
+  pub settled : List Feature → List T
+
+abbrev pub form_of : {T S : Type 0} → Walked T S → Form Entry T S
+form_of e = record {
+  name = name_at;
+  part = e.part;
+  pick = e.pick;
+  whole = e.whole;
+  settled = e.settled;
+  bare = e.walk.bare;
+  fresh = e.walk.fresh;
+  left = e.walk.left;
+  step = e.walk.step;
+  after = e.walk.after;
+}
+
+-- the records that it may take
+pub in_order : (entries : List Entry) (past : List Feature) → AreTaken entries past → InOrder (genome_names entries) past
+in_order entries past t = record { placed = t.placed; full = t.full }
+
+pub taken_front : (entries : List Entry) (past more : List Feature) → AreTaken entries (past ++ more) → AreTaken entries past
+taken_front entries past more t =
+    let front = order_front (genome_names entries) past more (in_order entries (past ++ more) t) in
+    record { distinct = t.distinct; placed = front.placed; full = front.full }
+
+-- the chromosome of a rank among the others
+pub rank_entry : (entries before : List Entry) (key : Entry) (after : List Entry) (rank : ℕ) → entries ≡ before ++ key ∷ after → rank ≡ length before → entry_at entries rank ≡ key
+rank_entry entries before key after rank split at = rw split (entry_there before key after rank (sym at))
+
+-- the chromosomes after one, up to another or to the last
+slice_behind : (entries before : List Entry) (key : Entry) (middle rest : List Entry) (rank stop : ℕ) → entries ≡ before ++ key ∷ (middle ++ rest) → rank ≡ length before → stop ≡ length (before ++ key ∷ middle) → slice_range entries (rank + 1) stop ≡ middle
+slice_behind entries before key middle rest rank stop split at end =
+    let one_more = length-append before (key ∷ []) in
+    let long = length-append before (key ∷ middle) in
+    ap (λ l. slice_range l (rank + 1) stop) (split ∙ sym (append_assoc before (key ∷ []) (middle ++ rest))) ∙ slice_between (before ++ key ∷ []) middle rest (rank + 1) stop (omega arith) (omega arith)
+
+-- two places that show the same are on the same chromosome
+pub same_place : {S : Type 0} (to : S → ℕ) (entries : List Entry) (a b : Place S) → IsPlaced entries a.rank → IsPlaced entries b.rank → places to entries (Some a) ≡ places to entries (Some b) → (a.rank ≡ b.rank) × (to a.known ≡ to b.known)
+same_place to entries a b at_a at_b e =
+    let x : Locus = record { chrom = (entry_at entries a.rank).name; start = to a.known } in
+    let y : Locus = record { chrom = (entry_at entries b.rank).name; start = to b.known } in
+    let heads : x ≡ y = cc in
+    let ranks : Some a.rank ≡ Some b.rank = sym at_a.named ∙ ap (λ (l : Locus). rank_of (genome_names entries) l.chrom) heads ∙ at_b.named in
+    (cc, ap (λ (l : Locus). l.start) heads)
+
+module _ {T S : Type 0} (walk : Walk T S) (entries : List Entry) where
+  -- the chromosome of a name is the one that was reached, or another
+  pub going_on : (current : Option (Place S)) (name : List ℕ) → is_on entries current name ≡ true → going walk entries current name ≡ (current, [])
+  going_on current name e = rw e refl
+
+  pub going_to : (current : Option (Place S)) (name : List ℕ) (rank : Option ℕ) → is_on entries current name ≡ false → rank ≡ rank_of (genome_names entries) name → going walk entries current name ≡ going_at walk entries current rank
+  going_to current name rank e is = rw (e, is) refl
+
+  -- what is settled on the way comes first, and then what the record settles where it lies
+  starts_from : (current : Option (Place S)) (r : Feature) (p : Option (Place S) × List T) → (rest : List T) × ((step_from walk entries current r p).1 ≡ p.1 ++ rest)
+  starts_from current r (None, items) = ([], sym (append-nil items))
+  starts_from current r (Some place, items) = ((taking walk entries place r).1, refl)
+
+  pub step_starts : (current : Option (Place S)) (r : Feature) → (rest : List T) × ((walk_step walk entries current r).1 ≡ (going walk entries current r.chrom).1 ++ rest)
+  step_starts current r = starts_from current r (going walk entries current r.chrom)
+
+  pub step_goes : (current : Option (Place S)) (r : Feature) (place : Place S) (items : List T) → going walk entries current r.chrom ≡ (Some place, items)
+      → walk_step walk entries current r ≡ (Some (taking walk entries place r).0, items ++ (taking walk entries place r).1)
+  step_goes current r place items is = rw is refl
+
+  taking_at : (key : Entry) (place : Place S) (r : Feature) → entry_at entries place.rank ≡ key → taking walk entries place r ≡ (record { rank = place.rank; known = walk.after key place.known r }, walk.step key place.known r)
+  taking_at key place r is = rw is refl
+
+module _ {T S : Type 0} (e : Walked T S) (Own : Entry → List Feature → ℕ → List T → S → Type 0) (entries : List Entry) where
+  -- what was reached after the records: their last chromosome, if there is a record
+  abbrev pub Held : List Feature → Option (Place S) → Type 0
+  Held past None = past ≡ []
+  Held past (Some place) = (before : List Entry) × (key : Entry) × (after : List Entry) × Standing (form_of e) Own entries past before key after place.known × (place.rank ≡ length before)
+
+  -- the step moves what is settled and what is reached
+  pub record Steps (past : List Feature) (r : Feature) (current : Option (Place S)) : Type 0 where
+    pub settles : e.settled (past ++ r ∷ []) ≡ e.settled past ++ (walk_step e.walk entries current r).1
+    pub held : Held (past ++ r ∷ []) (walk_step e.walk entries current r).0
+
+  held_next : (past : List Feature) (before : List Entry) (key : Entry) (after : List Entry) (o : Option (Place S)) (next : Place S) → o ≡ Some next → Standing (form_of e) Own entries past before key after next.known → next.rank ≡ length before → Held past o
+  held_next past before key after o next is s rank = rw is (before, key, after, s, rank)
+
+  -- some are reached
+  held_begun : (past : List Feature) → Begun (form_of e) Own entries past → (current : Option (Place S)) × Held past current
+  held_begun [] b = (None, refl)
+  held_begun (q ∷ qs) b = (Some (record { rank = length b.before; known = b.state }), (b.before, b.key, b.after, b.here, refl))
+
+  -- what is reached is a chromosome of the table
+  held_at : (past : List Feature) (current : Option (Place S)) → AreDistinct (genome_names entries) → Held past current → AreReached entries current
+  held_at past None distinct none = tt
+  held_at past (Some place) distinct (before, key, after, s, rank) =
+      let is = rank_entry entries before key after place.rank s.stand.split rank in
+      let long = ap length s.stand.split ∙ length-append before (key ∷ after) in
+      record {
+        within = omega arith;
+        named = rw (is, s.stand.is, last_rank name_at entries distinct (intervals_of past) s.last before key after s.stand, rank) refl;
+      }
+
+  module _ (owes : Owes (form_of e) Own (genome_names entries)) (written : (past : List Feature) → Written (form_of e) Own entries past) where
+    -- once the record's chromosome is reached, the step takes the record as its chromosome does
+    arrive : (past : List Feature) (r : Feature) (current : Option (Place S)) (place : Place S) (before : List Entry) (key : Entry) (after : List Entry) (first : List T) → place.rank ≡ length before
+        → going e.walk entries current r.chrom ≡ (Some place, first)
+        → Moves (form_of e) Own entries past r (first ++ e.walk.step key place.known r) before key after (e.walk.after key place.known r) → Steps past r current
+    arrive past r current place before key after first rank goes m =
+        let step = step_goes e.walk entries current r place first goes in
+        let takes = taking_at e.walk entries key place r (rank_entry entries before key after place.rank m.here.stand.split rank) in
+        let items : (walk_step e.walk entries current r).1 ≡ first ++ e.walk.step key place.known r = ap (λ s. s.1) step ∙ ap (λ t. first ++ t.1) takes in
+        let next : (walk_step e.walk entries current r).0 ≡ Some (record { rank = place.rank; known = e.walk.after key place.known r }) = ap (λ s. s.0) step ∙ ap (λ t. Some t.0) takes in
+        record {
+          settles = m.settles (written past) (written (past ++ r ∷ [])) ∙ ap (λ l. e.settled past ++ l) (sym items);
+          held = held_next (past ++ r ∷ []) before key after (walk_step e.walk entries current r).0 _ next m.here rank;
+        }
+
+    -- the first record
+    step_first : (r : Feature) → AreTaken entries (r ∷ []) → Steps [] r None
+    step_first r t =
+        let first = begins_at name_at entries t.distinct (interval_of r) t.placed in
+        let k = first.0 in
+        let f = first.1 in
+        let slice : slice_range entries 0 k ≡ f.before = ap (λ l. slice_range l 0 k) f.split ∙ slice_between [] f.before (f.key ∷ f.after) 0 k refl (let a = f.at in omega arith) in
+        let place : Place S = record { rank = k; known = e.walk.fresh } in
+        let none : Option (Place S) = None in
+        let goes : going e.walk entries none r.chrom ≡ (Some place, flat_map e.walk.bare f.before) = going_to e.walk entries none r.chrom (Some k) refl (sym first.2) ∙ ap (λ l. (Some place, flat_map e.walk.bare l)) slice in
+        arrive [] r None place f.before f.key f.after (flat_map e.walk.bare f.before) (sym f.at) goes
+        (goes_first (form_of e) Own entries owes t.distinct r f.before f.key f.after first.3 (full_last [] r t.full))
+
+    module _ (past : List Feature) (r : Feature) (t : AreTaken entries (past ++ r ∷ [])) (place : Place S) (before : List Entry) (key : Entry) (after : List Entry) (s : Standing (form_of e) Own entries past before key after place.known) (rank : place.rank ≡ length before) where
+      abbrev is : entry_at entries place.rank ≡ key
+      is = rank_entry entries before key after place.rank s.stand.split rank
+
+      -- on the chromosome of the last record
+      step_on : r.chrom ≡ s.last.chrom → s.last.start ≤ r.start → Steps past r (Some place)
+      step_on same up =
+          let on : is_on entries (Some place) r.chrom ≡ true = name_eq _ r.chrom (ap (λ (e : Entry). e.name) is ∙ s.stand.is ∙ sym same) in
+          arrive past r (Some place) place before key after [] rank (going_on e.walk entries (Some place) r.chrom on)
+          (goes_on (form_of e) Own entries owes t.distinct past r before key after place.known s same up (full_last past r t.full))
+
+      -- on a later one
+      step_to : GoesTo name_at entries (intervals_of past) (interval_of r) before key after → Steps past r (Some place)
+      step_to g =
+          let k = length (before ++ key ∷ g.middle) in
+          let off : is_on entries (Some place) r.chrom ≡ false = rw is g.other in
+          let slice : slice_range entries (place.rank + 1) k ≡ g.middle = slice_behind entries before key g.middle (g.next ∷ g.behind) place.rank k (s.stand.split ∙ ap (λ l. before ++ key ∷ l) g.rest) rank refl in
+          let next : Place S = record { rank = k; known = e.walk.fresh } in
+          let first = e.walk.left key place.known ++ flat_map e.walk.bare g.middle in
+          let goes : going e.walk entries (Some place) r.chrom ≡ (Some next, first) = going_to e.walk entries (Some place) r.chrom (Some k) off (sym g.rank) ∙ ap₂ (λ (key : Entry) (es : List Entry). (Some next, e.walk.left key place.known ++ flat_map e.walk.bare es)) is slice in
+          arrive past r (Some place) next (before ++ key ∷ g.middle) g.next g.behind first refl goes
+          (goes_to (form_of e) Own entries owes t.distinct past r before key after place.known s g (full_last past r t.full))
+
+    pub steps : (past : List Feature) (r : Feature) (current : Option (Place S)) → AreTaken entries (past ++ r ∷ []) → Held past current → Steps past r current
+    steps past r None t none = subst (λ (l : List Feature). Steps l r None) (sym none) (step_first r (subst (λ (l : List Feature). AreTaken entries (l ++ r ∷ [])) none t))
+    steps past r (Some place) t (before, key, after, s, rank) =
+        elim (goes_next (form_of e) Own entries owes t.distinct past r before key after place.known s (in_order entries (past ++ r ∷ []) t)) [
+          | inl same ↦ step_on past r t place before key after s rank same.0 same.1
+          | inr g ↦ step_to past r t place before key after s rank g
+        ]
+
+    -- at the end the rest of the chromosome is left, and those after it
+    pub ends : (past : List Feature) (current : Option (Place S)) → AreDistinct (genome_names entries) → Held past current → e.whole past ≡ e.settled past ++ left_before e.walk.left e.walk.bare entries current (length entries)
+    ends past None distinct none =
+        let bare = e.walk.bare in
+        let slice : slice_range entries 0 (length entries) ≡ entries = ap (λ l. slice_range l 0 (length entries)) (sym (append-nil entries)) ∙ slice_between [] entries [] 0 (length entries) refl (omega arith) in
+        rw none ((written []).whole_is ∙ parts_none (form_of e) Own entries owes distinct [] entries (none_at_first name_at entries) ∙ ap (flat_map bare) (sym slice)
+        ∙ ap (λ l. l ++ flat_map bare (slice_range entries 0 (length entries))) (sym owes.nothing))
+    ends past (Some place) distinct (before, key, after, s, rank) =
+        let is = rank_entry entries before key after place.rank s.stand.split rank in
+        let slice = slice_behind entries before key after [] place.rank (length entries) (s.stand.split ∙ ap (λ l. before ++ key ∷ l) (sym (append-nil after))) rank (ap length s.stand.split) in
+        whole_left (form_of e) Own entries owes distinct past before key after place.known s (written past)
+        ∙ ap₂ (λ (key : Entry) (es : List Entry). e.settled past ++ (e.walk.left key place.known ++ flat_map e.walk.bare es)) (sym is) (sym slice)
+
+    -- something is reached after records in order
+    pub reaches : (past : List Feature) → AreTaken entries past → (current : Option (Place S)) × Held past current × AreReached entries current
+    reaches past t =
+        let h = held_begun past (begun (form_of e) Own entries owes t.distinct past (in_order entries past t)) in
+        (h.0, h.1, held_at past h.0 t.distinct h.1)
+
+    -- more and more is settled
+    pub settles_items : Settles e.settled e.whole (AreTaken entries)
+    settles_items = settling (form_of e) Own (AreTaken entries) (taken_front entries) (λ all t. record {
+      keys = entries;
+      owes = owes;
+      distinct = t.distinct;
+      in_order = in_order entries all t;
+      written = λ past more is. written past;
+    })

@@ -1,0 +1,78 @@
+-- The lines of intervals with their depths, and what the private calls of a coverage write of them.
+use Rattle.std.proofs.Common.{◌≡◌, ℕ, List, [], ◌∷◌, ◌++◌, Result, Err, sym, ap, ◌∙◌, append_assoc, codes, decimal, arith, length, length-append, ◌<◌, refl, Bool, true, false, Option, Some, None}
+use Rattle.std.proofs.lemmas.List.{map-append}
+use Rattle.bt_lines.specs.calls.Names.{told}
+use Rattle.bt_lines.specs.calls.Output.{Output}
+use Rattle.bt_lines.specs.calls.Putting.{Adds, FailsToAdd, Grown, Puts}
+use Rattle.bt_lines.specs.declared.fault.Fault.{Fault}
+use Rattle.bt_lines.proofs.lemmas.writer.PuttingLemmas.{line_alone, adds_lines, cut_lines}
+use Rattle.bt_runs.specs.model.Depth.{DepthInterval, depth_line, depth_lines, depth_on}
+use Rattle.bt_runs.specs.inside.coverage.DepthStep.{levels_on, Known, bare_of, depth_walk, depths_left, unknown}
+use Rattle.bt_runs.specs.inside.coverage.DepthText.{depth_text}
+use Rattle.bt_runs.specs.model.Levels.{Level}
+use Rattle.std.proofs.lemmas.Bool.{lt-ltb}
+use Rattle.bt_bed.specs.model.feature.Feature.{Feature}
+use Rattle.bt_bed.specs.model.order.Genome.{Entry, genome_names}
+use Rattle.bt_bed.specs.model.order.Rank.{rank_of}
+use Rattle.bt_bed.specs.declared.record.strand.Strand.{Strand}
+use Rattle.bt_runs.specs.inside.coverage.CountSeen.{seen}
+use Rattle.bt_runs.specs.inside.coverage.OpenRecords.{OpenAt, none_open_at}
+use Rattle.bt_runs.specs.inside.walk.Walk.{Place, begun, entry_at, is_on, left_before, taking, walk_step}
+use Rattle.bt_runs.specs.declared.coverage.depths.DepthPlace.{DepthPlace}
+use Rattle.bt_runs.proofs.lemmas.complement.Walks.{going_to, step_goes}
+
+-- the name, and what follows it
+pub line_parts : (r : DepthInterval) → r.chrom ++ depth_text r.start r.stop r.depth ≡ depth_line r
+line_parts r =
+    let tab = codes "\t" in
+    let last = decimal r.depth ++ codes "\n" in
+    let second = decimal r.stop ++ (tab ++ last) in
+    let first = (tab ++ decimal r.start) ++ tab in
+    ap (λ l. r.chrom ++ l) (sym (append_assoc tab (decimal r.start) (tab ++ second))
+    ∙ sym (append_assoc (tab ++ decimal r.start) tab second)
+    ∙ sym (append_assoc first (decimal r.stop) (tab ++ last))
+    ∙ sym (append_assoc (first ++ decimal r.stop) tab last)
+    ∙ sym (append_assoc ((first ++ decimal r.stop) ++ tab) (decimal r.depth) (codes "\n")))
+
+-- no line is empty
+pub line_has_bytes : (r : DepthInterval) → depth_line r ≡ [] → ⊥
+line_has_bytes r e =
+    let behind = codes "\t" ++ decimal r.start ++ codes "\t" ++ decimal r.stop ++ codes "\t" ++ decimal r.depth in
+    let l = length-append r.chrom (behind ++ codes "\n") in
+    let m = length-append behind (codes "\n") in
+    let none : length (depth_line r) ≡ 0 = ap length e in
+    absurd (omega arith)
+
+-- the line of an interval alone
+pub adds_line : {A : Type 0} (r : DepthInterval) (old new : Output) (result : Result A Fault) → Puts old (depth_line r) result new → Adds old (depth_lines (r ∷ [])) result new
+adds_line r old new result p = line_alone depth_line r old new result (line_has_bytes r) p
+
+-- levels on a chromosome, one list after another
+module _ (chrom : List ℕ) (old mid new : Output) (xs ys all : List Level) where
+  pub adds_levels : {A : Type 0} (r : Result A Fault) → all ≡ xs ++ ys → Grown old (depth_lines (levels_on chrom xs)) mid → Adds mid (depth_lines (levels_on chrom ys)) r new → Adds old (depth_lines (levels_on chrom all)) r new
+  adds_levels r is p q = rw (is, map-append (depth_on chrom) xs ys) (adds_lines depth_line old mid new (levels_on chrom xs) (levels_on chrom ys) r p q)
+
+  pub cut_levels : (zs : List Level) (fault : Fault) → all ≡ (xs ++ ys) ++ zs → Grown old (depth_lines (levels_on chrom xs)) mid → FailsToAdd mid (depth_lines (levels_on chrom ys)) (told fault) new → FailsToAdd old (depth_lines (levels_on chrom all)) (told fault) new
+  cut_levels zs fault is p q =
+      rw (is, map-append (depth_on chrom) (xs ++ ys) zs, map-append (depth_on chrom) xs ys)
+      (cut_lines depth_line old new (levels_on chrom xs ++ levels_on chrom ys) (levels_on chrom zs) (told fault) (adds_lines depth_line old mid new (levels_on chrom xs) (levels_on chrom ys) {A = Unit {0}} (Err fault) p q))
+
+pub left_cut : (chrom : List ℕ) (old new : Output) (xs ys : List Level) (fault : Fault) → FailsToAdd old (depth_lines (levels_on chrom xs)) (told fault) new → FailsToAdd old (depth_lines (levels_on chrom (xs ++ ys))) (told fault) new
+left_cut chrom old new xs ys fault p = rw (map-append (depth_on chrom) xs ys) (cut_lines depth_line old new (levels_on chrom xs) (levels_on chrom ys) (told fault) p)
+
+-- one bare chromosome
+pub bare_some : (zeros : Bool) (entries : List Entry) (rank size : ℕ) (name : List ℕ) → (entry_at entries rank).length ≡ size → (entry_at entries rank).name ≡ name → zeros ≡ true → 0 < size
+    → bare_of zeros (entry_at entries rank) ≡ record { chrom = name; start = 0; stop = size; depth = 0 } ∷ []
+bare_some zeros entries rank size name is named t some = rw (is, named, t, lt-ltb 0 size some) refl
+
+-- how many chromosomes have begun doesn't depend on the open records
+pub begun_same : (current : Option DepthPlace) (held : OpenAt) → begun (seen current (none_open_at 0)) ≡ begun (seen current held)
+begun_same None held = refl
+begun_same (Some r) held = refl
+
+-- a record on another chromosome: what is left before that, and then what it settles there
+pub count_begins : (zeros : Bool) (strand : Option Strand) (entries : List Entry) (current : Option (Place Known)) (r : Feature) (rank : ℕ) → is_on entries current r.chrom ≡ false → Some rank ≡ rank_of (genome_names entries) r.chrom
+    → (let place : Place Known = record { rank = rank; known = unknown } in walk_step (depth_walk zeros strand) entries current r ≡ (Some (taking (depth_walk zeros strand) entries place r).0, left_before (depths_left zeros) (bare_of zeros) entries current rank ++ (taking (depth_walk zeros strand) entries place r).1))
+count_begins zeros strand entries current r rank off is =
+    let place : Place Known = record { rank = rank; known = unknown } in
+    step_goes (depth_walk zeros strand) entries current r place (left_before (depths_left zeros) (bare_of zeros) entries current rank) (going_to (depth_walk zeros strand) entries current r.chrom (Some rank) off is)

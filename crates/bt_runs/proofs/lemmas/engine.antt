@@ -1,0 +1,4 @@
+-- Lemmas on engine.
+pub mod RuleLemmas
+pub mod RuledLemmas
+pub mod SingleLemmas

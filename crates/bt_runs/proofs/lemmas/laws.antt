@@ -1,0 +1,7 @@
+-- Lemmas on laws.
+pub mod EachLemmas
+mod Examples
+pub mod Passing
+pub mod PlainSpans
+pub mod SettlingLemmas
+pub mod Standing

@@ -1,0 +1,13 @@
+-- Lemmas on merge.
+pub mod Bridging
+pub mod MergeForm
+pub mod MergeLemmas
+pub mod OneStrand
+pub mod PendingRunsLemmas
+pub mod PerStrandLemmas
+pub mod RunLines
+pub mod SettledRuns
+pub mod StrandListing
+pub mod StrandOrder
+pub mod StrandSettling
+pub mod UnstrandedLemmas

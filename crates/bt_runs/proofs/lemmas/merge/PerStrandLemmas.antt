@@ -1,0 +1,422 @@
+-- What a merge that keeps the strands apart does with one more record is what the definitions say, whatever the past.
+use Rattle.std.proofs.Common.{◌≡◌, ◌⊎◌, ℕ, ◌+◌, ◌-◌, ◌<◌, ◌≤◌, List, [], ◌∷◌, ◌++◌, append-nil, length, length-append, inl, inr, not, cond, ◌||◌, drop, get_or, map, set, take, Bool, true, false, bytes_eq, nat_lt, lt-ltb, le-ltb, Option, None, Some, Result, Ok, Err, refl, sym, ap, ap₂, ◌∙◌, subst, arith}
+use Rattle.std.specs.List.{prefix_len, slice_get}
+use Rattle.std.specs.Prelude.{is_err, OnOk}
+use Rattle.std.proofs.lemmas.Bool.{cases_Bool, cases_lt, cond-true, cond-false, false≢true, not_from_true}
+use Rattle.std.proofs.lemmas.Grind.{flat_map-append}
+use Rattle.std.proofs.lemmas.List.{drop-map, get_or-map, length-map, map-append, map-set, take-map}
+use Rattle.std.proofs.lemmas.Option.{get_or_from_slice_get, slice_get-get_or, slice_get_within}
+use Rattle.bt_lines.specs.model.Fault.{Told, no_memory, write_failed}
+use Rattle.bt_lines.specs.calls.Names.{told}
+use Rattle.bt_lines.specs.calls.Output.{Output}
+use Rattle.bt_lines.specs.calls.Putting.{Adds, FailsToAdd, FailsToPut, Grown}
+use Rattle.bt_lines.specs.declared.fault.Fault.{Fault}
+use Rattle.bt_lines.proofs.lemmas.writer.PuttingLemmas.{grown_more}
+use Rattle.bt_bed.specs.model.feature.Feature.{Feature, interval_of}
+use Rattle.bt_bed.specs.model.feature.IntervalLine.{interval_line, interval_lines}
+use Rattle.bt_bed.specs.model.feature.Strands.{is_strand}
+use Rattle.bt_bed.proofs.lemmas.write.IntervalLineLemmas.{adds_line}
+use Rattle.bt_bed.proofs.lemmas.parse.NameLemmas.{name_eq, name_ne, other_name}
+use Rattle.bt_runs.specs.calls.Engine.{AfterEach}
+use Rattle.bt_runs.specs.calls.Failure.{fault_of}
+use Rattle.bt_runs.specs.model.MergedRuns.{AreTaken, is_passed}
+use Rattle.bt_runs.specs.inside.merge.PendingRuns.{joined_here, left_runs, lengthened, passed_runs, pending_from, place_of, placed_run, placed_runs, with_joined}
+use Rattle.bt_runs.specs.inside.merge.PerStrand.{kept_in, run_at_hand}
+use Rattle.bt_runs.specs.inside.walk.Rule.{EnterAnswers, RuleFeeds, RuleFinishes, Taken, WantsMemory}
+use Rattle.bt_runs.specs.model.StrandRuns.{StrandRun, kept_strand_runs, places_of, settled_strand_runs, strand_runs}
+use Rattle.bt_runs.specs.inside.merge.StrandStep.{added_at, behind_settled, front_settled, kept_with, last_place, place_among, run_from, run_with, with_added}
+use Rattle.bt_runs.specs.inside.merge.StrandTaking.{JoinsAmong, JoinsLeft, LeavesNone, OpensRun, Takes, TakesNext, joined_among, lines_by, wants_memory}
+use Rattle.bt_runs.specs.calls.Stranding.{Stranding, StandsAfter, held_count, is_quiet, may_take, settled_lines, stands_after, strand_lines, whole_output}
+use Rattle.bt_runs.specs.declared.engine.failure.Failure.{Failure}
+use Rattle.bt_runs.specs.declared.engine.failure.Failure.TheVariants.{Write, Memory}
+use Rattle.bt_runs.specs.declared.merge.pending_runs.PendingRun.{PendingRun}
+use Rattle.bt_runs.specs.declared.merge.per_strand_merge.OnlyRun.{OnlyRun}
+use Rattle.bt_runs.proofs.lemmas.merge.PendingRunsLemmas.{is_over, last_place_within, left_none, over_so, passed_every}
+use Rattle.bt_runs.proofs.lemmas.complement.RuleSteps.{quiet_adds_none, rule_cut, rule_finishes, rule_short, rule_taken}
+use Rattle.bt_runs.proofs.lemmas.merge.RunLines.{no_lines}
+use Rattle.bt_runs.proofs.lemmas.merge.StrandSettling.{strand_next, strand_runs_are_all, take_goes}
+
+-- tests that agree
+prefix_same : {A : Type 0} (test other : A → Bool) → ((x : A) → test x ≡ other x) → (xs : List A) → prefix_len test xs ≡ prefix_len other xs
+prefix_same test other same [] = refl
+prefix_same test other same (x ∷ xs) = ap₂ (λ b n. cond b (1 + n) 0) (same x) (prefix_same test other same xs)
+
+prefix_map : {A B : Type 0} (test : B → Bool) (f : A → B) (xs : List A) → prefix_len test (map f xs) ≡ prefix_len (λ x. test (f x)) xs
+prefix_map test f [] = refl
+prefix_map test f (x ∷ xs) = ap (λ n. cond (test (f x)) (1 + n) 0) (prefix_map test f xs)
+
+last_place_map : {A B : Type 0} (test : B → Bool) (f : A → B) (xs : List A) → last_place test (map f xs) ≡ last_place (λ x. test (f x)) xs
+last_place_map test f [] = refl
+last_place_map test f (x ∷ xs) = ap (place_among (test (f x))) (last_place_map test f xs)
+
+get_map : {A B : Type 0} (f : A → B) (xs : List A) (i : ℕ) (x : A) (d : B) → slice_get xs i ≡ Some x → get_or (map f xs) i d ≡ f x
+get_map f xs i x d e = get_or-map f xs i x d (slice_get_within xs i x e) ∙ ap f (get_or_from_slice_get xs i x x e)
+
+-- a run ends more than the gap below a start if it ends below the start less the gap
+below_reach : (stop gap start : ℕ) → nat_lt (stop + gap) start ≡ nat_lt stop (start - gap)
+below_reach stop gap start = elim (cases_lt (stop + gap) start) [
+  | inl far ↦ lt-ltb (stop + gap) start far ∙ sym (lt-ltb stop (start - gap) (omega arith))
+  | inr near ↦ le-ltb (stop + gap) start near ∙ sym (le-ltb stop (start - gap) (omega arith))
+]
+
+module _ (gap : ℕ) (chrom : List ℕ) (r : Feature) where
+  abbrev here : Bool
+  here = bytes_eq chrom r.chrom
+
+  abbrev reach : ℕ
+  reach = r.start - gap
+
+  test_same : (w : PendingRun) → is_passed gap (interval_of r) (placed_run chrom w).run ≡ (not here || nat_lt w.stop reach)
+  test_same w = ap (λ b. not here || b) (below_reach w.stop gap r.start)
+
+  prefix_placed : (runs : List PendingRun) → prefix_len (λ item. is_passed gap (interval_of r) item.run) (placed_runs chrom runs) ≡ prefix_len (λ (w : PendingRun). not here || nat_lt w.stop reach) runs
+  prefix_placed runs =
+      prefix_map (λ item. is_passed gap (interval_of r) item.run) (placed_run chrom) runs
+      ∙ prefix_same (λ (w : PendingRun). is_passed gap (interval_of r) (placed_run chrom w).run) (λ (w : PendingRun). not here || nat_lt w.stop reach) test_same runs
+
+  -- the runs that the record settles, and those that stay
+  pub front_placed : (runs : List PendingRun) → front_settled gap (placed_runs chrom runs) r ≡ placed_runs chrom (passed_runs here reach runs)
+  front_placed runs =
+      ap (λ n. take n (placed_runs chrom runs)) (prefix_placed runs) ∙ take-map (placed_run chrom) (prefix_len (λ (w : PendingRun). not here || nat_lt w.stop reach) runs) runs
+
+  pub behind_placed : (runs : List PendingRun) → behind_settled gap (placed_runs chrom runs) r ≡ placed_runs chrom (left_runs here reach runs)
+  behind_placed runs =
+      ap (λ (l : List StrandRun). drop (length l) (placed_runs chrom runs)) (front_placed runs)
+      ∙ ap (λ n. drop n (placed_runs chrom runs)) (length-map (passed_runs here reach runs) (placed_run chrom))
+      ∙ drop-map (placed_run chrom) (length (passed_runs here reach runs)) runs
+
+  -- the record lies on the chromosome of the runs, or there are none
+  abbrev pub Fits : List PendingRun → Type 0
+  Fits rest = (here ≡ true) ⊎ (rest ≡ [])
+
+  -- a record that is joined to the last run of its strand, and one that isn't
+  pub record Added (rest : List PendingRun) (joined : Bool) (new : List PendingRun) : Type 0 where
+    pub one : joined ≡ true → with_added gap (placed_runs chrom rest) r ≡ placed_runs chrom new
+    pub more : joined ≡ false → (new ≡ rest) × (with_added gap (placed_runs chrom rest) r ≡ placed_runs chrom rest ++ run_from r ∷ [])
+
+  place_same : (rest : List PendingRun) → with_added gap (placed_runs chrom rest) r ≡ added_at gap (placed_runs chrom rest) r (place_of r.strand rest)
+  place_same rest = ap (added_at gap (placed_runs chrom rest) r) (last_place_map (λ item. is_strand item.strand r.strand) (placed_run chrom) rest)
+
+  added_none : (rest : List PendingRun) → place_of r.strand rest ≡ None → Added rest (with_joined reach r.stop rest (place_of r.strand rest)).0 (with_joined reach r.stop rest (place_of r.strand rest)).1
+  added_none rest none =
+      subst (λ (pair : Bool × List PendingRun). Added rest pair.0 pair.1) (sym (ap (with_joined reach r.stop rest) none)) (record {
+        one = λ t. absurd (false≢true t);
+        more = λ f. (refl, place_same rest ∙ ap (added_at gap (placed_runs chrom rest) r) none);
+      })
+
+  added_some : (rest : List PendingRun) (place : ℕ) (w : PendingRun) → place_of r.strand rest ≡ Some place → slice_get rest place ≡ Some w → here ≡ true → Added rest (with_joined reach r.stop rest (place_of r.strand rest)).0 (with_joined reach r.stop rest (place_of r.strand rest)).1
+  added_some rest place w is got on =
+      let items = placed_runs chrom rest in
+      let item = placed_run chrom w in
+      let more = items ++ run_from r ∷ [] in
+      let longer = set rest place (lengthened r.stop w) in
+      let passed = is_passed gap (interval_of r) item.run in
+      let read = get_map (placed_run chrom) rest place w (run_from r) got in
+      let pair : with_joined reach r.stop rest (place_of r.strand rest) ≡ cond (nat_lt w.stop reach) (false, rest) (true, longer) = ap (with_joined reach r.stop rest) is ∙ ap (joined_here reach r.stop rest place) got in
+      let all : with_added gap items r ≡ cond passed more (set items place (run_with r item)) =
+      place_same rest ∙ ap (added_at gap items r) is
+      ∙ ap (λ i. cond (is_passed gap (interval_of r) i.run) more (set items place (run_with r i))) read in
+      let test : passed ≡ nat_lt w.stop reach = test_same w ∙ ap (λ b. b || nat_lt w.stop reach) (not_from_true here on) in
+      elim (cases_Bool (nat_lt w.stop reach)) [
+        | inl t ↦ subst (λ (p : Bool × List PendingRun). Added rest p.0 p.1) (sym (pair ∙ cond-true (nat_lt w.stop reach) (false, rest) (true, longer) t)) (record {
+          one = λ e. absurd (false≢true e);
+          more = λ e. (refl, all ∙ cond-true passed more (set items place (run_with r item)) (test ∙ t));
+        })
+        | inr f ↦ subst (λ (p : Bool × List PendingRun). Added rest p.0 p.1) (sym (pair ∙ cond-false (nat_lt w.stop reach) (false, rest) (true, longer) f)) (record {
+          one = λ e. all ∙ cond-false passed more (set items place (run_with r item)) (test ∙ f) ∙ sym (map-set (placed_run chrom) rest place (lengthened r.stop w));
+          more = λ e. absurd (false≢true (sym e));
+        })
+      ]
+
+  added_at_place : (rest : List PendingRun) (place : Option ℕ) → place_of r.strand rest ≡ place → Fits rest → Added rest (with_joined reach r.stop rest (place_of r.strand rest)).0 (with_joined reach r.stop rest (place_of r.strand rest)).1
+  added_at_place rest None is fits = added_none rest is
+  added_at_place rest (Some place) is (inl on) =
+      let within = last_place_within (λ (w : PendingRun). is_strand w.strand r.strand) rest place is in
+      added_some rest place (get_or rest place (pending_from r)) is (slice_get-get_or rest place (pending_from r) within) on
+  added_at_place rest (Some place) is (inr none) =
+      let within = last_place_within (λ (w : PendingRun). is_strand w.strand r.strand) rest place is in
+      let empty = ap length none in
+      absurd (omega arith)
+
+  pub added_by : (rest : List PendingRun) (joined : Bool) (new : List PendingRun) → (joined, new) ≡ with_joined reach r.stop rest (place_of r.strand rest) → Fits rest → Added rest joined new
+  added_by rest joined new is fits = subst (λ (pair : Bool × List PendingRun). Added rest pair.0 pair.1) (sym is) (added_at_place rest (place_of r.strand rest) refl fits)
+
+  -- a run of its own
+  pub opened_by : (rest runs : List PendingRun) → chrom ≡ r.chrom → runs ≡ rest ++ pending_from r ∷ [] → placed_runs chrom runs ≡ placed_runs chrom rest ++ run_from r ∷ []
+  opened_by rest runs on is =
+      ap (placed_runs chrom) is ∙ map-append (placed_run chrom) rest (pending_from r ∷ [])
+      ∙ ap (λ n. placed_runs chrom rest ++ placed_run n (pending_from r) ∷ []) on
+
+-- what is done with a record on the chromosome of the runs
+module _ (old : Stranding) (r : Feature) (out : Output) (runs : List PendingRun) (kept_is : old.kept ≡ placed_runs old.chrom runs) (on : old.chrom ≡ r.chrom) where
+  abbrev near : ℕ
+  near = r.start - old.gap
+
+  abbrev left : List PendingRun
+  left = left_runs true near runs
+
+  here_is : bytes_eq old.chrom r.chrom ≡ true
+  here_is = name_eq old.chrom r.chrom on
+
+  front_is : front_settled old.gap old.kept r ≡ placed_runs old.chrom (passed_runs true near runs)
+  front_is =
+      ap (λ items. front_settled old.gap items r) kept_is ∙ front_placed old.gap old.chrom r runs
+      ∙ ap (λ b. placed_runs old.chrom (passed_runs b near runs)) here_is
+
+  behind_is : behind_settled old.gap old.kept r ≡ placed_runs old.chrom left
+  behind_is =
+      ap (λ items. behind_settled old.gap items r) kept_is ∙ behind_placed old.gap old.chrom r runs
+      ∙ ap (λ b. placed_runs old.chrom (left_runs b near runs)) here_is
+
+  lines_is : strand_lines (placed_runs old.chrom (passed_runs true near runs)) ≡ lines_by old r
+  lines_is = ap strand_lines (sym front_is)
+
+  kept_is_with : (new : List StrandRun) → with_added old.gap (placed_runs old.chrom left) r ≡ new → kept_with old.gap old.kept r ≡ new
+  kept_is_with new is = ap (λ items. with_added old.gap items r) behind_is ∙ is
+
+  takes_with : (new : Stranding) (grown : Output) → new.gap ≡ old.gap → new.chrom ≡ old.chrom → with_added old.gap (placed_runs old.chrom left) r ≡ new.kept
+      → Grown out (strand_lines (placed_runs old.chrom (passed_runs true near runs))) grown → Takes old r out new grown
+  takes_with new grown gap chrom kept puts = record {
+    gap = gap;
+    chrom = chrom ∙ on;
+    kept = sym (kept_is_with new.kept kept);
+    puts = subst (λ l. Grown out l grown) lines_is puts;
+  }
+
+  fails_with : (fault : Fault) (new : Stranding) (grown : Output) → FailsToAdd out (strand_lines (placed_runs old.chrom (passed_runs true near runs))) (told fault) grown → TakesNext old r out (Err fault) new grown
+  fails_with fault new grown p = inl (subst (λ l. FailsToAdd out l (told fault) grown) lines_is p)
+
+  -- among the runs that are left
+  abbrev joined : Bool × List PendingRun
+  joined = joined_among old.chrom near runs (pending_from r) out
+
+  added : Added old.gap old.chrom r left joined.0 joined.1
+  added = added_by old.gap old.chrom r left joined.0 joined.1 refl (inl here_is)
+
+  left_kept : (now : List PendingRun) (b : Bool) → joined.0 ≡ b → now ≡ cond b joined.1 (left ++ pending_from r ∷ []) → with_added old.gap (placed_runs old.chrom left) r ≡ placed_runs old.chrom now
+  left_kept now true is e = added.one is ∙ ap (placed_runs old.chrom) (sym e)
+  left_kept now false is e = (added.more is).1 ∙ sym (opened_by old.gap old.chrom r left now on e)
+
+  pub takes_left : (now : List PendingRun) (new : Stranding) (grown : Output) → JoinsLeft old.chrom near runs (pending_from r) out now grown → new.gap ≡ old.gap → new.chrom ≡ old.chrom → new.kept ≡ placed_runs old.chrom now → Takes old r out new grown
+  takes_left now new grown p gap chrom kept = takes_with new grown gap chrom (left_kept now joined.0 refl p.now ∙ sym kept) p.puts
+
+  pub takes_alone : (now : List PendingRun) (new : Stranding) (grown : Output) → LeavesNone old.chrom near runs (pending_from r) out now grown → new.gap ≡ old.gap → new.chrom ≡ old.chrom → new.kept ≡ placed_run old.chrom (pending_from r) ∷ [] → Takes old r out new grown
+  takes_alone now new grown p gap chrom kept =
+      takes_with new grown gap chrom
+      (ap (λ rest. with_added old.gap (placed_runs old.chrom rest) r) p.none ∙ ap (λ n. placed_run n (pending_from r) ∷ []) (sym on) ∙ sym kept)
+      p.puts
+
+  pub fails_among : (failure : Failure) (fault : Fault) (now : List PendingRun) (new : Stranding) (grown : Output) → told fault ≡ fault_of failure → JoinsAmong old.chrom near runs (pending_from r) out (Err failure) now grown → TakesNext old r out (Err fault) new grown
+  fails_among Write fault now new grown is p = fails_with fault new grown (subst (λ t. FailsToAdd out (strand_lines (placed_runs old.chrom (passed_runs true near runs))) t grown) (sym is) p)
+  fails_among Memory fault now new grown is p = inr (
+    is,
+    record {
+      wanted = inl (rw behind_is (added.more p.joins).1);
+      puts = subst (λ l. Grown out l grown) lines_is p.puts;
+    },
+  )
+
+-- the only run couldn't be written
+pub fails_alone : (old : Stranding) (r : Feature) (out : Output) (w : PendingRun) → old.kept ≡ placed_run old.chrom w ∷ [] → old.chrom ≡ r.chrom → w.stop < r.start - old.gap
+    → (fault : Fault) (new : Stranding) (grown : Output) → FailsToPut out (interval_line (placed_run old.chrom w).run) (told fault) grown → TakesNext old r out (Err fault) new grown
+fails_alone old r out w kept_is on far fault new grown p =
+    let passed : passed_runs true (r.start - old.gap) (w ∷ []) ≡ w ∷ [] = take_goes (is_over true (r.start - old.gap)) w [] (over_so true (r.start - old.gap) w (inr far)) in
+    fails_with old r out (w ∷ []) kept_is on fault new grown
+    (subst (λ (l : List PendingRun). FailsToAdd out (strand_lines (placed_runs old.chrom l)) (told fault) grown) (sym passed) (adds_line {A = Unit {0}} (placed_run old.chrom w).run out grown (Err fault) p))
+
+-- what is done with a record on another chromosome
+module _ (old : Stranding) (r : Feature) (out : Output) (runs : List PendingRun) (kept_is : old.kept ≡ placed_runs old.chrom runs) (other : old.chrom ≡ r.chrom → ⊥) where
+  here_not : bytes_eq old.chrom r.chrom ≡ false
+  here_not = name_ne old.chrom r.chrom other
+
+  all_settled : front_settled old.gap old.kept r ≡ old.kept
+  all_settled =
+      ap (λ items. front_settled old.gap items r) kept_is ∙ front_placed old.gap old.chrom r runs
+      ∙ ap (λ b. placed_runs old.chrom (passed_runs b (r.start - old.gap) runs)) here_not
+      ∙ ap (placed_runs old.chrom) (passed_every (r.start - old.gap) runs) ∙ sym kept_is
+
+  none_behind : behind_settled old.gap old.kept r ≡ []
+  none_behind =
+      ap (λ items. behind_settled old.gap items r) kept_is ∙ behind_placed old.gap old.chrom r runs
+      ∙ ap (λ b. placed_runs old.chrom (left_runs b (r.start - old.gap) runs)) here_not
+      ∙ ap (placed_runs old.chrom) (left_none (r.start - old.gap) runs)
+
+  all_lines : strand_lines old.kept ≡ lines_by old r
+  all_lines = ap strand_lines (sym all_settled)
+
+  pub fails_to_close : (fault : Fault) (new : Stranding) (grown : Output) → FailsToAdd out (strand_lines old.kept) (told fault) grown → TakesNext old r out (Err fault) new grown
+  fails_to_close fault new grown p = inl (subst (λ l. FailsToAdd out l (told fault) grown) all_lines p)
+
+  pub fails_to_name : (fault : Fault) (new : Stranding) (grown : Output) → told fault ≡ no_memory → Grown out (strand_lines old.kept) grown → TakesNext old r out (Err fault) new grown
+  fails_to_name fault new grown is p = inr (is, record { wanted = inr other; puts = subst (λ l. Grown out l grown) all_lines p })
+
+  module _ (mid : Stranding) (through : Output) (gap : mid.gap ≡ old.gap) (none : mid.kept ≡ []) (closed : Grown out (strand_lines old.kept) through) where
+    puts_then : (later : Output) → Grown through (lines_by mid r) later → Grown out (lines_by old r) later
+    puts_then later p =
+        let nothing : lines_by mid r ≡ [] = ap (λ items. strand_lines (front_settled mid.gap items r)) none in
+        subst (λ l. Grown out l later) (append-nil (strand_lines old.kept) ∙ all_lines) (grown_more out through later (strand_lines old.kept) [] closed (subst (λ l. Grown through l later) nothing p))
+
+    pub enters_other : (result : Result (Unit {0}) Fault) (next : Stranding) (later : Output) → TakesNext mid r through result next later → TakesNext old r out result next later
+    enters_other (Ok done) next later p = record {
+      gap = p.gap ∙ gap;
+      chrom = p.chrom;
+      kept = p.kept ∙ ap (λ items. kept_with mid.gap items r) none ∙ sym (ap (λ items. with_added old.gap items r) none_behind);
+      puts = puts_then later p.puts;
+    }
+    enters_other (Err fault) next later (inl p) = absurd (p.some (ap (λ items. strand_lines (front_settled mid.gap items r)) none))
+    enters_other (Err fault) next later (inr p) = inr (p.0, record { wanted = inr other; puts = puts_then later p.1.puts })
+
+-- the kept runs, if one is in a local or none
+abbrev pub pending_in : OnlyRun → List PendingRun → List PendingRun
+pending_in only runs = cond only.is_any (run_at_hand only ∷ []) runs
+
+by_hand : (chrom : List ℕ) (b : Bool) (w : PendingRun) (runs : List PendingRun) → cond b (placed_run chrom w ∷ []) (placed_runs chrom runs) ≡ placed_runs chrom (cond b (w ∷ []) runs)
+by_hand chrom true w runs = refl
+by_hand chrom false w runs = refl
+
+pub kept_placed : (chrom : List ℕ) (only : OnlyRun) (runs : List PendingRun) → kept_in chrom only (placed_runs chrom runs) ≡ placed_runs chrom (pending_in only runs)
+kept_placed chrom only runs = by_hand chrom only.is_any (run_at_hand only) runs
+
+none_placed : (chrom other : List ℕ) (runs : List PendingRun) → placed_runs chrom runs ≡ [] → placed_runs other runs ≡ []
+none_placed chrom other [] e = refl
+none_placed chrom other (w ∷ ws) e = absurd (cc)
+
+-- if none is kept, none is on another chromosome
+pub kept_nowhere : (chrom other : List ℕ) (only : OnlyRun) (runs : List PendingRun) → kept_in chrom only (placed_runs chrom runs) ≡ [] → kept_in other only (placed_runs other runs) ≡ []
+kept_nowhere chrom other only runs e = kept_placed other only runs ∙ none_placed chrom other (pending_in only runs) (sym (kept_placed chrom only runs) ∙ e)
+
+-- all runs of the list are written
+pub list_closes : (chrom : List ℕ) (only : OnlyRun) (runs : List PendingRun) → only.is_any ≡ false → placed_runs chrom (passed_runs false 0 runs) ≡ kept_in chrom only (placed_runs chrom runs)
+list_closes chrom only runs f = ap (placed_runs chrom) (passed_every 0 runs) ∙ sym (cond-false only.is_any (placed_run chrom (run_at_hand only) ∷ []) (placed_runs chrom runs) f)
+
+abbrev pub holding : ℕ → List ℕ → List StrandRun → List StrandRun → Stranding
+holding gap chrom kept listed = record { gap = gap; chrom = chrom; kept = kept; listed = listed }
+
+pub list_closed : (gap : ℕ) (chrom : List ℕ) (only : OnlyRun) (runs now : List PendingRun) → only.is_any ≡ false → now ≡ left_runs false 0 runs
+    → holding gap chrom (kept_in chrom only (placed_runs chrom now)) (placed_runs chrom now) ≡ holding gap chrom [] []
+list_closed gap chrom only runs now f is =
+    let listed : placed_runs chrom now ≡ [] = ap (placed_runs chrom) (is ∙ left_none 0 runs) in
+    let kept : kept_in chrom only (placed_runs chrom now) ≡ [] = cond-false only.is_any (placed_run chrom (run_at_hand only) ∷ []) (placed_runs chrom now) f ∙ listed in
+    ap₂ (holding gap chrom) kept listed
+
+-- what was put, if that didn't fail
+pub put_well : (out grown : Output) (bytes : List ℕ) (result : Result (Unit {0}) Fault) → is_err result ≡ false → Adds out bytes result grown → Grown out bytes grown
+put_well out grown bytes (Ok done) f p = p
+put_well out grown bytes (Err e) f p = absurd (cc)
+
+pub went_well : {P : Type 0} (result : Result (Unit {0}) Fault) → is_err result ≡ false → OnOk result P → P
+went_well (Ok done) f p = p
+went_well (Err e) f p = absurd (cc)
+
+-- no run is the first
+pub none_first : (runs : List PendingRun) → slice_get runs 0 ≡ None → runs ≡ []
+none_first [] e = refl
+none_first (w ∷ ws) e = absurd (cc)
+
+-- no record is the last of none
+pub none_last : {A : Type 0} (front : List A) (last : A) → [] ≡ front ++ last ∷ [] → ⊥
+none_last [] last e = absurd (cc)
+none_last (x ∷ front) last e = absurd (cc)
+
+places-append : (xs ys : List StrandRun) → strand_lines (xs ++ ys) ≡ strand_lines xs ++ strand_lines ys
+places-append xs ys = ap interval_lines (map-append (λ (item : StrandRun). item.run) xs ys) ∙ flat_map-append interval_line (places_of xs) (places_of ys)
+
+no_items : (items : List StrandRun) → places_of items ≡ [] → items ≡ []
+no_items [] e = refl
+no_items (x ∷ xs) e = absurd (cc)
+
+-- the last one of a list
+last_is : {A : Type 0} (xs ys : List A) (x y : A) → xs ++ x ∷ [] ≡ ys ++ y ∷ [] → x ≡ y
+last_is [] [] x y e = cc
+last_is [] (b ∷ []) x y e = absurd (cc)
+last_is [] (b ∷ c ∷ ys) x y e = absurd (cc)
+last_is (a ∷ []) [] x y e = absurd (cc)
+last_is (a ∷ c ∷ xs) [] x y e = absurd (cc)
+last_is (a ∷ xs) (b ∷ ys) x y e = last_is xs ys x y cc
+
+module _ (gap : ℕ) (past : List Feature) (merge : Stranding) (stands : StandsAfter gap past merge) where
+  -- the lines of the step are those that the record settles
+  pub settles_next : (r : Feature) → AreTaken (past ++ r ∷ []) → strand_lines (settled_strand_runs gap (past ++ r ∷ [])) ≡ strand_lines (settled_strand_runs gap past) ++ lines_by merge r
+  settles_next r taken =
+      rw (stands.same_gap, stands.kept) (ap strand_lines (strand_next gap past r taken).settled ∙ places-append (settled_strand_runs gap past) (front_settled gap (kept_strand_runs gap past) r))
+
+  keeps_next : (r : Feature) → AreTaken (past ++ r ∷ []) → kept_strand_runs gap (past ++ r ∷ []) ≡ kept_with merge.gap merge.kept r
+  keeps_next r taken = rw (stands.same_gap, stands.kept) (strand_next gap past r taken).kept
+
+  -- it is after the record too
+  pub stands_next : (r : Feature) (out : Output) (new : Stranding) (grown : Output) → AreTaken (past ++ r ∷ []) → Takes merge r out new grown → StandsAfter gap (past ++ r ∷ []) new
+  stands_next r out new grown taken takes = record {
+    same_gap = takes.gap ∙ stands.same_gap;
+    chrom = λ front last is. takes.chrom ∙ ap (λ (f : Feature). f.chrom) (last_is past front r last is);
+    kept = takes.kept ∙ sym (keeps_next r taken);
+  }
+
+  -- if a run has to be opened and none was settled, the record isn't quiet
+  pub loud_next : (r : Feature) → AreTaken (past ++ r ∷ []) → OpensRun merge r → lines_by merge r ≡ [] → length (kept_strand_runs gap (past ++ r ∷ [])) ≤ length (kept_strand_runs gap past) → ⊥
+  loud_next r taken opens none more =
+      let settled = no_items (front_settled merge.gap merge.kept r) (no_lines (places_of (front_settled merge.gap merge.kept r)) none) in
+      let stay : behind_settled merge.gap merge.kept r ≡ merge.kept = ap (λ (l : List StrandRun). drop (length l) merge.kept) settled in
+      let is : kept_strand_runs gap (past ++ r ∷ []) ≡ merge.kept ++ run_from r ∷ [] = keeps_next r taken ∙ opens ∙ ap (λ l. l ++ run_from r ∷ []) stay in
+      let a = ap length is in
+      let b = ap length stands.kept in
+      let c = length-append merge.kept (run_from r ∷ []) in
+      absurd (omega arith)
+
+  -- the kept runs' lines are those that are left
+  pub unsettled : strand_lines (strand_runs gap past) ≡ strand_lines (settled_strand_runs gap past) ++ strand_lines merge.kept
+  unsettled = rw stands.kept (ap strand_lines (strand_runs_are_all gap past) ∙ places-append (settled_strand_runs gap past) (kept_strand_runs gap past))
+
+module _ (merge : Stranding) (out : Output) where
+  module _ (r : Feature) where
+    next : AfterEach may_take stands_after merge r (λ first past. settled_lines first (past ++ r ∷ []) ≡ settled_lines first past ++ lines_by merge r)
+    next first past stands taken = settles_next first.gap past merge stands r taken
+
+    none : AfterEach may_take stands_after merge r (λ first past. is_quiet first past r → lines_by merge r ≡ [])
+    none first past stands taken quiet = quiet_adds_none may_take stands_after settled_lines merge out (lines_by merge r) held_count r next first past stands taken quiet.0
+
+    -- a record isn't quiet if memory is needed
+    loud : wants_memory merge r → AfterEach may_take stands_after merge r (λ first past. is_quiet first past r → ⊥)
+    loud (inl opens) first past stands taken quiet = loud_next first.gap past merge stands r taken opens (none first past stands taken quiet) quiet.0.keeps
+    loud (inr other) first past stands taken quiet = other (stands.chrom quiet.1.front quiet.1.last quiet.1.is ∙ quiet.1.same)
+
+    -- what is done with a record exactly is done after every past
+    pub does_feeds : (result : Result (Unit {0}) Fault) (new : Stranding) (grown : Output) → TakesNext merge r out result new grown → RuleFeeds may_take stands_after settled_lines merge r out is_quiet result new grown
+    does_feeds (Ok done) new grown p =
+        rule_taken may_take stands_after settled_lines merge out (lines_by merge r) is_quiet r next none done new grown
+        (λ first past stands taken. stands_next first.gap past merge stands r out new grown taken p) p.puts
+    does_feeds (Err e) new grown (inl p) = rule_cut may_take stands_after settled_lines merge out (lines_by merge r) is_quiet r next none e new grown p
+    does_feeds (Err e) new grown (inr p) =
+        rule_short may_take stands_after settled_lines merge out (lines_by merge r) is_quiet r next none e new grown p.0 (loud p.1.wanted) p.1.puts
+
+    pub does_memory : (result : Result (Unit {0}) Fault) (new : Stranding) (grown : Output) → TakesNext merge r out result new grown → WantsMemory wants_memory merge r result
+    does_memory (Ok done) new grown p = tt
+    does_memory (Err e) new grown (inl p) = λ memory. let is = p.puts.is in let kind : no_memory.kind ≡ write_failed.kind = ap (λ (t : Told). t.kind) (sym memory ∙ is) in absurd (cc)
+    does_memory (Err e) new grown (inr p) = λ memory. p.1.wanted
+
+    pub does_taken : (result : Result (Unit {0}) Fault) (new : Stranding) (grown : Output) → TakesNext merge r out result new grown
+        → Taken may_take stands_after settled_lines is_quiet wants_memory TakesNext merge r out result new grown
+    does_taken result new grown p = record { exact = p; feeds = does_feeds result new grown p; memory = does_memory result new grown p }
+
+  -- the kept runs' lines are put
+  pub finishes_kept : {A : Type 0} (result : Result A Fault) (grown : Output) → Adds out (strand_lines merge.kept) result grown
+      → RuleFinishes may_take stands_after settled_lines merge whole_output out result grown
+  finishes_kept result grown p =
+      rule_finishes may_take stands_after settled_lines merge out (strand_lines merge.kept) whole_output
+      (λ first past stands taken. unsettled first.gap past merge stands) result grown p
+
+abbrev pub Enters : Stranding → List ℕ → Output → Result (Unit {0}) Fault → Stranding → Output → Type 0
+Enters old chrom out result new grown = EnterAnswers TakesNext (Taken may_take stands_after settled_lines is_quiet wants_memory TakesNext) old chrom out result new grown
+
+-- a chromosome is entered that is another one
+module _ (old : Stranding) (out : Output) (runs : List PendingRun) (kept_is : old.kept ≡ placed_runs old.chrom runs) (chrom : List ℕ) (other : bytes_eq old.chrom chrom ≡ false) where
+  not_on : (r : Feature) → r.chrom ≡ chrom → old.chrom ≡ r.chrom → ⊥
+  not_on r at on = other_name old.chrom chrom other (on ∙ at)
+
+  pub enter_fails : (fault : Fault) (new : Stranding) (grown : Output) → FailsToAdd out (strand_lines old.kept) (told fault) grown → Enters old chrom out (Err fault) new grown
+  enter_fails fault new grown p r at = does_taken old out r (Err fault) new grown (fails_to_close old r out runs kept_is (not_on r at) fault new grown p)
+
+  pub enter_runs_out : (fault : Fault) (new : Stranding) (grown : Output) → told fault ≡ no_memory → Grown out (strand_lines old.kept) grown → Enters old chrom out (Err fault) new grown
+  enter_runs_out fault new grown is p r at = does_taken old out r (Err fault) new grown (fails_to_name old r out runs kept_is (not_on r at) fault new grown is p)
+
+  pub entered : (done : Unit {0}) (mid : Stranding) (through : Output) → mid.gap ≡ old.gap → mid.kept ≡ [] → Grown out (strand_lines old.kept) through → Enters old chrom out (Ok done) mid through
+  entered done mid through gap none closed r at result next later p = does_taken old out r result next later (enters_other old r out runs kept_is (not_on r at) mid through gap none closed result next later p)

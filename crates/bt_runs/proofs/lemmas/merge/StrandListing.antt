@@ -1,0 +1,399 @@
+-- The runs of several strands, listed by their first records: what one more record does to the list.
+use Rattle.std.proofs.Common.{◌≡◌, ℕ, ◌+◌, ◌<◌, ◌≤◌, ◌⊎◌, inl, inr, List, [], ◌∷◌, ◌++◌, append_assoc, append-nil, refl, sym, ap, ap₂, ◌∙◌, subst, arith, cond, filter, map, Bool, true, false, not, ◌&&◌, bytes_eq, nat_le, nat_lt, le-leb, leb-true}
+use Rattle.std.specs.List.{list_any}
+use Rattle.std.proofs.lemmas.Bool.{and_parts, and_from, and_left, and_right, cases_Bool, cases_lt, cond-true, cond-false, false≢true, false_from_ne_true, ltb-false, not-true, not-false, not_from_true, not_from_false, or_parts}
+use Rattle.std.proofs.lemmas.List.{map-append}
+use Rattle.std.proofs.lemmas.List.Elements.{filter-append, recursion_from_All}
+use Rattle.std.proofs.lemmas.Map.Views.{any-filter_same}
+use Rattle.bt_bed.specs.model.feature.Feature.{Feature, interval_of, intervals_of}
+use Rattle.bt_bed.specs.model.feature.Interval.{Interval}
+use Rattle.bt_bed.specs.model.order.Together.{AreTogether}
+use Rattle.bt_bed.specs.declared.record.strand.Strand.{Strand}
+use Rattle.bt_bed.specs.declared.record.strand.Strand.TheVariants.{Plus, Minus, Dot}
+use Rattle.bt_bed.proofs.lemmas.parse.NameLemmas.{name_eq, same_name}
+use Rattle.bt_bed.specs.model.feature.Strands.{is_strand}
+use Rattle.bt_runs.specs.model.Merged.{merged}
+use Rattle.bt_runs.specs.model.MergedRuns.{AreTaken, is_passed, merged_runs}
+use Rattle.bt_runs.specs.model.StrandRuns.{StrandRun, begun_by, is_in, lies_in, listed_behind, runs_of_strand, strand_runs}
+use Rattle.bt_runs.specs.inside.merge.StrandStep.{run_from, run_with}
+use Rattle.bt_runs.specs.declared.merge.merge_strand.MergeStrand.TheVariants.{One}
+use Rattle.bt_runs.proofs.lemmas.order.ByChromosome.{full_front, full_last, intervals_next}
+use Rattle.bt_runs.proofs.lemmas.laws.EachLemmas.{Each, Some_of, any_from, any_same, any_some, each_all, each_append, each_both, each_filter, each_map, each_swap, each_unmap, each_weaker, filter_changed, filter_drops, filter_passes, none_each, none_from, some_each, some_left, some_map, some_out, some_right, some_weaker}
+use Rattle.bt_runs.proofs.lemmas.merge.OneStrand.{joined_to, new_run, on_strand, other_next, reaches, same_next, same_strand, strand_self, up_to}
+use Rattle.bt_runs.proofs.lemmas.laws.Passing.{not_passed}
+use Rattle.bt_runs.proofs.lemmas.merge.SettledRuns.{taken_front}
+
+-- a record of a run
+pub record Lies (item : StrandRun) (p : Feature) : Type 0 where
+  pub same : item.strand ≡ p.strand
+  pub on : item.run.chrom ≡ p.chrom
+  pub from : item.run.start ≤ p.start
+  pub to : p.stop ≤ item.run.stop
+
+pub lies_true : (item : StrandRun) (p : Feature) → Lies item p → is_in item p ≡ true
+lies_true item p l =
+    and_from (is_strand item.strand p.strand) (lies_in item.run (interval_of p)) (ap (λ s. is_strand item.strand s) (sym l.same) ∙ strand_self item.strand)
+    (and_from (bytes_eq item.run.chrom p.chrom) (nat_le item.run.start p.start && nat_le p.stop item.run.stop) (name_eq item.run.chrom p.chrom l.on)
+    (and_from (nat_le item.run.start p.start) (nat_le p.stop item.run.stop) (le-leb item.run.start p.start l.from) (le-leb p.stop item.run.stop l.to)))
+
+true_lies : (item : StrandRun) (p : Feature) → is_in item p ≡ true → Lies item p
+true_lies item p t =
+    let strand = and_parts (is_strand item.strand p.strand) (lies_in item.run (interval_of p)) t in
+    let chrom = and_parts (bytes_eq item.run.chrom p.chrom) (nat_le item.run.start p.start && nat_le p.stop item.run.stop) strand.1 in
+    let ends = and_parts (nat_le item.run.start p.start) (nat_le p.stop item.run.stop) chrom.1 in
+    record {
+      same = same_strand item.strand p.strand strand.0;
+      on = same_name item.run.chrom p.chrom chrom.0;
+      from = leb-true item.run.start p.start ends.0;
+      to = leb-true p.stop item.run.stop ends.1;
+    }
+
+-- a record of a run's strand doesn't reach past the run, or starts beyond the gap
+abbrev pub IsWithinOrFar : ℕ → StrandRun → Feature → Type 0
+IsWithinOrFar gap item p = item.strand ≡ p.strand → item.run.chrom ≡ p.chrom → (p.stop ≤ item.run.stop) ⊎ (item.run.stop + gap < p.start)
+
+-- what is known of the listed runs of some records
+pub record Listed (gap : ℕ) (past : List Feature) : Type 0 where
+  pub lies : Each (λ p. Some_of (λ item. Lies item p) (strand_runs gap past)) past
+  pub has : Each (λ item. Some_of (λ p. Lies item p) past) (strand_runs gap past)
+  pub apart : Each (λ item. Each (λ p. IsWithinOrFar gap item p) past) (strand_runs gap past)
+  pub split : (strand : Strand) → filter (λ item. is_strand item.strand strand) (strand_runs gap past) ≡ runs_of_strand gap past strand
+
+pub listed_append : (runs : Strand → List StrandRun) (before xs ys : List Feature) → listed_behind runs before (xs ++ ys) ≡ listed_behind runs before xs ++ listed_behind runs (before ++ xs) ys
+listed_append runs before [] ys = ap (λ l. listed_behind runs l ys) (sym (append-nil before))
+listed_append runs before (x ∷ xs) ys =
+    let first = begun_by (runs x.strand) before x in
+    ap (λ l. first ++ l) (listed_append runs (before ++ x ∷ []) xs ys)
+    ∙ sym (append_assoc first (listed_behind runs (before ++ x ∷ []) xs) (listed_behind runs ((before ++ x ∷ []) ++ xs) ys))
+    ∙ ap (λ l. (first ++ listed_behind runs (before ++ x ∷ []) xs) ++ listed_behind runs l ys) (append_assoc before (x ∷ []) xs)
+
+strand_either : (a b : Strand) → is_strand a b ≡ is_strand b a
+strand_either Plus Plus = refl
+strand_either Minus Minus = refl
+strand_either Dot Dot = refl
+strand_either a b = refl
+
+same_either : (b : Bool) (none : List StrandRun) → cond b none none ≡ none
+same_either true none = refl
+same_either false none = refl
+
+module _ (gap : ℕ) (r : Feature) where
+  -- a run that the record reaches, and one that it doesn't
+  pub record Reached (item : StrandRun) : Type 0 where
+    pub same : item.strand ≡ r.strand
+    pub on : item.run.chrom ≡ r.chrom
+    pub near : r.start ≤ item.run.stop + gap
+
+  pub reached : (item : StrandRun) → reaches gap r item ≡ true → Reached item
+  reached item t =
+      let parts = and_parts (is_strand item.strand r.strand) (not (is_passed gap (interval_of r) item.run)) t in
+      let passed = or_parts (not (bytes_eq item.run.chrom r.chrom)) (nat_lt (item.run.stop + gap) r.start) (not-true (is_passed gap (interval_of r) item.run) parts.1) in
+      record {
+        same = same_strand item.strand r.strand parts.0;
+        on = same_name item.run.chrom r.chrom (not-false (bytes_eq item.run.chrom r.chrom) passed.0);
+        near = ltb-false (item.run.stop + gap) r.start passed.1;
+      }
+
+  pub unreached : (item : StrandRun) → reaches gap r item ≡ false → item.strand ≡ r.strand → item.run.chrom ≡ r.chrom → item.run.stop + gap < r.start
+  unreached item f same on = elim (cases_lt (item.run.stop + gap) r.start) [
+    | inl far ↦ far
+    | inr near ↦
+        let stays = not_passed gap (interval_of r) item.run on near in
+        let is = and_from (is_strand item.strand r.strand) (not (is_passed gap (interval_of r) item.run))
+        (ap (λ s. is_strand item.strand s) (sym same) ∙ strand_self item.strand) (not_from_false (is_passed gap (interval_of r) item.run) stays) in
+        absurd (false≢true (sym f ∙ is))
+  ]
+
+  pub join_is : (item : StrandRun) → reaches gap r item ≡ true → joined_to gap r item ≡ run_with r item
+  join_is item t = cond-true (reaches gap r item) (run_with r item) item t
+
+  pub join_not : (item : StrandRun) → reaches gap r item ≡ false → joined_to gap r item ≡ item
+  join_not item f = cond-false (reaches gap r item) (run_with r item) item f
+
+  lies_longer : (item : StrandRun) (p : Feature) → Lies item p → Lies (run_with r item) p
+  lies_longer item p l = record { same = l.same; on = l.on; from = l.from; to = let h = l.to in omega arith }
+
+  lies_joined : (item : StrandRun) (p : Feature) → Lies item p → Lies (joined_to gap r item) p
+  lies_joined item p l = elim (cases_Bool (reaches gap r item)) [
+    | inl t ↦ rw (join_is item t) (lies_longer item p l)
+    | inr f ↦ rw (join_not item f) l
+  ]
+
+  strand_joined : (item : StrandRun) → (joined_to gap r item).strand ≡ item.strand
+  strand_joined item = elim (cases_Bool (reaches gap r item)) [
+    | inl t ↦ ap (λ (i : StrandRun). i.strand) (join_is item t)
+    | inr f ↦ ap (λ (i : StrandRun). i.strand) (join_not item f)
+  ]
+
+  -- no record of before comes to lie in a run that the record makes longer
+  pub same_in : (item : StrandRun) (p : Feature) → IsWithinOrFar gap item p → (p.chrom ≡ r.chrom → p.start ≤ r.start) → is_in (joined_to gap r item) p ≡ is_in item p
+  same_in item p apart up = elim (cases_Bool (reaches gap r item)) [
+    | inr f ↦ ap (λ i. is_in i p) (join_not item f)
+    | inl t ↦ ap (λ i. is_in i p) (join_is item t) ∙ elim (cases_Bool (is_in item p)) [
+      | inl i ↦ lies_true (run_with r item) p (lies_longer item p (true_lies item p i)) ∙ sym i
+      | inr n ↦ false_from_ne_true (is_in (run_with r item) p) (λ i.
+          let l = true_lies (run_with r item) p i in
+          let now = reached item t in
+          elim (apart l.same l.on) [
+            | inl within ↦ false≢true (sym n ∙ lies_true item p (record { same = l.same; on = l.on; from = l.from; to = within }))
+            | inr far ↦ let h = up (sym l.on ∙ now.on) in let g = now.near in absurd (omega arith)
+          ]) ∙ sym n
+    ]
+  ]
+
+  -- and none lies in a new run
+  pub not_in_new : (items : List StrandRun) → Each (λ item. reaches gap r item ≡ false) items → (p : Feature) → Some_of (λ item. Lies item p) items → p.start < p.stop → is_in (run_from r) p ≡ false
+  not_in_new items none p some full = false_from_ne_true (is_in (run_from r) p) (λ i.
+      let l = true_lies (run_from r) p i in
+      some_out (λ item. Lies item p × (reaches gap r item ≡ false)) ⊥ (λ item both.
+      let far = unreached item both.1 (both.0.same ∙ sym l.same) (both.0.on ∙ sym l.on) in
+      let h = both.0.to in let g = l.from in absurd (omega arith))
+      items (some_each (λ item. Lies item p) (λ item. reaches gap r item ≡ false) (λ item. Lies item p × (reaches gap r item ≡ false)) (λ item a b. (a, b)) items some none))
+
+module _ (gap : ℕ) (past : List Feature) (r : Feature) (taken : AreTaken (past ++ r ∷ [])) (listed : Listed gap past) where
+  -- whether the record is joined to a run
+  abbrev pub some_reached : Bool
+  some_reached = list_any (reaches gap r) (strand_runs gap past)
+
+  pub up : Each (λ p. p.chrom ≡ r.chrom → p.start ≤ r.start) past
+  up = each_unmap (λ p. p.chrom ≡ r.chrom → p.start ≤ r.start) interval_of past
+      (up_to (intervals_of past) (interval_of r) (subst AreTogether (intervals_next past r) taken.together))
+
+  pub some_base : Each (λ p. p.start < p.stop) past
+  some_base = each_unmap (λ p. p.start < p.stop) interval_of past (recursion_from_All (λ p. p.start < p.stop) (intervals_of past) (full_front past (r ∷ []) taken.full))
+
+  full : r.start < r.stop
+  full = full_last past r taken.full
+
+  reached_split : list_any (reaches gap r) (runs_of_strand gap past r.strand) ≡ some_reached
+  reached_split =
+      ap (list_any (reaches gap r)) (sym (listed.split r.strand))
+      ∙ any-filter_same (reaches gap r) (λ item. is_strand item.strand r.strand) true (λ item t. (and_parts (is_strand item.strand r.strand) (not (is_passed gap (interval_of r) item.run)) t).0) (strand_runs gap past)
+
+  -- the runs of each strand, with the record
+  leaves_other : (strand : Strand) (runs : List Interval) → is_strand strand r.strand ≡ false → map (joined_to gap r) (map (on_strand strand) runs) ≡ map (on_strand strand) runs
+  leaves_other strand [] other = refl
+  leaves_other strand (run ∷ runs) other =
+      ap₂ (λ y ys. y ∷ ys) (join_not gap r (on_strand strand run) (and_left (is_strand strand r.strand) (not (is_passed gap (interval_of r) run)) other))
+      (leaves_other strand runs other)
+
+  runs_next : (strand : Strand) → runs_of_strand gap (past ++ r ∷ []) strand ≡ map (joined_to gap r) (runs_of_strand gap past strand) ++ cond (is_strand strand r.strand) (new_run some_reached r) []
+  runs_next strand = elim (cases_Bool (is_strand strand r.strand)) [
+    | inl t ↦
+        let is = same_strand strand r.strand t in
+        rw is (same_next gap past r taken ∙ ap (λ b. map (joined_to gap r) (runs_of_strand gap past r.strand) ++ new_run b r) reached_split)
+        ∙ ap (λ l. map (joined_to gap r) (runs_of_strand gap past strand) ++ l) (sym (cond-true (is_strand strand r.strand) (new_run some_reached r) [] t))
+    | inr f ↦
+        other_next gap past r taken strand f
+        ∙ sym (ap₂ (λ (a b : List StrandRun). a ++ b) (leaves_other strand (merged_runs gap (One strand) past) f) (cond-false (is_strand strand r.strand) (new_run some_reached r) [] f)
+        ∙ append-nil (runs_of_strand gap past strand))
+  ]
+
+  -- what is so of each listed run is so of each run of a strand
+  of_strand : (P : StrandRun → Type 0) → Each P (strand_runs gap past) → (strand : Strand) → Each P (runs_of_strand gap past strand)
+  of_strand P each strand = subst (λ (l : List StrandRun). Each P l) (listed.split strand) (each_filter P (λ item. is_strand item.strand strand) (strand_runs gap past) each)
+
+  -- the record changes nothing about where another lies
+  record Stays (p : Feature) : Type 0 where
+    same : (strand : Strand) → Each (λ item. is_in (joined_to gap r item) p ≡ is_in item p) (runs_of_strand gap past strand)
+    not_new : some_reached ≡ false → is_in (run_from r) p ≡ false
+
+  abbrev Known : Feature → Type 0
+  Known p = ((p.chrom ≡ r.chrom → p.start ≤ r.start) × (p.start < p.stop)) × (Each (λ item. IsWithinOrFar gap item p) (strand_runs gap past) × Some_of (λ item. Lies item p) (strand_runs gap past))
+
+  known : Each Known past
+  known =
+      let Up : Feature → Type 0 = λ p. p.chrom ≡ r.chrom → p.start ≤ r.start in
+      let Full : Feature → Type 0 = λ p. p.start < p.stop in
+      let Apart : Feature → Type 0 = λ p. Each (λ item. IsWithinOrFar gap item p) (strand_runs gap past) in
+      let In : Feature → Type 0 = λ p. Some_of (λ item. Lies item p) (strand_runs gap past) in
+      each_both (λ p. Up p × Full p) (λ p. Apart p × In p) past (each_both Up Full past up some_base)
+      (each_both Apart In past (each_swap (λ item p. IsWithinOrFar gap item p) (strand_runs gap past) past listed.apart) listed.lies)
+
+  stays : Each Stays past
+  stays = each_weaker Known Stays (λ p k. record {
+    same = of_strand (λ item. is_in (joined_to gap r item) p ≡ is_in item p)
+        (each_weaker (λ item. IsWithinOrFar gap item p) (λ item. is_in (joined_to gap r item) p ≡ is_in item p) (λ item apart. same_in gap r item p apart k.0.0) (strand_runs gap past) k.1.0);
+    not_new = λ f. not_in_new gap r (strand_runs gap past) (none_each (reaches gap r) (strand_runs gap past) f) p k.1.1 k.0.1;
+  }) past known
+
+  -- a record of before begins the run that it began
+  begun_same : (before : List Feature) (q : Feature) → Each Stays before → Stays q
+      → begun_by (runs_of_strand gap (past ++ r ∷ []) q.strand) before q ≡ map (joined_to gap r) (begun_by (runs_of_strand gap past q.strand) before q)
+  begun_same before q front s =
+      let runs = runs_of_strand gap past q.strand in
+      let Test : StrandRun → Bool = λ item. is_in item q && not (list_any (is_in item) before) in
+      let old = each_swap (λ p item. is_in (joined_to gap r item) p ≡ is_in item p) before runs (each_weaker Stays (λ p. Each (λ item. is_in (joined_to gap r item) p ≡ is_in item p) runs) (λ p st. st.same q.strand) before front) in
+      let alike = each_weaker (λ item. (is_in (joined_to gap r item) q ≡ is_in item q) × Each (λ p. is_in (joined_to gap r item) p ≡ is_in item p) before) (λ item. Test (joined_to gap r item) ≡ Test item)
+      (λ item e. ap₂ (λ (a b : Bool). a && not b) e.0 (any_same (is_in (joined_to gap r item)) (is_in item) before e.1)) runs
+      (each_both (λ item. is_in (joined_to gap r item) q ≡ is_in item q) (λ item. Each (λ p. is_in (joined_to gap r item) p ≡ is_in item p) before) runs (s.same q.strand) old) in
+      let none : filter Test (cond (is_strand q.strand r.strand) (new_run some_reached r) []) ≡ [] = elim (cases_Bool (is_strand q.strand r.strand)) [
+        | inr f ↦ ap (filter Test) (cond-false (is_strand q.strand r.strand) (new_run some_reached r) [] f)
+        | inl t ↦ ap (filter Test) (cond-true (is_strand q.strand r.strand) (new_run some_reached r) [] t) ∙ elim (cases_Bool some_reached) [
+          | inl some ↦ ap (λ b. filter Test (new_run b r)) some
+          | inr g ↦ ap (λ b. filter Test (new_run b r)) g ∙ cond-false (Test (run_from r)) (run_from r ∷ []) [] (and_left (is_in (run_from r) q) (not (list_any (is_in (run_from r)) before)) (s.not_new g))
+        ]
+      ] in
+      ap (filter Test) (runs_next q.strand)
+      ∙ filter-append Test (map (joined_to gap r) runs) (cond (is_strand q.strand r.strand) (new_run some_reached r) [])
+      ∙ ap₂ (λ (a b : List StrandRun). a ++ b) (filter_changed (joined_to gap r) Test runs alike) none
+      ∙ append-nil (map (joined_to gap r) (filter Test runs))
+
+  front_same : (before rest : List Feature) → Each Stays before → Each Stays rest
+      → listed_behind (runs_of_strand gap (past ++ r ∷ [])) before rest ≡ map (joined_to gap r) (listed_behind (runs_of_strand gap past) before rest)
+  front_same before [] front e = refl
+  front_same before (q ∷ qs) front e =
+      let first = begun_by (runs_of_strand gap past q.strand) before q in
+      ap₂ (λ (a b : List StrandRun). a ++ b) (begun_same before q front e.0) (front_same (before ++ q ∷ []) qs (each_append Stays before (q ∷ []) front (e.0, tt)) e.1)
+      ∙ sym (map-append (joined_to gap r) first (listed_behind (runs_of_strand gap past) (before ++ q ∷ []) qs))
+
+  -- the record itself begins a run if it reaches none
+  abbrev begins : StrandRun → Bool
+  begins item = is_in item r && not (list_any (is_in item) past)
+
+  begins_no_old : (item : StrandRun) → item.strand ≡ r.strand → Some_of (λ p. Lies item p) past → begins (joined_to gap r item) ≡ false
+  begins_no_old item same has = elim (cases_Bool (reaches gap r item)) [
+    | inl t ↦
+        let old = any_from (is_in (joined_to gap r item)) past (some_weaker (λ p. Lies item p) (λ p. is_in (joined_to gap r item) p ≡ true) (λ p l. lies_true (joined_to gap r item) p (lies_joined gap r item p l)) past has) in
+        and_right (is_in (joined_to gap r item) r) (not (list_any (is_in (joined_to gap r item)) past)) (not_from_true (list_any (is_in (joined_to gap r item)) past) old)
+    | inr f ↦
+        let out = false_from_ne_true (is_in item r) (λ i.
+        let l = true_lies item r i in
+        let far = unreached gap r item f same l.on in
+        let h = l.to in let g = full in absurd (omega arith)) in
+        ap begins (join_not gap r item f) ∙ and_left (is_in item r) (not (list_any (is_in item) past)) out
+  ]
+
+  last_begun : begun_by (runs_of_strand gap (past ++ r ∷ []) r.strand) past r ≡ new_run some_reached r
+  last_begun =
+      let runs = runs_of_strand gap past r.strand in
+      let each = each_both (λ item. is_strand item.strand r.strand ≡ true) (λ item. Some_of (λ p. Lies item p) past) runs
+      (subst (λ (l : List StrandRun). Each (λ item. is_strand item.strand r.strand ≡ true) l) (listed.split r.strand) (filter_passes (λ item. is_strand item.strand r.strand) (strand_runs gap past)))
+      (of_strand (λ item. Some_of (λ p. Lies item p) past) listed.has r.strand) in
+      let none = filter_drops begins (map (joined_to gap r) runs) (each_map (λ item. begins item ≡ false) (joined_to gap r) runs
+      (each_weaker (λ item. (is_strand item.strand r.strand ≡ true) × Some_of (λ p. Lies item p) past) (λ item. begins (joined_to gap r item) ≡ false) (λ item e. begins_no_old item (same_strand item.strand r.strand e.0) e.1) runs each)) in
+      let here = lies_true (run_from r) r (record { same = refl; on = refl; from = omega arith; to = omega arith }) in
+      let new : filter begins (new_run some_reached r) ≡ new_run some_reached r = elim (cases_Bool some_reached) [
+        | inl t ↦ ap (λ b. filter begins (new_run b r)) t ∙ ap (λ b. new_run b r) (sym t)
+        | inr f ↦
+            let none_past = none_from (is_in (run_from r)) past (each_weaker Stays (λ p. is_in (run_from r) p ≡ false) (λ p s. s.not_new f) past stays) in
+            ap (λ b. filter begins (new_run b r)) f
+            ∙ cond-true (begins (run_from r)) (run_from r ∷ []) [] (and_from (is_in (run_from r) r) (not (list_any (is_in (run_from r)) past)) here (not_from_false (list_any (is_in (run_from r)) past) none_past))
+            ∙ ap (λ b. new_run b r) (sym f)
+      ] in
+      ap (filter begins) (runs_next r.strand ∙ ap (λ l. map (joined_to gap r) runs ++ l) (cond-true (is_strand r.strand r.strand) (new_run some_reached r) [] (strand_self r.strand)))
+      ∙ filter-append begins (map (joined_to gap r) runs) (new_run some_reached r)
+      ∙ ap₂ (λ (a b : List StrandRun). a ++ b) none new
+
+  -- so the list with the record: it is joined to a run that it reaches, or comes last
+  pub listing_next : strand_runs gap (past ++ r ∷ []) ≡ map (joined_to gap r) (strand_runs gap past) ++ new_run some_reached r
+  unfolding strand_runs
+  listing_next =
+      listed_append (runs_of_strand gap (past ++ r ∷ [])) [] past (r ∷ [])
+      ∙ ap₂ (λ (a b : List StrandRun). a ++ b) (front_same [] past tt stays) (append-nil (begun_by (runs_of_strand gap (past ++ r ∷ []) r.strand) past r) ∙ last_begun)
+
+  -- the new run, if there is one
+  of_new : (P : StrandRun → Type 0) → (some_reached ≡ false → P (run_from r)) → Each P (new_run some_reached r)
+  of_new P new = elim (cases_Bool some_reached) [
+    | inl t ↦ subst (λ b. Each P (new_run b r)) (sym t) tt
+    | inr f ↦ subst (λ b. Each P (new_run b r)) (sym f) (new f, tt)
+  ]
+
+  next_lies : Each (λ p. Some_of (λ item. Lies item p) (strand_runs gap (past ++ r ∷ []))) (past ++ r ∷ [])
+  next_lies =
+      let old = strand_runs gap past in
+      let In : Feature → List StrandRun → Type 0 = λ p items. Some_of (λ item. Lies item p) items in
+      let before = each_weaker (λ p. In p old) (λ p. In p (map (joined_to gap r) old ++ new_run some_reached r))
+      (λ p some. some_left (λ item. Lies item p) (map (joined_to gap r) old) (new_run some_reached r)
+      (some_map (λ item. Lies item p) (joined_to gap r) old (some_weaker (λ item. Lies item p) (λ item. Lies (joined_to gap r item) p) (λ item l. lies_joined gap r item p l) old some))) past listed.lies in
+      let last : In r (map (joined_to gap r) old ++ new_run some_reached r) = elim (cases_Bool some_reached) [
+        | inl t ↦ some_left (λ item. Lies item r) (map (joined_to gap r) old) (new_run some_reached r) (some_map (λ item. Lies item r) (joined_to gap r) old
+            (some_each (λ item. reaches gap r item ≡ true) (λ item. Some_of (λ p. Lies item p) past) (λ item. Lies (joined_to gap r item) r) (λ item reach has.
+            let now = reached gap r item reach in
+            some_out (λ p. Lies item p × (p.chrom ≡ r.chrom → p.start ≤ r.start)) (Lies (joined_to gap r item) r) (λ p both.
+            let low = both.1 (sym both.0.on ∙ now.on) in
+            let from = both.0.from in
+            rw (join_is gap r item reach) (record { same = now.same; on = now.on; from = omega arith; to = omega arith }))
+            past (some_each (λ p. Lies item p) (λ p. p.chrom ≡ r.chrom → p.start ≤ r.start) (λ p. Lies item p × (p.chrom ≡ r.chrom → p.start ≤ r.start)) (λ p a b. (a, b)) past has up))
+            old (any_some (reaches gap r) old t) listed.has))
+        | inr f ↦ some_right (λ item. Lies item r) (map (joined_to gap r) old) (new_run some_reached r)
+            (subst (λ b. In r (new_run b r)) (sym f) (inl (record { same = refl; on = refl; from = omega arith; to = omega arith })))
+      ] in
+      rw listing_next (each_append (λ p. In p (map (joined_to gap r) old ++ new_run some_reached r)) past (r ∷ []) before (last, tt))
+
+  next_has : Each (λ item. Some_of (λ p. Lies item p) (past ++ r ∷ [])) (strand_runs gap (past ++ r ∷ []))
+  next_has =
+      let old = strand_runs gap past in
+      let Has : StrandRun → Type 0 = λ item. Some_of (λ p. Lies item p) (past ++ r ∷ []) in
+      rw listing_next (each_append Has (map (joined_to gap r) old) (new_run some_reached r)
+      (each_map Has (joined_to gap r) old (each_weaker (λ item. Some_of (λ p. Lies item p) past) (λ item. Has (joined_to gap r item))
+      (λ item has. some_left (λ p. Lies (joined_to gap r item) p) past (r ∷ []) (some_weaker (λ p. Lies item p) (λ p. Lies (joined_to gap r item) p) (λ p l. lies_joined gap r item p l) past has)) old listed.has))
+      (of_new Has (λ f. some_right (λ p. Lies (run_from r) p) past (r ∷ []) (inl (record { same = refl; on = refl; from = omega arith; to = omega arith })))))
+
+  -- a run that was listed before
+  apart_old : (item : StrandRun) → Each (λ p. IsWithinOrFar gap item p) past → Each (λ p. IsWithinOrFar gap (joined_to gap r item) p) (past ++ r ∷ [])
+  apart_old item each = elim (cases_Bool (reaches gap r item)) [
+    | inr f ↦ rw (join_not gap r item f) (each_append (λ p. IsWithinOrFar gap item p) past (r ∷ []) each (λ same on. inr (unreached gap r item f same on), tt))
+    | inl t ↦
+        let now = reached gap r item t in
+        rw (join_is gap r item t) (each_append (λ p. IsWithinOrFar gap (run_with r item) p) past (r ∷ [])
+        (each_weaker (λ p. IsWithinOrFar gap item p × (p.chrom ≡ r.chrom → p.start ≤ r.start)) (λ p. IsWithinOrFar gap (run_with r item) p)
+        (λ p both same on. elim (both.0 same on) [
+          | inl within ↦ inl (omega arith)
+          | inr far ↦ let h = both.1 (sym on ∙ now.on) in let g = now.near in absurd (omega arith)
+        ]) past (each_both (λ p. IsWithinOrFar gap item p) (λ p. p.chrom ≡ r.chrom → p.start ≤ r.start) past each up))
+        (λ same on. inl (omega arith), tt))
+  ]
+
+  apart_new : some_reached ≡ false → Each (λ p. IsWithinOrFar gap (run_from r) p) (past ++ r ∷ [])
+  apart_new f =
+      let none = none_each (reaches gap r) (strand_runs gap past) f in
+      each_append (λ p. IsWithinOrFar gap (run_from r) p) past (r ∷ [])
+      (each_weaker (λ p. Some_of (λ item. Lies item p) (strand_runs gap past)) (λ p. IsWithinOrFar gap (run_from r) p)
+      (λ p some same on. inl (some_out (λ item. Lies item p × (reaches gap r item ≡ false)) (p.stop ≤ r.stop) (λ item both.
+      let far = unreached gap r item both.1 (both.0.same ∙ sym same) (both.0.on ∙ sym on) in
+      let h = both.0.to in let g = full in omega arith)
+      (strand_runs gap past) (some_each (λ item. Lies item p) (λ item. reaches gap r item ≡ false) (λ item. Lies item p × (reaches gap r item ≡ false)) (λ item a b. (a, b)) (strand_runs gap past) some none)))
+      past listed.lies)
+      (λ same on. inl (omega arith), tt)
+
+  next_apart : Each (λ item. Each (λ p. IsWithinOrFar gap item p) (past ++ r ∷ [])) (strand_runs gap (past ++ r ∷ []))
+  next_apart =
+      let old = strand_runs gap past in
+      let Apart : StrandRun → Type 0 = λ item. Each (λ p. IsWithinOrFar gap item p) (past ++ r ∷ []) in
+      rw listing_next (each_append Apart (map (joined_to gap r) old) (new_run some_reached r)
+      (each_map Apart (joined_to gap r) old (each_weaker (λ item. Each (λ p. IsWithinOrFar gap item p) past) (λ item. Apart (joined_to gap r item)) apart_old old listed.apart))
+      (of_new Apart apart_new))
+
+  next_split : (strand : Strand) → filter (λ item. is_strand item.strand strand) (strand_runs gap (past ++ r ∷ [])) ≡ runs_of_strand gap (past ++ r ∷ []) strand
+  next_split strand =
+      let old = strand_runs gap past in
+      let Test : StrandRun → Bool = λ item. is_strand item.strand strand in
+      let new : filter Test (new_run some_reached r) ≡ cond (is_strand strand r.strand) (new_run some_reached r) [] = elim (cases_Bool some_reached) [
+        | inl t ↦ ap (λ b. filter Test (new_run b r)) t ∙ sym (ap (λ b. cond (is_strand strand r.strand) (new_run b r) []) t ∙ same_either (is_strand strand r.strand) [])
+        | inr f ↦ ap (λ b. filter Test (new_run b r)) f ∙ ap (λ b. cond b (run_from r ∷ []) []) (strand_either r.strand strand) ∙ ap (λ b. cond (is_strand strand r.strand) (new_run b r) []) (sym f)
+      ] in
+      ap (filter Test) listing_next
+      ∙ filter-append Test (map (joined_to gap r) old) (new_run some_reached r)
+      ∙ ap₂ (λ (a b : List StrandRun). a ++ b)
+      (filter_changed (joined_to gap r) Test old (each_all (λ item. Test (joined_to gap r item) ≡ Test item) (λ item. ap (λ s. is_strand s strand) (strand_joined gap r item)) old) ∙ ap (map (joined_to gap r)) (listed.split strand))
+      new
+      ∙ sym (runs_next strand)
+
+  pub listed_next : Listed gap (past ++ r ∷ [])
+  listed_next = record { lies = next_lies; has = next_has; apart = next_apart; split = next_split }
+
+-- so it is of all records
+listed_none : (gap : ℕ) → Listed gap []
+unfolding strand_runs merged
+listed_none gap = record { lies = tt; has = tt; apart = tt; split = λ strand. refl }
+
+listed_more : (gap : ℕ) (past more : List Feature) → AreTaken (past ++ more) → Listed gap past → Listed gap (past ++ more)
+listed_more gap past [] t l = subst (λ (records : List Feature). Listed gap records) (sym (append-nil past)) l
+listed_more gap past (r ∷ rs) t l =
+    let grown : (past ++ r ∷ []) ++ rs ≡ past ++ r ∷ rs = append_assoc past (r ∷ []) rs in
+    let t_grown = subst AreTaken (sym grown) t in
+    subst (λ (records : List Feature). Listed gap records) grown (listed_more gap (past ++ r ∷ []) rs t_grown (listed_next gap past r (taken_front (past ++ r ∷ []) rs t_grown) l))
+
+pub are_listed : (gap : ℕ) (past : List Feature) → AreTaken past → Listed gap past
+are_listed gap past t = listed_more gap [] past t (listed_none gap)

@@ -1,0 +1,8 @@
+-- Lemmas on order.
+pub mod ByChromosome
+pub mod ChromosomeLemmas
+pub mod FileOrder
+pub mod GenomeRanks
+pub mod NameOrder
+pub mod OwnOrder
+pub mod RunOrder

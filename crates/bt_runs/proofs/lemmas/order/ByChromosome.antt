@@ -1,0 +1,329 @@
+-- Items that come chromosome by chromosome, and are settled by the last record. Settled are those of the chromosomes before its own, and of its own those that are over by its start. Here it is proved, once for all engines, that what is settled stays, that it begins the whole, and what one more record adds.
+--
+-- An engine says two things of one chromosome, in a `Form`. These are what its items are by the records on it (`part`), and which of them are over by the last record (`pick`).
+-- For its code it also says what it keeps while some aren't (`fresh`, `left`, `step`, `after`). A relation `At` says how the items are divided by the last start on the chromosome: those that are done, and what is kept. Then it owes three lemmas, the last fields of `Owes`:
+-- 1. `none`: a chromosome without records has its known items (`bare`), and nothing is done on it.
+-- 2. `next`: one more record on it, at or after the last start, adds to what is done what the step settles, and leaves what the step keeps.
+-- 3. `divides`: the items are those that are done and those that are left; by the last start all of the first are over, and none of the others.
+-- The other fields are a line each: a record elsewhere changes no item. On the chromosomes before the last record's all items are over, and on those after it none. `Written` and `Ordered` say that the definitions of the whole and of what is settled go by these parts, in an order of chromosomes.
+--
+-- It is given what one more record settles and what is kept then, on the same chromosome or a later one (`goes_first`, `goes_on`, `goes_to`). That is what `feed` has to do. It is also given what is left for `finish` (`whole_left`), and `Settles` (`settling`), from which settled items stay and begin the whole (`SettlingLemmas`).
+-- `MergeForm`, `ComplementForm` and `CoverageForm` are the engines' forms. Merge takes `SettledRuns` from here, and the two others take `Walks`.
+use Rattle.std.proofs.Common.{◌≡◌, ◌⊎◌, ℕ, ◌<◌, ◌≤◌, inl, inr, List, [], ◌∷◌, ◌++◌, append_assoc, append-nil, refl, sym, ap, ap₂, ◌∙◌, subst, arith, length, length-append, map, filter, flat_map, Bool, true, false, bytes_eq, Some}
+use Rattle.std.specs.Prelude.{⊤}
+use Rattle.std.proofs.lemmas.Bool.{or_parts}
+use Rattle.std.proofs.lemmas.Grind.{flat_map-append}
+use Rattle.std.proofs.lemmas.List.{map-append, take_at}
+use Rattle.std.proofs.lemmas.List.Elements.{filter-append, All-contains, All-take, Contains-push}
+use Rattle.std.specs.declared.cmp.Ordering.TheVariants.{Less, Greater}
+use Rattle.bt_bed.specs.model.feature.Feature.{Feature, interval_of, intervals_of}
+use Rattle.bt_bed.specs.model.feature.Interval.{Interval, AreNonEmpty, last_of}
+use Rattle.bt_bed.specs.model.order.Locus.{ArePlaced}
+use Rattle.bt_bed.specs.model.order.Rank.{is_among, AreDistinct, rank_order}
+use Rattle.bt_bed.specs.model.order.Together.{has_records}
+use Rattle.bt_bed.proofs.lemmas.parse.NameLemmas.{name_ne-sym}
+use Rattle.bt_bed.proofs.lemmas.order.TogetherLemmas.{placed_front}
+use Rattle.bt_runs.specs.calls.Settling.{Settles}
+use Rattle.bt_runs.proofs.lemmas.laws.Standing.{AllCompare, all_after, all_before, Arrives, GoesTo, NoneOn, Stand, begins_at, elsewhere_of, goes, last_rank, none_at_first, stand_at}
+
+-- what an engine says of its items: K are the chromosomes, T the items, and S is what is open on a chromosome
+pub record Form (K T S : Type 0) : Type 0 where
+  -- a chromosome's name, and its items after the records
+  pub name : K → List ℕ
+  pub part : K → List Feature → List T
+  -- of items in their order, those that are over if this is the last record
+  pub pick : Interval → List T → List T
+  -- the items of all chromosomes, and those that are settled
+  pub whole : List Feature → List T
+  pub settled : List Feature → List T
+  -- the items of a chromosome without records, and what is open before its first
+  pub bare : K → List T
+  pub fresh : S
+  -- the items that aren't done while this is open
+  pub left : K → S → List T
+  -- the items that one more record settles of what is open, and what is open then
+  pub step : K → S → Feature → List T
+  pub after : K → S → Feature → S
+
+-- what is picked of two lists: if all of the first is picked, that and what is picked of the second; if nothing is of either, nothing
+pub record Picks {T : Type 0} (pick : List T → List T) : Type 0 where
+  pub nothing : pick [] ≡ []
+  pub all : (xs ys : List T) → pick xs ≡ xs → pick (xs ++ ys) ≡ xs ++ pick ys
+  pub none : (xs ys : List T) → pick xs ≡ [] → pick ys ≡ [] → pick (xs ++ ys) ≡ []
+
+-- a test picks so
+pub picks_by : {T : Type 0} (test : T → Bool) → Picks (filter test)
+picks_by test = record {
+  nothing = refl;
+  all = λ xs ys whole. filter-append test xs ys ∙ ap (λ l. l ++ filter test ys) whole;
+  none = λ xs ys first second. filter-append test xs ys ∙ ap₂ (λ l m. l ++ m) first second;
+}
+
+module _ {K T S : Type 0} (f : Form K T S) where
+  -- the items of the chromosomes, concatenated
+  abbrev pub parts : List Feature → List K → List T
+  parts past keys = flat_map (λ k. f.part k past) keys
+
+  -- those of chromosomes without records
+  abbrev pub bares : List K → List T
+  bares keys = flat_map f.bare keys
+
+pub intervals_next : (past : List Feature) (r : Feature) → intervals_of (past ++ r ∷ []) ≡ intervals_of past ++ interval_of r ∷ []
+intervals_next past r = map-append interval_of past (r ∷ [])
+
+-- the first records of non-empty ones, and the last
+pub full_front : (past more : List Feature) → AreNonEmpty (intervals_of (past ++ more)) → AreNonEmpty (intervals_of past)
+full_front past more full =
+    let xs = intervals_of past in
+    let ys = intervals_of more in
+    subst AreNonEmpty (take_at xs ys (length xs) refl) (All-take (λ r. r.start < r.stop) (length xs) (xs ++ ys) (subst AreNonEmpty (map-append interval_of past more) full))
+
+pub full_last : (past : List Feature) (r : Feature) → AreNonEmpty (intervals_of (past ++ r ∷ [])) → r.start < r.stop
+full_last past r full =
+    let x = interval_of r in
+    let xs = intervals_of past in
+    All-contains (λ r. r.start < r.stop) (xs ++ x ∷ []) x (subst AreNonEmpty (intervals_next past r) full) (Contains-push xs x)
+
+-- records in an order of chromosomes, each with a base
+pub record InOrder (names : List (List ℕ)) (past : List Feature) : Type 0 where
+  pub placed : ArePlaced (rank_order names) (intervals_of past)
+  pub full : AreNonEmpty (intervals_of past)
+
+pub order_front : (names : List (List ℕ)) (past more : List Feature) → InOrder names (past ++ more) → InOrder names past
+order_front names past more o = record {
+  placed = placed_front (rank_order names) (intervals_of past) (intervals_of more) (subst (λ (l : List Interval). ArePlaced (rank_order names) l) (map-append interval_of past more) o.placed);
+  full = full_front past more o.full;
+}
+
+module _ {K T S : Type 0} (f : Form K T S) (At : K → List Feature → ℕ → List T → S → Type 0) where
+  pub record NoRecords (k : K) (past : List Feature) : Type 0 where
+    pub part_is : f.part k past ≡ f.bare k
+    pub begins : At k past 0 [] f.fresh
+
+  pub record Divides (k : K) (past : List Feature) (last : Interval) (done : List T) (state : S) : Type 0 where
+    pub all : f.part k past ≡ done ++ f.left k state
+    pub done_over : f.pick last done ≡ done
+    pub left_open : f.pick last (f.left k state) ≡ []
+
+  -- what an engine proves
+  pub record Owes (names : List (List ℕ)) : Type 0 where
+    -- before any record nothing is settled, and a record elsewhere changes no chromosome's items
+    pub nothing : f.settled [] ≡ []
+    pub picks : (last : Interval) → Picks (f.pick last)
+    pub elsewhere : (k : K) (past : List Feature) (r : Feature) → bytes_eq r.chrom (f.name k) ≡ false → f.part k (past ++ r ∷ []) ≡ f.part k past
+    -- the items of a chromosome before the last record's are over, and none of one after it
+    pub is_before : (last : Interval) (k : K) (past : List Feature) → (rank_order names).compare (f.name k) last.chrom ≡ Less → f.pick last (f.part k past) ≡ f.part k past
+    pub is_behind : (last : Interval) (k : K) (past : List Feature) → (rank_order names).compare (f.name k) last.chrom ≡ Greater → has_records (f.name k) (intervals_of past) ≡ false → f.pick last (f.part k past) ≡ []
+    -- the three lemmas
+    pub none : (k : K) (past : List Feature) → has_records (f.name k) (intervals_of past) ≡ false → NoRecords k past
+    pub next : (k : K) (past : List Feature) (start : ℕ) (done : List T) (state : S) (r : Feature) → At k past start done state → f.name k ≡ r.chrom → start ≤ r.start → r.start < r.stop
+        → At k (past ++ r ∷ []) r.start (done ++ f.step k state r) (f.after k state r)
+    pub divides : (k : K) (past : List Feature) (last : Interval) (done : List T) (state : S) → At k past last.start done state → f.name k ≡ last.chrom → has_records (f.name k) (intervals_of past) ≡ true → Divides k past last done state
+
+  module _ (keys : List K) where
+    -- its output is written in the order of these chromosomes
+    pub record Written (past : List Feature) : Type 0 where
+      pub whole_is : f.whole past ≡ parts f past keys
+      pub settled_is : (last : Interval) → last_of (intervals_of past) ≡ Some last → f.settled past ≡ f.pick last (parts f past keys)
+
+    -- the records reach this chromosome, and this is open on it
+    pub record Standing (past : List Feature) (before : List K) (key : K) (after : List K) (state : S) : Type 0 where
+      pub last : Interval
+      pub done : List T
+      pub stand : Stand f.name keys (intervals_of past) last before key after
+      pub at : At key past last.start done state
+
+    pub record Somewhere (past : List Feature) : Type 0 where
+      pub before : List K
+      pub key : K
+      pub after : List K
+      pub state : S
+      pub here : Standing past before key after state
+
+    -- they reach one, if there are records
+    abbrev pub Begun : List Feature → Type 0
+    Begun [] = ⊤
+    Begun (q ∷ qs) = Somewhere (q ∷ qs)
+
+    -- one more record settles these items, and this is open then
+    pub record Moves (past : List Feature) (r : Feature) (items : List T) (before : List K) (key : K) (after : List K) (state : S) : Type 0 where
+      pub settles : Written past → Written (past ++ r ∷ []) → f.settled (past ++ r ∷ []) ≡ f.settled past ++ items
+      pub here : Standing (past ++ r ∷ []) before key after state
+
+    record Turn (past : List Feature) (r : Feature) : Type 0 where
+      items : List T
+      before : List K
+      key : K
+      after : List K
+      state : S
+      moves : Moves past r items before key after state
+
+    module _ (owes : Owes (map f.name keys)) (distinct : AreDistinct (map f.name keys)) where
+      parts_other : (past : List Feature) (r : Feature) (ks : List K) → is_among (map f.name ks) r.chrom ≡ false → parts f (past ++ r ∷ []) ks ≡ parts f past ks
+      parts_other past r [] away = refl
+      parts_other past r (k ∷ ks) away =
+          let tests = or_parts (bytes_eq (f.name k) r.chrom) (is_among (map f.name ks) r.chrom) away in
+          ap₂ (λ (xs ys : List T). xs ++ ys) (owes.elsewhere k past r (name_ne-sym (f.name k) r.chrom tests.0)) (parts_other past r ks tests.1)
+
+      pub parts_none : (past : List Feature) (ks : List K) → NoneOn f.name (intervals_of past) ks → parts f past ks ≡ bares f ks
+      parts_none past [] none = refl
+      parts_none past (k ∷ ks) none = ap₂ (λ (xs ys : List T). xs ++ ys) (owes.none k past none.0).part_is (parts_none past ks none.1)
+
+      parts_before : (last : Interval) (past : List Feature) (ks : List K) → AllCompare f.name (map f.name keys) last.chrom Less ks → f.pick last (parts f past ks) ≡ parts f past ks
+      parts_before last past [] all = (owes.picks last).nothing
+      parts_before last past (k ∷ ks) all =
+          (owes.picks last).all (f.part k past) (parts f past ks) (owes.is_before last k past all.0)
+          ∙ ap (λ l. f.part k past ++ l) (parts_before last past ks all.1)
+
+      parts_behind : (last : Interval) (past : List Feature) (ks : List K) → AllCompare f.name (map f.name keys) last.chrom Greater ks → NoneOn f.name (intervals_of past) ks → f.pick last (parts f past ks) ≡ []
+      parts_behind last past [] all none = (owes.picks last).nothing
+      parts_behind last past (k ∷ ks) all none =
+          (owes.picks last).none (f.part k past) (parts f past ks) (owes.is_behind last k past all.0 none.0) (parts_behind last past ks all.1 none.1)
+
+      -- the items fall into three: those of the chromosomes before and those done, those left, and those of the chromosomes after
+      module _ (past : List Feature) (before : List K) (key : K) (after : List K) (state : S) (s : Standing past before key after state) where
+        divided : Divides key past s.last s.done state
+        divided = owes.divides key past s.last s.done state s.at s.stand.is s.stand.some
+
+        parts_to : (middle : List K) → NoneOn f.name (intervals_of past) middle → parts f past (before ++ key ∷ middle) ≡ (parts f past before ++ s.done) ++ (f.left key state ++ bares f middle)
+        parts_to middle none =
+            let front = parts f past before in
+            let left = f.left key state in
+            flat_map-append (λ k. f.part k past) before (key ∷ middle)
+            ∙ ap₂ (λ (xs ys : List T). front ++ (xs ++ ys)) divided.all (parts_none past middle none)
+            ∙ ap (λ l. front ++ l) (append_assoc s.done left (bares f middle))
+            ∙ sym (append_assoc front s.done (left ++ bares f middle))
+
+        picked : f.pick s.last (parts f past keys) ≡ parts f past before ++ s.done
+        picked =
+            let n = length before in
+            let ranked = last_rank f.name keys distinct (intervals_of past) s.last before key after s.stand in
+            let less = all_before f.name keys distinct s.last.chrom n ranked [] before (key ∷ after) s.stand.split (omega arith) in
+            let split_after : keys ≡ (before ++ key ∷ []) ++ (after ++ []) = s.stand.split ∙ sym (append_assoc before (key ∷ []) after) ∙ ap (λ l. (before ++ key ∷ []) ++ l) (sym (append-nil after)) in
+            let longer = length-append before (key ∷ []) in
+            let greater = all_after f.name keys distinct s.last.chrom n ranked (before ++ key ∷ []) after [] split_after (omega arith) in
+            let front = parts f past before in
+            let left = f.left key state in
+            let behind = parts f past after in
+            let picks = owes.picks s.last in
+            ap (λ l. f.pick s.last (parts f past l)) s.stand.split
+            ∙ ap (f.pick s.last) (flat_map-append (λ k. f.part k past) before (key ∷ after) ∙ ap (λ l. front ++ (l ++ behind)) divided.all)
+            ∙ picks.all front ((s.done ++ left) ++ behind) (parts_before s.last past before less)
+            ∙ ap (λ l. front ++ f.pick s.last l) (append_assoc s.done left behind)
+            ∙ ap (λ l. front ++ l) (picks.all s.done (left ++ behind) divided.done_over)
+            ∙ ap (λ l. front ++ (s.done ++ l)) (picks.none left behind divided.left_open (parts_behind s.last past after greater s.stand.none_after))
+            ∙ ap (λ l. front ++ l) (append-nil s.done)
+
+        settled_here : Written past → f.settled past ≡ parts f past before ++ s.done
+        settled_here w = w.settled_is s.last s.stand.last_is ∙ picked
+
+        -- what is left at the end
+        pub whole_left : Written past → f.whole past ≡ f.settled past ++ (f.left key state ++ bares f after)
+        whole_left w = w.whole_is ∙ ap (parts f past) s.stand.split ∙ parts_to after s.stand.none_after ∙ ap (λ l. l ++ (f.left key state ++ bares f after)) (sym (settled_here w))
+
+      -- a record arrives on a chromosome, of which this is open
+      module _ (past : List Feature) (r : Feature) (before : List K) (key : K) (after : List K) (a : Arrives f.name keys (intervals_of past) (interval_of r) before key after)
+          (start : ℕ) (done : List T) (state : S) (at : At key past start done state) (up : start ≤ r.start) (full : r.start < r.stop) where
+        arrived : (items : List T) → (Written past → parts f past before ++ done ≡ f.settled past ++ items) → Moves past r (items ++ f.step key state r) before key after (f.after key state r)
+        arrived items was =
+            let here : Standing (past ++ r ∷ []) before key after (f.after key state r) = record {
+              last = interval_of r;
+              done = done ++ f.step key state r;
+              stand = subst (λ (l : List Interval). Stand f.name keys l (interval_of r) before key after) (sym (intervals_next past r)) (stand_at f.name keys distinct (intervals_of past) (interval_of r) before key after a);
+              at = owes.next key past start done state r at a.is up full;
+            } in
+            record {
+              settles = λ w_past w.
+                  settled_here (past ++ r ∷ []) before key after (f.after key state r) here w
+                  ∙ ap (λ l. l ++ (done ++ f.step key state r)) (parts_other past r before (elsewhere_of f.name keys distinct (intervals_of past) (interval_of r) before key after a).0)
+                  ∙ sym (append_assoc (parts f past before) done (f.step key state r))
+                  ∙ ap (λ l. l ++ f.step key state r) (was w_past)
+                  ∙ append_assoc (f.settled past) items (f.step key state r);
+              here = here;
+            }
+
+      -- the first record
+      pub goes_first : (r : Feature) (before : List K) (key : K) (after : List K) → Arrives f.name keys [] (interval_of r) before key after → r.start < r.stop
+          → Moves [] r (bares f before ++ f.step key f.fresh r) before key after (f.after key f.fresh r)
+      goes_first r before key after a full =
+          arrived [] r before key after a 0 [] f.fresh (owes.none key [] refl).begins (omega arith) full (bares f before)
+          (λ w. append-nil (parts f [] before) ∙ parts_none [] before (none_at_first f.name before) ∙ ap (λ l. l ++ bares f before) (sym owes.nothing))
+
+      module _ (past : List Feature) (r : Feature) (before : List K) (key : K) (after : List K) (state : S) (s : Standing past before key after state) where
+        -- one on the chromosome of the last
+        pub goes_on : r.chrom ≡ s.last.chrom → s.last.start ≤ r.start → r.start < r.stop → Moves past r (f.step key state r) before key after (f.after key state r)
+        goes_on same up full =
+            arrived past r before key after (record { split = s.stand.split; is = s.stand.is ∙ sym same; none_after = s.stand.none_after }) s.last.start s.done state s.at up full []
+            (λ w. sym (settled_here past before key after state s w) ∙ sym (append-nil (f.settled past)))
+
+        -- one on a later chromosome
+        pub goes_to : (g : GoesTo f.name keys (intervals_of past) (interval_of r) before key after) → r.start < r.stop
+            → Moves past r ((f.left key state ++ bares f g.middle) ++ f.step g.next f.fresh r) (before ++ key ∷ g.middle) g.next g.behind (f.after g.next f.fresh r)
+        goes_to g full =
+            let front = before ++ key ∷ g.middle in
+            let more = f.left key state ++ bares f g.middle in
+            arrived past r front g.next g.behind g.arrives 0 [] f.fresh (owes.none g.next past g.none_here).begins (omega arith) full more
+            (λ w. append-nil (parts f past front) ∙ parts_to past before key after state s g.middle g.none_between ∙ ap (λ l. l ++ more) (sym (settled_here past before key after state s w)))
+
+        -- it is the one or the other
+        pub goes_next : InOrder (map f.name keys) (past ++ r ∷ []) → ((r.chrom ≡ s.last.chrom) × (s.last.start ≤ r.start)) ⊎ GoesTo f.name keys (intervals_of past) (interval_of r) before key after
+        goes_next o = goes f.name keys distinct (intervals_of past) (interval_of r) s.last before key after s.stand (subst (λ (l : List Interval). ArePlaced (rank_order (map f.name keys)) l) (intervals_next past r) o.placed)
+
+      turn : (past : List Feature) (r : Feature) → InOrder (map f.name keys) (past ++ r ∷ []) → Begun past → Turn past r
+      turn [] r o b =
+          let first = begins_at f.name keys distinct (interval_of r) o.placed in
+          record { items = _; before = first.1.before; key = first.1.key; after = first.1.after; state = _; moves = goes_first r first.1.before first.1.key first.1.after first.3 (full_last [] r o.full) }
+      turn (q ∷ qs) r o b =
+          let past = q ∷ qs in
+          let full = full_last past r o.full in
+          elim (goes_next past r b.before b.key b.after b.state b.here o) [
+            | inl same ↦ record { items = _; before = b.before; key = b.key; after = b.after; state = _; moves = goes_on past r b.before b.key b.after b.state b.here same.0 same.1 full }
+            | inr g ↦ record { items = _; before = b.before ++ b.key ∷ g.middle; key = g.next; after = g.behind; state = _; moves = goes_to past r b.before b.key b.after b.state b.here g full }
+          ]
+
+      -- so records in order reach some chromosome
+      has_begun : (past : List Feature) → Somewhere past → Begun past
+      has_begun [] s = tt
+      has_begun (q ∷ qs) s = s
+
+      begun_more : (past more : List Feature) → InOrder (map f.name keys) (past ++ more) → Begun past → Begun (past ++ more)
+      begun_more past [] o b = subst Begun (sym (append-nil past)) b
+      begun_more past (r ∷ rs) o b =
+          let grown : (past ++ r ∷ []) ++ rs ≡ past ++ r ∷ rs = append_assoc past (r ∷ []) rs in
+          let o_grown = subst (λ (l : List Feature). InOrder (map f.name keys) l) (sym grown) o in
+          let t = turn past r (order_front (map f.name keys) (past ++ r ∷ []) rs o_grown) b in
+          let next = has_begun (past ++ r ∷ []) (record { before = t.before; key = t.key; after = t.after; state = t.state; here = t.moves.here }) in
+          subst Begun grown (begun_more (past ++ r ∷ []) rs o_grown next)
+
+      pub begun : (past : List Feature) → InOrder (map f.name keys) past → Begun past
+      begun past o = begun_more [] past o tt
+
+      -- each next one settles some items, and some are left at the end
+      settles_some : (past : List Feature) (r : Feature) → InOrder (map f.name keys) (past ++ r ∷ []) → Written past → Written (past ++ r ∷ []) → (items : List T) × (f.settled (past ++ r ∷ []) ≡ f.settled past ++ items)
+      settles_some past r o w_past w =
+          let t = turn past r o (begun past (order_front (map f.name keys) past (r ∷ []) o)) in
+          (t.items, t.moves.settles w_past w)
+
+      leaves_some : (past : List Feature) → Written past → Begun past → (items : List T) × (f.whole past ≡ f.settled past ++ items)
+      leaves_some [] w b = (f.whole [], ap (λ l. l ++ f.whole []) (sym owes.nothing))
+      leaves_some (q ∷ qs) w b = (f.left b.key b.state ++ bares f b.after, whole_left (q ∷ qs) b.before b.key b.after b.state b.here w)
+
+  -- how all of some records are written: in an order of chromosomes in which they come, and their first ones in the same order
+  pub record Ordered (all : List Feature) : Type 0 where
+    pub keys : List K
+    pub owes : Owes (map f.name keys)
+    pub distinct : AreDistinct (map f.name keys)
+    pub in_order : InOrder (map f.name keys) all
+    pub written : (past more : List Feature) → past ++ more ≡ all → Written keys past
+
+  -- if all that it may take is ordered, what is settled begins what is settled later, and the whole
+  pub settling : (Taken : List Feature → Type 0) → ((past more : List Feature) → Taken (past ++ more) → Taken past) → ((all : List Feature) → Taken all → Ordered all) → Settles f.settled f.whole Taken
+  settling Taken front ordered = record {
+    front = front;
+    next = λ past r t.
+        let o = ordered (past ++ r ∷ []) t in
+        settles_some o.keys o.owes o.distinct past r o.in_order (o.written past (r ∷ []) refl) (o.written (past ++ r ∷ []) [] (append-nil (past ++ r ∷ [])));
+    begins = λ past t.
+        let o = ordered past t in
+        leaves_some o.keys o.owes o.distinct past (o.written past [] (append-nil past)) (begun o.keys o.owes o.distinct past o.in_order);
+  }

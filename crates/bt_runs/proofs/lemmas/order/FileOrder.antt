@@ -1,0 +1,213 @@
+-- Records in the order of a genome file: their chromosomes come in that order, each once.
+use Rattle.std.proofs.Common.{◌≡◌, ℕ, suc, ◌<◌, ◌≤◌, ◌⊎◌, inl, inr, List, [], ◌∷◌, ◌++◌, refl, sym, ap, subst, ◌∙◌, arith, map, filter, cond, Bool, true, false, ◌||◌, bytes_eq, Option, Some, option_map}
+use Rattle.std.specs.Prelude.{IsTrue}
+use Rattle.std.specs.Cmp.{ranked}
+use Rattle.std.specs.declared.cmp.Ordering.TheVariants.{Less}
+use Rattle.std.proofs.lemmas.Bool.{cases_Bool, cond-true, cond-false, or_parts, or_from, or_left}
+use Rattle.bt_bed.specs.model.feature.Feature.{Feature, interval_of, intervals_of}
+use Rattle.bt_bed.specs.model.feature.Interval.{Interval, placed_on}
+use Rattle.bt_bed.specs.model.order.Order.{Order, IsTotal}
+use Rattle.bt_bed.specs.model.order.Locus.{locus_of, IsUpTo, IsPlacedBefore, ArePlaced}
+use Rattle.bt_bed.specs.model.order.Rank.{is_among, AreDistinct, rank_of, compare_ranks, rank_order}
+use Rattle.bt_bed.specs.inside.RankTotal.{ranks_total}
+use Rattle.bt_bed.specs.model.feature.Stretches.{stretches_from}
+use Rattle.bt_bed.specs.model.order.Together.{has_records}
+use Rattle.bt_bed.proofs.lemmas.parse.NameLemmas.{name_eq, name_ne, name_ne-sym, cases_name}
+use Rattle.bt_runs.specs.model.Counted.{is_counted, counted}
+use Rattle.bt_runs.specs.model.Merged.{runs_of, runs_on, merged, without, chromosomes}
+use Rattle.bt_runs.specs.model.MergedRuns.{runs_come_in_order}
+use Rattle.bt_runs.proofs.lemmas.laws.Standing.{known_rank, later_rank}
+use Rattle.bt_runs.proofs.lemmas.order.ChromosomeLemmas.{spans_on-none, among_chromosomes, without-here, without-other}
+
+-- a record up to the next one but one
+up_to_later : (order : Order) (p q x : Interval) → IsTotal order → IsTrue (order.knows p.chrom) → IsTrue (order.knows q.chrom) → IsTrue (order.knows x.chrom) → IsUpTo order (locus_of p) (locus_of q) → IsUpTo order (locus_of q) (locus_of x) → IsUpTo order (locus_of p) (locus_of x)
+up_to_later order p q x total one two three (inl a) (inl b) = inl (total.ascends p.chrom q.chrom x.chrom one two three a b)
+up_to_later order p q x total one two three (inl a) (inr b) = inl (subst (λ (c : List ℕ). order.compare p.chrom c ≡ Less) b.0 a)
+up_to_later order p q x total one two three (inr a) (inl b) = inl (subst (λ (c : List ℕ). order.compare c x.chrom ≡ Less) (sym a.0) b)
+up_to_later order p q x total one two three (inr a) (inr b) = inr (a.0 ∙ b.0, let h = a.1 in let g = b.1 in omega arith)
+
+-- the next is left out
+pub skips : (order : Order) (p q : Interval) (rest : List Interval) → IsTotal order → ArePlaced order (p ∷ q ∷ rest) → ArePlaced order (p ∷ rest)
+skips order p q [] total t = (t.0, tt, tt)
+skips order p q (x ∷ xs) total t = (t.0, up_to_later order p q x total t.0 t.2.0 t.2.2.0 t.1 t.2.1, t.2.2)
+
+module _ (order : Order) (total : IsTotal order) (keep : Feature → Bool) where
+  some_next : (p : Interval) (records : List Feature) → ArePlaced order (p ∷ intervals_of records) → IsPlacedBefore order p (intervals_of (filter keep records))
+  some_next p [] t = tt
+  some_next p (r ∷ rs) t =
+      elim (keep r) as (λ b. IsPlacedBefore order p (intervals_of (cond b (r ∷ filter keep rs) (filter keep rs)))) [
+        | true ↦ t.1
+        | false ↦ some_next p rs (skips order p (interval_of r) (intervals_of rs) total t)
+      ]
+
+  -- some of the records are in order if all are
+  pub some_placed : (records : List Feature) → ArePlaced order (intervals_of records) → ArePlaced order (intervals_of (filter keep records))
+  some_placed [] t = tt
+  some_placed (r ∷ rs) t =
+      elim (keep r) as (λ b. ArePlaced order (intervals_of (cond b (r ∷ filter keep rs) (filter keep rs)))) [
+        | true ↦ (t.0, some_next (interval_of r) rs t, some_placed rs t.2)
+        | false ↦ some_placed rs t.2
+      ]
+
+-- ranks
+pub rank_of-here : (n name : List ℕ) (ns : List (List ℕ)) → n ≡ name → rank_of (n ∷ ns) name ≡ Some 0
+rank_of-here n name ns e = cond-true (bytes_eq n name) (Some 0) (option_map (λ rank. suc rank) (rank_of ns name)) (name_eq n name e)
+
+pub rank_of-later : (n name : List ℕ) (ns : List (List ℕ)) → bytes_eq n name ≡ false → rank_of (n ∷ ns) name ≡ option_map (λ rank. suc rank) (rank_of ns name)
+rank_of-later n name ns f = cond-false (bytes_eq n name) (Some 0) (option_map (λ rank. suc rank) (rank_of ns name)) f
+
+-- the rank past the first name
+rank_past : (n name : List ℕ) (ns : List (List ℕ)) (i : ℕ) → bytes_eq n name ≡ false → rank_of (n ∷ ns) name ≡ Some i → (k : ℕ) × (rank_of ns name ≡ Some k) × (i ≡ suc k)
+rank_past n name ns i f e = later_rank (rank_of ns name) i (sym (rank_of-later n name ns f) ∙ e)
+
+-- the ranks of a record's chromosome and of the next one's
+record RanksUpTo (names : List (List ℕ)) (r s : Interval) : Type 0 where
+  rank : ℕ
+  next_rank : ℕ
+  rank_is : rank_of names r.chrom ≡ Some rank
+  next_rank_is : rank_of names s.chrom ≡ Some next_rank
+  up_to : (rank < next_rank) ⊎ (r.chrom ≡ s.chrom)
+
+less_ranks : (o p : Option ℕ) (i j : ℕ) → o ≡ Some i → p ≡ Some j → compare_ranks o p ≡ Less → i < j
+less_ranks o p i j e f less = ranked i j Less (sym (sym (ap (λ q. compare_ranks q p) e ∙ ap (λ q. compare_ranks (Some i) q) f) ∙ less))
+
+ranks_up_to : (names : List (List ℕ)) (r s : Interval) (ss : List Interval) → ArePlaced (rank_order names) (r ∷ s ∷ ss) → RanksUpTo names r s
+ranks_up_to names r s ss placed =
+    let a = known_rank (rank_of names r.chrom) placed.0 in
+    let b = known_rank (rank_of names s.chrom) placed.2.0 in
+    record {
+      rank = a.0;
+      next_rank = b.0;
+      rank_is = a.1;
+      next_rank_is = b.1;
+      up_to = elim placed.1 [
+        | inl less ↦ inl (less_ranks (rank_of names r.chrom) (rank_of names s.chrom) a.0 b.0 a.1 b.1 less)
+        | inr same ↦ inr same.0
+      ];
+    }
+
+same_ranks : (names : List (List ℕ)) (a b : List ℕ) (i j : ℕ) → a ≡ b → rank_of names a ≡ Some i → rank_of names b ≡ Some j → i ≡ j
+same_ranks names a b i j e p q = let h = ap (λ c. rank_of names c) e in cc
+
+-- a chromosome of lower rank than the first record's has no records
+lower_is_absent : (names : List (List ℕ)) (name : List ℕ) (i j : ℕ) (s : Interval) (ss : List Interval) → ArePlaced (rank_order names) (s ∷ ss) → rank_of names name ≡ Some i → rank_of names s.chrom ≡ Some j → i < j → has_records name (s ∷ ss) ≡ false
+lower_is_absent names name i j s [] placed p q l =
+    or_from (bytes_eq s.chrom name) false (name_ne s.chrom name (λ e. let same = same_ranks names s.chrom name j i e q p in absurd (omega arith))) refl
+lower_is_absent names name i j s (t ∷ ts) placed p q l =
+    let next = ranks_up_to names s t ts placed in
+    let one = same_ranks names s.chrom s.chrom next.rank j refl next.rank_is q in
+    let higher : i < next.next_rank = elim next.up_to [ inl h ↦ omega arith | inr e ↦ let same = same_ranks names s.chrom t.chrom j next.next_rank e q next.next_rank_is in omega arith ] in
+    let rest = lower_is_absent names name i next.next_rank t ts placed.2 p next.next_rank_is higher in
+    or_from (bytes_eq s.chrom name) (has_records name (t ∷ ts)) (name_ne s.chrom name (λ e. let same = same_ranks names s.chrom name j i e q p in absurd (omega arith))) rest
+
+-- filters of names
+filter_same : (p q : List ℕ → Bool) → ((n : List ℕ) → p n ≡ q n) → (names : List (List ℕ)) → filter p names ≡ filter q names
+filter_same p q same [] = refl
+filter_same p q same (n ∷ ns) =
+    let rest = filter_same p q same ns in
+    let here = same n in
+    ap (λ b. cond b (n ∷ filter p ns) (filter p ns)) here ∙ ap (λ ms. cond (q n) (n ∷ ms) ms) rest
+
+filter_none : (names : List (List ℕ)) → filter (λ (n : List ℕ). false) names ≡ []
+filter_none [] = refl
+filter_none (n ∷ ns) = filter_none ns
+
+-- the test, or that the name is c, picks c if it is among names that come before all others that pass
+pick_absent : (c : List ℕ) (q : List ℕ → Bool) (names : List (List ℕ)) → is_among names c ≡ false → filter (λ n. bytes_eq c n || q n) names ≡ filter q names
+pick_absent c q [] f = refl
+pick_absent c q (n ∷ ns) f =
+    let parts = or_parts (bytes_eq n c) (is_among ns c) f in
+    let rest = pick_absent c q ns parts.1 in
+    let here : (bytes_eq c n || q n) ≡ q n = ap (λ b. b || q n) (name_ne-sym n c parts.0) in
+    ap (λ b. cond b (n ∷ filter (λ m. bytes_eq c m || q m) ns) (filter (λ m. bytes_eq c m || q m) ns)) here ∙ ap (λ ms. cond (q n) (n ∷ ms) ms) rest
+
+pick_first : (names : List (List ℕ)) (c : List ℕ) (i : ℕ) (q : List ℕ → Bool) → AreDistinct names → rank_of names c ≡ Some i → ((n : List ℕ) (j : ℕ) → rank_of names n ≡ Some j → j ≤ i → q n ≡ false) → filter (λ n. bytes_eq c n || q n) names ≡ c ∷ filter q names
+pick_first [] c i q distinct r low = absurd (cc)
+pick_first (n ∷ ns) c i q distinct r low =
+    let p : List ℕ → Bool = λ m. bytes_eq c m || q m in
+    let absent : q n ≡ false = low n 0 (rank_of-here n n ns refl) (omega arith) in
+    let dropped : filter q (n ∷ ns) ≡ filter q ns = cond-false (q n) (n ∷ filter q ns) (filter q ns) absent in
+    elim (cases_name n c) [
+      | inl e ↦
+          let out : is_among ns c ≡ false = subst (λ (m : List ℕ). is_among ns m ≡ false) e distinct.0 in
+          let here : p n ≡ true = or_left (bytes_eq c n) (q n) (name_eq c n (sym e)) in
+          cond-true (p n) (n ∷ filter p ns) (filter p ns) here ∙ ap (λ ms. n ∷ ms) (pick_absent c q ns out ∙ sym dropped) ∙ ap (λ m. m ∷ filter q (n ∷ ns)) e
+      | inr f ↦
+          let past = rank_past n c ns i f r in
+          let here : p n ≡ false = or_from (bytes_eq c n) (q n) (name_ne-sym n c f) absent in
+          let rest = pick_first ns c past.0 q distinct.1 past.1 (λ m j h l. elim (cases_name n m) [
+            | inl e ↦ subst (λ (x : List ℕ). q x ≡ false) e absent
+            | inr g ↦ low m (suc j) (rank_of-later n m ns g ∙ ap (λ o. option_map (λ rank. suc rank) o) h) (omega (arith, past.2))
+          ]) in
+          cond-false (p n) (n ∷ filter p ns) (filter p ns) here ∙ rest ∙ ap (λ ms. c ∷ ms) (sym dropped)
+    ]
+
+pub without_absent : (name : List ℕ) (names : List (List ℕ)) → is_among names name ≡ false → without name names ≡ names
+without_absent name [] f = refl
+without_absent name (n ∷ ns) f =
+    let parts = or_parts (bytes_eq n name) (is_among ns name) f in
+    without-other name n ns parts.0 ∙ ap (λ ms. n ∷ ms) (without_absent name ns parts.1)
+
+without_twice : (name : List ℕ) (names : List (List ℕ)) → without name (without name names) ≡ without name names
+without_twice name [] = refl
+without_twice name (n ∷ ns) =
+    elim (cases_name n name) [
+      | inl e ↦ ap (λ ms. without name ms) (without-here name n ns e) ∙ without_twice name ns ∙ sym (without-here name n ns e)
+      | inr f ↦ ap (λ ms. without name ms) (without-other name n ns f) ∙ without-other name n (without name ns) f ∙ ap (λ ms. n ∷ ms) (without_twice name ns) ∙ sym (without-other name n ns f)
+    ]
+
+-- a record on the chromosome of the next adds no name
+pub same_chromosome : (r s : Interval) (ss : List Interval) → r.chrom ≡ s.chrom → chromosomes (r ∷ s ∷ ss) ≡ chromosomes (s ∷ ss)
+same_chromosome r s ss e =
+    let first = without-here r.chrom s.chrom (without s.chrom (chromosomes ss)) (sym e) in
+    ap (λ ns. r.chrom ∷ ns) first ∙ ap (λ c. c ∷ without c (without s.chrom (chromosomes ss))) e ∙ ap (λ ns. s.chrom ∷ ns) (without_twice s.chrom (chromosomes ss))
+
+or_twice : (x y : Bool) → (x || (x || y)) ≡ (x || y)
+or_twice true y = refl
+or_twice false y = refl
+
+-- the names that have records, in the order of the names, are those in the order of first records
+names_in_order : (names : List (List ℕ)) (records : List Interval) → AreDistinct names → ArePlaced (rank_order names) records → filter (λ n. has_records n records) names ≡ chromosomes records
+names_in_order names [] distinct placed = filter_none names
+names_in_order names (r ∷ []) distinct placed =
+    let rank = known_rank (rank_of names r.chrom) placed.0 in
+    pick_first names r.chrom rank.0 (λ n. false) distinct rank.1 (λ n j h l. refl) ∙ ap (λ ns. r.chrom ∷ ns) (filter_none names)
+names_in_order names (r ∷ s ∷ ss) distinct placed =
+    let next = ranks_up_to names r s ss placed in
+    let rest = names_in_order names (s ∷ ss) distinct placed.2 in
+    let has : List ℕ → Bool = λ n. has_records n (s ∷ ss) in
+    elim next.up_to [
+      | inl lower ↦
+          let absent = lower_is_absent names r.chrom next.rank next.next_rank s ss placed.2 next.rank_is next.next_rank_is lower in
+          let picked = pick_first names r.chrom next.rank has distinct next.rank_is (λ n j h l. lower_is_absent names n j next.next_rank s ss placed.2 h next.next_rank_is (omega arith)) in
+          picked ∙ ap (λ ns. r.chrom ∷ ns) (rest ∙ sym (without_absent r.chrom (chromosomes (s ∷ ss)) (among_chromosomes r.chrom (s ∷ ss) ∙ absent)))
+      | inr e ↦
+          filter_same (λ n. has_records n (r ∷ s ∷ ss)) has (λ n. ap (λ c. bytes_eq c n || has n) e ∙ or_twice (bytes_eq s.chrom n) (has_records n ss)) names ∙ rest ∙ sym (same_chromosome r s ss e)
+    ]
+
+-- names without records give no runs
+pub runs_of-nil : (gap : ℕ) → runs_of gap [] ≡ []
+unfolding runs_of stretches_from
+runs_of-nil gap = refl
+
+pub runs_on-none : (name : List ℕ) (gap : ℕ) (records : List Interval) → has_records name records ≡ false → runs_on name gap records ≡ []
+runs_on-none name gap records f = ap (λ spans. map (placed_on name) (runs_of gap spans)) (spans_on-none name records f) ∙ ap (λ runs. map (placed_on name) runs) (runs_of-nil gap)
+
+merged-filter : (names : List (List ℕ)) (gap : ℕ) (records : List Interval) → merged (filter (λ n. has_records n records) names) gap records ≡ merged names gap records
+unfolding merged
+merged-filter [] gap records = refl
+merged-filter (n ∷ ns) gap records =
+    let has : List ℕ → Bool = λ m. has_records m records in
+    let rest = merged-filter ns gap records in
+    elim (cases_Bool (has n)) [
+      | inl t ↦ ap (λ ms. merged ms gap records) (cond-true (has n) (n ∷ filter has ns) (filter has ns) t) ∙ ap (λ runs. runs_on n gap records ++ runs) rest
+      | inr f ↦ ap (λ ms. merged ms gap records) (cond-false (has n) (n ∷ filter has ns) (filter has ns) f) ∙ rest ∙ ap (λ runs. runs ++ merged ns gap records) (sym (runs_on-none n gap records f))
+    ]
+
+-- the merged runs by the names of the file, and by the names in the order in which they come
+pub by_chromosomes : (names : List (List ℕ)) (gap : ℕ) (records : List Interval) → AreDistinct names → ArePlaced (rank_order names) records → merged names gap records ≡ merged (chromosomes records) gap records
+by_chromosomes names gap records distinct placed = sym (merged-filter names gap records) ∙ ap (λ ns. merged ns gap records) (names_in_order names records distinct placed)
+
+pub in_file_order : runs_come_in_order
+in_file_order names gap strand records distinct placed =
+    by_chromosomes names gap (counted strand records) distinct (some_placed (rank_order names) (ranks_total names) (λ r. is_counted strand r.strand) records placed)

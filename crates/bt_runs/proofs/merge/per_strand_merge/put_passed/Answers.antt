@@ -1,0 +1,43 @@
+use Rattle.std.proofs.Common.{sym, ◌∙◌, ◌≡◌, inl, inr, Ok, true}
+use Rattle.std.proofs.lemmas.Result.{err_from_is_err_and}
+use Rattle.bt_lines.proofs.lemmas.writer.PuttingLemmas.{grown_none}
+use Rattle.bt_runs.proofs.lemmas.merge.PendingRunsLemmas.{all_left, all_written, is_over, line_cut, line_more, next_written, none_written, over_not, over_so, stopped_at}
+use Rattle.bt_runs.proofs.merge.per_strand_merge.put_passed.Goals as goal
+use Rattle.bt_runs.proofs.merge.per_strand_merge.put_passed.Goals.{else-here-via-then-here+else-reach-run, else-here-via-else-here}
+
+pub loop-run-init : goal.loop-run-init
+loop-run-init g c = record { written = none_written c.args.here c.args.reach c.args.runs.now; puts = grown_none c.args.out.now.output }
+
+pub returns-then-reach-run-clause-adds : goal.returns-then-reach-run-clause-adds
+returns-then-reach-run-clause-adds g c =
+    let is = sym c.first.ensures ∙ c.in-Some.is in
+    let stop = stopped_at c.args.here c.args.reach c.loop-run.runs c.in-Some.run' is (over_not c.args.here c.args.reach c.in-Some.run' c.if-here.true c.if-reach-run.true) in
+    rw (all_written c.args.here c.args.reach c.args.runs.now c.loop-run.runs c.loop-run.invariant.written stop) c.loop-run.invariant.puts
+
+pub returns-then-reach-run-clause-left : goal.returns-then-reach-run-clause-left
+returns-then-reach-run-clause-left g c =
+    let is = sym c.first.ensures ∙ c.in-Some.is in
+    all_left c.args.here c.args.reach c.args.runs.now c.loop-run.runs c.loop-run.invariant.written
+    (stopped_at c.args.here c.args.reach c.loop-run.runs c.in-Some.run' is (over_not c.args.here c.args.reach c.in-Some.run' c.if-here.true c.if-reach-run.true))
+
+pub returns-in_err-put_interval-clause-adds : goal.returns-in_err-put_interval-clause-adds
+returns-in_err-put_interval-clause-adds g c =
+    let p = err_from_is_err_and c.from_residual.result c.from_residual.ensures.1 in
+    let is = sym c.first.ensures ∙ c.in-Some.is in
+    let over : is_over c.args.here c.args.reach c.in-Some.run' ≡ true = elim c.else-here.branch [
+      | else-here-via-then-here+else-reach-run w ↦ over_so c.args.here c.args.reach c.in-Some.run' (inr w.if-reach-run.false)
+      | else-here-via-else-here w ↦ over_so c.args.here c.args.reach c.in-Some.run' (inl w.if-here.false)
+    ] in
+    rw (p.1, p.2) (line_cut (Unit {0}) c.args.chrom.now c.args.here c.args.reach c.args.runs.now c.loop-run.runs c.in-Some.run' c.args.out.now.output c.loop-run.out.output c.put_interval.new.out.output c.in_err-put_interval.field-0.0 c.loop-run.invariant.written is over c.loop-run.invariant.puts c.in_err-put_interval.ensures)
+
+pub loop-run-preserved : goal.loop-run-preserved
+loop-run-preserved g c =
+    let is = sym c.first.ensures ∙ c.in-Some.is in
+    let over : is_over c.args.here c.args.reach c.in-Some.run' ≡ true = elim c.else-here.branch [
+      | else-here-via-then-here+else-reach-run w ↦ over_so c.args.here c.args.reach c.in-Some.run' (inr w.if-reach-run.false)
+      | else-here-via-else-here w ↦ over_so c.args.here c.args.reach c.in-Some.run' (inl w.if-here.false)
+    ] in
+    rw (c.drop_first.ensures) (record {
+      written = next_written c.args.here c.args.reach c.args.runs.now c.loop-run.runs c.in-Some.run' is over c.loop-run.invariant.written;
+      puts = line_more {A = Unit {0}} c.args.chrom.now c.loop-run.invariant.written.done c.in-Some.run' c.args.out.now.output c.loop-run.out.output c.put_interval.new.out.output (Ok tt) c.loop-run.invariant.puts c.in_ok-put_interval.ensures;
+    })

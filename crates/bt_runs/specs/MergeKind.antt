@@ -1,8 +1,0 @@
--- What a merge keeps, as its callers see it.
-use Rattle.bt_runs.specs.Merging.{Merging, Together, Apart}
-use Rattle.bt_runs.specs.declared.merge.Kind.{Kind}
-use Rattle.bt_runs.specs.declared.merge.Kind.TheVariants.{PerStrand, Unstranded}
-
-abbrev pub merging_seen : Kind → Merging
-merging_seen (Unstranded merge) = Together merge
-merging_seen (PerStrand merge) = Apart merge

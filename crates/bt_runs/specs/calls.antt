@@ -1,0 +1,13 @@
+-- What calls do, as contracts say it.
+pub mod Calls
+pub mod Complementing
+pub mod CoveredLevels
+pub mod Covering
+pub mod Engine
+pub mod Failure
+pub mod MergeKind
+pub mod Merging
+pub mod Settling
+pub mod StrandOrder
+pub mod Stranding
+pub mod Unstranded

@@ -1,0 +1,52 @@
+-- The rule of a complement as its callers see it.
+use Rattle.std.specs.Prelude.{◌≡◌, ℕ, Bool, List, length, Option}
+use Rattle.bt_bed.specs.model.feature.Feature.{Feature}
+use Rattle.bt_bed.specs.model.order.Genome.{Entry}
+use Rattle.bt_bed.specs.model.feature.IntervalLine.{interval_lines}
+use Rattle.bt_bed.specs.model.order.Locus.{Locus}
+use Rattle.bt_runs.specs.calls.Engine.{IsQuiet}
+use Rattle.bt_runs.specs.model.Gaps.{AreTaken, complement, kept_place, settled_gaps}
+use Rattle.bt_runs.specs.inside.walk.Walk.{Place, places}
+
+-- The chromosomes, whether those without records are left out, the one that was reached and how far its
+-- gaps are settled. Last, how many bases the chromosome of the records has, of those that are known.
+pub record Complementing : Type 0 where
+  pub entries : List Entry
+  pub limit : Bool
+  pub current : Option (Place ℕ)
+  pub bases : ℕ
+
+-- the place that is kept
+abbrev pub kept_in : Complementing → List Locus
+kept_in complement = places (λ end. end) complement.entries complement.current
+
+-- the complement has taken the records of the past
+pub record StandsAfter (entries : List Entry) (limit : Bool) (past : List Feature)
+    (complement : Complementing) : Type 0 where
+  pub same_entries : complement.entries ≡ entries
+  pub same_limit : complement.limit ≡ limit
+  pub kept : kept_in complement ≡ kept_place entries past
+
+-- the records that may be taken
+abbrev pub may_take : Complementing → List Feature → Type 0
+may_take first past = AreTaken first.entries past
+
+-- what the complement has become after the records
+abbrev pub stands_after : Complementing → List Feature → Complementing → Type 0
+stands_after first past now = StandsAfter first.entries first.limit past now
+
+-- the lines of the settled gaps
+abbrev pub settled_lines : Complementing → List Feature → List ℕ
+settled_lines first past = interval_lines (settled_gaps first.limit first.entries past)
+
+-- the lines of all gaps
+abbrev pub whole_output : Complementing → List Feature → List ℕ
+whole_output first past = interval_lines (complement first.limit first.entries past)
+
+-- how many places are kept
+abbrev pub held_count : Complementing → List Feature → ℕ
+held_count first past = length (kept_place first.entries past)
+
+-- a record that settles no gap, with which no more places are kept
+abbrev pub is_quiet : Complementing → List Feature → Feature → Type 0
+is_quiet first past r = IsQuiet (settled_lines first) (held_count first) past r

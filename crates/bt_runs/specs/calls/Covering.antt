@@ -1,0 +1,175 @@
+-- A count of depths as its callers see it.
+use Rattle.std.specs.Prelude.{◌≡◌, ℕ, ◌<◌, ◌⊎◌, ⊤, Bool, true, false, List, [], length}
+use Rattle.std.specs.Prelude.{Option, Some, None, Result, Ok, Err, cond, nat_lt}
+use Rattle.bt_lines.specs.model.Fault.{Told, no_memory}
+use Rattle.bt_lines.specs.calls.Names.{told}
+use Rattle.bt_lines.specs.calls.Output.{Output}
+use Rattle.bt_lines.specs.calls.Putting.{FailsToAdd, Grown}
+use Rattle.bt_lines.specs.declared.fault.Fault.{Fault}
+use Rattle.bt_bed.specs.model.feature.Feature.{Feature}
+use Rattle.bt_bed.specs.model.order.Genome.{Entry}
+use Rattle.bt_bed.specs.model.feature.Interval.{Span}
+use Rattle.bt_bed.specs.model.order.Locus.{Locus}
+use Rattle.bt_bed.specs.declared.record.strand.Strand.{Strand}
+use Rattle.bt_bed.specs.model.order.Genome.{genome_names}
+use Rattle.bt_bed.specs.model.order.Rank.{rank_of}
+use Rattle.bt_runs.specs.inside.coverage.CountSeen.{begun_seen}
+use Rattle.bt_runs.specs.model.Depth.{DepthInterval, coverage, depth_lines, is_counted_by}
+use Rattle.bt_runs.specs.model.Depth.{kept_records, known_place, settled_depths, unfinished}
+use Rattle.bt_runs.specs.inside.coverage.DepthStep.{Known, begun_to, depth_walk, still_open}
+use Rattle.bt_runs.specs.model.Gaps.{AreTaken, length_in}
+use Rattle.bt_runs.specs.model.Levels.{Begun}
+use Rattle.bt_runs.specs.inside.walk.Walk.{AreReached, Place, entry_at, is_on, places, walk_step}
+use Rattle.bt_runs.specs.declared.coverage.depth_rule.DepthChrom.{DepthChrom}
+use Rattle.bt_runs.specs.declared.coverage.depths.BegunDepth.{BegunDepth}
+use Rattle.bt_runs.specs.declared.engine.failure.Failure.{Failure}
+use Rattle.bt_runs.specs.declared.engine.failure.Failure.TheVariants.{Write, Memory}
+
+-- The chromosomes, whether depth 0 is reported, the strand that is counted. Then the chromosome that was
+-- reached with what is known of it, whether the last record lies there, and its name and length.
+pub record Covering : Type 0 where
+  pub entries : List Entry
+  pub zeros : Bool
+  pub strand : Option Strand
+  pub current : Option (Place Known)
+  pub is_here : Bool
+  pub name : List ℕ
+  pub length : ℕ
+
+-- what is unfinished at the place that was reached, and the records that are open there
+abbrev pub begun_of : Option (Place Known) → Option Begun
+begun_of None = None
+begun_of (Some place) = place.known.begun
+
+abbrev pub held_of : Option (Place Known) → List Span
+held_of None = []
+held_of (Some place) = place.known.held
+
+-- the records that are kept
+abbrev pub kept_in : Covering → List Span
+kept_in coverage = held_of coverage.current
+
+-- the place up to which depths are known
+abbrev pub place_of : List Entry → Option (Place Known) → List Locus
+place_of entries current = places (λ known. known.to) entries current
+
+-- the coverage has taken the records of the past
+pub record StandsAfter (entries : List Entry) (zeros : Bool) (strand : Option Strand)
+    (past : List Feature) (coverage : Covering) : Type 0 where
+  pub same_entries : coverage.entries ≡ entries
+  pub same_zeros : coverage.zeros ≡ zeros
+  pub same_strand : coverage.strand ≡ strand
+  pub place : place_of coverage.entries coverage.current ≡ known_place entries past
+  pub begun : begun_of coverage.current ≡ unfinished zeros strand entries past
+  pub kept : kept_in coverage ≡ kept_records strand entries past
+  pub reached : AreReached coverage.entries coverage.current
+
+-- the records that may be taken
+abbrev pub may_take : Covering → List Feature → Type 0
+may_take first past = AreTaken first.entries past
+
+-- what the coverage has become after the records
+abbrev pub stands_after : Covering → List Feature → Covering → Type 0
+stands_after first past now = StandsAfter first.entries first.zeros first.strand past now
+
+-- the lines of the settled intervals
+abbrev pub settled_lines : Covering → List Feature → List ℕ
+settled_lines first past = depth_lines (settled_depths first.zeros first.strand first.entries past)
+
+-- the lines of all intervals
+abbrev pub whole_output : Covering → List Feature → List ℕ
+whole_output first past = depth_lines (coverage first.zeros first.strand first.entries past)
+
+-- how many records are kept
+abbrev pub held_count : Covering → List Feature → ℕ
+held_count first past = length (kept_records first.strand first.entries past)
+
+-- no record is said to be taken quietly: `IsForRecord` says when memory may be wanted
+abbrev pub is_quiet : Covering → List Feature → Feature → Type 0
+is_quiet first past r = ⊥
+
+-- a record has to be kept: it is counted, and starts below this length of its chromosome
+pub record IsToKeep (size : ℕ) (strand : Option Strand) (r : Feature) : Type 0 where
+  pub counted : is_counted_by strand r.strand ≡ true
+  pub starts : r.start < size
+
+-- on the chromosome of its name
+abbrev pub HasToKeep : List Entry → Option Strand → Feature → Type 0
+HasToKeep entries strand r = IsToKeep (length_in entries r.chrom) strand r
+
+-- memory is needed for records that have to be kept
+abbrev pub wants_memory : Covering → Feature → Type 0
+wants_memory old r = HasToKeep old.entries old.strand r
+
+-- this holds if memory ran out
+abbrev pub OnWant : {A : Type 0} → Type 0 → Result A Failure → Type 0
+OnWant P (Ok done) = ⊤
+OnWant P (Err Write) = ⊤
+OnWant P (Err Memory) = P
+
+-- what is known once the depths are settled by a record's start, before the record is counted
+abbrev pub settled_known : Bool → ℕ → Known → ℕ → Known
+settled_known zeros size known start =
+    cond (nat_lt size start) (record { to = size; begun = None; held = [] })
+    (record { to = start; begun = begun_to zeros known start; held = still_open start known.held })
+
+-- the chromosome that was reached has this name and this length
+abbrev pub IsEntry : List Entry → Option (Place Known) → List ℕ → ℕ → Type 0
+IsEntry entries None name size = ⊥
+IsEntry entries (Some place) name size =
+    ((entry_at entries place.rank).name ≡ name) × ((entry_at entries place.rank).length ≡ size)
+
+-- the record's chromosome is the one that was reached, or the genome file doesn't have it
+abbrev pub IsOnBy : Bool → List Entry → Option (Place Known) → List ℕ → ℕ → List ℕ → Type 0
+IsOnBy true entries current name size chrom =
+    (is_on entries current chrom ≡ true) × IsEntry entries current name size
+IsOnBy false entries current name size chrom =
+    (is_on entries current chrom ≡ false) × (rank_of (genome_names entries) chrom ≡ None)
+
+abbrev pub IsOnChrom : Covering → List ℕ → Type 0
+IsOnChrom coverage chrom =
+    IsOnBy coverage.is_here coverage.entries coverage.current coverage.name coverage.length chrom
+
+-- with the interval that is kept in a local
+abbrev pub with_begun : Option BegunDepth → Option (Place Known) → Option (Place Known)
+with_begun begun None = None
+with_begun begun (Some place) =
+    let known : Known = record { to = place.known.to; begun = begun_seen begun; held = place.known.held } in
+    Some (record { rank = place.rank; known = known })
+
+abbrev pub with_chrom : Covering → DepthChrom → Covering
+with_chrom coverage on = record {
+  entries = coverage.entries;
+  zeros = coverage.zeros;
+  strand = coverage.strand;
+  current = with_begun on.begun coverage.current;
+  is_here = on.is_here;
+  name = on.name.now;
+  length = on.length;
+}
+
+module _ (old : Covering) (r : Feature) (out : Output) where
+  -- what one more record reaches, and what it settles
+  abbrev pub depth_step : Option (Place Known) × List DepthInterval
+  depth_step = walk_step (depth_walk old.zeros old.strand) old.entries old.current r
+
+  -- it was taken, as the step says
+  pub record CountsRecord (new : Covering) (grown : Output) : Type 0 where
+    pub same_entries : new.entries ≡ old.entries
+    pub same_zeros : new.zeros ≡ old.zeros
+    pub same_strand : new.strand ≡ old.strand
+    pub current : new.current ≡ depth_step.0
+    pub at : AreReached old.entries old.current → AreReached old.entries new.current
+    pub puts : Grown out (depth_lines depth_step.1) grown
+
+  -- its lines were written, and it couldn't be kept
+  pub record RunsShort (answer : Told) (grown : Output) : Type 0 where
+    pub is : answer ≡ no_memory
+    pub puts : Grown out (depth_lines depth_step.1) grown
+    pub to_keep : HasToKeep old.entries old.strand r
+
+  -- what is done with it
+  abbrev pub CountsDepths : Result (Unit {0}) Fault → Covering → Output → Type 0
+  CountsDepths (Ok done) new grown = CountsRecord new grown
+  CountsDepths (Err fault) new grown =
+      FailsToAdd out (depth_lines depth_step.1) (told fault) grown ⊎ RunsShort (told fault) grown

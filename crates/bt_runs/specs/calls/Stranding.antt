@@ -1,0 +1,54 @@
+-- What a merge that keeps the strands apart holds after the records of the past.
+use Rattle.std.specs.Prelude.{◌≡◌, ℕ, List, [], ◌∷◌, ◌++◌, length}
+use Rattle.bt_bed.specs.model.feature.Feature.{Feature}
+use Rattle.bt_bed.specs.model.feature.IntervalLine.{interval_lines}
+use Rattle.bt_runs.specs.calls.Engine.{IsQuiet}
+use Rattle.bt_runs.specs.model.MergedRuns.{AreTaken}
+use Rattle.bt_runs.specs.inside.merge.OnLast.{IsOnLast}
+use Rattle.bt_runs.specs.model.StrandRuns.{StrandRun, kept_strand_runs, places_of, settled_strand_runs}
+use Rattle.bt_runs.specs.model.StrandRuns.{strand_runs}
+
+-- the gap that it bridges, the chromosome that it is on, and the runs that it keeps
+pub record Stranding : Type 0 where
+  pub gap : ℕ
+  pub chrom : List ℕ
+  pub kept : List StrandRun
+  -- what its list holds: those runs, unless a single one is in a local
+  pub listed : List StrandRun
+
+-- it has taken the records of the past
+pub record StandsAfter (gap : ℕ) (past : List Feature) (merge : Stranding) : Type 0 where
+  pub same_gap : merge.gap ≡ gap
+  -- it is on the chromosome of the last one
+  pub chrom : (front : List Feature) (last : Feature) → past ≡ front ++ last ∷ []
+      → merge.chrom ≡ last.chrom
+  pub kept : merge.kept ≡ kept_strand_runs gap past
+
+-- the lines of runs
+abbrev pub strand_lines : List StrandRun → List ℕ
+strand_lines items = interval_lines (places_of items)
+
+-- the records that may be taken
+abbrev pub may_take : Stranding → List Feature → Type 0
+may_take first past = AreTaken past
+
+-- what it has become after the records
+abbrev pub stands_after : Stranding → List Feature → Stranding → Type 0
+stands_after first past now = StandsAfter first.gap past now
+
+-- the lines of the settled runs
+abbrev pub settled_lines : Stranding → List Feature → List ℕ
+settled_lines first past = strand_lines (settled_strand_runs first.gap past)
+
+-- the lines of all runs
+abbrev pub whole_output : Stranding → List Feature → List ℕ
+whole_output first past = strand_lines (strand_runs first.gap past)
+
+-- how many runs are kept
+abbrev pub held_count : Stranding → List Feature → ℕ
+held_count first past = length (kept_strand_runs first.gap past)
+
+-- a record on the chromosome of the one before it that settles no run, with which no more are kept
+abbrev pub is_quiet : Stranding → List Feature → Feature → Type 0
+is_quiet first past r =
+    IsQuiet (settled_lines first) (held_count first) past r × IsOnLast past r

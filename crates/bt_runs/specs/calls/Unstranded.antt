@@ -1,0 +1,49 @@
+-- What a merge of all its records together holds after the records of the past.
+use Rattle.std.specs.Prelude.{◌≡◌, ℕ, List, [], ◌∷◌, ◌++◌, length}
+use Rattle.bt_bed.specs.model.feature.Feature.{Feature}
+use Rattle.bt_bed.specs.model.feature.Interval.{Interval}
+use Rattle.bt_bed.specs.model.feature.IntervalLine.{interval_lines}
+use Rattle.bt_runs.specs.calls.Engine.{IsQuiet}
+use Rattle.bt_runs.specs.model.MergedRuns.{AreTaken, kept_runs, merged_runs, settled_runs}
+use Rattle.bt_runs.specs.inside.merge.OnLast.{IsOnLast}
+use Rattle.bt_runs.specs.declared.merge.merge_strand.MergeStrand.{MergeStrand}
+
+-- the gap that it bridges, the records that it counts, the chromosome that it is on, and the run that it keeps, if
+-- there is one
+pub record Unstranded : Type 0 where
+  pub gap : ℕ
+  pub strand : MergeStrand
+  pub chrom : List ℕ
+  pub kept : List Interval
+
+-- the merge has taken the records of the past
+pub record StandsAfter (gap : ℕ) (strand : MergeStrand) (past : List Feature)
+    (merge : Unstranded) : Type 0 where
+  pub same_gap : merge.gap ≡ gap
+  pub same_strand : merge.strand ≡ strand
+  pub kept : merge.kept ≡ kept_runs gap strand past
+  pub on : (front : List Feature) (last : Feature) → past ≡ front ++ last ∷ [] → merge.chrom ≡ last.chrom
+
+-- the records that may be taken
+abbrev pub may_take : Unstranded → List Feature → Type 0
+may_take first past = AreTaken past
+
+-- what the merge has become after the records
+abbrev pub stands_after : Unstranded → List Feature → Unstranded → Type 0
+stands_after first past now = StandsAfter first.gap first.strand past now
+
+-- the lines of the settled runs
+abbrev pub settled_lines : Unstranded → List Feature → List ℕ
+settled_lines first past = interval_lines (settled_runs first.gap first.strand past)
+
+-- the lines of all runs
+abbrev pub whole_output : Unstranded → List Feature → List ℕ
+whole_output first past = interval_lines (merged_runs first.gap first.strand past)
+
+-- how many runs are kept
+abbrev pub held_count : Unstranded → List Feature → ℕ
+held_count first past = length (kept_runs first.gap first.strand past)
+
+-- a record on the last chromosome that settles no run, with which no more are kept
+abbrev pub is_quiet : Unstranded → List Feature → Feature → Type 0
+is_quiet first past r = IsQuiet (settled_lines first) (held_count first) past r × IsOnLast past r

@@ -1,0 +1,7 @@
+-- Words of contracts inside of the crate.
+pub mod CountSeen
+pub mod CountedDepths
+pub mod DepthStep
+pub mod DepthText
+pub mod OpenEnds
+pub mod OpenRecords

@@ -1,0 +1,8 @@
+-- Words of contracts inside of the crate.
+pub mod MergeStep
+pub mod OnLast
+pub mod PendingRuns
+pub mod PerStrand
+pub mod StrandStep
+pub mod StrandTaking
+pub mod UnstrandedStep

@@ -1,0 +1,33 @@
+-- What the plain program is said to do, in the words of the definitions.
+use Rattle.std.specs.Prelude.{ℕ, ◌+◌, ◌-◌, ◌≤◌, cond, ◌==◌, List, [], ◌∷◌, map}
+use Rattle.bt_runs.specs.declared.plain.PlainSpan.{PlainSpan}
+use Rattle.bt_bed.specs.model.feature.Interval.{Span}
+use Rattle.bt_bed.specs.model.feature.Stretches.{IsCovered}
+
+-- a span of the program as one of the definitions
+abbrev pub span_in : PlainSpan → Span
+span_in s = record { start = s.start; stop = s.stop }
+
+-- each of them so
+abbrev pub spans_in : List PlainSpan → List Span
+spans_in spans = map span_in spans
+
+-- some covered position at or past p is near `left`
+pub record HasRight (gap : ℕ) (spans : List Span) (left p : ℕ) : Type 0 where
+  pub right : ℕ
+  pub covered : IsCovered spans right
+  pub to_right : p ≤ right
+  pub near : right - left ≤ gap + 1
+
+-- the first span and the others, with the next position:
+-- it belongs to the last of them if that ends there
+abbrev pub with_next_after : Span → List Span → ℕ → List Span
+with_next_after s [] p =
+    cond (s.stop == p) (record { start = s.start; stop = p + 1 } ∷ [])
+    (s ∷ record { start = p; stop = p + 1 } ∷ [])
+with_next_after s (t ∷ ts) p = s ∷ with_next_after t ts p
+
+-- the spans with the next position
+abbrev pub with_next : List Span → ℕ → List Span
+with_next [] p = record { start = p; stop = p + 1 } ∷ []
+with_next (s ∷ ss) p = with_next_after s ss p

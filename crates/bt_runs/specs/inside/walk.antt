@@ -1,0 +1,7 @@
+-- Words of contracts inside of the crate.
+pub mod GapCursor
+pub mod GapRule
+pub mod GapStep
+pub mod Rule
+pub mod Ruled
+pub mod Walk

@@ -1,0 +1,158 @@
+-- What `bedtools genomecov` gives with -bg: the intervals of equal depth above 0 of each
+-- chromosome, in the order of the genome file. With -bga it gives those of depth 0 too (bedtools
+-- manual, genomecov, options -bg, -bga and -strand).
+use Rattle.std.specs.Prelude.{◌≡◌, ℕ, Bool, true, ◌&&◌, ◌||◌, nat_le, nat_lt, cond, min}
+use Rattle.std.specs.Prelude.{List, [], ◌∷◌, ◌++◌, length, map, filter, flat_map, codes, decimal}
+use Rattle.std.specs.Prelude.{Option, Some, None}
+use Rattle.bt_bed.specs.model.feature.Feature.{Feature, intervals_of}
+use Rattle.bt_bed.specs.model.order.Genome.{Entry, genome_names}
+use Rattle.bt_bed.specs.model.feature.Interval.{Interval, Span, last_of, spans_on}
+use Rattle.bt_bed.specs.model.order.Locus.{Locus}
+use Rattle.bt_bed.specs.model.order.Rank.{rank_order}
+use Rattle.bt_bed.specs.model.feature.Strands.{is_strand}
+use Rattle.bt_bed.specs.declared.record.strand.Strand.{Strand}
+use Rattle.bt_runs.specs.model.Gaps.{AreTaken, is_over_at, length_in}
+use Rattle.bt_runs.specs.model.Levels.{Begun, Level, levels_of}
+
+-- whether a span covers a position
+abbrev pub covers : ℕ → Span → Bool
+covers p s = nat_le s.start p && nat_lt p s.stop
+
+-- the depth at a position: how many of the spans cover it
+abbrev pub depth_at : List Span → ℕ → ℕ
+depth_at spans p = length (filter (covers p) spans)
+
+-- a depth that is reported: any above 0, and 0 if it is wanted
+abbrev pub reported : Bool → ℕ → Option ℕ
+reported zeros depth = cond (zeros || nat_lt 0 depth) (Some depth) None
+
+-- the depth that is reported of a position
+unfoldable pub depth_of : Bool → List Span → ℕ → Option ℕ
+depth_of zeros spans p = reported zeros (depth_at spans p)
+
+-- whether a record of this strand is counted: all are, or those of one strand
+abbrev pub is_counted_by : Option Strand → Strand → Bool
+is_counted_by None strand = true
+is_counted_by (Some wanted) strand = is_strand wanted strand
+
+-- the counted records on the chromosome of this name
+abbrev pub counted_on : Option Strand → List ℕ → List Feature → List Span
+counted_on strand name records =
+    spans_on name (intervals_of (filter (λ r. is_counted_by strand r.strand) records))
+
+-- an interval of a chromosome, with its depth
+pub record DepthInterval : Type 0 where
+  pub chrom : List ℕ
+  pub start : ℕ
+  pub stop : ℕ
+  pub depth : ℕ
+
+-- an interval of equal depth, on the chromosome of this name
+abbrev pub depth_on : List ℕ → Level → DepthInterval
+depth_on name l = record { chrom = name; start = l.start; stop = l.stop; depth = l.value }
+
+-- the intervals of equal depth of a chromosome of the genome file
+abbrev pub depths_on : Bool → Option Strand → List Feature → Entry → List DepthInterval
+depths_on zeros strand records entry =
+    let values = depth_of zeros (counted_on strand entry.name records) in
+    map (depth_on entry.name) (levels_of values entry.length)
+
+-- those of all chromosomes, in their order
+unfoldable pub coverage : Bool → Option Strand → List Entry → List Feature → List DepthInterval
+coverage zeros strand entries records = flat_map (depths_on zeros strand records) entries
+
+-- the line of an interval with its depth: columns with tabs between them (UCSC bedGraph
+-- description)
+abbrev pub depth_line : DepthInterval → List ℕ
+depth_line r =
+    r.chrom ++ (codes "\t" ++ decimal r.start ++ codes "\t" ++ decimal r.stop
+    ++ codes "\t" ++ decimal r.depth ++ codes "\n")
+
+abbrev pub depth_lines : List DepthInterval → List ℕ
+depth_lines intervals = flat_map depth_line intervals
+
+-- whether an interval is settled by the last record: its chromosome comes before, or it is the
+-- same and the interval ends below the record's start. One that ends there isn't: another record
+-- may begin there, at an equal depth
+abbrev pub is_ended_by : List (List ℕ) → Interval → DepthInterval → Bool
+is_ended_by names last item =
+    is_over_at ((rank_order names).compare item.chrom last.chrom) (nat_lt item.stop last.start)
+
+abbrev pub ended_by : List (List ℕ) → List DepthInterval → Option Interval → List DepthInterval
+ended_by names items None = []
+ended_by names items (Some last) = filter (is_ended_by names last) items
+
+-- the intervals that are settled after the records
+unfoldable pub settled_depths : Bool → Option Strand → List Entry → List Feature
+    → List DepthInterval
+settled_depths zeros strand entries records =
+    ended_by (genome_names entries) (coverage zeros strand entries records)
+    (last_of (intervals_of records))
+
+-- a span cut at a length
+abbrev pub cut_at : ℕ → Span → Span
+cut_at size s = record { start = s.start; stop = min s.stop size }
+
+-- the spans that start below a length, cut there, of which those are left that end at a position
+-- or past it
+abbrev pub open_at : ℕ → ℕ → List Span → List Span
+open_at size p spans =
+    filter (λ s. nat_le p s.stop) (map (cut_at size) (filter (λ s. nat_lt s.start size) spans))
+
+-- the records that are kept: the counted ones on the last record's chromosome that start below its
+-- length, cut there, and that end at the last start or past it
+abbrev pub kept_by : Option Strand → List Entry → List Feature → Option Interval → List Span
+kept_by strand entries records None = []
+kept_by strand entries records (Some last) =
+    open_at (length_in entries last.chrom) last.start (counted_on strand last.chrom records)
+
+unfoldable pub kept_records : Option Strand → List Entry → List Feature → List Span
+kept_records strand entries records =
+    kept_by strand entries records (last_of (intervals_of records))
+
+-- the first of the intervals that begins below a position and ends there or past it,
+-- with its depth
+abbrev pub begun_across : ℕ → List Level → Option Begun
+begun_across p [] = None
+begun_across p (l ∷ ls) =
+    let begun : Begun = record { start = l.start; value = l.value } in
+    cond (nat_lt l.start p && nat_le p l.stop) (Some begun) (begun_across p ls)
+
+-- the interval that is unfinished: it begins below the last start, and isn't settled
+abbrev pub unfinished_by : Bool → Option Strand → List Entry → List Feature → Option Interval
+    → Option Begun
+unfinished_by zeros strand entries records None = None
+unfinished_by zeros strand entries records (Some last) =
+    let values = depth_of zeros (counted_on strand last.chrom records) in
+    begun_across last.start (levels_of values (length_in entries last.chrom))
+
+unfoldable pub unfinished : Bool → Option Strand → List Entry → List Feature → Option Begun
+unfinished zeros strand entries records =
+    unfinished_by zeros strand entries records (last_of (intervals_of records))
+
+-- how far the last record's chromosome is known: up to the last start, cut at its length
+abbrev pub known_to : List Entry → Option Interval → List Locus
+known_to entries None = []
+known_to entries (Some last) =
+    record { chrom = last.chrom; start = min last.start (length_in entries last.chrom) } ∷ []
+
+unfoldable pub known_place : List Entry → List Feature → List Locus
+known_place entries records = known_to entries (last_of (intervals_of records))
+
+-- what is settled begins what is settled later
+abbrev pub settled_depths_stay : Type 0
+settled_depths_stay =
+    (zeros : Bool) (strand : Option Strand) (entries : List Entry) (past more : List Feature)
+    → AreTaken entries (past ++ more)
+    → (rest : List DepthInterval)
+    × (settled_depths zeros strand entries (past ++ more)
+    ≡ settled_depths zeros strand entries past ++ rest)
+
+-- and the whole output
+abbrev pub settled_depths_begin : Type 0
+settled_depths_begin =
+    (zeros : Bool) (strand : Option Strand) (entries : List Entry) (past more : List Feature)
+    → AreTaken entries (past ++ more)
+    → (rest : List DepthInterval)
+    × (coverage zeros strand entries (past ++ more)
+    ≡ settled_depths zeros strand entries past ++ rest)

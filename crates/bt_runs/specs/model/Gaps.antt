@@ -1,0 +1,117 @@
+-- What `bedtools complement` gives: the parts of each chromosome that no feature covers, in the
+-- order of the genome file. With -L it gives only those of chromosomes that
+-- have records (bedtools manual, complement).
+use Rattle.std.specs.Prelude.{◌≡◌, ℕ, ◌<◌, ◌≤◌, length, Bool, true, false, not, ◌||◌, List, [], ◌∷◌}
+use Rattle.std.specs.Prelude.{◌++◌, map, filter, flat_map, cond, min, nat_le, bytes_eq, Option}
+use Rattle.std.specs.Prelude.{Some, None}
+use Rattle.std.specs.declared.cmp.Ordering.{Ordering}
+use Rattle.std.specs.declared.cmp.Ordering.TheVariants.{Less, Equal, Greater}
+use Rattle.bt_bed.specs.model.feature.Feature.{Feature, intervals_of}
+use Rattle.bt_bed.specs.model.order.Genome.{Entry, genome_names}
+use Rattle.bt_bed.specs.model.feature.Interval.{Interval, Span, AreNonEmpty, last_of, placed_on, spans_on}
+use Rattle.bt_bed.specs.model.order.Locus.{Locus, ArePlaced}
+use Rattle.bt_bed.specs.model.order.Rank.{AreDistinct, rank_order}
+use Rattle.bt_bed.specs.model.feature.Stretches.{IsCovered, AreStretchesOf, stretches_from}
+use Rattle.bt_bed.specs.model.order.Together.{has_records}
+use Rattle.bt_runs.specs.model.Merged.{is_covered, end_of}
+
+-- a position of a chromosome of this length that none of the spans covers
+pub record IsBare (size : ℕ) (spans : List Span) (p : ℕ) : Type 0 where
+  pub within : p < size
+  pub bare : IsCovered spans p → ⊥
+
+-- the gaps of a chromosome: the stretches of its bare positions
+unfoldable pub gaps_of : ℕ → List Span → List Span
+gaps_of size spans = stretches_from (λ p. not (is_covered spans p)) 0 size
+
+-- so they are
+abbrev pub gaps_are : Type 0
+gaps_are = (size : ℕ) (spans : List Span) → AreStretchesOf (IsBare size spans) (gaps_of size spans)
+
+-- no other list is
+abbrev pub gaps_only : Type 0
+gaps_only =
+    (size : ℕ) (spans gaps : List Span) → AreStretchesOf (IsBare size spans) gaps
+    → gaps ≡ gaps_of size spans
+
+-- the gaps on a chromosome of the genome file
+abbrev pub gaps_on : List Interval → Entry → List Interval
+gaps_on records entry =
+    map (placed_on entry.name) (gaps_of entry.length (spans_on entry.name records))
+
+-- whether a chromosome's gaps are wanted: they all are, or with -L if it has records
+abbrev pub is_asked : Bool → List Interval → Entry → Bool
+is_asked limit records entry = not limit || has_records entry.name records
+
+-- the gaps of the chromosomes whose gaps are wanted, in their order
+unfoldable pub complement : Bool → List Entry → List Feature → List Interval
+complement limit entries records =
+    flat_map (gaps_on (intervals_of records))
+    (filter (is_asked limit (intervals_of records)) entries)
+
+-- Whether a gap is settled, once its chromosome is compared with that of the last record. It is if it
+-- comes before, or if it is the same and the gap ends by the record's start.
+abbrev pub is_over_at : Ordering → Bool → Bool
+is_over_at Less ends = true
+is_over_at Equal ends = ends
+is_over_at Greater ends = false
+
+abbrev pub is_over : List (List ℕ) → Interval → Interval → Bool
+is_over names last gap =
+    is_over_at ((rank_order names).compare gap.chrom last.chrom) (nat_le gap.stop last.start)
+
+abbrev pub over_by : List (List ℕ) → List Interval → Option Interval → List Interval
+over_by names gaps None = []
+over_by names gaps (Some last) = filter (is_over names last) gaps
+
+-- the gaps that are settled after the records
+unfoldable pub settled_gaps : Bool → List Entry → List Feature → List Interval
+settled_gaps limit entries records =
+    over_by (genome_names entries) (complement limit entries records)
+    (last_of (intervals_of records))
+
+-- the length of the chromosome of this name
+abbrev pub length_in : List Entry → List ℕ → ℕ
+length_in [] name = 0
+length_in (entry ∷ entries) name =
+    cond (bytes_eq entry.name name) entry.length (length_in entries name)
+
+-- the place that is kept: the greatest end on the last record's chromosome, cut at its length
+abbrev pub kept_at : List Entry → List Interval → Option Interval → List Locus
+kept_at entries records None = []
+kept_at entries records (Some last) =
+    record {
+      chrom = last.chrom;
+      start = min (end_of (spans_on last.chrom records)) (length_in entries last.chrom);
+    } ∷ []
+
+unfoldable pub kept_place : List Entry → List Feature → List Locus
+kept_place entries records = kept_at entries (intervals_of records) (last_of (intervals_of records))
+
+-- records that a complement or a coverage may take: they are in the order of the genome file, which
+-- has each chromosome once, and each has a base
+pub record AreTaken (entries : List Entry) (records : List Feature) : Type 0 where
+  pub distinct : AreDistinct (genome_names entries)
+  pub placed : ArePlaced (rank_order (genome_names entries)) (intervals_of records)
+  pub full : AreNonEmpty (intervals_of records)
+
+-- what is settled begins what is settled later
+abbrev pub settled_gaps_stay : Type 0
+settled_gaps_stay =
+    (limit : Bool) (entries : List Entry) (past more : List Feature)
+    → AreTaken entries (past ++ more)
+    → (rest : List Interval) × (settled_gaps limit entries (past ++ more)
+    ≡ settled_gaps limit entries past ++ rest)
+
+-- and the whole output
+abbrev pub settled_gaps_begin : Type 0
+settled_gaps_begin =
+    (limit : Bool) (entries : List Entry) (past more : List Feature)
+    → AreTaken entries (past ++ more)
+    → (rest : List Interval) × (complement limit entries (past ++ more)
+    ≡ settled_gaps limit entries past ++ rest)
+
+-- one place at most is kept
+abbrev pub one_place_is_kept : Type 0
+one_place_is_kept =
+    (entries : List Entry) (records : List Feature) → length (kept_place entries records) ≤ 1

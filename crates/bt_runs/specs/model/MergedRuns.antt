@@ -1,0 +1,71 @@
+-- What a merge writes, and which of its runs are settled: a later record can't change them.
+use Rattle.std.specs.Prelude.{◌≡◌, ℕ, ◌+◌, ◌≤◌, Bool, not, ◌||◌, List, [], ◌++◌, drop, length}
+use Rattle.std.specs.Prelude.{filter, Option, Some, None, nat_lt, bytes_eq}
+use Rattle.bt_bed.specs.model.feature.Feature.{Feature, intervals_of}
+use Rattle.bt_bed.specs.model.feature.Interval.{Interval, AreNonEmpty, last_of}
+use Rattle.bt_bed.specs.model.order.Locus.{ArePlaced}
+use Rattle.bt_bed.specs.model.order.Rank.{AreDistinct, rank_order}
+use Rattle.bt_bed.specs.model.order.Together.{AreTogether}
+use Rattle.bt_runs.specs.model.Counted.{counted}
+use Rattle.bt_runs.specs.model.Merged.{merged, chromosomes}
+use Rattle.bt_runs.specs.declared.merge.merge_strand.MergeStrand.{MergeStrand}
+
+-- the merged runs of the records, chromosomes in the order in which they come
+abbrev pub merged_runs : ℕ → MergeStrand → List Feature → List Interval
+merged_runs gap strand records =
+    merged (chromosomes (counted strand records)) gap (counted strand records)
+
+-- whether the last record closes a run: the run lies on a chromosome before its own, which is
+-- any other one, or ends more than `gap` below its start
+abbrev pub is_passed : ℕ → Interval → Interval → Bool
+is_passed gap last run = not (bytes_eq run.chrom last.chrom) || nat_lt (run.stop + gap) last.start
+
+-- the runs that the last record, counted or not, closes
+abbrev pub passed_by : ℕ → List Interval → Option Interval → List Interval
+passed_by gap runs None = []
+passed_by gap runs (Some last) = filter (is_passed gap last) runs
+
+-- the runs that are settled after the records
+unfoldable pub settled_runs : ℕ → MergeStrand → List Feature → List Interval
+settled_runs gap strand records =
+    passed_by gap (merged_runs gap strand records) (last_of (intervals_of records))
+
+-- the runs that come after the settled ones
+unfoldable pub kept_runs : ℕ → MergeStrand → List Feature → List Interval
+kept_runs gap strand records =
+    drop (length (settled_runs gap strand records)) (merged_runs gap strand records)
+
+-- records that a merge may take: those of one chromosome are contiguous, their starts don't fall,
+-- and each has a base
+pub record AreTaken (records : List Feature) : Type 0 where
+  pub together : AreTogether (intervals_of records)
+  pub full : AreNonEmpty (intervals_of records)
+
+-- what is settled begins what is settled later
+abbrev pub settled_runs_stay : Type 0
+settled_runs_stay =
+    (gap : ℕ) (strand : MergeStrand) (past more : List Feature) → AreTaken (past ++ more)
+    → (rest : List Interval) × (settled_runs gap strand (past ++ more)
+    ≡ settled_runs gap strand past ++ rest)
+
+-- and the whole output
+abbrev pub settled_runs_begin : Type 0
+settled_runs_begin =
+    (gap : ℕ) (strand : MergeStrand) (past more : List Feature) → AreTaken (past ++ more)
+    → (rest : List Interval) × (merged_runs gap strand (past ++ more)
+    ≡ settled_runs gap strand past ++ rest)
+
+-- the settled runs and the kept ones are all, and one run at most is kept
+abbrev pub one_run_is_kept : Type 0
+one_run_is_kept =
+    (gap : ℕ) (strand : MergeStrand) (past : List Feature) → AreTaken past
+    → (merged_runs gap strand past ≡ settled_runs gap strand past ++ kept_runs gap strand past)
+    × (length (kept_runs gap strand past) ≤ 1)
+
+-- for records in the order of a genome file,
+-- the order in which the chromosomes come is that of the file
+abbrev pub runs_come_in_order : Type 0
+runs_come_in_order =
+    (names : List (List ℕ)) (gap : ℕ) (strand : MergeStrand) (records : List Feature)
+    → AreDistinct names → ArePlaced (rank_order names) (intervals_of records)
+    → merged names gap (counted strand records) ≡ merged_runs gap strand records

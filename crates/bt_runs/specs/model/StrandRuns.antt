@@ -1,0 +1,91 @@
+-- What `bedtools merge -s` gives: the records of each strand are merged separately (bedtools
+-- manual, merge, option -s), and the runs of all strands are listed by their first records.
+use Rattle.std.specs.Prelude.{◌≡◌, ℕ, Bool, not, ◌&&◌, List, [], ◌∷◌, ◌++◌, drop, filter, length}
+use Rattle.std.specs.Prelude.{map, Option, Some, None, nat_le, bytes_eq}
+use Rattle.std.specs.List.{list_any, take_while}
+use Rattle.bt_bed.specs.model.feature.Feature.{Feature, interval_of, intervals_of}
+use Rattle.bt_bed.specs.model.feature.Interval.{Interval, last_of}
+use Rattle.bt_bed.specs.declared.record.strand.Strand.{Strand}
+use Rattle.bt_bed.specs.model.feature.Strands.{is_strand}
+use Rattle.bt_runs.specs.model.MergedRuns.{AreTaken, is_passed, merged_runs}
+use Rattle.bt_runs.specs.declared.merge.merge_strand.MergeStrand.TheVariants.{One}
+
+-- a merged run, with the strand of its records
+pub record StrandRun : Type 0 where
+  pub strand : Strand
+  pub run : Interval
+
+-- the merged runs of the records of one strand
+abbrev pub runs_of_strand : ℕ → List Feature → Strand → List StrandRun
+runs_of_strand gap records strand =
+    map (λ run. record { strand = strand; run = run }) (merged_runs gap (One strand) records)
+
+-- whether a record lies in a run
+abbrev pub lies_in : Interval → Interval → Bool
+lies_in run r = bytes_eq run.chrom r.chrom && (nat_le run.start r.start && nat_le r.stop run.stop)
+
+-- whether it is one of the records of the run: of its strand, and in it
+abbrev pub is_in : StrandRun → Feature → Bool
+is_in item r = is_strand item.strand r.strand && lies_in item.run (interval_of r)
+
+-- of the runs the one whose first record this is, if there is one: the record lies in it,
+-- and none of those before does
+abbrev pub begun_by : List StrandRun → List Feature → Feature → List StrandRun
+begun_by runs before r = filter (λ item. is_in item r && not (list_any (is_in item) before)) runs
+
+-- for each record the run that it is the first of, if these come before them
+abbrev pub listed_behind : (Strand → List StrandRun) → List Feature → List Feature → List StrandRun
+listed_behind runs before [] = []
+listed_behind runs before (r ∷ rs) =
+    begun_by (runs r.strand) before r ++ listed_behind runs (before ++ r ∷ []) rs
+
+-- the merged runs of all strands, listed by their first records
+unfoldable pub strand_runs : ℕ → List Feature → List StrandRun
+strand_runs gap records = listed_behind (runs_of_strand gap records) [] records
+
+-- the first of the listed runs, as long as the last record closes them
+abbrev pub passed_front : ℕ → List StrandRun → Option Interval → List StrandRun
+passed_front gap items None = []
+passed_front gap items (Some last) = take_while (λ item. is_passed gap last item.run) items
+
+-- the runs that are settled after the records: a run that is finished isn't settled while one that
+-- is listed before it is open
+unfoldable pub settled_strand_runs : ℕ → List Feature → List StrandRun
+settled_strand_runs gap records =
+    passed_front gap (strand_runs gap records) (last_of (intervals_of records))
+
+-- the runs that come after the settled ones
+unfoldable pub kept_strand_runs : ℕ → List Feature → List StrandRun
+kept_strand_runs gap records =
+    drop (length (settled_strand_runs gap records)) (strand_runs gap records)
+
+-- where the runs lie
+abbrev pub places_of : List StrandRun → List Interval
+places_of items = map (λ item. item.run) items
+
+-- the runs of one strand come in their order, each of them once
+abbrev pub strands_stay_in_order : Type 0
+strands_stay_in_order =
+    (gap : ℕ) (records : List Feature) (strand : Strand) → AreTaken records
+    → filter (λ item. is_strand item.strand strand) (strand_runs gap records)
+    ≡ runs_of_strand gap records strand
+
+-- what is settled begins what is settled later
+abbrev pub strand_runs_stay : Type 0
+strand_runs_stay =
+    (gap : ℕ) (past more : List Feature) → AreTaken (past ++ more)
+    → (rest : List StrandRun)
+    × (settled_strand_runs gap (past ++ more) ≡ settled_strand_runs gap past ++ rest)
+
+-- and the whole output
+abbrev pub strand_runs_begin : Type 0
+strand_runs_begin =
+    (gap : ℕ) (past more : List Feature) → AreTaken (past ++ more)
+    → (rest : List StrandRun)
+    × (strand_runs gap (past ++ more) ≡ settled_strand_runs gap past ++ rest)
+
+-- the settled runs and the kept ones are all
+abbrev pub strand_runs_divide : Type 0
+strand_runs_divide =
+    (gap : ℕ) (past : List Feature)
+    → strand_runs gap past ≡ settled_strand_runs gap past ++ kept_strand_runs gap past

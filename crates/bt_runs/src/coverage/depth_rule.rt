@@ -1,0 +1,443 @@
+//! The rule of `bedtools genomecov -bg`: the records that are open, and the interval that isn't ended.
+
+ghost use Rattle.std.specs.Prelude.{◌≡◌, false, true, ◌<◌, ◌≤◌, [], length, flat_map, min, slice_range, IfOk, OnErr, OnOk};
+ghost use Rattle.bt_lines.specs.calls.Putting.{Adds};
+ghost use Rattle.bt_bed.specs.calls.GenomeTable.{entries};
+ghost use Rattle.bt_runs.specs.inside.coverage.CountSeen.{known_seen, seen};
+ghost use Rattle.bt_runs.specs.inside.coverage.CountedDepths.{CountAnswers, known_past, levels_past};
+ghost use Rattle.bt_runs.specs.calls.Covering.{CountsDepths, IsOnChrom, OnWant, held_count, is_quiet, kept_in, may_take, settled_known, settled_lines, stands_after, wants_memory, whole_output, with_chrom};
+ghost use Rattle.bt_runs.specs.model.Depth.{depth_lines, is_counted_by};
+ghost use Rattle.bt_runs.specs.inside.coverage.DepthStep.{bare_of, depths_left, levels_by, levels_left, levels_on};
+ghost use Rattle.bt_runs.specs.calls.Engine.{KeepsHeld};
+ghost use Rattle.bt_runs.specs.inside.coverage.OpenRecords.{none_open_at, open_with};
+ghost use Rattle.bt_runs.specs.inside.walk.Rule.{EnterAnswers, Taken};
+ghost use Rattle.bt_runs.specs.inside.walk.Walk.{AreReached, begun, entry_at, is_on, left_before, left_of};
+
+use crate::coverage::depth_line::put_depth;
+use crate::coverage::depths::{BegunDepth, DepthPlace, go_on, put_ended};
+use crate::coverage::open_records::OpenRecords;
+use crate::engine::failure::Failure;
+use crate::engine::rule::Rule;
+use bt_bed::{Bounds, Genome, Record, Strand, is_same_name};
+use bt_lines::{Fault, Out, Sink};
+use std::alloc::{AllocError, Global};
+use std::marker::Model;
+
+// The chromosome that records lie on.
+#[derive(Clone, Copy, Debug)]
+pub(crate) struct DepthChrom<'g> {
+    // Whether the genome file has it.
+    is_here: bool,
+    name: &'g [u8],
+    length: u64,
+    // The interval that isn't ended.
+    begun: Option<BegunDepth>,
+}
+
+// A coverage of the chromosomes of a genome file, in their order.
+#[derive(Drop, Debug)]
+pub(crate) struct DepthRule<'g> {
+    // Its chromosomes are those that are written.
+    genome: &'g Genome,
+    // Whether depth 0 is written.
+    zeros: bool,
+    // The strand that is counted; `None` if all records are.
+    strand: Option<Strand>,
+    // `None` before the first record on a chromosome of the genome file.
+    current: Option<DepthPlace>,
+    // Whether the last record lies there; else the genome file doesn't have its chromosome.
+    is_here: bool,
+    // The name and the length of the chromosome that the last record lies on.
+    name: &'g [u8],
+    length: u64,
+    // Those of the current chromosome.
+    held: OpenRecords,
+}
+
+impl<'g> Model for DepthRule<'g> {
+    ghost use Rattle.bt_bed.specs.calls.GenomeTable.{entries};
+    ghost use Rattle.bt_runs.specs.inside.coverage.CountSeen.{seen};
+    ghost use Rattle.bt_runs.specs.calls.Covering.{Covering};
+    ghost use Rattle.bt_runs.specs.inside.walk.Walk.{AreReached};
+
+    ghost Value = { Covering };
+
+    ghost view = { λ m. record {
+      entries = entries m.genome.now;
+      zeros = m.zeros;
+      strand = m.strand;
+      current = seen m.current m.held;
+      is_here = m.is_here;
+      name = m.name.now;
+      length = m.length;
+    } };
+
+    ghost invariant = { λ m. AreReached (entries m.genome.now) (seen m.current m.held) };
+}
+
+impl<'g> DepthRule<'g> {
+    // A coverage that has taken no record. With `zeros` it also writes the intervals of depth 0, and
+    // with a strand it counts the records of that strand alone.
+    pub(crate) fn new(
+        alloc: Global,
+        genome: &'g Genome,
+        zeros: bool,
+        strand: Option<Strand>,
+    ) -> DepthRule<'g>
+        ensures stands { stands_after result [] result }
+        ensures entries { result.entries ≡ entries genome.now }
+        ensures rules { (result.zeros ≡ zeros) × (result.strand ≡ strand) }
+    {
+        DepthRule {
+            genome,
+            zeros,
+            strand,
+            current: None,
+            is_here: false,
+            name: &[],
+            length: 0,
+            held: OpenRecords::new(alloc),
+        }
+    }
+
+    // Begins another chromosome, if the genome has it. It writes what is left before that.
+    fn begin<K: Sink>(&mut self, chrom: &[u8], out: &mut Out<K>) -> Result<(), Fault>
+        requires { is_on self.old.entries self.old.current chrom.now ≡ false }
+        ensures on { OnOk result (IsOnChrom self.new chrom.now) }
+        ensures enters { EnterAnswers CountsDepths (Taken may_take stands_after settled_lines is_quiet wants_memory CountsDepths) self.old chrom.now out.old.output result self.new out.new.output }
+    {
+        let Some(rank) = self.genome.rank(chrom) else {
+            self.is_here = false;
+            return Ok(());
+        };
+        let name = self.genome.name(rank);
+        let length = self.genome.length(rank);
+        put_before(
+            self.genome,
+            self.zeros,
+            self.current,
+            &mut self.held,
+            rank,
+            out,
+        )?;
+        self.held.clear(0);
+        self.current = Some(DepthPlace { rank, begun: None });
+        self.is_here = true;
+        self.name = name;
+        self.length = length;
+        Ok(())
+    }
+}
+
+impl<'g> Rule for DepthRule<'g> {
+    type OnChrom = DepthChrom<'g>;
+
+    ghost takes = { may_take };
+
+    ghost settled = { settled_lines };
+
+    ghost whole = { whole_output };
+
+    ghost held = { held_count };
+
+    ghost stands = { stands_after };
+
+    ghost quiet = { is_quiet };
+
+    ghost wants = { wants_memory };
+
+    ghost does = { CountsDepths };
+
+    ghost is_on = { IsOnChrom };
+
+    ghost with_on = { with_chrom };
+
+    // It is cold, and stays out of the loop over records.
+    #[cold]
+    #[inline(never)]
+    fn enter<K: Sink>(&mut self, chrom: &[u8], out: &mut Out<K>) -> Result<(), Fault> {
+        if let Some(reached) = self.current {
+            let name = self.genome.name(reached.rank);
+            let length = self.genome.length(reached.rank);
+            if is_same_name(name, chrom) {
+                self.is_here = true;
+                self.name = name;
+                self.length = length;
+                return Ok(());
+            }
+        }
+        self.begin(chrom, out)
+    }
+
+    fn on_chrom(&self) -> DepthChrom<'g> {
+        let begun = match self.current {
+            None => None,
+            Some(reached) => reached.begun,
+        };
+        DepthChrom {
+            is_here: self.is_here,
+            name: self.name,
+            length: self.length,
+            begun,
+        }
+    }
+
+    #[inline(always)]
+    fn step<R: Record, K: Sink>(
+        &mut self,
+        on: &mut DepthChrom<'g>,
+        record: &R,
+        out: &mut Out<K>,
+    ) -> Result<(), Fault> {
+        if !on.is_here {
+            return Ok(());
+        }
+        let bounds = Bounds {
+            start: record.start(),
+            stop: record.stop(),
+        };
+        let counted = count_bounds(
+            on.name,
+            on.length,
+            self.zeros,
+            is_counted(self.strand, record),
+            on.begun,
+            &mut self.held,
+            bounds,
+            out,
+        );
+        match counted {
+            Ok(begun) => on.begun = begun,
+            Err(failure) => return Err(failure.fault()),
+        }
+        Ok(())
+    }
+
+    fn leave(&mut self, on: DepthChrom<'g>) {
+        self.is_here = on.is_here;
+        self.name = on.name;
+        self.length = on.length;
+        if let Some(reached) = self.current {
+            self.current = Some(DepthPlace {
+                rank: reached.rank,
+                begun: on.begun,
+            });
+        }
+    }
+
+    fn finish<K: Sink>(mut self, out: &mut Out<K>) -> Result<(), Fault> {
+        let count = self.genome.count();
+        put_before(
+            self.genome,
+            self.zeros,
+            self.current,
+            &mut self.held,
+            count,
+            out,
+        )
+    }
+
+    // How many counted records end at the last start or past it; none before the first chromosome.
+    fn kept_len(&self) -> usize
+        ensures list { result ≡ length (kept_in self.now) }
+        ensures held { KeepsHeld may_take stands_after self.now held_count result }
+    {
+        match self.current {
+            None => 0,
+            Some(_) => self.held.len(),
+        }
+    }
+}
+
+// Whether a record is counted.
+#[inline(always)]
+fn is_counted<R: Record>(wanted: Option<Strand>, record: &R) -> bool
+    ensures { result ≡ is_counted_by wanted (R.feature «record».now).strand }
+{
+    match wanted {
+        None => true,
+        Some(wanted) => wanted == record.strand(),
+    }
+}
+
+// Takes a record of these bounds on a chromosome of this name and length. It writes the intervals that the record
+// settles there, and gives the one that isn't ended with it.
+#[inline(always)]
+fn count_bounds<K: Sink>(
+    chrom: &[u8],
+    length: u64,
+    zeros: bool,
+    counted: bool,
+    begun: Option<BegunDepth>,
+    held: &mut OpenRecords,
+    bounds: Bounds,
+    out: &mut Out<K>,
+) -> Result<Option<BegunDepth>, Failure>
+    ensures counts { CountAnswers chrom.now (levels_past zeros length (known_seen begun held.old) bounds)
+        (known_past zeros counted length (known_seen begun held.old) bounds)
+        result held.new out.old.output out.new.output }
+    ensures memory { OnWant ((counted ≡ true) × (bounds.start < length)) result }
+{
+    let start = bounds.start.max(held.at());
+    let Ok(begun) = settle(chrom, zeros, held, begun, length, start, out) else {
+        return Err(Failure::Write);
+    };
+    match hold(held, counted, length, bounds.stop) {
+        Ok(()) => Ok(begun),
+        Err(AllocError) => Err(Failure::Memory),
+    }
+}
+
+// Goes on to a record's start. It writes the intervals that the start settles, and gives the one that
+// isn't ended there. Past the chromosome's length nothing is open.
+#[inline(always)]
+fn settle<K: Sink>(
+    chrom: &[u8],
+    zeros: bool,
+    held: &mut OpenRecords,
+    begun: Option<BegunDepth>,
+    length: u64,
+    start: u64,
+    out: &mut Out<K>,
+) -> Result<Option<BegunDepth>, Fault>
+    requires { held.now.at ≤ start }
+    ensures adds { Adds out.old.output (depth_lines (levels_on chrom.now (levels_by zeros length (known_seen begun held.old) start))) result out.new.output }
+    ensures known { IfOk result (λ next. known_seen next held.new ≡ settled_known zeros length (known_seen begun held.old) start) }
+{
+    if length < start {
+        put_rest(chrom, zeros, held, begun, length, out)?;
+        return Ok(None);
+    }
+    go_on(chrom, zeros, held, begun, start, out)
+}
+
+// Adds a counted record that starts below the chromosome's length, cut there.
+#[inline(always)]
+fn hold(held: &mut OpenRecords, counted: bool, length: u64, stop: u64) -> Result<(), AllocError>
+    ensures held { OnOk result (held.new ≡ open_with counted length stop held.old) }
+    ensures memory { OnErr result ((counted ≡ true) × (held.old.at < length)) }
+{
+    if counted && held.at() < length {
+        return held.push(stop.min(length));
+    }
+    Ok(())
+}
+
+// Writes what is left of a chromosome, and drops its records.
+#[cold]
+#[inline(never)]
+fn put_rest<K: Sink>(
+    chrom: &[u8],
+    zeros: bool,
+    held: &mut OpenRecords,
+    begun: Option<BegunDepth>,
+    length: u64,
+    out: &mut Out<K>,
+) -> Result<(), Fault>
+    ensures adds { Adds out.old.output (depth_lines (levels_on chrom.now (levels_left zeros length (known_seen begun held.old)))) result out.new.output }
+    ensures none { OnOk result (held.new ≡ none_open_at length) }
+{
+    put_left(chrom, zeros, held, begun, length, out)?;
+    held.clear(length);
+    Ok(())
+}
+
+// Writes what is left of a chromosome.
+fn put_left<K: Sink>(
+    chrom: &[u8],
+    zeros: bool,
+    held: &mut OpenRecords,
+    begun: Option<BegunDepth>,
+    length: u64,
+    out: &mut Out<K>,
+) -> Result<(), Fault>
+    ensures { Adds out.old.output (depth_lines (levels_on chrom.now (levels_left zeros length (known_seen begun held.old)))) result out.new.output }
+{
+    let begun = go_on(chrom, zeros, held, begun, length, out)?;
+    put_ended(chrom, begun, length, out)
+}
+
+// Writes what is left before the chromosome of the rank `stop`: the rest of the current one, and each
+// one between the two.
+fn put_before<K: Sink>(
+    genome: &Genome,
+    zeros: bool,
+    current: Option<DepthPlace>,
+    held: &mut OpenRecords,
+    stop: usize,
+    out: &mut Out<K>,
+) -> Result<(), Fault>
+    requires at { AreReached (entries genome.now) (seen current held.now) }
+    requires within { stop ≤ length (entries genome.now) }
+    ensures { Adds out.old.output (depth_lines (left_before (depths_left zeros) (bare_of zeros) (entries genome.now) (seen current held.old) stop)) result out.new.output }
+{
+    put_current(genome, zeros, current, held, out)?;
+    put_bares(genome, zeros, first_rank(current, stop), stop, out)
+}
+
+// The rank of the chromosome after the current one, but no more than `stop`.
+fn first_rank(current: Option<DepthPlace>, stop: usize) -> usize
+    ensures { result ≡ min (begun (seen current (none_open_at 0))) stop }
+{
+    match current {
+        None => 0,
+        Some(reached) if reached.rank < stop => reached.rank + 1,
+        Some(_) => stop,
+    }
+}
+
+// Writes what is left of the current chromosome.
+fn put_current<K: Sink>(
+    genome: &Genome,
+    zeros: bool,
+    current: Option<DepthPlace>,
+    held: &mut OpenRecords,
+    out: &mut Out<K>,
+) -> Result<(), Fault>
+    requires { AreReached (entries genome.now) (seen current held.now) }
+    ensures { Adds out.old.output (depth_lines (left_of (depths_left zeros) (entries genome.now) (seen current held.old))) result out.new.output }
+{
+    match current {
+        None => Ok(()),
+        Some(reached) => {
+            let length = genome.length(reached.rank);
+            let chrom = genome.name(reached.rank);
+            put_left(chrom, zeros, held, reached.begun, length, out)
+        }
+    }
+}
+
+// Writes the chromosomes of the ranks from `first` on and below `stop`, which have no records.
+fn put_bares<K: Sink>(
+    genome: &Genome,
+    zeros: bool,
+    first: usize,
+    stop: usize,
+    out: &mut Out<K>,
+) -> Result<(), Fault>
+    requires order { first ≤ stop }
+    requires within { stop ≤ length (entries genome.now) }
+    ensures { Adds out.old.output (depth_lines (flat_map (bare_of zeros) (slice_range (entries genome.now) first stop))) result out.new.output }
+{
+    for rank in first..stop {
+        put_bare(genome, zeros, rank, out)?;
+    }
+    Ok(())
+}
+
+// Writes a chromosome that has no records, if depth 0 is reported.
+fn put_bare<K: Sink>(
+    genome: &Genome,
+    zeros: bool,
+    rank: usize,
+    out: &mut Out<K>,
+) -> Result<(), Fault>
+    requires { rank < length (entries genome.now) }
+    ensures { Adds out.old.output (depth_lines (bare_of zeros (entry_at (entries genome.now) rank))) result out.new.output }
+{
+    let length = genome.length(rank);
+    if zeros && 0 < length {
+        return put_depth(genome.name(rank), 0, length, 0, out);
+    }
+    Ok(())
+}

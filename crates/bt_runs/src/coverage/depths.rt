@@ -1,0 +1,125 @@
+//! The depths of one chromosome: where they change, and the lines of the intervals that end.
+
+ghost use Rattle.std.specs.Prelude.{◌≡◌, ◌≤◌, ◌-◌, ◌||◌, ◌==◌, IfOk, OnOk, Option, Some, None};
+ghost use Rattle.bt_lines.specs.calls.Putting.{Adds};
+ghost use Rattle.bt_runs.specs.inside.coverage.CountSeen.{begun_seen};
+ghost use Rattle.bt_runs.specs.model.Depth.{depth_lines, depth_of, reported};
+ghost use Rattle.bt_runs.specs.inside.coverage.DepthStep.{levels_on};
+ghost use Rattle.bt_runs.specs.model.Levels.{begun_after, begun_at, ended_after, ended_at, goes_on, next_begun, next_ended};
+ghost use Rattle.bt_runs.specs.inside.coverage.OpenRecords.{open_from};
+
+use crate::coverage::depth_line::put_depth;
+use crate::coverage::open_records::OpenRecords;
+use bt_lines::{Fault, Out, Sink};
+
+// An interval of one depth that isn't ended.
+#[derive(Clone, Copy, Debug)]
+pub(crate) struct BegunDepth {
+    // Below the position up to which depths are known.
+    pub(crate) start: u64,
+    // That of each of its positions; 0 only if depth 0 is written.
+    pub(crate) depth: u64,
+}
+
+// The chromosome of a rank, and the interval that isn't ended at the position up to which its depths
+// are known.
+#[derive(Clone, Copy, Debug)]
+pub(crate) struct DepthPlace {
+    // A rank of the genome file.
+    pub(crate) rank: usize,
+    // `None` at position 0, past the chromosome's length, and at depth 0 if that isn't written.
+    pub(crate) begun: Option<BegunDepth>,
+}
+
+// Goes on to a position on a chromosome, with the open records. It writes the intervals that end before
+// it, and gives the one that isn't ended there.
+#[inline(always)]
+pub(crate) fn go_on<K: Sink>(
+    chrom: &[u8],
+    zeros: bool,
+    held: &mut OpenRecords,
+    begun: Option<BegunDepth>,
+    stop: u64,
+    out: &mut Out<K>,
+) -> Result<Option<BegunDepth>, Fault>
+    ensures adds { Adds out.old.output (depth_lines (levels_on chrom.now (ended_after (depth_of zeros held.old.spans) held.old.at (stop - held.old.at) (begun_seen begun)))) result out.new.output }
+    ensures begun { IfOk result (λ next. begun_seen next ≡ begun_after (depth_of zeros held.old.spans) held.old.at (stop - held.old.at) (begun_seen begun)) }
+    ensures held { OnOk result (held.old.at ≤ stop → held.new ≡ open_from stop held.old) }
+{
+    let mut position = held.at();
+    let mut begun = begun;
+    while position < stop {
+        held.go_on(position + 1);
+        let depth = reported(zeros, held.depth() as u64);
+        begun = put_next(chrom, begun, position, depth, out)?;
+        position = held.first_end(stop);
+    }
+    held.settle(stop);
+    Ok(begun)
+}
+
+// The depth that is reported.
+fn reported(zeros: bool, depth: u64) -> Option<u64>
+    ensures { result ≡ reported zeros depth }
+{
+    if zeros || 0 < depth {
+        Some(depth)
+    } else {
+        None
+    }
+}
+
+// Takes the position with its depth, if that is reported. It writes the interval that ends there,
+// if one does, and gives the one that isn't ended.
+fn put_next<K: Sink>(
+    chrom: &[u8],
+    begun: Option<BegunDepth>,
+    position: u64,
+    depth: Option<u64>,
+    out: &mut Out<K>,
+) -> Result<Option<BegunDepth>, Fault>
+    ensures adds { Adds out.old.output (depth_lines (levels_on chrom.now (next_ended position depth (begun_seen begun)))) result out.new.output }
+    ensures begun { IfOk result (λ next. begun_seen next ≡ next_begun position depth (begun_seen begun)) }
+{
+    if goes_on(begun, depth) {
+        return Ok(begun);
+    }
+    put_ended(chrom, begun, position, out)?;
+    Ok(begin_at(position, depth))
+}
+
+// Whether the position with this depth goes on with what has begun.
+fn goes_on(begun: Option<BegunDepth>, depth: Option<u64>) -> bool
+    ensures { result ≡ goes_on (begun_seen begun) depth }
+{
+    match (begun, depth) {
+        (None, None) => true,
+        (Some(stretch), Some(depth)) => stretch.depth == depth,
+        _ => false,
+    }
+}
+
+// What begins at the position.
+fn begin_at(start: u64, depth: Option<u64>) -> Option<BegunDepth>
+    ensures { begun_seen result ≡ begun_at start depth }
+{
+    match depth {
+        None => None,
+        Some(depth) => Some(BegunDepth { start, depth }),
+    }
+}
+
+// Writes what has begun, ended at a position.
+pub(crate) fn put_ended<K: Sink>(
+    chrom: &[u8],
+    begun: Option<BegunDepth>,
+    stop: u64,
+    out: &mut Out<K>,
+) -> Result<(), Fault>
+    ensures { Adds out.old.output (depth_lines (levels_on chrom.now (ended_at (begun_seen begun) stop))) result out.new.output }
+{
+    match begun {
+        None => Ok(()),
+        Some(stretch) => put_depth(chrom, stretch.start, stop, stretch.depth, out),
+    }
+}

@@ -1,0 +1,152 @@
+//! The engine of `bedtools genomecov -bg`.
+
+pub(crate) mod depth_line;
+pub(crate) mod depth_rule;
+pub(crate) mod depths;
+pub(crate) mod open_ends;
+pub(crate) mod open_records;
+
+ghost use Rattle.std.specs.Prelude.{◌≡◌, [], length, true, None, Option, Some};
+ghost use Rattle.bt_lines.specs.model.Fault.{Told};
+ghost use Rattle.bt_lines.specs.calls.Output.{Grows};
+ghost use Rattle.bt_bed.specs.calls.Bed.{feature_lent};
+ghost use Rattle.bt_bed.specs.calls.GenomeTable.{entries};
+ghost use Rattle.bt_runs.specs.calls.Calls.{AnswersAgain, IsFaultless, KeepsFault, TakesQuiet, WritesFirst, WritesLeft, WritesLeftPrefix, WritesPrefix, WritesSettled};
+ghost use Rattle.bt_runs.specs.calls.Covering.{StandsAfter, held_count, is_quiet, kept_in, may_take, settled_lines, stands_after, wants_memory, whole_output};
+ghost use Rattle.bt_runs.specs.calls.Engine.{IsWanted, KeepsHeld};
+ghost use Rattle.bt_runs.specs.inside.walk.Ruled.{ruled_count, ruled_fault, ruled_quiet, ruled_stands, ruled_takes, ruled_text, ruled_wants};
+
+use crate::coverage::depth_rule::DepthRule;
+use crate::engine::Engine;
+use crate::engine::rule::{Rule, Ruled};
+use bt_bed::{BedRef, Cursor, Genome, Strand};
+use bt_lines::{Fault, Out, Sink};
+use std::alloc::Global;
+use std::marker::Model;
+
+/// The intervals of equal depth of each chromosome, in the order of a genome file, with their depths.
+/// It keeps the counted records that end at the last start or past it, and one unfinished interval. An interval is written
+/// once a record starts past its end, or on a later chromosome. A record on a chromosome that the genome file doesn't have
+/// is skipped. Starts are zero-based, and ends aren't included.
+#[derive(Drop, Debug)]
+pub struct Coverage<'g> {
+    rule: Ruled<DepthRule<'g>>,
+}
+
+impl<'g> Model for Coverage<'g> {
+    ghost use Rattle.bt_runs.specs.calls.Covering.{Covering};
+    ghost use Rattle.bt_runs.specs.declared.engine.rule.Ruled.{Ruled};
+
+    ghost Value = { Ruled Covering };
+
+    ghost view = { λ m. m.rule };
+}
+
+impl<'g> Coverage<'g> {
+    /// A coverage that has taken no record. With `zeros` it also writes the intervals of depth 0, and
+    /// with a strand it counts the records of that strand alone.
+    pub fn new(
+        alloc: Global,
+        genome: &'g Genome,
+        zeros: bool,
+        strand: Option<Strand>,
+    ) -> Coverage<'g>
+        ensures stands { StandsAfter (entries genome.now) zeros strand [] result.rule }
+        ensures going { ruled_fault result ≡ None }
+        ensures entries { result.rule.entries ≡ entries genome.now }
+        ensures rules { (result.rule.zeros ≡ zeros) × (result.rule.strand ≡ strand) }
+    {
+        Coverage {
+            rule: Ruled::new(DepthRule::new(alloc, genome, zeros, strand)),
+        }
+    }
+
+    /// Takes the next record, and writes the intervals that it settles. The first fault is returned from then
+    /// on: `WriteFailed`, or `NoMemory`, only if the record has to be kept.
+    pub fn feed<K: Sink>(&mut self, bed: &BedRef<'_>, out: &mut Out<K>) -> Result<(), Fault>
+        ensures going { IsFaultless (ruled_stands stands_after) ruled_fault self.old }
+        ensures written { WritesSettled (ruled_takes may_take) (ruled_stands stands_after) ruled_fault (ruled_text settled_lines) self.old
+            (feature_lent bed.now) out.old.output result self.new out.new.output }
+        ensures fault { KeepsFault ruled_fault result self.new }
+        ensures prefix { WritesPrefix (ruled_takes may_take) (ruled_stands stands_after) ruled_fault (ruled_text settled_lines) self.old
+            (feature_lent bed.now) out.old.output result self.new out.new.output }
+        ensures ran_out { WritesFirst (ruled_takes may_take) (ruled_stands stands_after) ruled_fault (ruled_text settled_lines) self.old
+            (feature_lent bed.now) out.old.output result self.new out.new.output }
+        ensures memory { IsWanted (ruled_wants wants_memory) ruled_fault self.old (feature_lent bed.now) result }
+        ensures again { AnswersAgain (ruled_fault self.old) result }
+        ensures stays { (before : Told) → ruled_fault self.old ≡ Some before
+            → (self.new ≡ self.old) × (out.new.output ≡ out.old.output) }
+        ensures quiet { TakesQuiet (ruled_takes may_take) (ruled_stands stands_after) ruled_fault (ruled_text settled_lines) self.old
+            (feature_lent bed.now) out.old.output (ruled_quiet is_quiet) result out.new.output }
+        ensures grows { Grows out.old.output.took out.new.output.took }
+        ensures after_failure { out.old.output.has_failed ≡ true → out.new.output ≡ out.old.output }
+    {
+        Engine::feed(self, bed, out)
+    }
+
+    /// Writes the lines that are still unsettled, after the last record. It fails with `WriteFailed`, or with the
+    /// fault that was returned before.
+    pub fn finish<K: Sink>(self, out: &mut Out<K>) -> Result<(), Fault>
+        ensures going { IsFaultless (ruled_stands stands_after) ruled_fault self.entry }
+        ensures written { WritesLeft (ruled_takes may_take) (ruled_stands stands_after) ruled_fault (ruled_text settled_lines) (ruled_text whole_output) self.entry
+            out.old.output result out.new.output }
+        ensures prefix { WritesLeftPrefix (ruled_takes may_take) (ruled_stands stands_after) ruled_fault (ruled_text settled_lines) (ruled_text whole_output)
+            self.entry out.old.output result out.new.output }
+        ensures again { AnswersAgain (ruled_fault self.entry) result }
+        ensures stays { (before : Told) → ruled_fault self.entry ≡ Some before → out.new.output ≡ out.old.output }
+        ensures grows { Grows out.old.output.took out.new.output.took }
+        ensures after_failure { out.old.output.has_failed ≡ true → out.new.output ≡ out.old.output }
+    {
+        Engine::finish(self, out)
+    }
+
+    /// How many counted records end at the last start or past it.
+    pub fn kept_len(&self) -> usize
+        ensures list { result ≡ length (kept_in self.now.rule) }
+        ensures held { KeepsHeld (ruled_takes may_take) (ruled_stands stands_after) self.now (ruled_count held_count) result }
+    {
+        Engine::kept_len(self)
+    }
+}
+
+impl Engine for Coverage<'_> {
+    ghost takes = { ruled_takes may_take };
+
+    ghost settled = { ruled_text settled_lines };
+
+    ghost whole = { ruled_text whole_output };
+
+    ghost held = { ruled_count held_count };
+
+    ghost stands = { ruled_stands stands_after };
+
+    ghost fault = { ruled_fault };
+
+    ghost quiet = { ruled_quiet is_quiet };
+
+    ghost wants = { ruled_wants wants_memory };
+
+    fn feed_batch<C: Cursor, K: Sink>(
+        &mut self,
+        records: &mut C,
+        out: &mut Out<K>,
+    ) -> Result<(), Fault> {
+        self.rule.feed_batch(records, out)
+    }
+
+    fn finish<K: Sink>(self, out: &mut Out<K>) -> Result<(), Fault> {
+        let Coverage { rule } = self;
+        rule.finish(out)
+    }
+
+    /// How many counted records end at the last start or past it.
+    fn kept_len(&self) -> usize
+        ensures list { result ≡ length (kept_in self.now.rule) }
+        ensures held { KeepsHeld (ruled_takes may_take) (ruled_stands stands_after) self.now (ruled_count held_count) result }
+    {
+        self.rule.rule.kept_len()
+    }
+}
+
+#[cfg(test)]
+mod tests;

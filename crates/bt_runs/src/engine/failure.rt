@@ -1,0 +1,39 @@
+//! What ends an engine.
+
+ghost use Rattle.std.specs.Prelude.{◌≡◌, ◌⊎◌};
+ghost use Rattle.bt_lines.specs.model.Fault.{no_memory, write_failed};
+ghost use Rattle.bt_lines.specs.calls.Names.{told};
+ghost use Rattle.bt_runs.specs.calls.Failure.{fault_of};
+
+use bt_lines::{Fault, Kind};
+
+// A failed write, or out of memory.
+#[derive(Clone, Copy, Debug)]
+pub(crate) enum Failure {
+    Write,
+    Memory,
+}
+
+impl Failure {
+    // The fault that reports it.
+    pub(crate) fn fault(self) -> Fault
+        ensures { told result ≡ fault_of self }
+    {
+        let kind = match self {
+            Failure::Write => Kind::WriteFailed,
+            Failure::Memory => Kind::NoMemory,
+        };
+        Fault { kind, place: None }
+    }
+
+    // What a fault of a write or of memory reports.
+    pub(crate) fn of(fault: &Fault) -> Failure
+        requires { (told fault.now ≡ write_failed) ⊎ (told fault.now ≡ no_memory) }
+        ensures { told fault.now ≡ fault_of result }
+    {
+        match fault.kind {
+            Kind::WriteFailed => Failure::Write,
+            _ => Failure::Memory,
+        }
+    }
+}

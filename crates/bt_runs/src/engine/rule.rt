@@ -1,0 +1,192 @@
+//! The rules by which engines take records, and the loop that all of them share.
+
+ghost use Rattle.std.specs.Prelude.{◌≡◌, ◌⊎◌, ℕ, List, None, Option, Result, Some, OnOk, option_map};
+ghost use Rattle.bt_lines.specs.model.Fault.{Told, no_memory, write_failed};
+ghost use Rattle.bt_lines.specs.calls.Names.{told};
+ghost use Rattle.bt_lines.specs.calls.Output.{Output};
+ghost use Rattle.bt_lines.specs.declared.fault.Fault.{Fault};
+ghost use Rattle.bt_bed.specs.model.feature.Feature.{Feature};
+ghost use Rattle.bt_runs.specs.calls.Engine.{KeepsHeld};
+ghost use Rattle.bt_runs.specs.inside.walk.Rule.{EnterAnswers, Follows, RuleFeeds, RuleFinishes, Taken, WantsMemory};
+
+use crate::engine::Engine;
+use crate::engine::failure::Failure;
+use bt_bed::{Cursor, Record};
+use bt_lines::{Fault, Out, Sink};
+
+// The rule by which an engine takes records, one chromosome after another.
+pub(crate) trait Rule {
+    // What it keeps of the chromosome that it is on, in a local while it takes a batch.
+    type OnChrom;
+
+    // The records that a rule that began like this may be given, one after another.
+    ghost takes: { Self → List Feature → Type 0 };
+
+    // The lines that the records settle: no later record can change them.
+    ghost settled: { Self → List Feature → List ℕ };
+
+    // The lines of the output, if these are all records.
+    ghost whole: { Self → List Feature → List ℕ };
+
+    // How many items are kept after the records.
+    ghost held: { Self → List Feature → ℕ };
+
+    // What a rule that began like this has become once it has taken these records.
+    ghost stands: { Self → List Feature → Self → Type 0 };
+
+    // If this holds of the records and of one more, that one is taken without a fault and the
+    // output stays as it is.
+    ghost quiet: { Self → List Feature → Feature → Type 0 };
+
+    // What needs memory: if it runs out, this holds of the rule and the record.
+    ghost wants: { Self → Feature → Type 0 };
+
+    // What it does with a record, exactly.
+    ghost does: { Self → Feature → Output → Result (Unit {0}) Fault → Self → Output → Type 0 };
+
+    // It has entered this chromosome.
+    ghost is_on: { Self → List ℕ → Type 0 };
+
+    // What it becomes when it keeps what was in the local.
+    ghost with_on: { Self → Self.OnChrom → Self };
+
+    // Goes on to the chromosome of this name, which may be the one that it is on, and writes the lines that this settles.
+    fn enter<K: Sink>(&mut self, chrom: &[u8], out: &mut Out<K>) -> Result<(), Fault>
+        ensures on { OnOk result (is_on self.new chrom.now) }
+        ensures enters { EnterAnswers does (Taken takes stands settled quiet wants does) self.old chrom.now out.old.output result self.new out.new.output };
+
+    // What it keeps of the chromosome that it is on.
+    fn on_chrom(&self) -> Self::OnChrom
+        ensures { with_on self.now result ≡ self.now };
+
+    // Takes the next record, which lies on that chromosome, and writes the lines that it settles.
+    fn step<R: Record, K: Sink>(
+        &mut self,
+        on: &mut Self::OnChrom,
+        record: &R,
+        out: &mut Out<K>,
+    ) -> Result<(), Fault>
+        requires { is_on (with_on self.old on.old) (R.feature «record».now).chrom }
+        ensures on { OnOk result (is_on (with_on self.new on.new) (R.feature «record».now).chrom) }
+        ensures does { does (with_on self.old on.old) (R.feature «record».now) out.old.output result
+            (with_on self.new on.new) out.new.output }
+        ensures feeds { RuleFeeds takes stands settled (with_on self.old on.old) (R.feature «record».now) out.old.output
+            quiet result (with_on self.new on.new) out.new.output }
+        ensures memory { WantsMemory wants (with_on self.old on.old) (R.feature «record».now) result };
+
+    // Keeps what was in the local.
+    fn leave(&mut self, on: Self::OnChrom)
+        ensures { self.new ≡ with_on self.old on };
+
+    // Writes the lines that are still unsettled, after the last record.
+    fn finish<K: Sink>(self, out: &mut Out<K>) -> Result<(), Fault>
+        ensures { RuleFinishes takes stands settled self whole out.old.output result out.new.output };
+
+    // How many items of the output it keeps that aren't written.
+    fn kept_len(&self) -> usize
+        ensures { KeepsHeld takes stands self.now held result };
+}
+
+// A rule, and the failure that ended it, if there was one.
+#[derive(Drop, Debug)]
+pub(crate) struct Ruled<E> {
+    pub(crate) rule: E,
+    // It is returned from then on.
+    failure: Option<Failure>,
+}
+
+impl<E: Rule + Drop> Ruled<E> {
+    // A rule that has taken no record.
+    pub(crate) fn new(rule: E) -> Ruled<E>
+        ensures { result ≡ record { rule = rule; failure = None } }
+    {
+        Ruled {
+            rule,
+            failure: None,
+        }
+    }
+}
+
+impl<E: Rule + Drop> Engine for Ruled<E> {
+    ghost use Rattle.bt_runs.specs.inside.walk.Ruled.{ruled_count, ruled_fault, ruled_quiet, ruled_stands, ruled_takes, ruled_text, ruled_wants};
+
+    ghost takes = { ruled_takes E.takes };
+
+    ghost settled = { ruled_text E.settled };
+
+    ghost whole = { ruled_text E.whole };
+
+    ghost held = { ruled_count E.held };
+
+    ghost stands = { ruled_stands E.stands };
+
+    ghost fault = { ruled_fault };
+
+    ghost quiet = { ruled_quiet E.quiet };
+
+    ghost wants = { ruled_wants E.wants };
+
+    // It is out of line, so that the hot loop stays small.
+    #[inline(never)]
+    fn feed_batch<C: Cursor, K: Sink>(
+        &mut self,
+        records: &mut C,
+        out: &mut Out<K>,
+    ) -> Result<(), Fault> {
+        if let Some(failure) = self.failure {
+            return Err(failure.fault());
+        }
+        let fed = follow(&mut self.rule, records, out);
+        if let Err(fault) = &fed {
+            self.failure = Some(Failure::of(fault));
+        }
+        fed
+    }
+
+    fn finish<K: Sink>(self, out: &mut Out<K>) -> Result<(), Fault> {
+        let Ruled { rule, failure } = self;
+        match failure {
+            Some(failure) => Err(failure.fault()),
+            None => rule.finish(out),
+        }
+    }
+
+    fn kept_len(&self) -> usize {
+        self.rule.kept_len()
+    }
+}
+
+// Takes the records that a cursor gives, one after another. The chromosome is entered once.
+#[inline(always)]
+fn follow<E: Rule, C: Cursor, K: Sink>(
+    rule: &mut E,
+    records: &mut C,
+    out: &mut Out<K>,
+) -> Result<(), Fault>
+    ensures { Follows (Taken E.takes E.stands E.settled E.quiet E.wants E.does) C.gives C.has_ended rule.old records.old out.old.output result rule.new records.new
+        out.new.output }
+{
+    let mut ahead = *records;
+    let Some(mut record) = ahead.next() else {
+        return Ok(());
+    };
+    if let Err(fault) = rule.enter(records.chrom(), out) {
+        *records = ahead;
+        return Err(fault);
+    }
+    let mut on = rule.on_chrom();
+    loop {
+        if let Err(fault) = rule.step(&mut on, &record, out) {
+            *records = ahead;
+            rule.leave(on);
+            return Err(fault);
+        }
+        match ahead.next() {
+            Some(next) => record = next,
+            None => break,
+        }
+    }
+    *records = ahead;
+    rule.leave(on);
+    Ok(())
+}

@@ -1,0 +1,174 @@
+//! The engine of `bedtools merge`: the runs of all records, of those of one strand, or of each strand
+//! separately.
+
+pub(crate) mod merge_strand;
+pub(crate) mod pending_runs;
+pub(crate) mod per_strand_merge;
+pub(crate) mod unstranded_merge;
+
+ghost use Rattle.std.specs.Prelude.{◌≡◌, ◌≤◌, length, true, Some};
+ghost use Rattle.bt_lines.specs.calls.Output.{Grows};
+ghost use Rattle.bt_lines.specs.model.Fault.{Told};
+ghost use Rattle.bt_bed.specs.calls.Bed.{feature_lent};
+ghost use Rattle.bt_lines.specs.model.Number.{max_number};
+ghost use Rattle.bt_runs.specs.calls.Calls.{AnswersAgain, IsFaultless, KeepsFault, TakesQuiet, WritesFirst, WritesLeft, WritesLeftPrefix, WritesPrefix, WritesSettled};
+ghost use Rattle.bt_runs.specs.calls.Engine.{IsWanted, KeepsHeld};
+ghost use Rattle.bt_runs.specs.calls.Merging.{StandsNew, held_count, is_quiet, kept_fault, kept_places, may_take, merge_begun, settled_lines, stands_after, wants_memory, whole_output};
+
+use crate::engine::Engine;
+use crate::engine::rule::{Rule, Ruled};
+use crate::merge::merge_strand::MergeStrand;
+use crate::merge::per_strand_merge::PerStrandMerge;
+use crate::merge::unstranded_merge::UnstrandedMerge;
+use bt_bed::{BedRef, Cursor};
+use bt_lines::{Fault, Out, Sink};
+use std::alloc::Global;
+use std::marker::Model;
+
+#[derive(Drop, Debug)]
+enum Kind {
+    Unstranded(Ruled<UnstrandedMerge>),
+    PerStrand(Ruled<PerStrandMerge>),
+}
+
+/// Merges records that come in order, and writes each run once a record closes it, which may be one
+/// that isn't merged. Starts are zero-based, and ends aren't included.
+///
+/// It keeps one open run. With [`MergeStrand::Each`] the runs of all strands are listed by their first
+/// records. So a run which is finished waits for an open one whose first record came earlier, and it
+/// keeps the runs from the first open one on.
+#[derive(Drop, Debug)]
+pub struct Merge {
+    // It stays of that kind.
+    kind: Kind,
+}
+
+impl Model for Merge {
+    ghost use Rattle.bt_runs.specs.calls.Merging.{Merging};
+
+    ghost Value = { Merging };
+
+    ghost use Rattle.bt_runs.specs.calls.MergeKind.{merging_seen};
+
+    ghost view = { λ m. merging_seen m.kind };
+}
+
+impl Merge {
+    /// A merge that has taken no record. It bridges up to `d` bases between features, at most 999,999,999,999: with 0
+    /// those that overlap or touch become one.
+    pub fn new(alloc: Global, d: u64, strand: MergeStrand) -> Merge
+        requires { d ≤ max_number }
+        ensures stands { StandsNew d strand result }
+        ensures begun { result ≡ merge_begun d strand }
+    {
+        let kind = match strand {
+            MergeStrand::Each => Kind::PerStrand(Ruled::new(PerStrandMerge::new(alloc, d))),
+            MergeStrand::All => Kind::Unstranded(Ruled::new(UnstrandedMerge::new(
+                alloc, d, strand,
+            ))),
+            MergeStrand::One(_) => Kind::Unstranded(Ruled::new(UnstrandedMerge::new(
+                alloc, d, strand,
+            ))),
+        };
+        Merge { kind }
+    }
+
+    /// Takes the next record, and writes the lines that it settles. A record on the chromosome of the one before it can't
+    /// fail if it opens no run, and closes none that can be written. The first fault is returned from
+    /// then on: `WriteFailed`, or `NoMemory`, only if the chromosome is
+    /// another than that of the record before, and with [`MergeStrand::Each`] if a run has to be opened too.
+    pub fn feed<K: Sink>(&mut self, bed: &BedRef<'_>, out: &mut Out<K>) -> Result<(), Fault>
+        ensures going { IsFaultless stands_after kept_fault self.old }
+        ensures written { WritesSettled may_take stands_after kept_fault settled_lines self.old
+            (feature_lent bed.now) out.old.output result self.new out.new.output }
+        ensures fault { KeepsFault kept_fault result self.new }
+        ensures prefix { WritesPrefix may_take stands_after kept_fault settled_lines self.old
+            (feature_lent bed.now) out.old.output result self.new out.new.output }
+        ensures ran_out { WritesFirst may_take stands_after kept_fault settled_lines self.old
+            (feature_lent bed.now) out.old.output result self.new out.new.output }
+        ensures memory { IsWanted wants_memory kept_fault self.old (feature_lent bed.now) result }
+        ensures again { AnswersAgain (kept_fault self.old) result }
+        ensures stays { (before : Told) → kept_fault self.old ≡ Some before
+            → (self.new ≡ self.old) × (out.new.output ≡ out.old.output) }
+        ensures quiet { TakesQuiet may_take stands_after kept_fault settled_lines self.old
+            (feature_lent bed.now) out.old.output is_quiet result out.new.output }
+        ensures grows { Grows out.old.output.took out.new.output.took }
+        ensures after_failure { out.old.output.has_failed ≡ true → out.new.output ≡ out.old.output }
+    {
+        Engine::feed(self, bed, out)
+    }
+
+    /// Writes the lines that are still unsettled, after the last record. It fails with `WriteFailed`, or with the
+    /// fault that was returned before.
+    pub fn finish<K: Sink>(self, out: &mut Out<K>) -> Result<(), Fault>
+        ensures going { IsFaultless stands_after kept_fault self }
+        ensures written { WritesLeft may_take stands_after kept_fault settled_lines whole_output self
+            out.old.output result out.new.output }
+        ensures prefix { WritesLeftPrefix may_take stands_after kept_fault settled_lines whole_output
+            self out.old.output result out.new.output }
+        ensures again { AnswersAgain (kept_fault self) result }
+        ensures stays { (before : Told) → kept_fault self ≡ Some before → out.new.output ≡ out.old.output }
+        ensures grows { Grows out.old.output.took out.new.output.took }
+        ensures after_failure { out.old.output.has_failed ≡ true → out.new.output ≡ out.old.output }
+    {
+        Engine::finish(self, out)
+    }
+
+    /// How many runs it keeps: 0 or 1, and with each strand separately as many as wait to be written.
+    pub fn kept_len(&self) -> usize
+        ensures list { result ≡ length (kept_places self.now) }
+        ensures held { KeepsHeld may_take stands_after self.now held_count result }
+    {
+        Engine::kept_len(self)
+    }
+}
+
+impl Engine for Merge {
+    ghost takes = { may_take };
+
+    ghost settled = { settled_lines };
+
+    ghost whole = { whole_output };
+
+    ghost held = { held_count };
+
+    ghost stands = { stands_after };
+
+    ghost fault = { kept_fault };
+
+    ghost quiet = { is_quiet };
+
+    ghost wants = { wants_memory };
+
+    fn feed_batch<C: Cursor, K: Sink>(
+        &mut self,
+        records: &mut C,
+        out: &mut Out<K>,
+    ) -> Result<(), Fault> {
+        match &mut self.kind {
+            Kind::Unstranded(merge) => merge.feed_batch(records, out),
+            Kind::PerStrand(merge) => merge.feed_batch(records, out),
+        }
+    }
+
+    fn finish<K: Sink>(self, out: &mut Out<K>) -> Result<(), Fault> {
+        match self.kind {
+            Kind::Unstranded(merge) => merge.finish(out),
+            Kind::PerStrand(merge) => merge.finish(out),
+        }
+    }
+
+    /// How many runs it keeps: 0 or 1, and with each strand separately as many as wait to be written.
+    fn kept_len(&self) -> usize
+        ensures list { result ≡ length (kept_places self.now) }
+        ensures held { KeepsHeld may_take stands_after self.now held_count result }
+    {
+        match &self.kind {
+            Kind::Unstranded(merge) => merge.rule.kept_len(),
+            Kind::PerStrand(merge) => merge.rule.kept_len(),
+        }
+    }
+}
+
+#[cfg(test)]
+mod tests;

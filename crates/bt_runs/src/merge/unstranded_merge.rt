@@ -1,0 +1,218 @@
+//! The rule of `bedtools merge` without `-s`: one open run, which each record extends or closes.
+
+ghost use Rattle.std.specs.Prelude.{◌≡◌, ◌<◌, ℕ, List, [], cond, length, true, IfOk};
+ghost use Rattle.bt_lines.specs.calls.Putting.{Adds};
+ghost use Rattle.bt_bed.specs.model.feature.IntervalLine.{interval_lines};
+ghost use Rattle.bt_runs.specs.model.Counted.{is_counted};
+ghost use Rattle.bt_runs.specs.calls.Engine.{KeepsHeld};
+ghost use Rattle.bt_runs.specs.calls.Unstranded.{held_count, is_quiet, may_take, settled_lines, stands_after, whole_output};
+ghost use Rattle.bt_runs.specs.inside.merge.MergeStep.{left_by, settled_by, with_record};
+ghost use Rattle.bt_runs.specs.inside.merge.UnstrandedStep.{kept_at};
+
+use crate::engine::rule::Rule;
+use crate::merge::merge_strand::MergeStrand;
+use bt_bed::{Record, is_same_name, put_interval};
+use bt_lines::{Fault, Out, Sink, no_memory};
+use std::alloc::Global;
+use std::marker::Model;
+
+// The open run, or none if it ends at 0. It is two numbers, so that a record is joined to it without a branch.
+#[derive(Clone, Copy, Debug)]
+pub(crate) struct OpenRun {
+    start: u64,
+    stop: u64,
+}
+
+// No run.
+const NONE: OpenRun = OpenRun { start: 0, stop: 0 };
+
+// Merges records that come in order. It keeps the open run alone, and writes each run once a record
+// closes it, which may be one that isn't merged. Starts are zero-based, and ends aren't
+// included.
+#[derive(Drop, Debug)]
+pub(crate) struct UnstrandedMerge {
+    // How many bases apart records are still joined.
+    gap: u64,
+    // Which records are merged at all.
+    strand: MergeStrand,
+    // The chromosome that it is on. Its buffer is used again.
+    chrom: Vec<u8>,
+    run: OpenRun,
+}
+
+impl Model for UnstrandedMerge {
+    ghost use Rattle.bt_runs.specs.calls.Unstranded.{Unstranded};
+    ghost use Rattle.bt_runs.specs.inside.merge.UnstrandedStep.{kept_at};
+
+    ghost Value = { Unstranded };
+
+    ghost view = { λ m. record {
+      gap = m.gap;
+      strand = m.strand;
+      chrom = m.chrom.items;
+      kept = kept_at m.chrom.items m.run;
+    } };
+}
+
+impl UnstrandedMerge {
+    // A merge that has taken no record. It bridges up to `d` positions between features: with 0
+    // those that overlap or touch become one.
+    pub(crate) fn new(alloc: Global, d: u64, strand: MergeStrand) -> UnstrandedMerge
+        ensures { result ≡ record { gap = d; strand = strand; chrom = []; kept = [] } }
+    {
+        UnstrandedMerge {
+            gap: d,
+            strand,
+            chrom: Vec::new(alloc),
+            run: NONE,
+        }
+    }
+}
+
+impl Rule for UnstrandedMerge {
+    ghost use Rattle.bt_runs.specs.inside.merge.UnstrandedStep.{Does, IsElsewhere, is_on, with_run};
+
+    type OnChrom = OpenRun;
+
+    ghost takes = { may_take };
+
+    ghost settled = { settled_lines };
+
+    ghost whole = { whole_output };
+
+    ghost held = { held_count };
+
+    ghost stands = { stands_after };
+
+    ghost quiet = { is_quiet };
+
+    ghost wants = { IsElsewhere };
+
+    ghost does = { Does };
+
+    ghost is_on = { is_on };
+
+    ghost with_on = { with_run };
+
+    fn enter<K: Sink>(&mut self, chrom: &[u8], out: &mut Out<K>) -> Result<(), Fault> {
+        if is_same_name(self.chrom.as_slice(), chrom) {
+            return Ok(());
+        }
+        if let Err(fault) = put_run(self.chrom.as_slice(), self.run, out) {
+            return Err(fault);
+        }
+        self.run = NONE;
+        self.chrom.clear();
+        if self.chrom.extend_from_slice(chrom).is_err() {
+            return Err(no_memory());
+        }
+        Ok(())
+    }
+
+    fn on_chrom(&self) -> OpenRun {
+        self.run
+    }
+
+    #[inline(always)]
+    fn step<R: Record, K: Sink>(
+        &mut self,
+        on: &mut OpenRun,
+        record: &R,
+        out: &mut Out<K>,
+    ) -> Result<(), Fault> {
+        let start = record.start();
+        match close_passed(self.chrom.as_slice(), *on, start, self.gap, out) {
+            Ok(left) => {
+                *on = joined(left, start, record.stop(), counts(self.strand, record));
+                Ok(())
+            }
+            Err(fault) => Err(fault),
+        }
+    }
+
+    fn leave(&mut self, on: OpenRun) {
+        self.run = on;
+    }
+
+    fn finish<K: Sink>(self, out: &mut Out<K>) -> Result<(), Fault> {
+        put_run(self.chrom.as_slice(), self.run, out)
+    }
+
+    fn kept_len(&self) -> usize
+        ensures list { result ≡ length self.now.kept }
+        ensures held { KeepsHeld may_take stands_after self.now held_count result }
+    {
+        usize::from(self.run.stop != 0)
+    }
+}
+
+// Whether a record that starts here closes the run: there is one, and it ends more than the gap below.
+#[inline(always)]
+fn closes(run: OpenRun, start: u64, gap: u64) -> bool
+    ensures passed { (chrom : List ℕ) (stop : ℕ) → settled_by gap (kept_at chrom run) (record { chrom = chrom; start = start; stop = stop })
+        ≡ cond result (kept_at chrom run) [] }
+    ensures left { (chrom : List ℕ) (stop : ℕ) → left_by gap (kept_at chrom run) (record { chrom = chrom; start = start; stop = stop })
+        ≡ cond result [] (kept_at chrom run) }
+    ensures some { result ≡ true → run.stop ≡ 0 → ⊥ }
+{
+    (run.stop != 0) & (run.stop < start.saturating_sub(gap))
+}
+
+// Writes the run, if a record that starts here closes it, and gives the run that is left.
+#[inline(always)]
+fn close_passed<K: Sink>(
+    chrom: &[u8],
+    run: OpenRun,
+    start: u64,
+    gap: u64,
+    out: &mut Out<K>,
+) -> Result<OpenRun, Fault>
+    ensures adds { (stop : ℕ) → Adds out.old.output (interval_lines
+        (settled_by gap (kept_at chrom.now run) (record { chrom = chrom.now; start = start; stop = stop }))) result out.new.output }
+    ensures left { IfOk result (λ left. (stop : ℕ) → kept_at chrom.now left
+        ≡ left_by gap (kept_at chrom.now run) (record { chrom = chrom.now; start = start; stop = stop })) }
+{
+    if !closes(run, start, gap) {
+        return Ok(run);
+    }
+    match put_interval(chrom, run.start, run.stop, out) {
+        Ok(()) => Ok(NONE),
+        Err(fault) => Err(fault),
+    }
+}
+
+// The run with a record that doesn't close it, if that counts, or the record as a run.
+#[inline(always)]
+fn joined(run: OpenRun, start: u64, stop: u64, counts: bool) -> OpenRun
+    requires { 0 < stop }
+    ensures { (chrom : List ℕ) → kept_at chrom result ≡ cond counts
+        (with_record (kept_at chrom run) (record { chrom = chrom; start = start; stop = stop })) (kept_at chrom run) }
+{
+    let first = if run.stop == 0 { start } else { run.start };
+    let last = if counts { stop } else { 0 };
+    OpenRun {
+        start: first,
+        stop: run.stop.max(last),
+    }
+}
+
+// Whether a record is merged.
+#[inline(always)]
+fn counts<R: Record>(wanted: MergeStrand, record: &R) -> bool
+    ensures { result ≡ is_counted wanted (R.feature «record».now).strand }
+{
+    match wanted {
+        MergeStrand::All | MergeStrand::Each => true,
+        MergeStrand::One(wanted) => wanted == record.strand(),
+    }
+}
+
+// Writes a run, if it is one.
+fn put_run<K: Sink>(chrom: &[u8], run: OpenRun, out: &mut Out<K>) -> Result<(), Fault>
+    ensures { Adds out.old.output (interval_lines (kept_at chrom.now run)) result out.new.output }
+{
+    if run.stop == 0 {
+        return Ok(());
+    }
+    put_interval(chrom, run.start, run.stop, out)
+}

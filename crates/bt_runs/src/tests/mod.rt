@@ -1,0 +1,6 @@
+//! Tests of all engines.
+
+mod batch_tests;
+mod calls_tests;
+mod growth_tests;
+mod testing;

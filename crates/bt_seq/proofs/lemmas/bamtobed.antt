@@ -1,0 +1,3 @@
+-- Lemmas on bamtobed.
+pub mod LineLemmas
+pub mod TextLemmas

@@ -1,0 +1,3 @@
+-- Lemmas on mask.
+pub mod bases
+pub mod steps

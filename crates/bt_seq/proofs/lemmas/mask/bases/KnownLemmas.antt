@@ -1,0 +1,300 @@
+-- Lemmas on what is known of blocks, from call to call.
+use Rattle.std.proofs.Common.{◌≡◌, ℕ, ◌⊎◌, Bool, true, false, cond, ◌&&◌, not, List, [], ◌∷◌, ◌++◌, Option, Some, None, refl, sym, ap, ◌∙◌, subst, inl, inr, bytes_eq}
+use Rattle.std.specs.Cmp.Lexicographic.{bytes_decides}
+use Rattle.std.specs.Prelude.{is_some}
+use Rattle.bt_bed.specs.model.feature.Feature.{Feature}
+use Rattle.bt_seq.proofs.lemmas.laws.KnowsLemmas.{found_by, last_goes_on, owner_is, owners_found}
+use Rattle.bt_seq.proofs.lemmas.laws.LeftLemmas.{goes_on_or_begins}
+use Rattle.bt_seq.proofs.lemmas.mask.steps.NextLemmas.{left_grows}
+use Rattle.bt_seq.specs.inside.mask.Knows.{Knows, KnowsEarlier, last_chrom, owner_by}
+use Rattle.bt_seq.specs.inside.mask.MaskInside.{KnowsAhead, KnowsLast, KnowsNext, KnowsNone, last_name}
+use Rattle.bt_seq.specs.calls.MaskStage.{IsNext}
+use Rattle.bt_seq.specs.model.Masked.{is_unnamed}
+use Rattle.bt_seq.specs.inside.mask.Matching.{Matched, begins_own, is_it, matched_with, named, owner_of}
+use Rattle.bt_seq.specs.model.Owners.{goes_on, left_after, left_by, names_behind}
+use Rattle.bt_seq.specs.declared.mask.matching.Owner.TheVariants.{Own, Earlier, Nobody}
+
+pub never : false ≡ true → ⊥
+never e = absurd (let apart : false ≡ true = e in cc)
+
+last_more : (rs : List Feature) (r : Feature) → last_chrom (rs ++ r ∷ []) ≡ Some r.chrom
+last_more [] r = refl
+last_more (s ∷ []) r = refl
+last_more (s ∷ t ∷ ss) r = last_more (t ∷ ss) r
+
+bytes_same : (name : List ℕ) → bytes_eq name name ≡ true
+bytes_same name = (bytes_decides name name).1 refl
+
+goes_more : (rs : List Feature) (r : Feature) → goes_on (rs ++ r ∷ []) r ≡ true
+goes_more rs r = sym (last_goes_on (rs ++ r ∷ []) r) ∙ ap (λ l. is_it l r.chrom) (last_more rs r) ∙ bytes_same r.chrom
+
+is_it_true : (o : Option (List ℕ)) (name : List ℕ) → is_it o name ≡ true → o ≡ Some name
+is_it_true None name e = absurd (never e)
+is_it_true (Some n) name e = ap Some ((bytes_decides n name).0 e)
+
+-- the last of a list with one more
+snoc_front : (xs ys : List (List ℕ)) (x y : List ℕ) → xs ++ x ∷ [] ≡ ys ++ y ∷ [] → xs ≡ ys
+snoc_front [] [] x y e = refl
+snoc_front [] (b ∷ []) x y e = absurd (let apart : x ∷ [] ≡ b ∷ y ∷ [] = e in cc)
+snoc_front [] (b ∷ c ∷ ys) x y e = absurd (let apart : x ∷ [] ≡ b ∷ c ∷ (ys ++ y ∷ []) = e in cc)
+snoc_front (a ∷ []) [] x y e = absurd (let apart : a ∷ x ∷ [] ≡ y ∷ [] = e in cc)
+snoc_front (a ∷ c ∷ xs) [] x y e = absurd (let apart : a ∷ c ∷ (xs ++ x ∷ []) ≡ y ∷ [] = e in cc)
+snoc_front (a ∷ xs) (b ∷ ys) x y e =
+    let whole : a ∷ (xs ++ x ∷ []) ≡ b ∷ (ys ++ y ∷ []) = e in
+    let first : a ≡ b = cc in
+    let rest : xs ++ x ∷ [] ≡ ys ++ y ∷ [] = cc in
+    let same : xs ≡ ys = snoc_front xs ys x y rest in cc
+
+some_same : (a b : List (List ℕ)) → Some a ≡ Some b → a ≡ b
+some_same a b e = let it : Some a ≡ Some b = e in cc
+
+no_snoc : (xs : List (List ℕ)) (x : List ℕ) → Some [] ≡ Some (xs ++ x ∷ []) → ⊥
+no_snoc [] x e = absurd (let apart : Some [] ≡ Some (x ∷ []) = e in cc)
+no_snoc (a ∷ xs) x e = absurd (let apart : Some [] ≡ Some (a ∷ (xs ++ x ∷ [])) = e in cc)
+
+-- what is left of a block whose owner is known
+own_left : (left : Option (List (List ℕ))) → Own ≡ owner_by left → left ≡ Some []
+own_left None e = absurd (let apart : Own ≡ Nobody = e in cc)
+own_left (Some []) e = refl
+own_left (Some (n ∷ ns)) e = absurd (let apart : Own ≡ Earlier = e in cc)
+
+pub nobody_left : (left : Option (List (List ℕ))) → Nobody ≡ owner_by left → left ≡ None
+nobody_left None e = refl
+nobody_left (Some []) e = absurd (let apart : Nobody ≡ Own = e in cc)
+nobody_left (Some (n ∷ ns)) e = absurd (let apart : Nobody ≡ Earlier = e in cc)
+
+module _ (names : List (List ℕ)) (taken : List Feature) (r : Feature) (m : Matched) where
+  next_left : left_after names (taken ++ r ∷ []) ≡ cond (goes_on taken r) (left_after names taken) (left_by (left_after names taken) r.chrom)
+  next_left = goes_on_or_begins names taken r
+
+  -- the record may be taken
+  pub record MayTake : Type 0 where
+    pub knows : Knows names taken m
+    pub none : goes_on taken r ≡ false → (e : KnowsEarlier names taken m) → names_behind r.chrom e.front ≡ None
+    pub near : goes_on taken r ≡ true → (e : KnowsEarlier names taken m) → e.front ≡ []
+
+  goes_is : Knows names taken m → is_it m.last r.chrom ≡ goes_on taken r
+  goes_is k = ap (λ l. is_it l r.chrom) k.last ∙ last_goes_on taken r
+
+  pub may_last : KnowsLast names taken m → MayTake
+  may_last k = record { knows = k.knows; none = λ begins e. ap (names_behind r.chrom) (k.near e); near = λ goes e. k.near e }
+
+  pub may_ahead : KnowsAhead names taken r m → MayTake
+  may_ahead k = record { knows = k.knows; none = λ begins e. k.none e; near = λ goes e. absurd (never (sym k.begins ∙ goes)) }
+
+  pub owner_may : MayTake → owner_of m r.chrom ≡ owner_by (left_after names (taken ++ r ∷ []))
+  owner_may k = owners_found names taken m r k.knows k.none
+
+  owner_at : (goes own : Bool) → is_it m.last r.chrom ≡ goes → m.own ≡ own → owner_of m r.chrom ≡ found_by own goes (is_it m.name r.chrom)
+  owner_at goes own e o = owner_is m r.chrom own goes e o
+
+  matched_same : is_it m.last r.chrom ≡ true → matched_with m r.chrom ≡ m
+  matched_same e = ap (λ b. cond b m (cond (begins_own m r.chrom) (record { name = m.name; last = m.name; own = true }) m)) e
+
+  matched_new : is_it m.last r.chrom ≡ false → begins_own m r.chrom ≡ true → matched_with m r.chrom ≡ record { name = m.name; last = m.name; own = true }
+  matched_new e b =
+      ap (λ b. cond b m (cond (begins_own m r.chrom) (record { name = m.name; last = m.name; own = true }) m)) e
+      ∙ ap (λ b. cond b (record { name = m.name; last = m.name; own = true }) m) b
+
+  matched_none : is_it m.last r.chrom ≡ false → begins_own m r.chrom ≡ false → matched_with m r.chrom ≡ m
+  matched_none e b =
+      ap (λ b. cond b m (cond (begins_own m r.chrom) (record { name = m.name; last = m.name; own = true }) m)) e
+      ∙ ap (λ b. cond b (record { name = m.name; last = m.name; own = true }) m) b
+
+  -- it goes on with the last block
+  goes_known : MayTake → goes_on taken r ≡ true → KnowsLast names (taken ++ r ∷ []) (matched_with m r.chrom)
+  goes_known k goes =
+      let it : is_it m.last r.chrom ≡ true = goes_is k.knows ∙ goes in
+      let left : left_after names (taken ++ r ∷ []) ≡ left_after names taken = next_left ∙ ap (λ b. cond b (left_after names taken) (left_by (left_after names taken) r.chrom)) goes in
+      let known : Knows names (taken ++ r ∷ []) m = record {
+        last = is_it_true m.last r.chrom it ∙ sym (last_more taken r);
+        where_last = elim k.knows.where_last [
+          | inl own ↦ inl (record { left = left ∙ own.left; own = own.own })
+          | inr e ↦ inr (record { front = e.front; name = e.name; left = left ∙ e.left; named = e.named; own = e.own })
+        ];
+      } in
+      let near : (e : KnowsEarlier names (taken ++ r ∷ []) m) → e.front ≡ [] = λ e. k.near goes (record { front = e.front; name = e.name; left = sym left ∙ e.left; named = e.named; own = e.own }) in
+      let all : KnowsLast names (taken ++ r ∷ []) m = record { knows = known; near = near } in
+      subst (λ (x : Matched). KnowsLast names (taken ++ r ∷ []) x) (sym (matched_same it)) all
+
+  -- it begins a block of the last sequence
+  begins_known : MayTake → goes_on taken r ≡ false → begins_own m r.chrom ≡ true → is_it m.name r.chrom ≡ true → m.own ≡ false → KnowsLast names (taken ++ r ∷ []) (matched_with m r.chrom)
+  begins_known k begins b name own =
+      let it : is_it m.last r.chrom ≡ false = goes_is k.knows ∙ begins in
+      let is_own : owner_of m r.chrom ≡ Own = owner_at false false it own ∙ ap (λ b. cond b Own Nobody) name in
+      let left : left_after names (taken ++ r ∷ []) ≡ Some [] = own_left (left_after names (taken ++ r ∷ [])) (sym is_own ∙ owner_may k) in
+      let x : Matched = record { name = m.name; last = m.name; own = true } in
+      let known : Knows names (taken ++ r ∷ []) x = record {
+        last = is_it_true m.name r.chrom name ∙ sym (last_more taken r);
+        where_last = inl (record { left = left; own = refl });
+      } in
+      let near : (e : KnowsEarlier names (taken ++ r ∷ []) x) → e.front ≡ [] = λ e. absurd (no_snoc e.front e.name (sym left ∙ e.left)) in
+      let all : KnowsLast names (taken ++ r ∷ []) x = record { knows = known; near = near } in
+      subst (λ (x : Matched). KnowsLast names (taken ++ r ∷ []) x) (sym (matched_new it b)) all
+
+  begins_by : MayTake → goes_on taken r ≡ false → (own name : Bool) → m.own ≡ own → is_it m.name r.chrom ≡ name
+      → (owner_of m r.chrom ≡ Nobody → ⊥) → KnowsLast names (taken ++ r ∷ []) (matched_with m r.chrom)
+  begins_by k begins true name o n some =
+      absurd (some (owner_at false true (goes_is k.knows ∙ begins) o))
+  begins_by k begins false true o n some =
+      begins_known k begins (ap (λ b. not b && is_it m.name r.chrom) o ∙ n) n o
+  begins_by k begins false false o n some =
+      absurd (some (owner_at false false (goes_is k.knows ∙ begins) o ∙ ap (λ b. cond b Own Nobody) n))
+
+  take_by : MayTake → (goes : Bool) → goes_on taken r ≡ goes → (owner_of m r.chrom ≡ Nobody → ⊥) → KnowsLast names (taken ++ r ∷ []) (matched_with m r.chrom)
+  take_by k true e some = goes_known k e
+  take_by k false e some = begins_by k e m.own (is_it m.name r.chrom) refl refl some
+
+  -- it is taken
+  pub take_may : MayTake → (owner_of m r.chrom ≡ Nobody → ⊥) → KnowsLast names (taken ++ r ∷ []) (matched_with m r.chrom)
+  take_may k some = take_by k (goes_on taken r) refl some
+
+  found_goes : (own name : Bool) → found_by own true name ≡ Nobody → ⊥
+  found_goes true name e = absurd (let apart : Own ≡ Nobody = e in cc)
+  found_goes false name e = absurd (let apart : Earlier ≡ Nobody = e in cc)
+
+  found_own : (own name : Bool) → found_by own false name ≡ Nobody → (not own && name) ≡ false
+  found_own true name e = refl
+  found_own false true e = absurd (let apart : Own ≡ Nobody = e in cc)
+  found_own false false e = refl
+
+  -- it belongs to none
+  nobody_by : MayTake → (goes : Bool) → goes_on taken r ≡ goes → owner_of m r.chrom ≡ Nobody → KnowsAhead names taken r (matched_with m r.chrom)
+  nobody_by k true e nobody = absurd (found_goes m.own (is_it m.name r.chrom) (sym (owner_at true m.own (goes_is k.knows ∙ e) refl) ∙ nobody))
+  nobody_by k false e nobody =
+      let it : is_it m.last r.chrom ≡ false = goes_is k.knows ∙ e in
+      let b : begins_own m r.chrom ≡ false = found_own m.own (is_it m.name r.chrom) (sym (owner_at false m.own it refl) ∙ nobody) in
+      let all : KnowsAhead names taken r m = record { knows = k.knows; begins = e; none = k.none e } in
+      subst (λ (x : Matched). KnowsAhead names taken r x) (sym (matched_none it b)) all
+
+  pub nobody_may : MayTake → owner_of m r.chrom ≡ Nobody → KnowsAhead names taken r (matched_with m r.chrom)
+  nobody_may k nobody = nobody_by k (goes_on taken r) refl nobody
+
+  -- it was ahead, and its block is known
+  known_it : KnowsLast names (taken ++ r ∷ []) m → is_it m.last r.chrom ≡ true
+  known_it k = ap (λ l. is_it l r.chrom) (k.knows.last ∙ last_more taken r) ∙ bytes_same r.chrom
+
+  pub take_known : KnowsLast names (taken ++ r ∷ []) m → KnowsLast names (taken ++ r ∷ []) (matched_with m r.chrom)
+  take_known k = subst (λ (x : Matched). KnowsLast names (taken ++ r ∷ []) x) (sym (matched_same (known_it k))) k
+
+  pub owner_known : KnowsLast names (taken ++ r ∷ []) m → owner_of m r.chrom ≡ owner_by (left_after names (taken ++ r ∷ []))
+  owner_known k =
+      owners_found names (taken ++ r ∷ []) m r k.knows (λ begins. absurd (never (sym begins ∙ goes_more taken r)))
+      ∙ ap owner_by (goes_on_or_begins names (taken ++ r ∷ []) r
+      ∙ ap (λ b. cond b (left_after names (taken ++ r ∷ [])) (left_by (left_after names (taken ++ r ∷ [])) r.chrom)) (goes_more taken r))
+
+  pub next_can_be : (waits : Bool) (ahead : Option Feature) → KnowsNext waits names taken ahead m → IsNext ahead r → KnowsNone names taken m ⊎ (MayTake ⊎ KnowsLast names (taken ++ r ∷ []) m)
+  next_can_be waits None known next = elim known [
+    | inl none ↦ inl none
+    | inr last ↦ inr (inl (may_last last))
+  ]
+  next_can_be waits (Some a) known next = elim known [
+    | inl last ↦ inr (inr (subst (λ (x : Feature). KnowsLast names (taken ++ x ∷ []) m) next last.0))
+    | inr ahead ↦ inr (inl (may_ahead (subst (λ (x : Feature). KnowsAhead names taken x m) next ahead.0)))
+  ]
+
+  owner_none : KnowsNone names taken m → m.name ≡ last_name names → owner_of m r.chrom ≡ owner_by (left_after names (taken ++ r ∷ []))
+  owner_none k name =
+      owner_at false false (ap (λ l. is_it l r.chrom) k.last) k.own
+      ∙ ap (λ n. cond (is_it n r.chrom) Own Nobody) (name ∙ ap last_name k.unnamed)
+      ∙ sym (ap (λ ns. owner_by (left_after ns (taken ++ r ∷ []))) k.unnamed ∙ ap (λ (rs : List Feature). owner_by (left_after [] (rs ++ r ∷ []))) k.untaken)
+
+  -- the sequence of its block is found
+  pub owner_next : KnowsNone names taken m ⊎ (MayTake ⊎ KnowsLast names (taken ++ r ∷ []) m) → m.name ≡ last_name names → owner_of m r.chrom ≡ owner_by (left_after names (taken ++ r ∷ []))
+  owner_next can name = elim can [
+    | inl none ↦ owner_none none name
+    | inr more ↦ elim more [
+      | inl may ↦ owner_may may
+      | inr last ↦ owner_known last
+    ]
+  ]
+
+  left_none : KnowsNone names taken m → left_after names (taken ++ r ∷ []) ≡ None
+  left_none k = ap (λ ns. left_after ns (taken ++ r ∷ [])) k.unnamed ∙ ap (λ (rs : List Feature). left_after [] (rs ++ r ∷ [])) k.untaken
+
+  known_left : KnowsLast names (taken ++ r ∷ []) m → left_after names (taken ++ r ∷ []) ≡ None → ⊥
+  known_left k e = elim k.knows.where_last [
+    | inl own ↦ absurd (let apart : Some [] ≡ None = sym own.left ∙ e in cc)
+    | inr earlier ↦ absurd (let apart : Some (earlier.front ++ earlier.name ∷ []) ≡ None = sym earlier.left ∙ e in cc)
+  ]
+
+  not_nobody : (left : Option (List (List ℕ))) → is_some left ≡ true → owner_by left ≡ Nobody → ⊥
+  not_nobody None e o = never e
+  not_nobody (Some []) e o = absurd (let apart : Own ≡ Nobody = o in cc)
+  not_nobody (Some (n ∷ ns)) e o = absurd (let apart : Earlier ≡ Nobody = o in cc)
+
+  -- it is taken: its block belongs to a sequence
+  pub take_next : KnowsNone names taken m ⊎ (MayTake ⊎ KnowsLast names (taken ++ r ∷ []) m) → is_some (left_after names (taken ++ r ∷ [])) ≡ true → KnowsLast names (taken ++ r ∷ []) (matched_with m r.chrom)
+  take_next can some = elim can [
+    | inl none ↦ absurd (never (sym (ap is_some (left_none none)) ∙ some))
+    | inr more ↦ elim more [
+      | inl may ↦ take_may may (λ nobody. not_nobody (left_after names (taken ++ r ∷ [])) some (sym (owner_may may) ∙ nobody))
+      | inr last ↦ take_known last
+    ]
+  ]
+
+  -- it stays ahead: its block belongs to the last sequence, or to none
+  pub own_ahead : KnowsNone names taken m ⊎ (MayTake ⊎ KnowsLast names (taken ++ r ∷ []) m) → left_after names (taken ++ r ∷ []) ≡ Some [] → KnowsNext false names taken (Some r) (matched_with m r.chrom)
+  own_ahead can left = inl (take_next can (ap is_some left), λ e. left)
+
+  pub none_ahead : KnowsNone names taken m ⊎ (MayTake ⊎ KnowsLast names (taken ++ r ∷ []) m) → is_unnamed names ≡ false → left_after names (taken ++ r ∷ []) ≡ None → KnowsNext false names taken (Some r) (matched_with m r.chrom)
+  none_ahead can is_named left = elim can [
+    | inl none ↦ absurd (never (sym is_named ∙ ap is_unnamed none.unnamed))
+    | inr more ↦ elim more [
+      | inl may ↦ inr (nobody_may may (owner_may may ∙ ap owner_by left), λ e. left)
+      | inr last ↦ absurd (known_left last left)
+    ]
+  ]
+
+-- one more sequence
+module _ (names : List (List ℕ)) (n : List ℕ) (taken : List Feature) (m : Matched) where
+  -- after the names that are left
+  grown_known : (rs : List Feature) (left : List (List ℕ)) → m.last ≡ last_chrom rs → left_after names rs ≡ Some left → Knows (names ++ n ∷ []) rs (named m n)
+  grown_known rs left last e = record {
+    last = last;
+    where_last = inr (record { front = left; name = n; left = left_grows n names left rs e; named = refl; own = refl });
+  }
+
+  front_is : (rs : List Feature) (left : List (List ℕ)) → left_after names rs ≡ Some left → (e : KnowsEarlier (names ++ n ∷ []) rs (named m n)) → e.front ≡ left
+  front_is rs left is e = snoc_front e.front left e.name n (some_same (e.front ++ e.name ∷ []) (left ++ n ∷ []) (sym e.left ∙ left_grows n names left rs is))
+
+  grown_last : (rs : List Feature) → m.last ≡ last_chrom rs → left_after names rs ≡ Some [] → KnowsLast (names ++ n ∷ []) rs (named m n)
+  grown_last rs last e = record { knows = grown_known rs [] last e; near = λ k. front_is rs [] e k }
+
+  left_known : Knows names taken m → (left : List (List ℕ)) × (left_after names taken ≡ Some left)
+  left_known k = elim k.where_last [
+    | inl own ↦ ([], own.left)
+    | inr e ↦ (e.front ++ e.name ∷ [], e.left)
+  ]
+
+  ahead_grows : (r : Feature) → KnowsAhead names taken r m → left_after names (taken ++ r ∷ []) ≡ None → KnowsAhead (names ++ n ∷ []) taken r (named m n)
+  ahead_grows r k none =
+      let is = left_known k.knows in
+      let behind : names_behind r.chrom is.0 ≡ None =
+      ap (λ l. left_by l r.chrom) (sym is.1) ∙ sym (ap (λ b. cond b (left_after names taken) (left_by (left_after names taken) r.chrom)) k.begins) ∙ sym (goes_on_or_begins names taken r) ∙ none in
+      record {
+        knows = grown_known taken is.0 k.knows.last is.1;
+        begins = k.begins;
+        none = λ e. ap (names_behind r.chrom) (front_is taken is.0 is.1 e) ∙ behind;
+      }
+
+  pub with_header : (ahead : Option Feature) → (is_some ahead ≡ false → (names ≡ []) × (taken ≡ [])) → KnowsNext false names taken ahead m → KnowsNext true (names ++ n ∷ []) taken ahead (named m n)
+  with_header None first known =
+      let at = first refl in
+      let left : left_after names taken ≡ Some [] = ap (λ ns. left_after ns taken) at.0 ∙ ap (λ (rs : List Feature). left_after [] rs) at.1 in
+      elim known [
+        | inl none ↦ inr (grown_last taken (none.last ∙ sym (ap last_chrom at.1)) left)
+        | inr last ↦ inr (grown_last taken last.knows.last left)
+      ]
+  with_header (Some r) first known = elim known [
+    | inl last ↦ inl (grown_last (taken ++ r ∷ []) last.0.knows.last (last.1 refl), λ e. absurd (never (sym e)))
+    | inr ahead ↦ inr (ahead_grows r ahead.0 (ahead.1 refl), λ e. absurd (never (sym e)))
+  ]
+
+-- one more line of the same sequence
+pub with_plain : (names : List (List ℕ)) (taken : List Feature) (ahead : Option Feature) (m : Matched) → KnowsNext false names taken ahead m → KnowsNext true names taken ahead m
+with_plain names taken None m known = known
+with_plain names taken (Some r) m known = elim known [
+  | inl last ↦ inl (last.0, λ e. absurd (never (sym e)))
+  | inr ahead ↦ inr (ahead.0, λ e. absurd (never (sym e)))
+]

@@ -1,0 +1,480 @@
+-- Lemmas on lines and records that are given to a masking engine together.
+use Rattle.std.proofs.Common.{◌≡◌, ◌⊎◌, inl, inr, ℕ, ◌+◌, ◌<◌, ◌≤◌, Bool, true, false, cond, List, [], ◌∷◌, ◌++◌, length, append-nil, append_assoc, Option, None, Some, Result, Ok, Err, refl, sym, ap, ◌∙◌, subst, arith}
+use Rattle.std.specs.Prelude.{flat_map, is_some}
+use Rattle.std.proofs.lemmas.Bool.{false≢true}
+use Rattle.bt_bed.specs.model.feature.Feature.{Feature}
+use Rattle.bt_bed.specs.declared.record.taken.Taken.{Taken}
+use Rattle.bt_bed.specs.declared.record.taken.Taken.TheVariants.{Yes, No}
+use Rattle.bt_lines.proofs.lemmas.writer.PuttingLemmas.{grown_more, grown_none}
+use Rattle.bt_lines.specs.calls.Buffered.{PassesLine, lines_in}
+use Rattle.bt_lines.specs.model.Lines.{TextLine, spelled}
+use Rattle.bt_lines.specs.calls.Names.{told}
+use Rattle.bt_lines.specs.calls.Output.{Output}
+use Rattle.bt_lines.specs.calls.Putting.{Grown}
+use Rattle.bt_lines.specs.declared.reader.buffered_lines.BufferedLines.{BufferedLines}
+use Rattle.bt_lines.specs.declared.fault.Fault.{Fault}
+use Rattle.bt_seq.proofs.lemmas.mask.steps.CopyLemmas.{none_pass, pass_more, pass_one}
+use Rattle.bt_seq.proofs.lemmas.mask.steps.LineStepLemmas.{gives_line}
+use Rattle.bt_seq.proofs.lemmas.mask.bases.MaskingLemmas.{passes_line}
+use Rattle.bt_seq.proofs.lemmas.mask.steps.SettleLemmas.{decided_goes, goes_more, goes_nowhere, line_goes, record_goes}
+use Rattle.bt_seq.proofs.lemmas.mask.steps.StandLemmas.{wants_bed, wants_line}
+use Rattle.bt_seq.specs.inside.mask.CopyThrough.{CopiesThrough, StayEach, passed_all}
+use Rattle.bt_seq.specs.calls.GivenLines.{PassesLines}
+use Rattle.bt_seq.specs.calls.MaskAdvance.{BothCome, ComesAfter, ComesNext, FailsAtRecord, GivesBoth, GivesLines, GivesRecord, HasCome, LinesCome, asks_more, left_to_give}
+use Rattle.bt_seq.specs.calls.MaskSettles.{GoesOn}
+use Rattle.bt_seq.specs.calls.MaskStage.{IsNext, MaskStage, is_written_at_once, reached, want_of, with_decided, with_line, with_record}
+use Rattle.bt_seq.specs.calls.MaskStanding.{MaskStandsAt}
+use Rattle.bt_seq.specs.calls.MaskState.{Masking, TakesLine, passed, stays_as_given}
+use Rattle.bt_seq.specs.calls.MaskSteps.{ChecksRecord, GivesBed, GivesNextLine, TakesNextLine, bytes_with}
+use Rattle.bt_seq.specs.model.Masked.{masked_line}
+use Rattle.bt_seq.specs.model.Sequences.{SequenceLine, line_says}
+use Rattle.bt_seq.specs.declared.mask.mask_how.MaskHow.{MaskHow}
+use Rattle.bt_seq.specs.declared.mask.mask_want.MaskWant.{MaskWant}
+use Rattle.bt_seq.specs.declared.mask.mask_want.MaskWant.TheVariants.{Line, Bed, Nothing}
+
+-- an output of which all bytes are known
+put_known : List ℕ → Output
+put_known bytes = record { put = Some bytes; took = Some bytes; has_failed = false; sink_has_failed = false; sink_is_flushed = false }
+
+grown_known : (bytes : List ℕ) → Grown (put_known []) bytes (put_known bytes)
+unfolding put_known
+grown_known bytes = record {
+  appends = refl;
+  block = λ h. ([], sym (append-nil bytes), omega arith);
+  grows = (bytes, refl);
+  served = refl;
+  sink_served = refl;
+  again = λ e. absurd (false≢true e);
+  nothing = λ e. ap (λ (l : List ℕ). put_known l) e;
+}
+
+bytes_known : (bytes more : List ℕ) → Grown (put_known []) more (put_known bytes) → bytes ≡ more
+unfolding put_known
+bytes_known bytes more g = g.appends
+
+-- giving a line leaves the record ahead
+ahead_by : (stage : MaskStage) (item : SequenceLine) (b : Bool)
+    → (cond b (record stage { written = stage.written ++ item ∷ [] }) (record stage { waiting = Some item })).ahead ≡ stage.ahead
+ahead_by stage item true = refl
+ahead_by stage item false = refl
+
+module _ (how : MaskHow) (full : Bool) where
+  record LineCopied (stage : MaskStage) (m : Masking) (line : TextLine) : Type 0 where
+    item : SequenceLine
+    says : line_says full (reached stage) line ≡ Ok (Some item)
+    stands : MaskStandsAt how full (with_line stage item) (passed m line.text)
+    bytes : spelled line ≡ bytes_with how stage item
+
+  line_copied : (stage : MaskStage) (m : Masking) → MaskStandsAt how full stage m → m.want ≡ Line → (line : TextLine) → stays_as_given m line.text ≡ true → LineCopied stage m line
+  line_copied stage m stands wants line stay =
+      let t : TakesNextLine how full stage line (put_known []) (passed m line.text) (put_known (spelled line)) =
+      gives_line how full stage m stands wants line (put_known []) (passed m line.text) (put_known (spelled line)) (Ok (tt {0}))
+      (passes_line (tt {0}) m (passed m line.text) line.number (record { text = line.text; ending = line.ending }) (put_known []) (put_known (spelled line)) (stay, refl, grown_known (spelled line))) in
+      record { item = t.item; says = t.says; stands = t.stands; bytes = bytes_known (spelled line) (bytes_with how stage t.item) t.puts }
+
+  none_waits : (stage : MaskStage) (m : Masking) → MaskStandsAt how full stage m → m.want ≡ Line → stage.waiting ≡ None
+  none_waits stage m stands wants = (wants_line stage.waiting stage.lines_ended stage.bed_ended (sym stands.want_is ∙ wants)).0
+
+  -- where lines that are copied through lead to
+  pub record LinesCopied (stage : MaskStage) (m : Masking) (lines : List TextLine) : Type 0 where
+    pub now : MaskStage
+    pub goes : GoesOn how full stage lines [] now (flat_map spelled lines)
+    pub stands : MaskStandsAt how full now (passed_all m lines)
+    pub ahead : now.ahead ≡ stage.ahead
+    pub wants : (passed_all m lines).want ≡ Line
+
+  pub lines_copied : (lines : List TextLine) (stage : MaskStage) (m : Masking) → MaskStandsAt how full stage m → m.want ≡ Line → StayEach m lines → LinesCopied stage m lines
+  lines_copied [] stage m stands wants stay = record { now = stage; goes = goes_nowhere how full stage; stands = stands; ahead = refl; wants = wants }
+  lines_copied (line ∷ lines) stage m stands wants stay =
+      let one = line_copied stage m stands wants line stay.0 in
+      let mid = with_line stage one.item in
+      let first : GoesOn how full stage (line ∷ []) [] mid (spelled line) =
+      subst (λ (l : List ℕ). GoesOn how full stage (line ∷ []) [] mid l) (sym one.bytes) (line_goes how full stage line one.item (none_waits stage m stands wants) one.says) in
+      let rest = lines_copied lines mid (passed m line.text) one.stands refl stay.1 in
+      record {
+        now = rest.now;
+        goes = goes_more how full stage mid rest.now (line ∷ []) lines [] [] (spelled line) (flat_map spelled lines) first rest.goes;
+        stands = rest.stands;
+        ahead = rest.ahead ∙ ahead_by stage one.item (is_written_at_once stage one.item);
+        wants = rest.wants;
+      }
+
+  -- what was given after that
+  abbrev pub come_more : (old : MaskStage) (lines more : List TextLine) (records further : List Feature) (out mid later : Output) (middle new : Masking)
+      → (first : HasCome how full old lines records out middle mid) → (rest : HasCome how full first.stage more further mid new later)
+      → HasCome how full old (lines ++ more) (records ++ further) out new later
+  come_more old lines more records further out mid later middle new first rest = record {
+    stage = rest.stage;
+    bytes = first.bytes ++ rest.bytes;
+    goes_on = goes_more how full old first.stage rest.stage lines more records further first.bytes rest.bytes first.goes_on rest.goes_on;
+    stands = rest.stands;
+    puts = grown_more out mid later first.bytes rest.bytes first.puts rest.puts;
+  }
+
+  abbrev pub come_nowhere : (stage : MaskStage) (m : Masking) (out : Output) → MaskStandsAt how full stage m → HasCome how full stage [] [] out m out
+  come_nowhere stage m out stands = record { stage = stage; bytes = []; goes_on = goes_nowhere how full stage; stands = stands; puts = grown_none out }
+
+  -- lines that were copied through
+  abbrev pub come_copied : (stage : MaskStage) (m new : Masking) (lines : List TextLine) (out grown : Output) → new ≡ passed_all m lines → Grown out (flat_map spelled lines) grown
+      → (copied : LinesCopied stage m lines) → HasCome how full stage lines [] out new grown
+  come_copied stage m new lines out grown is puts copied = record {
+    stage = copied.now;
+    bytes = flat_map spelled lines;
+    goes_on = copied.goes;
+    stands = subst (λ (s : Masking). MaskStandsAt how full copied.now s) (sym is) copied.stands;
+    puts = puts;
+  }
+
+  -- one more line
+  abbrev pub come_line : (stage : MaskStage) (m new : Masking) (line : TextLine) (out grown : Output) → stage.waiting ≡ None → (takes : TakesNextLine how full stage line out new grown)
+      → HasCome how full stage (line ∷ []) [] out new grown
+  come_line stage m new line out grown none takes = record {
+    stage = with_line stage takes.item;
+    bytes = bytes_with how stage takes.item;
+    goes_on = line_goes how full stage line takes.item none takes.says;
+    stands = takes.stands;
+    puts = takes.puts;
+  }
+
+passed_wants : (lines : List TextLine) (m : Masking) → m.want ≡ Line → (passed_all m lines).want ≡ Line
+passed_wants [] m e = e
+passed_wants (line ∷ lines) m e = passed_wants lines (passed m line.text) refl
+
+-- what giving lines does
+module _ (old : Masking) (lines : BufferedLines) (out : Output) (wants : old.want ≡ Line) where
+  module _ {A : Type 0} (done : A) (mid : Masking) (left : BufferedLines) (between : Output) (copies : CopiesThrough old lines out (Ok done) mid left between) where
+    copied_from : (how : MaskHow) (full : Bool) (stage : MaskStage) → MaskStandsAt how full stage old → LinesCopied how full stage old copies.texts
+    copied_from how full stage stands = lines_copied how full copies.texts stage old stands wants copies.stay
+
+    -- no line comes after those that were copied through
+    pub gave_copied : {B : Type 0} (given : B) → GivesLines old lines out (Ok given) mid left between
+    gave_copied given = record {
+      texts = copies.texts;
+      passes = copies.passes;
+      comes = λ how full stage stands.
+          let c = copied_from how full stage stands in
+          (come_copied how full stage old mid copies.texts out between copies.writes.0 copies.writes.1 c, c.ahead);
+    }
+
+    pub wants_more : mid.want ≡ Line
+    wants_more = ap (λ (s : Masking). s.want) copies.writes.0 ∙ passed_wants copies.texts old wants
+
+    -- one does
+    module _ (line : TextLine) (last : BufferedLines) (passes : PassesLine left line last) (new : Masking) (grown : Output) where
+      abbrev TakesIt : {B : Type 0} → Result B Fault → Type 0
+      TakesIt {B} answer = (how : MaskHow) (full : Bool) (stage : MaskStage) → MaskStandsAt how full stage mid → GivesNextLine how full stage line between answer new grown
+
+      takes_it : {B : Type 0} (answer : Result B Fault) → TakesLine mid line.number (record { text = line.text; ending = line.ending }) between answer new grown → TakesIt answer
+      takes_it answer t how full stage at = gives_line how full stage mid at wants_more line between new grown answer t
+
+      all_pass : PassesLines lines (copies.texts ++ line ∷ []) last
+      all_pass = pass_more lines left last copies.texts (line ∷ []) copies.passes (pass_one left last line passes)
+
+      pub gave_line : {B C : Type 0} (took : B) (given : C) → TakesLine mid line.number (record { text = line.text; ending = line.ending }) between (Ok took) new grown
+          → GivesLines old lines out (Ok given) new last grown
+      gave_line took given takes = record {
+        texts = copies.texts ++ line ∷ [];
+        passes = all_pass;
+        comes = λ how full stage stands.
+            let c = copied_from how full stage stands in
+            let first : HasCome how full stage copies.texts [] out mid between = come_copied how full stage old mid copies.texts out between copies.writes.0 copies.writes.1 c in
+            let now = c.now in
+            let at : MaskStandsAt how full now mid = subst (λ (s : Masking). MaskStandsAt how full now s) (sym copies.writes.0) c.stands in
+            let taken : TakesNextLine how full now line between new grown = takes_it (Ok took) takes how full now at in
+            let one : HasCome how full now (line ∷ []) [] between new grown =
+            come_line how full now mid new line between grown (none_waits how full now mid at wants_more) taken in (
+              come_more how full stage copies.texts (line ∷ []) [] [] out between grown mid new first one,
+              ahead_by now taken.item (is_written_at_once now taken.item) ∙ c.ahead,
+            );
+      }
+
+      pub failed_line : {C : Type 0} (fault : Fault) → TakesLine {A = Unit {0}} mid line.number (record { text = line.text; ending = line.ending }) between (Err fault) new grown
+          → GivesLines {A = C} old lines out (Err fault) new last grown
+      failed_line fault takes = record {
+        texts = copies.texts ++ line ∷ [];
+        passes = all_pass;
+        comes = λ how full stage stands.
+            let c = copied_from how full stage stands in
+            let at : MaskStandsAt how full c.now mid = subst (λ (s : Masking). MaskStandsAt how full c.now s) (sym copies.writes.0) c.stands in
+            let failed = takes_it {B = Unit {0}} (Err fault) takes how full c.now at in (
+              failed.0,
+              record {
+                before = copies.texts;
+                failing = line ∷ [];
+                parts = refl;
+                mask = mid;
+                through = between;
+                comes = come_copied how full stage old mid copies.texts out between copies.writes.0 copies.writes.1 c;
+                ahead_is = c.ahead;
+                asks = sym at.want_is ∙ wants_more;
+                fails = inl (line, refl, failed.1);
+              },
+            );
+      }
+
+  -- lines weren't all copied through
+  pub failed_copy : {A B : Type 0} (fault : Fault) (new : Masking) (left : BufferedLines) (grown : Output) → CopiesThrough {A = A} old lines out (Err fault) new left grown → GivesLines {A = B} old lines out (Err fault) new left grown
+  failed_copy fault new left grown copies = record {
+    texts = copies.texts;
+    passes = copies.passes;
+    comes = λ how full stage stands.
+        let c = lines_copied how full copies.texts stage old stands wants copies.stay in (
+          copies.writes.0,
+          record {
+            before = [];
+            failing = copies.texts;
+            parts = refl;
+            mask = old;
+            through = out;
+            comes = come_nowhere how full stage old out stands;
+            ahead_is = refl;
+            asks = sym stands.want_is ∙ wants;
+            fails = inr (record { stage = c.now; bytes = flat_map spelled copies.texts; goes_on = c.goes; ahead_is = c.ahead; fails = copies.writes.1 });
+          },
+        );
+  }
+
+-- a cursor over records, and its laws
+module _ {C : Type 0} (gives : C → List Feature → C → Type 0) (line_at : C → ℕ) (has_ended : C → Type 0)
+    (gives_none : (cursor : C) → gives cursor [] cursor)
+    (gives_more : (old mid new : C) (xs ys : List Feature) → gives old xs mid → gives mid ys new → gives old (xs ++ ys) new)
+    (gives_same : (old mid new : C) (x y : Feature) (ys : List Feature) → gives old (x ∷ []) mid → gives old (y ∷ ys) new → x ≡ y) where
+  -- if none was taken, the one ahead is the one that was
+  after_none : (ahead : Option Feature) (records : C) → ComesAfter gives line_at has_ended ahead records [] ahead
+  after_none ahead records r e = inl (e, refl)
+
+  -- no record comes next
+  pub gave_none : {A : Type 0} (done : A) (old : Masking) (records : C) (out : Output) → GivesRecord gives line_at has_ended old records out (Ok done) old records out
+  gave_none done old records out = record {
+    taken = [];
+    given = gives_none records;
+    comes = λ how full stage stands ahead. (come_nowhere how full stage old out stands, ahead, after_none stage.ahead records);
+  }
+
+  -- one does, and was given
+  module _ (old : Masking) (records later : C) (out : Output) (r : Feature) (given : gives records (r ∷ []) later)
+      (number : ℕ) (number_is : number ≡ line_at later) (wants : old.want ≡ Bed) where
+    abbrev Waits : Result Taken Fault → Masking → Output → Type 0
+    Waits answer new grown = (how : MaskHow) (full : Bool) (stage : MaskStage) (waiting : SequenceLine) → MaskStandsAt how full stage old → stage.waiting ≡ Some waiting
+        → IsNext stage.ahead r → GivesBed how full stage waiting r out answer new grown
+
+    abbrev NoneWaits : Result Taken Fault → Masking → Output → Type 0
+    NoneWaits answer new grown = (how : MaskHow) (full : Bool) (stage : MaskStage) → MaskStandsAt how full stage old → stage.waiting ≡ None
+        → IsNext stage.ahead r → ChecksRecord how full stage r number out answer new grown
+
+    -- the record that was left is the one ahead
+    left_ahead : ComesNext gives line_at has_ended (Some r) records
+    left_ahead next further gives_it = gives_same records later further r next [] given gives_it
+
+    module _ (how : MaskHow) (full : Bool) (stage : MaskStage) (stands : MaskStandsAt how full stage old) (ahead : ComesNext gives line_at has_ended stage.ahead records) where
+      is_next : IsNext stage.ahead r
+      is_next = ahead r later given
+
+      ends_by : (o : Option SequenceLine) → stage.waiting ≡ o → stage.bed_ended ≡ false
+      ends_by None e =
+          (wants_bed stage.lines_ended stage.bed_ended (ap (λ (o : Option SequenceLine). want_of (is_some o) stage.lines_ended stage.bed_ended) (sym e) ∙ sym stands.want_is ∙ wants)).1
+      ends_by (Some a) e = (stands.waits a e).bed
+
+      going : stage.bed_ended ≡ false
+      going = ends_by stage.waiting refl
+
+      took_by : (new : Masking) (grown : Output) → Waits (Ok Yes) new grown → NoneWaits (Ok Yes) new grown → (o : Option SequenceLine) → stage.waiting ≡ o
+          → (grown ≡ out) × MaskStandsAt how full (with_record stage r) new
+      took_by new grown waits none None e = let t = none how full stage stands e is_next in (t.same_output, t.stands)
+      took_by new grown waits none (Some a) e = let t = waits how full stage a stands e is_next in (t.same_output, t.stands)
+
+      come_taken : (new : Masking) (grown : Output) → Waits (Ok Yes) new grown → NoneWaits (Ok Yes) new grown
+          → BothCome gives line_at has_ended how full stage [] (r ∷ []) out records (Ok (tt {0})) new later grown
+      come_taken new grown waits none =
+          let t = took_by new grown waits none stage.waiting refl in (
+            record {
+              stage = with_record stage r;
+              bytes = [];
+              goes_on = record_goes how full stage r going is_next;
+              stands = t.1;
+              puts = subst (λ (o : Output). Grown out [] o) (sym t.0) (grown_none out);
+            },
+            λ next further gives_it. tt,
+            λ next e. absurd (let apart : None ≡ Some next = e in cc),
+          )
+
+      come_left : (new : Masking) (grown : Output) → Waits (Ok No) new grown → NoneWaits (Ok No) new grown → (o : Option SequenceLine) → stage.waiting ≡ o
+          → BothCome gives line_at has_ended how full stage [] [] out records (Ok (tt {0})) new records grown
+      come_left new grown waits none None e = absurd (none how full stage stands e is_next)
+      come_left new grown waits none (Some a) e =
+          let t = waits how full stage a stands e is_next in (
+            record {
+              stage = with_decided stage r;
+              bytes = masked_line how stage.taken a;
+              goes_on = decided_goes how full stage r going is_next a e t.decides;
+              stands = t.stands;
+              puts = t.puts;
+            },
+            left_ahead,
+            λ next e. inr (records, later, gives_none records, let same : r ≡ next = cc in subst (λ (x : Feature). gives records (x ∷ []) later) same given),
+          )
+
+      fails_by : (fault : Fault) (new : Masking) (grown : Output) → Waits (Err fault) new grown → NoneWaits (Err fault) new grown → (o : Option SequenceLine) → stage.waiting ≡ o
+          → (new.want ≡ Nothing) × FailsAtRecord how full o stage r number out (told fault) grown
+      fails_by fault new grown waits none None e = none how full stage stands e is_next
+      fails_by fault new grown waits none (Some a) e = waits how full stage a stands e is_next
+
+      come_failed : (fault : Fault) (new : Masking) (grown : Output) → Waits (Err fault) new grown → NoneWaits (Err fault) new grown
+          → BothCome gives line_at has_ended how full stage [] [] out records {A = Unit {0}} (Err fault) new records grown
+      come_failed fault new grown waits none =
+          let f = fails_by fault new grown waits none stage.waiting refl in (
+            f.0,
+            record {
+              before = [];
+              failing = [];
+              parts = refl;
+              mask = old;
+              through = out;
+              comes = come_nowhere how full stage old out stands;
+              ahead = ahead;
+              ahead_is = after_none stage.ahead records;
+              fails = inr (
+                r,
+                later,
+                refl,
+                sym stands.want_is ∙ wants,
+                given,
+                subst (λ (n : ℕ). FailsAtRecord how full stage.waiting stage r n out (told fault) grown) number_is f.1,
+              );
+            },
+          )
+
+    pub gave_taken : {A : Type 0} (done : A) (new : Masking) (grown : Output) → Waits (Ok Yes) new grown → NoneWaits (Ok Yes) new grown → GivesRecord gives line_at has_ended old records out (Ok done) new later grown
+    gave_taken done new grown waits none = record { taken = r ∷ []; given = given; comes = λ how full stage stands ahead. come_taken how full stage stands ahead new grown waits none }
+
+    pub gave_left : {A : Type 0} (done : A) (new : Masking) (grown : Output) → Waits (Ok No) new grown → NoneWaits (Ok No) new grown → GivesRecord gives line_at has_ended old records out (Ok done) new records grown
+    gave_left done new grown waits none = record { taken = []; given = gives_none records; comes = λ how full stage stands ahead. come_left how full stage stands ahead new grown waits none stage.waiting refl }
+
+    pub failed_record : {A : Type 0} (fault : Fault) (new : Masking) (grown : Output) → Waits (Err fault) new grown → NoneWaits (Err fault) new grown → GivesRecord gives line_at has_ended {A = A} old records out (Err fault) new records grown
+    failed_record fault new grown waits none = record { taken = []; given = gives_none records; comes = λ how full stage stands ahead. come_failed how full stage stands ahead fault new grown waits none }
+
+  -- what giving lines or a record does is what giving both does
+  module _ (records : C) {A : Type 0} (old new : Masking) (lines left : BufferedLines) (out grown : Output) where
+    lift_lines : (answer : Result A Fault) (texts : List TextLine) (how : MaskHow) (full : Bool) (stage : MaskStage) → ComesNext gives line_at has_ended stage.ahead records
+        → LinesCome how full stage texts out answer new grown → BothCome gives line_at has_ended how full stage texts [] out records answer new records grown
+    lift_lines (Ok done) texts how full stage ahead c = (c.0, subst (λ (o : Option Feature). ComesNext gives line_at has_ended o records) (sym c.1) ahead, λ r e. inl (sym c.1 ∙ e, refl))
+    lift_lines (Err fault) texts how full stage ahead c = (
+      c.0,
+      record {
+        before = c.1.before;
+        failing = c.1.failing;
+        parts = c.1.parts;
+        mask = c.1.mask;
+        through = c.1.through;
+        comes = c.1.comes;
+        ahead = subst (λ (o : Option Feature). ComesNext gives line_at has_ended o records) (sym c.1.ahead_is) ahead;
+        ahead_is = λ r e. inl (sym c.1.ahead_is ∙ e, refl);
+        fails = inl (c.1.asks, c.1.fails);
+      },
+    )
+
+    pub lines_both : (answer : Result A Fault) → GivesLines old lines out answer new left grown → GivesBoth gives line_at has_ended old lines records out answer new left records grown
+    lines_both answer g = record {
+      texts = g.texts;
+      passes = g.passes;
+      taken = [];
+      given = gives_none records;
+      comes = λ how full stage stands ahead. lift_lines answer g.texts how full stage ahead (g.comes how full stage stands);
+    }
+
+  pub record_both : {A : Type 0} (old new : Masking) (lines : BufferedLines) (records left : C) (out grown : Output) (answer : Result A Fault) → GivesRecord gives line_at has_ended old records out answer new left grown
+      → GivesBoth gives line_at has_ended old lines records out answer new lines left grown
+  record_both old new lines records left out grown answer g = record {
+    texts = [];
+    passes = none_pass lines;
+    taken = g.taken;
+    given = g.given;
+    comes = g.comes;
+  }
+
+  pub nothing_both : {A : Type 0} (done : A) (old : Masking) (lines : BufferedLines) (records : C) (out : Output) → GivesBoth gives line_at has_ended old lines records out (Ok done) old lines records out
+  nothing_both done old lines records out = record {
+    texts = [];
+    passes = none_pass lines;
+    taken = [];
+    given = gives_none records;
+    comes = λ how full stage stands ahead. (come_nowhere how full stage old out stands, ahead, after_none stage.ahead records);
+  }
+
+  -- what is given after that
+  module _ {A : Type 0} (done : A) (old mid new : Masking) (lines between left : BufferedLines) (records passing last : C) (out through grown : Output)
+      (first : GivesBoth gives line_at has_ended old lines records out (Ok done) mid between passing through) where
+    after_both : (was mid_ahead ahead : Option Feature) (taken : List Feature) → ComesAfter gives line_at has_ended was records first.taken mid_ahead → ComesAfter gives line_at has_ended mid_ahead passing taken ahead
+        → ComesAfter gives line_at has_ended was records (first.taken ++ taken) ahead
+    after_both was mid_ahead ahead taken f c r e = elim (c r e) [
+      | inl same ↦ elim (f r same.0) [
+        | inl none ↦ inl (none.0, ap (λ (l : List Feature). l ++ taken) none.1 ∙ same.1)
+        | inr there ↦ inr (there.0, there.1, subst (λ (l : List Feature). gives records l there.0) (sym (append-nil first.taken) ∙ ap (λ (l : List Feature). first.taken ++ l) (sym same.1)) there.2, there.3)
+      ]
+      | inr there ↦ inr (there.0, there.1, gives_more records passing there.0 first.taken taken first.given there.2, there.3)
+    ]
+
+    more_come : {B D : Type 0} (b : B) (d : D) (texts : List TextLine) (taken : List Feature) (how : MaskHow) (full : Bool) (stage : MaskStage)
+        → (f : BothCome gives line_at has_ended how full stage first.texts first.taken out records (Ok done) mid passing through)
+        → BothCome gives line_at has_ended how full f.0.stage texts taken through passing (Ok b) new last grown
+        → BothCome gives line_at has_ended how full stage (first.texts ++ texts) (first.taken ++ taken) out records (Ok d) new last grown
+    more_come b d texts taken how full stage f c =
+        (come_more how full stage first.texts texts first.taken taken out through grown mid new f.0 c.0, c.1, after_both stage.ahead f.0.stage.ahead c.0.stage.ahead taken f.2 c.2)
+
+    more_fail : (fault : Fault) (texts : List TextLine) (taken : List Feature) (how : MaskHow) (full : Bool) (stage : MaskStage)
+        → (f : BothCome gives line_at has_ended how full stage first.texts first.taken out records (Ok done) mid passing through)
+        → BothCome gives line_at has_ended how full f.0.stage texts taken through passing {A = Unit {0}} (Err fault) new last grown
+        → BothCome gives line_at has_ended how full stage (first.texts ++ texts) (first.taken ++ taken) out records {A = Unit {0}} (Err fault) new last grown
+    more_fail fault texts taken how full stage f c = (
+      c.0,
+      record {
+        before = first.texts ++ c.1.before;
+        failing = c.1.failing;
+        parts = ap (λ l. first.texts ++ l) c.1.parts ∙ sym (append_assoc first.texts c.1.before c.1.failing);
+        mask = c.1.mask;
+        through = c.1.through;
+        comes = come_more how full stage first.texts c.1.before first.taken taken out through c.1.through mid c.1.mask f.0 c.1.comes;
+        ahead = c.1.ahead;
+        ahead_is = after_both stage.ahead f.0.stage.ahead c.1.comes.stage.ahead taken f.2 c.1.ahead_is;
+        fails = c.1.fails;
+      },
+    )
+
+    pub both_more : {B D : Type 0} (b : B) (d : D) → GivesBoth gives line_at has_ended mid between passing through (Ok b) new left last grown
+        → GivesBoth gives line_at has_ended old lines records out (Ok d) new left last grown
+    both_more b d rest = record {
+      texts = first.texts ++ rest.texts;
+      passes = pass_more lines between left first.texts rest.texts first.passes rest.passes;
+      taken = first.taken ++ rest.taken;
+      given = gives_more records passing last first.taken rest.taken first.given rest.given;
+      comes = λ how full stage stands ahead.
+          let f = first.comes how full stage stands ahead in
+          more_come b d rest.texts rest.taken how full stage f (rest.comes how full f.0.stage f.0.stands f.1);
+    }
+
+    pub both_fail : {B D : Type 0} (fault : Fault) → GivesBoth gives line_at has_ended {A = B} mid between passing through (Err fault) new left last grown
+        → GivesBoth gives line_at has_ended {A = D} old lines records out (Err fault) new left last grown
+    both_fail fault rest = record {
+      texts = first.texts ++ rest.texts;
+      passes = pass_more lines between left first.texts rest.texts first.passes rest.passes;
+      taken = first.taken ++ rest.taken;
+      given = gives_more records passing last first.taken rest.taken first.given rest.given;
+      comes = λ how full stage stands ahead.
+          let f = first.comes how full stage stands ahead in
+          more_fail fault rest.texts rest.taken how full stage f (rest.comes how full f.0.stage f.0.stands f.1);
+    }
+
+asks_one : (want : MaskWant) → asks_more want ≤ 1
+asks_one Line = omega arith
+asks_one Bed = omega arith
+asks_one Nothing = omega arith
+
+-- less may be given then
+module _ {C : Type 0} (room : C → ℕ) (old new : Masking) where
+  pub line_shrinks : (lines left : BufferedLines) (records : C) → length (lines_in left) < length (lines_in lines) → left_to_give room new left records < left_to_give room old lines records
+  line_shrinks lines left records less = omega (arith, less, asks_one new.want)
+
+  pub record_shrinks : (lines : BufferedLines) (records left : C) → old.want ≡ Bed → (room left < room records) ⊎ ((left ≡ records) × (new.want ≡ Line))
+      → left_to_give room new lines left < left_to_give room old lines records
+  record_shrinks lines records left wants (inl less) = omega (arith, less, asks_one new.want, ap asks_more wants)
+  record_shrinks lines records left wants (inr same) = omega (arith, ap room same.0, ap asks_more same.1, ap asks_more wants)

@@ -1,0 +1,507 @@
+-- Lemmas on a masking engine that is given a line.
+use Rattle.std.proofs.Common.{◌≡◌, ℕ, ◌<◌, min, nat_le, Bool, true, false, cond, not, ◌&&◌, ◌||◌, nat_lt, length, List, [], ◌∷◌, ◌++◌, map, filter, Option, Some, None, Result, Ok, Err, refl, sym, ap, ◌∙◌, subst, append-nil, inl, inr, ◌⊎◌, arith}
+use Rattle.std.specs.List.{AllByRecursion, list_any}
+use Rattle.std.specs.Prelude.{is_none, is_some, option_map, option_to_list}
+use Rattle.std.proofs.lemmas.Bool.Decides.{nat_tests}
+use Rattle.std.proofs.lemmas.List.{length-map}
+use Rattle.std.proofs.lemmas.Bool.{not-true, not-false, or_parts}
+use Rattle.bt_bed.specs.model.feature.Feature.{Feature}
+use Rattle.bt_lines.specs.model.Lines.{TextLine, end_bytes}
+use Rattle.bt_lines.specs.calls.Names.{told}
+use Rattle.bt_lines.specs.calls.Output.{Output}
+use Rattle.bt_lines.specs.calls.Putting.{FailsToAdd, Grown}
+use Rattle.bt_lines.specs.declared.fault.Fault.{Fault}
+use Rattle.bt_lines.specs.declared.fault.Kind.TheVariants.{TextBeforeHeader}
+use Rattle.bt_seq.proofs.lemmas.mask.steps.CountLemmas.{IsLow, decides_alike, held_on, own_low, text_masked}
+use Rattle.bt_seq.proofs.lemmas.mask.bases.KnownLemmas.{never, with_header, with_plain}
+use Rattle.bt_seq.proofs.lemmas.laws.MaskFrontLemmas.{decided_by_tags, masked_before}
+use Rattle.bt_seq.proofs.lemmas.mask.steps.NextLemmas.{decided_more, left_grows, named_more, none_own, undecided_header, undecided_next}
+use Rattle.bt_seq.proofs.lemmas.mask.steps.StandLemmas.{last_more, last_name_more, last_name_none, stands_at, unnamed_are, unnamed_untaken, wants_line}
+use Rattle.bt_seq.proofs.lemmas.sam.TagLemmas.{own_tagged, tag_decides, tags_of}
+use Rattle.bt_seq.specs.calls.HeldMasks.{extent_of}
+use Rattle.bt_seq.specs.inside.mask.MaskInside.{AreInRange, Counts, KnowsNext, decided_up_to, last_name}
+use Rattle.bt_seq.specs.calls.MaskStage.{MaskStage, given, held_by, is_written_ahead, is_written_at_once, line_given_last, reached, reached_by, want_of, with_line}
+use Rattle.bt_seq.specs.calls.MaskStanding.{IsOpen, MaskStandsAt, kept_line}
+use Rattle.bt_seq.specs.calls.MaskSteps.{FailsWithLine, GivesNextLine, IsSettled, RefusesLine, TakesNextLine, bytes_with, may_need_memory}
+use Rattle.bt_seq.specs.model.Masked.{decided, held_for, is_unnamed, masked_line}
+use Rattle.bt_seq.specs.calls.MaskState.{Masking, TakesLine, Waiting, bytes_at_once, is_stray, line_bytes, may_grow, moved_to, writes_at_once}
+use Rattle.bt_seq.specs.inside.mask.Matching.{Matched, named}
+use Rattle.bt_seq.specs.model.Owners.{block_decides, left_after, own_records}
+use Rattle.bt_seq.specs.model.Sequences.{SequenceLine, bases_in, bases_up_to, header_behind, is_header, line_behind, line_says, may_stand, name_in}
+use Rattle.bt_seq.specs.inside.mask.MaskedBases.{masked_in}
+use Rattle.bt_seq.specs.inside.mask.Window.{Bounds, gone_on, limit, no_bases}
+use Rattle.bt_seq.specs.declared.mask.mask_how.MaskHow.{MaskHow}
+use Rattle.bt_seq.specs.declared.mask.mask_want.MaskWant.TheVariants.{Line, Bed, Nothing}
+use Rattle.bt_seq.specs.declared.sam.extent.Extent.{Extent}
+
+pub neither : (a b c : Bool) → (a || (b || c)) ≡ false → (a ≡ false) × (b ≡ false)
+neither true b c e = absurd (never (sym e))
+neither false true c e = absurd (never (sym e))
+neither false false c e = (refl, refl)
+
+-- a list that there is
+pub some_list : (o : Option (List (List ℕ))) → is_some o ≡ true → (l : List (List ℕ)) × (o ≡ Some l)
+some_list None e = absurd (never e)
+some_list (Some l) e = (l, refl)
+
+nothing_masked : (held : List Feature) → held ≡ [] → [] ≡ map extent_of held
+nothing_masked held e = sym (ap (λ (l : List Feature). map extent_of l) e)
+
+no_own : (p : Feature → Bool) (own : List Feature) → own ≡ [] → filter p own ≡ []
+no_own p own e = ap (filter p) e
+
+-- what the next line of a sequence goes on to hold
+module _ (taken : List Feature) (range : AreInRange taken) (line : TextLine) (plain : is_header line.text ≡ false) where
+  abbrev next : Option SequenceLine → SequenceLine
+  next last = line_behind (reached_by last) line
+
+  held_untaken : (last : Option SequenceLine) (w : Bounds) → taken ≡ [] → w.held ≡ map extent_of (held_by last taken)
+      → filter (λ (s : Extent). nat_lt w.bases s.stop) w.held ≡ map extent_of (held_for (next last) taken)
+  held_untaken None w none held =
+      ap (λ (l : List Extent). filter (λ (s : Extent). nat_lt w.bases s.stop) l) held
+      ∙ sym (ap (λ (rs : List Feature). map extent_of (held_for (next None) rs)) none)
+  held_untaken (Some l) w none held =
+      ap (λ (l : List Extent). filter (λ (s : Extent). nat_lt w.bases s.stop) l) (held ∙ ap (λ (rs : List Feature). map extent_of (held_for l rs)) none)
+      ∙ sym (ap (λ (rs : List Feature). map extent_of (held_for (next (Some l)) rs)) none)
+
+  undecided_tags : (l : SequenceLine) → decided l taken ≡ false → list_any (tag_decides (bases_up_to l)) (tags_of l.names taken) ≡ false
+  undecided_tags l e = (or_parts (is_unnamed l.names) (list_any (tag_decides (bases_up_to l)) (tags_of l.names taken)) (sym (decided_by_tags l taken) ∙ e)).1
+
+  held_next : (l : SequenceLine) (w : Bounds) → w.bases ≡ min (bases_up_to l) limit → decided l taken ≡ false → w.held ≡ map extent_of (held_for l taken)
+      → filter (λ (s : Extent). nat_lt w.bases s.stop) w.held ≡ map extent_of (held_for (next (Some l)) taken)
+  held_next l w bases open_at held =
+      let low : AllByRecursion (IsLow (bases_up_to l)) (own_records l.names taken) =
+      subst (λ (rs : List Feature). AllByRecursion (IsLow (bases_up_to l)) rs) (sym (own_tagged l.names taken)) (own_low (bases_up_to l) (Some l.names) None taken (undecided_tags l open_at) range) in
+      ap (λ b. filter (λ (s : Extent). nat_lt b s.stop) w.held) bases
+      ∙ ap (λ (ss : List Extent). filter (λ (s : Extent). nat_lt (min (bases_up_to l) limit) s.stop) ss) held
+      ∙ held_on l.before (bases_up_to l) (bases_up_to (next (Some l))) (omega arith) (omega arith) (own_records l.names taken) low
+
+  pub held_further : (last : Option SequenceLine) (w : Bounds) → Counts last w → IsOpen last taken → w.held ≡ map extent_of (held_by last taken)
+      → filter (λ (s : Extent). nat_lt w.bases s.stop) w.held ≡ map extent_of (held_for (next last) taken)
+  held_further None w counts open_at held = held_untaken None w open_at held
+  held_further (Some l) w counts open_at held = elim open_at [
+    | inl none ↦ held_untaken (Some l) w none held
+    | inr undecided ↦ held_next l w counts.bases undecided held
+  ]
+
+  pub open_further : (last : Option SequenceLine) → IsOpen last taken → IsOpen (Some (next last)) taken
+  open_further None open_at = inl open_at
+  open_further (Some l) open_at = elim open_at [
+    | inl none ↦ inl none
+    | inr undecided ↦ inr (undecided_next (bases_up_to l) (bases_up_to (next (Some l))) (omega arith) l (next (Some l)) taken refl refl refl undecided)
+  ]
+
+or_third : (a b c d : Bool) → (a ≡ false → b ≡ false → c ≡ d) → (a || (b || c)) ≡ (a || (b || d))
+or_third true b c d e = refl
+or_third false true c d e = refl
+or_third false false c d e = e refl refl
+
+no_and : (a b : Bool) → a ≡ true → (not a && b) ≡ false
+no_and true b e = refl
+no_and false b e = absurd (never e)
+
+-- the record ahead doesn't decide a header, and if it decides a line there is one
+header_ahead : (o : Option Feature) (taken : List Feature) (item : SequenceLine) → is_header item.text ≡ true
+    → is_written_ahead o taken item ≡ false
+header_ahead None taken item e = refl
+header_ahead (Some r) taken item e = no_and (is_header item.text) (decided item (taken ++ r ∷ [])) e
+
+decided_some : (o : Option Feature) (taken : List Feature) (item : SequenceLine) → is_written_ahead o taken item ≡ true
+    → is_some o ≡ true
+decided_some None taken item e = e
+decided_some (Some r) taken item e = refl
+
+and_second : (a b : Bool) → (not a && b) ≡ true → b ≡ true
+and_second true b e = absurd (never e)
+and_second false b e = e
+
+-- a line that is written at once while records may come is decided
+decided_at_once : (u : Bool) (o : Option Feature) (taken : List Feature) (item : SequenceLine)
+    → is_unnamed item.names ≡ u → (u || is_written_ahead o taken item) ≡ true
+    → decided item (taken ++ option_to_list o) ≡ true
+decided_at_once true o taken item unnamed e =
+    let records = taken ++ option_to_list o in
+    let decides = list_any (tag_decides (bases_up_to item)) (tags_of item.names records) in
+    decided_by_tags item records ∙ ap (λ b. b || decides) unnamed
+decided_at_once false None taken item is_named e = absurd (never e)
+decided_at_once false (Some r) taken item is_named e =
+    and_second (is_header item.text) (decided item (taken ++ r ∷ [])) e
+
+or_rest : (a b : Bool) → (a || b) ≡ true → a ≡ false → b ≡ true
+or_rest true b e d = absurd (never (sym d))
+or_rest false b e d = e
+
+-- whether it decides one more line of the sequence, by how far it decides them
+ahead_decides : (bases : ℕ) (left : Option (List (List ℕ))) (r : Feature) → r.start < limit
+    → (left ≡ Some []) ⊎ (left ≡ None)
+    → nat_le (min bases limit) (decided_up_to left r) ≡ block_decides bases left (r ∷ [])
+ahead_decides bases None r low which = grind (arith, nat_tests)
+ahead_decides bases (Some []) r low which = decides_alike bases (Some []) r low
+ahead_decides bases (Some (n ∷ ns)) r low which = elim which [
+  | inl own ↦ absurd (let apart : Some (n ∷ ns) ≡ Some [] = own in cc)
+  | inr none ↦ absurd (let apart : Some (n ∷ ns) ≡ None = none in cc)
+]
+
+-- its block belongs to the last sequence, or to none
+ahead_left : (names : List (List ℕ)) (taken : List Feature) (r : Feature) (m : Matched) → KnowsNext false names taken (Some r) m
+    → (left_after names (taken ++ r ∷ []) ≡ Some []) ⊎ (left_after names (taken ++ r ∷ []) ≡ None)
+ahead_left names taken r m known = elim known [
+  | inl last ↦ inl (last.1 refl)
+  | inr ahead ↦ inr (ahead.1 refl)
+]
+
+-- a line of a sequence that is open is undecided
+open_undecided : (item : SequenceLine) (taken : List Feature) → is_unnamed item.names ≡ false → IsOpen (Some item) taken
+    → decided item taken ≡ false
+open_undecided item taken is_named open_at = elim open_at [
+  | inl none ↦ ap (λ (rs : List Feature). decided item rs) none ∙ ap (λ b. b || false) is_named
+  | inr undecided ↦ undecided
+]
+
+not_strayed : (names : List (List ℕ)) (text : List ℕ) → may_stand names text ≡ not (is_unnamed names && nat_lt 0 (length text))
+not_strayed [] [] = refl
+not_strayed [] (byte ∷ bytes) = let some : nat_lt 0 (length (byte ∷ bytes)) ≡ true = grind (arith, nat_tests) in sym (ap not some)
+not_strayed (n ∷ ns) text = refl
+
+module _ (how : MaskHow) (full : Bool) (stage : MaskStage) (old : Masking) (s : MaskStandsAt how full stage old) (wants : old.want ≡ Line) where
+  asked : (stage.waiting ≡ None) × (stage.lines_ended ≡ false)
+  asked = wants_line stage.waiting stage.lines_ended stage.bed_ended (sym s.want_is ∙ wants)
+
+  abbrev names : List (List ℕ)
+  names = (reached stage).names
+
+  open_at : IsOpen (line_given_last (given stage)) stage.taken
+  open_at = s.is_open asked.1
+
+  held_is : old.window.held ≡ map extent_of (held_by (line_given_last (given stage)) stage.taken)
+  held_is = s.holds (inl asked.1)
+
+  -- with a line, before it waits or is written
+  record Moved (item : SequenceLine) (moved : Masking) : Type 0 where
+    how_is : moved.how ≡ how
+    full_is : moved.full ≡ full
+    bed_ended_is : moved.bed_ended ≡ stage.bed_ended
+    counts : Counts (Some item) moved.window
+    name_is : moved.matched.name ≡ last_name item.names
+    holds : moved.window.held ≡ map extent_of (held_for item stage.taken)
+    is_open : IsOpen (Some item) stage.taken
+    owned : is_some (left_after item.names stage.taken) ≡ true
+    header : is_header item.text ≡ true → item.before ≡ 0
+    waits_known : stage.bed_ended ≡ false → is_unnamed item.names ≡ false → KnowsNext true item.names stage.taken stage.ahead moved.matched
+    at_once : writes_at_once moved item.text ≡ is_written_at_once stage item
+    written_known : stage.bed_ended ≡ false → is_written_at_once stage item ≡ true → KnowsNext false item.names stage.taken stage.ahead moved.matched
+    written_to : stage.bed_ended ≡ false → is_written_at_once stage item ≡ true → (r : Feature) → stage.ahead ≡ Some r
+        → moved.decided_to ≡ decided_up_to (left_after item.names (stage.taken ++ r ∷ [])) r
+
+  going_known : stage.bed_ended ≡ false → KnowsNext false names stage.taken stage.ahead old.matched
+  going_known going = subst (λ (w : Option SequenceLine). KnowsNext (is_some w) names stage.taken stage.ahead old.matched) asked.0 (s.inside.knows going)
+
+  first_by : (u : Bool) → is_unnamed names ≡ u → (u ≡ false → is_some stage.ahead ≡ true) → is_some stage.ahead ≡ false → (names ≡ []) × (stage.taken ≡ [])
+  first_by true e ahead none = (unnamed_are names e, unnamed_untaken (line_given_last (given stage)) stage.taken open_at e)
+  first_by false e ahead none = absurd (never (sym none ∙ ahead refl))
+
+  first_header : stage.bed_ended ≡ false → is_some stage.ahead ≡ false → (names ≡ []) × (stage.taken ≡ [])
+  first_header going none = first_by (is_unnamed names) refl (λ e. s.inside.has_ahead (sym s.want_is ∙ wants) going e) none
+
+  -- whether a line to which it has moved is written at once
+  once_by : (item : SequenceLine) (moved : Masking) → moved.bed_ended ≡ stage.bed_ended → moved.matched.name ≡ last_name item.names
+      → (stage.bed_ended ≡ false → is_unnamed item.names ≡ false
+      → (not (is_header item.text) && nat_le moved.window.bases moved.decided_to) ≡ is_written_ahead stage.ahead stage.taken item)
+      → writes_at_once moved item.text ≡ is_written_at_once stage item
+  once_by item moved ended name alike =
+      let known = not (is_header item.text) && nat_le moved.window.bases moved.decided_to in
+      ap (λ b. b || (is_none moved.matched.name || known)) ended
+      ∙ ap (λ b. stage.bed_ended || (b || known)) (ap is_none name ∙ last_name_none item.names)
+      ∙ or_third stage.bed_ended (is_unnamed item.names) known (is_written_ahead stage.ahead stage.taken item) alike
+
+  -- a header isn't, while records may come
+  header_later : (item : SequenceLine) → is_unnamed item.names ≡ false → is_header item.text ≡ true → stage.bed_ended ≡ false
+      → is_written_at_once stage item ≡ true → ⊥
+  header_later item is_named e going now =
+      never (sym (ap (λ b. b || (is_unnamed item.names || is_written_ahead stage.ahead stage.taken item)) going
+      ∙ ap (λ b. b || is_written_ahead stage.ahead stage.taken item) is_named
+      ∙ header_ahead stage.ahead stage.taken item e) ∙ now)
+
+  module _ (line : TextLine) where
+    abbrev header_moved : Masking
+    header_moved = record old { matched = named old.matched (name_in old.full line.text); window = no_bases }
+
+    abbrev header_item : SequenceLine
+    header_item = header_behind old.full (reached stage) line
+
+    header_by : is_header line.text ≡ true → Moved header_item header_moved
+    header_by e =
+        let n = name_in old.full line.text in
+        let left = some_list (left_after names stage.taken) s.owned in
+        let none : bases_in line.text ≡ 0 = ap (λ b. cond b 0 (length line.text)) e in
+        record {
+          how_is = s.how_is;
+          full_is = s.full_is;
+          bed_ended_is = s.bed_ended_is;
+          counts = record { before = omega arith; bases = omega arith };
+          name_is = sym (last_name_more names n);
+          holds = nothing_masked (held_for header_item stage.taken) (no_own (λ (r : Feature). nat_lt r.start (bases_up_to header_item) && nat_lt header_item.before r.stop) (own_records header_item.names stage.taken) (none_own n names left.0 stage.taken left.1));
+          is_open = inr (undecided_header n header_item names left.0 stage.taken refl left.1);
+          owned = ap is_some (left_grows n names left.0 stage.taken left.1);
+          header = λ e. refl;
+          waits_known = λ going u. with_header names n stage.taken old.matched stage.ahead (first_header going) (going_known going);
+          at_once = once_by header_item header_moved s.bed_ended_is (sym (last_name_more names n)) (λ going u.
+              no_and (is_header line.text) (nat_le header_moved.window.bases header_moved.decided_to) e
+              ∙ sym (header_ahead stage.ahead stage.taken header_item e));
+          written_known = λ going now. absurd (header_later header_item (named_more n names) e going now);
+          written_to = λ going now. absurd (header_later header_item (named_more n names) e going now);
+        }
+
+    abbrev plain_moved : Masking
+    plain_moved = record old { window = gone_on old.window (length line.text) }
+
+    abbrev plain_item : SequenceLine
+    plain_item = line_behind (reached stage) line
+
+    plain_counts : is_header line.text ≡ false → Counts (Some plain_item) plain_moved.window
+    plain_counts e =
+        let count : bases_in line.text ≡ length line.text = ap (λ b. cond b 0 (length line.text)) e in
+        let bases : old.window.bases ≡ min (reached stage).bases limit = s.inside.counts.bases in
+        record { before = bases; bases = omega arith }
+
+    -- whether the record ahead decides it is what is known
+    plain_alike : is_header line.text ≡ false → stage.bed_ended ≡ false → is_unnamed names ≡ false → (o : Option Feature) → stage.ahead ≡ o
+        → (not (is_header line.text) && nat_le plain_moved.window.bases old.decided_to) ≡ is_written_ahead o stage.taken plain_item
+    plain_alike e going is_named None ahead =
+        absurd (never (sym (ap is_some ahead) ∙ s.inside.has_ahead (sym s.want_is ∙ wants) going is_named))
+    plain_alike e going is_named (Some r) ahead =
+        let known = subst (λ (o : Option Feature). KnowsNext false names stage.taken o old.matched) ahead (going_known going) in
+        let left = left_after names (stage.taken ++ r ∷ []) in
+        let undecided = open_undecided plain_item stage.taken is_named (open_further stage.taken s.inside.in_range line e (line_given_last (given stage)) open_at) in
+        let decides : nat_le plain_moved.window.bases old.decided_to ≡ decided plain_item (stage.taken ++ r ∷ []) =
+        ap (λ (n : ℕ). nat_le n old.decided_to) (plain_counts e).bases
+        ∙ ap (λ (n : ℕ). nat_le (min (bases_up_to plain_item) limit) n) (s.inside.decided_to_is asked.0 going r ahead)
+        ∙ ahead_decides (bases_up_to plain_item) left r (s.inside.ahead_in_range r ahead) (ahead_left names stage.taken r old.matched known)
+        ∙ sym (decided_more plain_item stage.taken r ∙ ap (λ b. b || block_decides (bases_up_to plain_item) left (r ∷ [])) undecided) in
+        ap (λ b. not (is_header line.text) && b) decides
+
+    plain_by : is_header line.text ≡ false → Moved plain_item plain_moved
+    plain_by e =
+        record {
+          how_is = s.how_is;
+          full_is = s.full_is;
+          bed_ended_is = s.bed_ended_is;
+          counts = plain_counts e;
+          name_is = s.inside.name_is;
+          holds = held_further stage.taken s.inside.in_range line e (line_given_last (given stage)) old.window s.inside.counts open_at held_is;
+          is_open = open_further stage.taken s.inside.in_range line e (line_given_last (given stage)) open_at;
+          owned = s.owned;
+          header = λ h. absurd (never (sym e ∙ h));
+          waits_known = λ going u. with_plain names stage.taken stage.ahead old.matched (going_known going);
+          at_once = once_by plain_item plain_moved s.bed_ended_is s.inside.name_is (λ going u. plain_alike e going u stage.ahead refl);
+          written_known = λ going now. going_known going;
+          written_to = λ going now. s.inside.decided_to_is asked.0 going;
+        }
+
+    -- what a line says, and where the engine goes
+    record Goes : Type 0 where
+      item : SequenceLine
+      says : line_says full (reached stage) line ≡ Ok (Some item)
+      moved : Moved item (moved_to old line.text)
+      kept : kept_line item ≡ record { text = line.text; ending = line.ending }
+      fine : is_stray old line.text ≡ false
+
+    record Strays : Type 0 where
+      says : line_says full (reached stage) line ≡ Err TextBeforeHeader
+      stray : is_stray old line.text ≡ true
+
+    header_goes : is_header line.text ≡ true → Goes
+    header_goes e =
+        let by : (f : Bool) → old.full ≡ f → (item : SequenceLine) × (header_behind f (reached stage) line ≡ item) × Moved item header_moved × (kept_line item ≡ record { text = line.text; ending = line.ending }) =
+        λ f d. (header_item, sym (ap (λ f. header_behind f (reached stage) line) d), header_by e, refl) in
+        let it = by full s.full_is in
+        record {
+          item = it.0;
+          says = ap (λ b. cond b (Ok (Some (header_behind full (reached stage) line))) (cond (may_stand names line.text) (Ok (Some plain_item)) (Err TextBeforeHeader))) e ∙ ap (λ (i : SequenceLine). Ok (Some i)) it.1;
+          moved = subst (λ b. Moved it.0 (cond b header_moved plain_moved)) (sym e) it.2;
+          kept = it.3;
+          fine = ap (λ b. not b && (is_none old.matched.name && nat_lt 0 (length line.text))) e;
+        }
+
+    stray_is : is_header line.text ≡ false → is_stray old line.text ≡ (is_unnamed names && nat_lt 0 (length line.text))
+    stray_is e =
+        ap (λ b. not b && (is_none old.matched.name && nat_lt 0 (length line.text))) e
+        ∙ ap (λ b. b && nat_lt 0 (length line.text)) (ap is_none s.inside.name_is ∙ last_name_none names)
+
+    plain_says : is_header line.text ≡ false → line_says full (reached stage) line ≡ cond (may_stand names line.text) (Ok (Some plain_item)) (Err TextBeforeHeader)
+    plain_says e = ap (λ b. cond b (Ok (Some (header_behind full (reached stage) line))) (cond (may_stand names line.text) (Ok (Some plain_item)) (Err TextBeforeHeader))) e
+
+    plain_goes : is_header line.text ≡ false → (b : Bool) → may_stand names line.text ≡ b → Goes ⊎ Strays
+    plain_goes e true may = inl (record {
+      item = plain_item;
+      says = plain_says e ∙ ap (λ b. cond b (Ok (Some plain_item)) (Err TextBeforeHeader)) may;
+      moved = subst (λ b. Moved plain_item (cond b header_moved plain_moved)) (sym e) (plain_by e);
+      kept = refl;
+      fine = stray_is e ∙ not-true (is_unnamed names && nat_lt 0 (length line.text)) (sym (not_strayed names line.text) ∙ may);
+    })
+    plain_goes e false may = inr (record {
+      says = plain_says e ∙ ap (λ b. cond b (Ok (Some plain_item)) (Err TextBeforeHeader)) may;
+      stray = stray_is e ∙ not-false (is_unnamed names && nat_lt 0 (length line.text)) (sym (not_strayed names line.text) ∙ may);
+    })
+
+    goes_by : (h : Bool) → is_header line.text ≡ h → Goes ⊎ Strays
+    goes_by true e = inl (header_goes e)
+    goes_by false e = plain_goes e (may_stand names line.text) refl
+
+    goes : Goes ⊎ Strays
+    goes = goes_by (is_header line.text) refl
+
+  module _ (item : SequenceLine) (moved : Masking) (m : Moved item moved) where
+    -- whether it may need memory
+    memory_is : may_grow moved item.text ≡ may_need_memory stage item
+    memory_is =
+        ap (λ b. is_header item.text || (not b || nat_lt 0 (length moved.window.held))) m.at_once
+        ∙ ap (λ (n : ℕ). is_header item.text || (not (is_written_at_once stage item) || nat_lt 0 n))
+        (ap length m.holds ∙ length-map (held_for item stage.taken) extent_of)
+
+    settled : IsSettled how stage item
+    settled r d = masked_before how item stage.taken r d
+
+    -- its bytes
+    bytes_are : line_bytes moved (kept_line item) ≡ masked_line how stage.taken item
+    bytes_are =
+        ap (λ (t : List ℕ). t ++ end_bytes item.ending)
+        (ap (λ (h : MaskHow). masked_in h moved.window.held moved.window.before item.text) m.how_is
+        ∙ ap (λ (l : List Extent). masked_in how l moved.window.before item.text) m.holds
+        ∙ ap (λ b. masked_in how (map extent_of (held_for item stage.taken)) b item.text) m.counts.before
+        ∙ text_masked how item stage.taken s.inside.in_range m.header)
+
+    waiting_stands : stage.bed_ended ≡ false → is_unnamed item.names ≡ false
+        → MaskStandsAt how full (record stage { waiting = Some item }) (record moved { waiting = Some (kept_line item); want = Bed })
+    waiting_stands going is_named =
+        stands_at how full (record stage { waiting = Some item }) (record moved { waiting = Some (kept_line item); want = Bed }) (Some item) (last_more stage.written item) (record {
+          how_is = m.how_is;
+          full_is = m.full_is;
+          waiting_is = refl;
+          want_is = refl;
+          bed_ended_is = m.bed_ended_is;
+          waits = λ l e. let same : item ≡ l = cc in rw (← same) (record { lines = asked.1; bed = going; named = is_named; header = m.header });
+          counts = m.counts;
+          name_is = m.name_is;
+          holds = λ e. m.holds;
+          is_open = λ e. m.is_open;
+          is_decided = λ e. absurd (let apart : Some item ≡ None = e in cc);
+          owned = m.owned;
+          in_range = s.inside.in_range;
+          knows = λ e. m.waits_known going is_named;
+          has_ahead = λ e. absurd (let apart : Bed ≡ Line = e in cc);
+          ahead_in_range = s.inside.ahead_in_range;
+          decided_to_is = λ e. absurd (let apart : Some item ≡ None = e in cc);
+        })
+
+    abbrev written_stage : MaskStage
+    written_stage = record stage { written = stage.written ++ item ∷ [] }
+
+    written_last : line_given_last (given written_stage) ≡ Some item
+    written_last =
+        ap (λ (w : Option SequenceLine). line_given_last ((stage.written ++ item ∷ []) ++ option_to_list w)) asked.0
+        ∙ ap line_given_last (append-nil (stage.written ++ item ∷ [])) ∙ last_more stage.written item
+
+    or_true : (a b c : Bool) → (a || (b || c)) ≡ true → a ≡ false → b ≡ false → c ≡ true
+    or_true true b c e d f = absurd (never (sym d))
+    or_true false true c e d f = absurd (never (sym f))
+    or_true false false c e d f = e
+
+    written_stands : is_written_at_once stage item ≡ true → MaskStandsAt how full written_stage (record moved { waiting = None; want = Line })
+    written_stands now =
+        stands_at how full written_stage (record moved { waiting = None; want = Line }) (Some item) written_last (record {
+          how_is = m.how_is;
+          full_is = m.full_is;
+          waiting_is = sym (ap (λ (w : Option SequenceLine). option_map kept_line w) asked.0);
+          want_is = sym (ap (λ (w : Option SequenceLine). want_of (is_some w) stage.lines_ended stage.bed_ended) asked.0 ∙ ap (λ b. want_of false b stage.bed_ended) asked.1);
+          bed_ended_is = m.bed_ended_is;
+          waits = λ l e. absurd (let apart : None ≡ Some l = sym asked.0 ∙ e in cc);
+          counts = m.counts;
+          name_is = m.name_is;
+          holds = λ e. m.holds;
+          is_open = λ e. m.is_open;
+          is_decided = λ n going.
+              let ahead = is_written_ahead stage.ahead stage.taken item in
+              decided_at_once (is_unnamed item.names) stage.ahead stage.taken item refl
+              (or_rest stage.bed_ended (is_unnamed item.names || ahead) now going);
+          owned = m.owned;
+          in_range = s.inside.in_range;
+          knows = λ going. rw asked.0 (m.written_known going now);
+          has_ahead = λ e going u. decided_some stage.ahead stage.taken item
+              (or_true stage.bed_ended (is_unnamed item.names) (is_written_ahead stage.ahead stage.taken item) now going u);
+          ahead_in_range = s.inside.ahead_in_range;
+          decided_to_is = λ e going. m.written_to going now;
+        })
+
+    stands_with : (b : Bool) → is_written_at_once stage item ≡ b
+        → MaskStandsAt how full (cond b written_stage (record stage { waiting = Some item })) (record moved { waiting = cond b None (Some (kept_line item)); want = cond b Line Bed })
+    stands_with true e = written_stands e
+    stands_with false e = let both = neither stage.bed_ended (is_unnamed item.names) (is_written_ahead stage.ahead stage.taken item) e in waiting_stands both.0 both.1
+
+    with_it : MaskStandsAt how full (with_line stage item) (record moved { waiting = cond (writes_at_once moved item.text) None (Some (kept_line item)); want = cond (writes_at_once moved item.text) Line Bed })
+    with_it =
+        rw m.at_once (stands_with (is_written_at_once stage item) refl)
+
+    bytes_now : bytes_at_once moved (kept_line item) ≡ bytes_with how stage item
+    bytes_now = ap (λ b. cond b (line_bytes moved (kept_line item)) []) m.at_once ∙ ap (λ (l : List ℕ). cond (is_written_at_once stage item) l []) bytes_are
+
+  module _ (line : TextLine) (out : Output) (new : Masking) (grown : Output) where
+    abbrev kept : Waiting
+    kept = record { text = line.text; ending = line.ending }
+
+    takes : {A : Type 0} (done : A) → Goes line → TakesLine old line.number kept out (Ok done) new grown → TakesNextLine how full stage line out new grown
+    takes done g t = record {
+      item = g.item;
+      says = g.says;
+      stands = subst (λ (x : Masking). MaskStandsAt how full (with_line stage g.item) x)
+          (ap (λ (k : Waiting). record (moved_to old line.text) { waiting = cond (writes_at_once (moved_to old line.text) k.text) None (Some k); want = cond (writes_at_once (moved_to old line.text) k.text) Line Bed }) g.kept ∙ sym t.1)
+          (with_it g.item (moved_to old line.text) g.moved);
+      puts = subst (λ (l : List ℕ). Grown out l grown)
+          (ap (λ (k : Waiting). bytes_at_once (moved_to old line.text) k) (sym g.kept) ∙ bytes_now g.item (moved_to old line.text) g.moved) t.2;
+      settled = settled g.item (moved_to old line.text) g.moved;
+    }
+
+    fails : (A : Type 0) (fault : Fault) → Goes line → TakesLine {A = A} old line.number kept out (Err fault) new grown → (new.want ≡ Nothing) × (RefusesLine how full stage line out (told fault) grown ⊎ FailsWithLine how full stage line out (told fault) grown)
+    fails A fault g t = (
+      t.0,
+      elim t.1 [
+        | inl stray ↦ absurd (never (sym g.fine ∙ stray.1))
+        | inr other ↦ inr (record {
+          item = g.item;
+          says = g.says;
+          fails = elim other.1 [
+            | inl add ↦ inl (subst (λ (l : List ℕ). FailsToAdd out l (told fault) grown)
+                (ap (λ (k : Waiting). bytes_at_once (moved_to old line.text) k) (sym g.kept) ∙ bytes_now g.item (moved_to old line.text) g.moved) add)
+            | inr memory ↦ inr (
+              memory.0,
+              memory.1,
+              sym (memory_is g.item (moved_to old line.text) g.moved)
+                  ∙ ap (λ (k : Waiting). may_grow (moved_to old line.text) k.text) g.kept ∙ memory.2,
+            )
+          ];
+          settled = settled g.item (moved_to old line.text) g.moved;
+        })
+      ],
+    )
+
+    refuses : (A : Type 0) (fault : Fault) → Strays line → TakesLine {A = A} old line.number kept out (Err fault) new grown → (new.want ≡ Nothing) × (RefusesLine how full stage line out (told fault) grown ⊎ FailsWithLine how full stage line out (told fault) grown)
+    refuses A fault g t = (
+      t.0,
+      elim t.1 [
+        | inl stray ↦ inl (record { kind = TextBeforeHeader; says = g.says; is = stray.0; same_output = stray.2 })
+        | inr other ↦ absurd (never (sym other.0 ∙ g.stray))
+      ],
+    )
+
+    gives_by : {A : Type 0} (answer : Result A Fault) → Goes line ⊎ Strays line → TakesLine old line.number kept out answer new grown → GivesNextLine how full stage line out answer new grown
+    gives_by (Ok done) g t = elim g [
+      | inl goes ↦ takes done goes t
+      | inr strays ↦ absurd (never (sym t.0 ∙ strays.stray))
+    ]
+    gives_by {A} (Err fault) g t = elim g [
+      | inl goes ↦ fails A fault goes t
+      | inr strays ↦ refuses A fault strays t
+    ]
+
+    pub gives_line : {A : Type 0} (answer : Result A Fault) → TakesLine old line.number kept out answer new grown → GivesNextLine how full stage line out answer new grown
+    gives_line answer t = gives_by answer (goes line) t

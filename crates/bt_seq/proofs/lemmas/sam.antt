@@ -1,0 +1,11 @@
+-- Lemmas on sam.
+pub mod AlignmentLemmas
+pub mod BetweenLemmas
+pub mod BlockLemmas
+pub mod CigarLemmas
+pub mod ColumnEndLemmas
+pub mod DivisionLemmas
+pub mod ExtentLemmas
+pub mod SamKindLemmas
+pub mod ShortNumbers
+pub mod TagLemmas

@@ -1,0 +1,15 @@
+use Rattle.std.proofs.Common.{◌≡◌, List, length, false}
+use Rattle.bt_lines.specs.calls.Buffered.{lines_in}
+use Rattle.bt_lines.specs.model.Lines.{TextLine}
+use Rattle.bt_seq.specs.inside.mask.CopyThrough.{CopiesLines}
+use Rattle.bt_seq.proofs.mask.copy_through.CopyThrough.consume_up_to.Given as goal
+
+-- lines were consumed, one after another
+abbrev pub invariant-loop : goal.invariant-loop
+invariant-loop l = record {
+  come : (lines : List TextLine) × CopiesLines l.to l.initial.through lines l.through;
+  closed : l.through.lines.is_open ≡ false;
+}
+
+abbrev pub decreases-loop : goal.decreases-loop
+decreases-loop l = length (lines_in l.through.lines)

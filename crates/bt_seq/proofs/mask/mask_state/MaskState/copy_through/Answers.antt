@@ -1,0 +1,37 @@
+use Rattle.std.proofs.Common.{◌≡◌, ◌∙◌, if◌then◌else◌, [], slice_range, is_some, ap, sym, subst, arith}
+use Rattle.bt_seq.proofs.lemmas.mask.steps.CopyLemmas.{bounds_are, bytes_between, copied_through, copies_within, some_bytes}
+use Rattle.bt_seq.proofs.lemmas.mask.bases.MaskingLemmas.{none_held}
+use Rattle.bt_seq.proofs.mask.mask_state.MaskState.copy_through.Goals as goal
+use Rattle.bt_seq.specs.inside.mask.CopyThrough.{CopiesThrough}
+use Rattle.bt_seq.specs.calls.MaskState.{Masking}
+use Rattle.bt_seq.specs.inside.mask.Window.{limit}
+use Rattle.bt_seq.specs.contracts.mask.mask_state.MaskState.{the_view}
+
+pub between-copied-requires-clause-ordered : goal.between-copied-requires-clause-ordered
+between-copied-requires-clause-ordered g c =
+    let copies = c.consume_up_to-through.ensures in
+    omega (arith, c.offset.ensures, c.offset-2.ensures, (bytes_between c.known_to.result copies.0 _ c.consume_up_to-through.result copies.1).1)
+
+pub between-copied-requires-clause-within : goal.between-copied-requires-clause-within
+between-copied-requires-clause-within g c =
+    let copies = c.consume_up_to-through.ensures in
+    omega (arith, c.offset-2.ensures, copies_within c.known_to.result copies.0 _ c.consume_up_to-through.result copies.1)
+
+pub returns : goal.returns
+returns g c =
+    let old : Masking = the_view c.self.inside in
+    let copies = c.consume_up_to-through.ensures in
+    let last = c.consume_up_to-through.result in
+    let all = c.args.lines.now.all.now in
+    let may = c.may_copy.ensures in
+    let held = may.held c.if-not-may_copy.false in
+    let at = bounds_are c.before-2.result c.bases.result c.self.inside.window c.before-2.ensures c.bases.ensures.bases (ap (λ (m : Masking). m.window.held) c.self.view_is ∙ none_held c.args.self.now.window.held held) in
+    let copied_is : c.between-copied.result.now ≡ slice_range all c.args.lines.now.at last.lines.at =
+    c.between-copied.ensures ∙ ap (λ n. slice_range all n c.offset-2.result) c.offset.ensures ∙ ap (λ n. slice_range all c.args.lines.now.at n) c.offset-2.ensures in
+    let written = c.has_written.ensures in
+    rw written.same
+    (subst (λ (m : Masking). CopiesThrough m c.args.lines.now c.args.out.now.output c.put_line-put.result c.has_written.new.self last.lines c.put_line-put.new.out.output) c.self.view_is
+    (copied_through c.known_to.result old _ last at (ap (λ (m : Masking). is_some m.matched.name) c.self.view_is ∙ may.named c.if-not-may_copy.false)
+    (c.known_to.ensures ∙ ap (λ (m : Masking). if m.bed_ended then limit else m.decided_to) (sym c.self.view_is)) copies
+    c.stand_at.new.self c.stand_at.ensures c.between-copied.result.now copied_is (some_bytes c.between-copied.result.now (sym c.is_empty.ensures ∙ c.if-is_empty.false))
+    c.args.out.now.output c.put_line-put.new.out.output c.put_line-put.result c.has_written.new.self c.put_line-put.ensures written.next written.stops))

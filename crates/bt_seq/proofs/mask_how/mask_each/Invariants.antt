@@ -1,7 +1,0 @@
-use Rattle.std.proofs.Common.{◌≡◌, ◌++◌, take, drop}
-use Rattle.std.specs.Prelude.{map}
-use Rattle.bt_seq.specs.MaskHow.{masked_byte}
-use Rattle.bt_seq.proofs.mask_how.mask_each.Given as goal
-
-abbrev pub invariant-loop-base : goal.invariant-loop-base
-invariant-loop-base l = l.bases ≡ map (masked_byte l.how) (take l.base-index l.fn.bases) ++ drop l.base-index l.fn.bases

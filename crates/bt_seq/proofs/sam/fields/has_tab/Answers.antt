@@ -1,0 +1,22 @@
+use Rattle.std.proofs.Common.{◌≡◌, ◌∙◌, ◌<◌, ◌≤◌, List, ℕ, Option, Some, None, arith, cond, eqb, length, refl}
+use Rattle.std.specs.Prelude.{count_by, is_some, nat_le}
+use Rattle.std.proofs.lemmas.Bool.Decides.{nat_tests}
+use Rattle.std.proofs.lemmas.List.Splits.{length-slice_split}
+use Rattle.std.proofs.lemmas.List.Sums.{get_or-le-sum_by}
+use Rattle.bt_lines.proofs.lemmas.reader.lines.PiecesLemmas.{pieces_whole}
+use Rattle.bt_lines.specs.model.Lines.{pieces}
+use Rattle.memchr.specs.Find.{IsLastByte, is_byte}
+use Rattle.bt_seq.proofs.sam.fields.has_tab.Goals as goal
+
+-- a text has two columns if it has a tab
+two_columns : (text : List ℕ) (r : Option ℕ) → IsLastByte (is_byte 9) text r → is_some r ≡ nat_le 2 (length (pieces 9 text))
+two_columns text None e = rw (pieces_whole 9 text e) refl
+two_columns text (Some at) e =
+    let below : at < length text = e.0.high in
+    let one : 1 ≤ count_by (λ byte. eqb byte 9) text = rw e.1 at (get_or-le-sum_by (λ byte. cond (eqb byte 9) 1 0) text at 0 below) in
+    let size = length-slice_split (λ byte. eqb byte 9) text in
+    let enough : 2 ≤ length (pieces 9 text) = omega (arith, one, size) in
+    grind (arith, nat_tests)
+
+pub returns : goal.returns
+returns c = c.is_some.ensures ∙ two_columns c.args.text.now c.rfind_byte.result c.rfind_byte.ensures

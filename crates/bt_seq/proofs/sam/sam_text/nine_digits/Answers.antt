@@ -1,0 +1,70 @@
+use Rattle.std.proofs.Common.{inl, inr, ◌∙◌, ◌≡◌, ◌+◌, ◌-◌, ◌*◌, ◌^◌, ◌<◌, ◌&&◌, ap, arith, false, get_or, leb, length, length-take, List, ltb, None, Some, subst, sym, take, true, ℕ}
+use Rattle.std.proofs.lemmas.Bool.{cases_Bool}
+use Rattle.std.proofs.lemmas.List.{take_all}
+use Rattle.std.proofs.lemmas.List.Folds.{list_all_more}
+use Rattle.std.specs.Char.{is_ascii_digit}
+use Rattle.std.specs.List.{list_all}
+use Rattle.std.specs.Str.Parse.{digits_value}
+use Rattle.bt_bed.proofs.lemmas.read.FirstColumnLemmas.{digit_bound}
+use Rattle.bt_lines.proofs.lemmas.numbers.NumberLemmas.{digit_small, digits_below, digits_denoting, digits_more, refused_second, value_below, value_more, value_of_digits, value_of_other, value_of_whole, value_short}
+use Rattle.bt_lines.specs.model.Number.{value_of}
+use Rattle.bt_seq.proofs.sam.sam_text.nine_digits.Goals as goal
+
+-- eight digits denote less than this
+front_below : (text : List ℕ) → length text ≡ 9 → list_all is_ascii_digit (take 8 text) ≡ true → digits_value 10 (take 8 text) < 10 ^ 8
+front_below text n digits =
+    let size : length (take 8 text) ≡ 8 = omega (arith, length-take 8 text) in
+    subst (λ (m : ℕ). digits_value 10 (take 8 text) < 10 ^ m) size (digits_below (take 8 text) digits)
+
+-- if the first eight denote no number, one of them is no digit
+none_by_front : (text : List ℕ) → length text ≡ 9 → None ≡ value_of (take 8 text) → None ≡ value_of text
+unfolding value_of
+none_by_front text n none =
+    let size : length (take 8 text) ≡ 8 = omega (arith, length-take 8 text) in
+    elim (cases_Bool (list_all is_ascii_digit (take 8 text))) [
+      | inl digits ↦
+          let some : Some (digits_value 10 (take 8 text)) ≡ value_of (take 8 text) = value_of_digits (take 8 text) (omega arith) digits (value_short 8 _ (front_below text n digits) (omega arith)) in
+          let wrong : None ≡ Some (digits_value 10 (take 8 text)) = none ∙ sym some in
+          absurd cc
+      | inr other ↦
+          let more : list_all is_ascii_digit (take 9 text) ≡ (list_all is_ascii_digit (take 8 text) && is_ascii_digit (get_or text 8 0)) = list_all_more is_ascii_digit text 8 0 (omega arith) in
+          let whole : take 9 text ≡ text = take_all 9 text (omega arith) in
+          let fails : list_all is_ascii_digit text ≡ false = ap (list_all is_ascii_digit) (sym whole) ∙ more ∙ ap (λ b. b && is_ascii_digit (get_or text 8 0)) other in
+          sym (refused_second (ltb 0 (length text)) (list_all is_ascii_digit text) (leb (digits_value 10 text) 999999999999) (Some (digits_value 10 text)) None fails)
+    ]
+
+pub returns-in_err-value : goal.returns-in_err-value
+returns-in_err-value c = rw c.from_residual.ensures (none_by_front c.args.text.now c.requires c.in_err-value.ensures)
+
+pub returns-then-not-is_ascii_digit : goal.returns-then-not-is_ascii_digit
+returns-then-not-is_ascii_digit c = value_of_other c.args.text.now 8 (omega (arith, c.requires)) (sym c.is_ascii_digit.ensures.value ∙ c.if-not-is_ascii_digit.true)
+
+pub overflow_mul-result : goal.overflow_mul-result
+overflow_mul-result c =
+    let text = c.args.text.now in
+    let is = digits_denoting (take 8 text) c.in_ok-value.value c.in_ok-value.ensures in
+    let below = front_below text c.requires is.0 in
+    let small = value_short 8 _ below (omega arith) in
+    omega (arith, is.1)
+
+pub overflow_add-result : goal.overflow_add-result
+overflow_add-result c =
+    let text = c.args.text.now in
+    let is = digits_denoting (take 8 text) c.in_ok-value.value c.in_ok-value.ensures in
+    let below = front_below text c.requires is.0 in
+    let small = value_short 8 _ below (omega arith) in
+    let digit = sym c.is_ascii_digit.ensures.value ∙ c.if-not-is_ascii_digit.false in
+    let low = digit_bound (get_or text 8 0) digit in
+    omega (arith, is.1, c.from.ensures)
+
+pub returns : goal.returns
+returns c =
+    let text = c.args.text.now in
+    let value = c.in_ok-value.value in
+    let is = digits_denoting (take 8 text) value c.in_ok-value.ensures in
+    let digit = sym c.is_ascii_digit.ensures.value ∙ c.if-not-is_ascii_digit.false in
+    let inside : 8 < length text = omega (arith, c.requires) in
+    let below : value < 10 ^ 8 = rw (is.1) (front_below text c.requires is.0) in
+    let most = value_short 9 _ (value_below 8 value _ below (digit_small (get_or text 8 0) digit)) (omega arith) in
+    rw (c.from.ensures) (value_of_whole text 9 (value * 10 + (get_or text 8 0 - 48)) (omega arith) (omega (arith, c.requires))
+    (value_more text 8 value inside is.1 digit) (digits_more text 8 inside is.0 digit) most)

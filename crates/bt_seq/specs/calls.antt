@@ -1,0 +1,13 @@
+-- What calls do, as contracts say it.
+pub mod BamToBedState
+pub mod GivenLines
+pub mod HeldMasks
+pub mod MaskAdvance
+pub mod MaskFronts
+pub mod MaskSettles
+pub mod MaskStage
+pub mod MaskStanding
+pub mod MaskState
+pub mod MaskSteps
+pub mod Sam
+pub mod SamBlocks

@@ -1,0 +1,58 @@
+-- The stage of a masking engine.
+use Rattle.std.specs.Prelude.{◌≡◌, ◌⊎◌, Bool, true, false, List, [], ◌++◌, map, Option, Some}
+use Rattle.std.specs.Prelude.{None, is_some, option_map}
+use Rattle.std.specs.List.{AllByRecursion}
+use Rattle.bt_bed.specs.model.feature.Feature.{Feature}
+use Rattle.bt_bed.specs.model.input.GoodBlocks.{AreInBlocks}
+use Rattle.bt_seq.specs.calls.HeldMasks.{extent_of}
+use Rattle.bt_seq.specs.inside.mask.MaskInside.{KnowsStage}
+use Rattle.bt_seq.specs.calls.MaskStage.{MaskStage, given, held_by, line_given_last, reached, want_at}
+use Rattle.bt_seq.specs.model.Masked.{decided, is_unnamed}
+use Rattle.bt_seq.specs.calls.MaskState.{Masking, Waiting}
+use Rattle.bt_seq.specs.model.Owners.{left_after}
+use Rattle.bt_seq.specs.model.Sequences.{SequenceLine, is_header}
+use Rattle.bt_seq.specs.declared.mask.mask_how.MaskHow.{MaskHow}
+
+-- no more records were taken than the lines given need: none,
+-- or the last line isn't decided by them
+abbrev pub IsOpen : Option SequenceLine → List Feature → Type 0
+IsOpen None taken = taken ≡ []
+IsOpen (Some line) taken = (taken ≡ []) ⊎ (decided line taken ≡ false)
+
+-- a line as it is kept
+abbrev pub kept_line : SequenceLine → Waiting
+kept_line line = record { text = line.text; ending = line.ending }
+
+-- a line waits only while neither input has ended, and after a header
+pub record Waits (stage : MaskStage) (line : SequenceLine) : Type 0 where
+  pub lines : stage.lines_ended ≡ false
+  pub bed : stage.bed_ended ≡ false
+  pub named : is_unnamed line.names ≡ false
+  -- a header has no bases before it
+  pub header : is_header line.text ≡ true → line.before ≡ 0
+
+-- The engine is at the stage: what waits, what is wanted and what is held are those of the stage.
+pub record MaskStandsAt (how : MaskHow) (full : Bool) (stage : MaskStage)
+    (m : Masking) : Type 0 where
+  pub how_is : m.how ≡ how
+  pub full_is : m.full ≡ full
+  pub waiting_is : m.waiting ≡ option_map kept_line stage.waiting
+  pub want_is : m.want ≡ want_at stage
+  pub bed_ended_is : m.bed_ended ≡ stage.bed_ended
+  pub waits : (line : SequenceLine) → stage.waiting ≡ Some line → Waits stage line
+  -- what is held is what the line given last needs: after the last line too,
+  -- if the records of each block rise
+  pub holds : (stage.lines_ended ≡ false) ⊎ AreInBlocks stage.taken
+      → m.window.held ≡ map extent_of (held_by (line_given_last (given stage)) stage.taken)
+  -- no record was taken but those that left the last line undecided
+  pub is_open : stage.lines_ended ≡ false → IsOpen (line_given_last (given stage)) stage.taken
+  -- each block taken belongs to a sequence
+  pub owned : is_some (left_after (reached stage).names stage.taken) ≡ true
+  pub inside : KnowsStage stage m
+
+-- No prefix of the records taken decides all lines given: so none was taken after the first record
+-- that did.
+abbrev pub taken_are_first : Type 0
+taken_are_first = (lines : List SequenceLine) (front rest : List Feature)
+    → IsOpen (line_given_last lines) (front ++ rest)
+    → (front ++ rest ≡ []) ⊎ (AllByRecursion (λ line. decided line front ≡ true) lines → ⊥)

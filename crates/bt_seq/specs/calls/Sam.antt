@@ -1,0 +1,41 @@
+-- Alignments and columns that are borrowed, as the definitions see them.
+use Rattle.std.specs.Prelude.{◌≡◌, ℕ, List, [], ◌∷◌, Option, Some, None, Result, Ok, Err}
+use Rattle.std.specs.Prelude.{option_map}
+use Rattle.bt_lines.specs.model.Lines.{pieces}
+use Rattle.bt_lines.specs.declared.fault.Kind.{Kind}
+use Rattle.bt_seq.specs.model.Alignment.{Alignment, Fields}
+use Rattle.bt_seq.specs.declared.sam.fields.Fields.{Fields as FieldsRef}
+use Rattle.bt_seq.specs.declared.sam.SamRef.{SamRef}
+use denote.Ref.{Bor}
+
+abbrev pub alignment_lent : SamRef → Alignment
+alignment_lent sam = record {
+  name = sam.name.now;
+  first = sam.first;
+  last = sam.last;
+  reverse = sam.reverse;
+  chrom = sam.chrom.now;
+  start = sam.start;
+  stop = sam.stop;
+  quality = sam.quality;
+  cigar = sam.cigar.now;
+}
+
+abbrev pub alignment_seen : Result (Option SamRef) Kind → Result (Option Alignment) Kind
+alignment_seen (Ok sam) = Ok (option_map alignment_lent sam)
+alignment_seen (Err kind) = Err kind
+
+abbrev pub fields_lent : FieldsRef → Fields
+fields_lent fields = record {
+  name = fields.name.now;
+  flag = fields.flag.now;
+  chrom = fields.chrom.now;
+  position = fields.position.now;
+  quality = fields.quality.now;
+  cigar = fields.cigar.now;
+}
+
+-- the first column of a text, and what follows its tab, if there is one
+abbrev pub IsCut : List ℕ → Option (Bor (List ℕ) × Bor (List ℕ)) → Type 0
+IsCut text None = pieces 9 text ≡ text ∷ []
+IsCut text (Some cut) = pieces 9 text ≡ cut.0.now ∷ pieces 9 cut.1.now

@@ -1,0 +1,3 @@
+-- Words of contracts inside of the crate.
+pub mod mask
+pub mod sam

@@ -1,0 +1,28 @@
+-- What is read of a CIGAR, one operation after another.
+use Rattle.std.specs.Prelude.{◌≡◌, ℕ, ◌+◌, ◌<◌, ◌≤◌, ⊤, List, [], ◌∷◌, length, min, Option, Some}
+use Rattle.std.specs.Prelude.{None, option_map}
+use Rattle.bt_lines.specs.model.Number.{max_number}
+use Rattle.bt_seq.specs.model.Cigar.{operations_in, reference_length, with_operation}
+use Rattle.bt_seq.specs.declared.sam.operation.Operation.{Operation}
+use denote.Ref.{Bor}
+
+-- no operation is left in an empty text, and another text is malformed
+abbrev pub none_left : List ℕ → Option (List Operation)
+none_left [] = Some []
+none_left (byte ∷ bytes) = None
+
+-- the first operation of a text, and the text after it
+abbrev pub IsFirst : List ℕ → Option (Operation × Bor (List ℕ)) → Type 0
+IsFirst text None = operations_in text ≡ none_left text
+IsFirst text (Some first) =
+    operations_in text ≡ with_operation (Some first.0) (operations_in first.1.now)
+
+-- the text after the first operation is shorter, and the operation's length is a number
+abbrev pub IsWithin : List ℕ → Option (Operation × Bor (List ℕ)) → Type 0
+IsWithin text None = ⊤
+IsWithin text (Some first) = (length first.1.now < length text) × (first.0.length ≤ max_number)
+
+-- the smaller of the reference length, with so much more, and a million million
+abbrev pub span_with : ℕ → Option (List Operation) → Option ℕ
+span_with more operations =
+    option_map (λ os. min (more + reference_length os) 1000000000000) operations

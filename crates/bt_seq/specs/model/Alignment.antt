@@ -1,0 +1,128 @@
+-- What a line of a SAM file says: nothing, an alignment, or what is wrong with it (Sequence
+-- Alignment/Map Format Specification, section 1.3 for header lines, 1.4 for the mandatory fields).
+use Rattle.std.specs.Prelude.{ℕ, ◌+◌, ◌-◌, ◌==◌, ◌||◌, Bool, true, List, [], ◌∷◌, codes, length}
+use Rattle.std.specs.Prelude.{bytes_eq, nat_le, nat_lt, Option, Some, None, Result, Ok, Err}
+use Rattle.std.specs.Prelude.{if◌then◌else◌}
+use Rattle.bt_lines.specs.model.Lines.{pieces}
+use Rattle.bt_lines.specs.model.Number.{max_number, value_of}
+use Rattle.bt_lines.specs.declared.fault.Kind.{Kind}
+use Rattle.bt_lines.specs.declared.fault.Kind.TheVariants.{TooFewColumns, EmptyName, BadFlag}
+use Rattle.bt_lines.specs.declared.fault.Kind.TheVariants.{BadPosition, BadQuality, BadCigar}
+use Rattle.bt_lines.specs.declared.fault.Kind.TheVariants.{StopTooLarge}
+use Rattle.bt_seq.specs.model.Cigar.{length_of}
+use Rattle.bt_seq.specs.model.Flag.{is_first, is_last, is_reverse, is_unmapped}
+
+-- an alignment that gives BED lines
+pub record Alignment : Type 0 where
+  -- the name of the read (QNAME), and whether it is the first or the last segment of its template
+  pub name : List ℕ
+  pub first : Bool
+  pub last : Bool
+  pub reverse : Bool
+  -- where it lies: from the first reference base, counted from 0, up to the one after the last
+  pub chrom : List ℕ
+  pub start : ℕ
+  pub stop : ℕ
+  -- the mapping quality (MAPQ)
+  pub quality : ℕ
+  pub cigar : List ℕ
+
+-- the columns that are read
+pub record Fields : Type 0 where
+  pub name : List ℕ
+  pub flag : List ℕ
+  pub chrom : List ℕ
+  pub position : List ℕ
+  pub quality : List ℕ
+  pub cigar : List ℕ
+
+-- The columns are QNAME, FLAG, RNAME, POS, MAPQ and CIGAR, and five at least after them, which are
+-- only counted: RNEXT, PNEXT, TLEN, SEQ and QUAL.
+abbrev pub fields_of : List (List ℕ) → Option Fields
+fields_of (name ∷ flag ∷ chrom ∷ position ∷ quality ∷ cigar ∷ rest) =
+    if nat_le 5 (length rest)
+    then Some (record {
+      name = name;
+      flag = flag;
+      chrom = chrom;
+      position = position;
+      quality = quality;
+      cigar = cigar;
+    }) else None
+fields_of _ = None
+
+-- a number of at most the limit
+abbrev pub up_to : ℕ → Option ℕ → Option ℕ
+up_to limit None = None
+up_to limit (Some number) = if nat_le number limit then Some number else None
+
+-- the number that a text denotes, if it is at most the limit
+abbrev pub value_up_to : ℕ → List ℕ → Option ℕ
+value_up_to limit text = up_to limit (value_of text)
+
+-- an alignment that gives no BED line: the read is unmapped, has no reference name or no position,
+-- or covers no reference base
+abbrev pub gives_nothing : ℕ → List ℕ → ℕ → ℕ → Bool
+gives_nothing flag chrom position span =
+    is_unmapped flag || bytes_eq chrom (codes "*") || (position == 0) || (span == 0)
+
+-- the alignment of these values; the position is counted from 1
+abbrev pub alignment_at : Fields → ℕ → ℕ → ℕ → ℕ → Alignment
+alignment_at fields flag position quality span = record {
+  name = fields.name;
+  first = is_first flag;
+  last = is_last flag;
+  reverse = is_reverse flag;
+  chrom = fields.chrom;
+  start = position - 1;
+  stop = position - 1 + span;
+  quality = quality;
+  cigar = fields.cigar;
+}
+
+-- what these values say: the end is checked only if the alignment gives a line
+abbrev pub values_say : Fields → ℕ → ℕ → ℕ → ℕ → Result (Option Alignment) Kind
+values_say fields flag position quality span =
+    if gives_nothing flag fields.chrom position span then Ok None
+    else (if nat_lt max_number (position - 1 + span) then Err StopTooLarge
+    else Ok (Some (alignment_at fields flag position quality span)))
+
+-- the first of the columns that is at fault, or what their values say: flag, reference name,
+-- position, mapping quality, and the reference length of the CIGAR
+abbrev pub columns_say : Fields → Option ℕ → List ℕ → Option ℕ → Option ℕ → Option ℕ
+    → Result (Option Alignment) Kind
+columns_say fields None chrom position quality span = Err BadFlag
+columns_say fields (Some flag) [] position quality span = Err EmptyName
+columns_say fields (Some flag) (byte ∷ bytes) None quality span = Err BadPosition
+columns_say fields (Some flag) (byte ∷ bytes) (Some position) None span = Err BadQuality
+columns_say fields (Some flag) (byte ∷ bytes) (Some position) (Some quality) None = Err BadCigar
+columns_say fields (Some flag) (byte ∷ bytes) (Some position) (Some quality) (Some span) =
+    values_say fields flag position quality span
+
+-- the limits of FLAG, POS and MAPQ
+abbrev pub max_flag : ℕ
+max_flag = 65535
+
+abbrev pub max_position : ℕ
+max_position = 2147483647
+
+abbrev pub max_quality : ℕ
+max_quality = 255
+
+-- what the columns say, if there are enough of them
+unfoldable pub fields_say : Option Fields → Result (Option Alignment) Kind
+fields_say None = Err TooFewColumns
+fields_say (Some fields) =
+    columns_say fields (value_up_to max_flag fields.flag) fields.chrom
+    (value_up_to max_position fields.position) (value_up_to max_quality fields.quality)
+    (length_of fields.cigar)
+
+-- whether a line says nothing: it is blank, or a header line,
+-- which begins with `@`; both may come anywhere
+abbrev pub is_skipped : List ℕ → Bool
+is_skipped [] = true
+is_skipped (byte ∷ bytes) = byte == 64
+
+-- what a line's text says
+unfoldable pub alignment_of : List ℕ → Result (Option Alignment) Kind
+alignment_of text = if is_skipped text then Ok None else fields_say (fields_of (pieces 9 text))

@@ -1,0 +1,116 @@
+-- CIGAR strings (Sequence Alignment/Map Format Specification, section 1.4, field 6): `*`, or one or
+-- more operations, each a number and a letter.
+use Rattle.std.specs.Prelude.{◌≡◌, ℕ, ◌==◌, ◌&&◌, ◌||◌, Bool, IsTrue, List, [], ◌∷◌, ◌++◌, codes}
+use Rattle.std.specs.Prelude.{bytes_eq, flat_map, sum_by, Option, Some, None, option_map}
+use Rattle.std.specs.Prelude.{if◌then◌else◌}
+use Rattle.std.specs.List.{list_all}
+use Rattle.bt_lines.specs.model.Number.{is_number, value_of}
+use Rattle.bt_seq.specs.declared.sam.operation.Operation.{Operation}
+
+-- the letters of operations: M, I, D, N, S, H, P, = and X
+abbrev pub is_letter : ℕ → Bool
+is_letter byte =
+    (byte == 77) || (byte == 73) || (byte == 68) || (byte == 78) || (byte == 83) || (byte == 72)
+    || (byte == 80) || (byte == 61) || (byte == 88)
+
+-- the letters of the operations that consume reference bases: M, D, N, = and X
+abbrev pub consumes_reference : ℕ → Bool
+consumes_reference letter =
+    (letter == 77) || (letter == 68) || (letter == 78) || (letter == 61) || (letter == 88)
+
+-- how many reference bases an operation covers
+abbrev pub covered_by : Operation → ℕ
+covered_by operation = if consumes_reference operation.letter then operation.length else 0
+
+-- how many reference bases operations cover
+abbrev pub reference_length : List Operation → ℕ
+reference_length operations = sum_by covered_by operations
+
+-- a part of a text: some bytes, and the letter after them
+pub record Part : Type 0 where
+  pub digits : List ℕ
+  pub letter : ℕ
+
+-- the bytes of a part
+abbrev pub spelled : Part → List ℕ
+spelled part = part.digits ++ part.letter ∷ []
+
+-- whether a part is a number and the letter of an operation
+abbrev pub is_operation : Part → Bool
+is_operation part = is_number part.digits && is_letter part.letter
+
+-- the parts are a division of the text into numbers and letters
+pub record Divides (text : List ℕ) (parts : List Part) : Type 0 where
+  pub whole : flat_map spelled parts ≡ text
+  pub all : IsTrue (list_all is_operation parts)
+
+-- a part before others
+abbrev pub with_part : Part → Option (List Part) → Option (List Part)
+with_part part parts = option_map (λ others. part ∷ others) parts
+
+-- a byte before the first of the parts, if there is one
+abbrev pub onto_part : ℕ → Option (List Part) → Option (List Part)
+onto_part byte None = None
+onto_part byte (Some []) = None
+onto_part byte (Some (part ∷ parts)) =
+    Some (record { digits = byte ∷ part.digits; letter = part.letter } ∷ parts)
+
+-- the parts of a text that is cut after each letter; there are none if bytes are left after
+-- the last letter
+abbrev pub parts_of : List ℕ → Option (List Part)
+parts_of [] = Some []
+parts_of (byte ∷ bytes) =
+    if is_letter byte then with_part (record { digits = []; letter = byte }) (parts_of bytes)
+    else onto_part byte (parts_of bytes)
+
+-- the operation of a part whose digits denote a number
+abbrev pub operation_of : Part → Option Operation
+operation_of part =
+    option_map (λ length. record { length = length; letter = part.letter }) (value_of part.digits)
+
+-- an operation before others, if all are there
+abbrev pub with_operation : Option Operation → Option (List Operation) → Option (List Operation)
+with_operation None operations = None
+with_operation (Some operation) operations = option_map (λ others. operation ∷ others) operations
+
+-- the operations of parts, if each has one
+abbrev pub each_operation : List Part → Option (List Operation)
+each_operation [] = Some []
+each_operation (part ∷ parts) = with_operation (operation_of part) (each_operation parts)
+
+abbrev pub operations_of_parts : Option (List Part) → Option (List Operation)
+operations_of_parts None = None
+operations_of_parts (Some parts) = each_operation parts
+
+-- the operations of a text that can be divided into numbers and letters
+unfoldable pub operations_in : List ℕ → Option (List Operation)
+operations_in text = operations_of_parts (parts_of text)
+
+-- The operations of a CIGAR, if it is well formed: none for `*`, which says that there is no
+-- information, and else at least one.
+abbrev pub operations_of : List ℕ → Option (List Operation)
+operations_of [] = None
+operations_of (byte ∷ bytes) =
+    if bytes_eq (byte ∷ bytes) (codes "*") then Some [] else operations_in (byte ∷ bytes)
+
+-- the reference length of a CIGAR, if it is well formed
+abbrev pub length_of : List ℕ → Option ℕ
+length_of cigar = option_map reference_length (operations_of cigar)
+
+-- a text can be divided in one way only
+abbrev pub division_is_one : Type 0
+division_is_one =
+    (text : List ℕ) (parts others : List Part) → Divides text parts → Divides text others
+    → parts ≡ others
+
+-- the operations are those of that division
+abbrev pub division_is_found : Type 0
+division_is_found =
+    (text : List ℕ) (parts : List Part) → Divides text parts
+    → operations_in text ≡ each_operation parts
+
+-- and if there are operations, there is a division
+abbrev pub operations_are_divided : Type 0
+operations_are_divided =
+    (text : List ℕ) (operations : List Operation) → operations_in text ≡ Some operations
+    → (parts : List Part) × (Divides text parts × (each_operation parts ≡ Some operations))

@@ -1,0 +1,101 @@
+-- The masked lines of a FASTA input, and how it meets a BED input (bedtools manual, maskfasta).
+use Rattle.std.specs.Prelude.{ℕ, suc, ◌&&◌, ◌||◌, Bool, true, false, List, [], ◌∷◌, ◌++◌, filter}
+use Rattle.std.specs.Prelude.{nat_le, nat_lt, Option, Some, None, is_none, if◌then◌else◌}
+use Rattle.std.specs.List.{list_any}
+use Rattle.bt_bed.specs.model.feature.Feature.{Feature}
+use Rattle.bt_bed.specs.model.input.Good.{Good, Member, items_in, or_else}
+use Rattle.bt_bed.specs.model.input.GoodBlocks.{block_good}
+use Rattle.bt_bed.specs.model.feature.LineKind.{fault_at_line}
+use Rattle.bt_bed.specs.model.input.Meeting.{Met, Rule, meet}
+use Rattle.bt_lines.specs.model.Fault.{Told}
+use Rattle.bt_lines.specs.model.Handed.{whole_text}
+use Rattle.bt_lines.specs.model.Lines.{end_bytes}
+use Rattle.bt_lines.specs.declared.fault.Input.TheVariants.{First, Second}
+use Rattle.bt_lines.specs.declared.fault.Kind.TheVariants.{NoSequence}
+use Rattle.bt_seq.specs.model.MaskHow.{masked_byte}
+use Rattle.bt_seq.specs.model.Owners.{Block, block_decides, blocks_by, first_unowned, own_records, owned}
+use Rattle.bt_seq.specs.model.Owners.{owned_from}
+use Rattle.bt_seq.specs.model.Sequences.{SequenceLine, bases_up_to, is_header, sequence_good}
+use Rattle.bt_seq.specs.declared.mask.mask_how.MaskHow.{MaskHow}
+
+-- whether a record covers a position
+abbrev pub covers : ℕ → Feature → Bool
+covers position r = nat_le r.start position && nat_lt position r.stop
+
+-- bases from this position on, of which those that a record covers are replaced
+abbrev pub masked_from : MaskHow → List Feature → ℕ → List ℕ → List ℕ
+masked_from how records position [] = []
+masked_from how records position (base ∷ bases) =
+    (if list_any (covers position) records then masked_byte how base else base)
+    ∷ masked_from how records (suc position) bases
+
+-- the text of a line against all records: a header stays
+abbrev pub masked_text : MaskHow → List Feature → SequenceLine → List ℕ
+masked_text how records line =
+    if is_header line.text then line.text
+    else masked_from how (own_records line.names records) line.before line.text
+
+-- the line with its line end, which stays as it was
+abbrev pub masked_line : MaskHow → List Feature → SequenceLine → List ℕ
+masked_line how records line = masked_text how records line ++ end_bytes line.ending
+
+-- what is held by a line: of the records of its sequence's block those that start before its end
+-- and reach past its start
+abbrev pub held_for : SequenceLine → List Feature → List Feature
+held_for line records =
+    filter (λ r. nat_lt r.start (bases_up_to line) && nat_lt line.before r.stop)
+    (own_records line.names records)
+
+-- whether there is no name: a line comes before the first header, where it is decided at once
+abbrev pub is_unnamed : List (List ℕ) → Bool
+is_unnamed [] = true
+is_unnamed (name ∷ names) = false
+
+-- whether these records decide a line: nothing that follows them in order changes it
+abbrev pub decided : SequenceLine → List Feature → Bool
+decided line records =
+    is_unnamed line.names
+    || list_any (λ o. block_decides (bases_up_to line) o.left o.block.items)
+    (owned line.names records)
+
+-- the names of all sequences that have a line among these
+abbrev pub names_of : List SequenceLine → List (List ℕ)
+names_of [] = []
+names_of (line ∷ []) = line.names
+names_of (line ∷ next ∷ lines) = names_of (next ∷ lines)
+
+-- that there is no sequence for these records, reported at the first of them
+abbrev pub told_at_first : List (Member Feature) → Option Told
+told_at_first [] = None
+told_at_first (m ∷ ms) = Some (fault_at_line Second m.line NoSequence)
+
+-- that there is none for a block
+abbrev pub no_sequence_for : Option (Block (Member Feature)) → Option Told
+no_sequence_for None = None
+no_sequence_for (Some block) = told_at_first block.items
+
+-- the fault of the first block that belongs to no sequence of these names, if there is one
+abbrev pub no_sequence : List (List ℕ) → List (Member Feature) → Option Told
+no_sequence names members =
+    no_sequence_for (first_unowned
+    (owned_from (Some names) (blocks_by (λ m. m.item.chrom) members)))
+
+-- What the good records of the second input, and its fault, make of the lines of the first. At the
+-- end its first block without a sequence is reported, before its fault.
+abbrev pub mask_rule : MaskHow → List (List ℕ) → Good Feature → Rule SequenceLine ℕ Told
+mask_rule how names second = record {
+  decided = λ line. is_none second.fault || decided line (items_in second);
+  lines = masked_line how (items_in second);
+  fault = second.fault;
+  last = or_else (no_sequence names second.members) second.fault;
+}
+
+-- the bytes that maskfasta writes of two inputs, and the fault that it tells
+abbrev pub mask_met : MaskHow → Good SequenceLine → Good Feature → Met ℕ Told
+mask_met how first second =
+    meet (mask_rule how (names_of (items_in first)) second) (items_in first) first.fault
+
+-- the same of two whole texts
+abbrev pub mask_texts : MaskHow → Bool → List ℕ → List ℕ → Met ℕ Told
+mask_texts how full fasta bed =
+    mask_met how (sequence_good full First (whole_text fasta)) (block_good Second (whole_text bed))

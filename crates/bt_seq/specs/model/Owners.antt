@@ -1,0 +1,154 @@
+-- Which records mask which sequence. A block is a maximal run of records of one chromosome. It
+-- belongs to the first sequence of its name after that of the block before it. It belongs to none
+-- if there is no such sequence, or if the block before it belongs to none.
+use Rattle.std.specs.Prelude.{◌++◌, ◌≡◌, ◌≢◌, ◌↔◌, ℕ, ◌<◌, All, length, Bool, true, false, ⊤, List}
+use Rattle.std.specs.Prelude.{[], ◌∷◌}
+use Rattle.std.specs.Prelude.{Option, Some, None, bytes_eq, flat_map, nat_le, if◌then◌else◌}
+use Rattle.std.specs.List.{AllByRecursion, list_any}
+use Rattle.bt_bed.specs.model.feature.Feature.{Feature}
+
+-- a block of things that lie on chromosomes, as records with or without their lines
+pub record Block (A : Type 0) : Type 0 where
+  pub chrom : List ℕ
+  pub items : List A
+
+-- the blocks with one more record before them: it goes on with the first block, or is a block of its own
+abbrev pub block_with : {A : Type 0} → List ℕ → A → List (Block A) → List (Block A)
+block_with chrom x [] = record { chrom = chrom; items = x ∷ [] } ∷ []
+block_with chrom x (b ∷ bs) =
+    if bytes_eq chrom b.chrom then record { chrom = b.chrom; items = x ∷ b.items } ∷ bs
+    else record { chrom = chrom; items = x ∷ [] } ∷ b ∷ bs
+
+-- the maximal runs of one chromosome
+abbrev pub blocks_by : {A : Type 0} → (A → List ℕ) → List A → List (Block A)
+blocks_by chrom [] = []
+blocks_by chrom (x ∷ xs) = block_with (chrom x) x (blocks_by chrom xs)
+
+-- all that is in blocks
+abbrev pub items_of : {A : Type 0} → List (Block A) → List A
+items_of bs = flat_map (λ b. b.items) bs
+
+-- a block is another than the one before it
+abbrev pub AreApart : {A : Type 0} → List (Block A) → Type 0
+AreApart [] = ⊤
+AreApart (b ∷ []) = ⊤
+AreApart (b ∷ c ∷ bs) = (bytes_eq b.chrom c.chrom ≡ false) × AreApart (c ∷ bs)
+
+-- the names after the first of this name, if it is among them
+abbrev pub names_behind : List ℕ → List (List ℕ) → Option (List (List ℕ))
+names_behind name [] = None
+names_behind name (n ∷ ns) = if bytes_eq n name then Some ns else names_behind name ns
+
+-- the names after the sequence to which a block belongs, if these names were left by the
+-- block before it; none if it belongs to no sequence
+abbrev pub left_by : Option (List (List ℕ)) → List ℕ → Option (List (List ℕ))
+left_by None name = None
+left_by (Some names) name = names_behind name names
+
+-- a block, and the names after the sequence to which it belongs
+pub record Owned (A : Type 0) : Type 0 where
+  pub block : Block A
+  pub left : Option (List (List ℕ))
+
+abbrev pub owned_from : {A : Type 0} → Option (List (List ℕ)) → List (Block A) → List (Owned A)
+owned_from left [] = []
+owned_from left (b ∷ bs) =
+    record { block = b; left = left_by left b.chrom } ∷ owned_from (left_by left b.chrom) bs
+
+-- the blocks of records, each with its sequence among those of these names
+abbrev pub owned : List (List ℕ) → List Feature → List (Owned Feature)
+owned names records = owned_from (Some names) (blocks_by (λ r. r.chrom) records)
+
+-- the things of a block after which these names are left,
+-- if it belongs to the last of all names
+abbrev pub items_if_last : {A : Type 0} → Option (List (List ℕ)) → List A → List A
+items_if_last None xs = []
+items_if_last (Some []) xs = xs
+items_if_last (Some (name ∷ names)) xs = []
+
+-- the records of the block that belongs to the last sequence of these names
+abbrev pub own_records : List (List ℕ) → List Feature → List Feature
+own_records names records = flat_map (λ o. items_if_last o.left o.block.items) (owned names records)
+
+-- Whether a block after which these names are left decides a line of the last sequence, up to
+-- whose end there are this many bases. It does if a record of it starts there or later, or if it belongs to
+-- no sequence up to that one.
+abbrev pub block_decides : ℕ → Option (List (List ℕ)) → List Feature → Bool
+block_decides bases None records = true
+block_decides bases (Some []) records = list_any (λ r. nat_le bases r.start) records
+block_decides bases (Some (name ∷ names)) records = false
+
+-- the block, if it belongs to no sequence
+abbrev pub unowned_or : {A : Type 0} → Option (List (List ℕ)) → Block A → Option (Block A)
+    → Option (Block A)
+unowned_or None block later = Some block
+unowned_or (Some names) block later = later
+
+-- the first of the blocks that belongs to no sequence
+abbrev pub first_unowned : {A : Type 0} → List (Owned A) → Option (Block A)
+first_unowned [] = None
+first_unowned (o ∷ os) = unowned_or o.left o.block (first_unowned os)
+
+-- the records of a block lie on its chromosome, and it has one at least
+pub record AreOfChrom (block : Block Feature) : Type 0 where
+  pub chrom : All (λ r. r.chrom ≡ block.chrom) block.items
+  pub some : 0 < length block.items
+
+-- the blocks of a list are its maximal runs
+abbrev pub blocks_are_maximal_runs : Type 0
+blocks_are_maximal_runs = (records : List Feature)
+    → (items_of (blocks_by (λ r. r.chrom) records) ≡ records)
+    × AreApart (blocks_by (λ (r : Feature). r.chrom) records)
+    × AllByRecursion AreOfChrom (blocks_by (λ r. r.chrom) records)
+
+-- names, divided at the first of this name: those before it are others
+abbrev pub DividesAt : List ℕ → List (List ℕ) → List (List ℕ) → Type 0
+DividesAt name names behind =
+    (before : List (List ℕ)) × (names ≡ before ++ name ∷ behind)
+    × AllByRecursion (λ other. other ≢ name) before
+
+-- a block belongs to the first sequence of its name, among those after that of the block before it
+abbrev pub owners_are_first : Type 0
+owners_are_first = (name : List ℕ) (names behind : List (List ℕ))
+    → (names_behind name names ≡ Some behind) ↔ DividesAt name names behind
+
+-- and to none if none of these has its name
+abbrev pub unowned_find_no_name : Type 0
+unowned_find_no_name = (name : List ℕ) (names : List (List ℕ))
+    → (names_behind name names ≡ None) ↔ AllByRecursion (λ other. other ≢ name) names
+
+-- the names after the sequence of the last block: these, if there is none
+abbrev pub left_at_last : {A : Type 0} → Option (List (List ℕ)) → List (Owned A)
+    → Option (List (List ℕ))
+left_at_last left [] = left
+left_at_last left (o ∷ os) = left_at_last o.left os
+
+abbrev pub left_after : List (List ℕ) → List Feature → Option (List (List ℕ))
+left_after names records = left_at_last (Some names) (owned names records)
+
+-- whether a record goes on with the block of the last of the records
+abbrev pub goes_on : List Feature → Feature → Bool
+goes_on [] r = false
+goes_on (s ∷ []) r = bytes_eq s.chrom r.chrom
+goes_on (s ∷ t ∷ ss) r = goes_on (t ∷ ss) r
+
+-- one more record goes on with the last block, or begins one, whose sequence comes after that of
+-- the last one
+abbrev pub next_goes_on_or_begins : Type 0
+next_goes_on_or_begins = (names : List (List ℕ)) (records : List Feature) (r : Feature)
+    → left_after names (records ++ r ∷ [])
+    ≡ (if goes_on records r then left_after names records
+    else left_by (left_after names records) r.chrom)
+
+-- A block that belongs to a sequence among the first names belongs to it among all names too. After
+-- it then come the names that come after it there, and the others.
+abbrev pub owners_stay : Type 0
+owners_stay = (names more : List (List ℕ)) (records : List Feature) (rest : List (List ℕ))
+    → left_after names records ≡ Some rest
+    → left_after (names ++ more) records ≡ Some (rest ++ more)
+
+-- and a block that among all names belongs to one of the first belongs to it among those alone
+abbrev pub owners_were : Type 0
+owners_were = (names more : List (List ℕ)) (records : List Feature) (rest : List (List ℕ))
+    → left_after (names ++ more) records ≡ Some (rest ++ more)
+    → left_after names records ≡ Some rest

@@ -1,0 +1,5 @@
+//! Alignments as BED lines.
+
+pub(crate) mod bam_to_bed;
+pub(crate) mod bed_line;
+pub(crate) mod put_text;

@@ -1,0 +1,221 @@
+//! The engine of `bedtools maskfasta`.
+
+pub(crate) mod copy_through;
+pub(crate) mod header_name;
+pub(crate) mod mask_how;
+pub(crate) mod mask_state;
+pub(crate) mod mask_want;
+pub(crate) mod matching;
+pub(crate) mod phase;
+pub(crate) mod window;
+
+ghost use Rattle.std.specs.Prelude.{◌≡◌, ◌<◌, ◌⊎◌, [], Bool, None, OnErr, OnOk, Some, false, length, true};
+ghost use Rattle.bt_bed.specs.calls.Bed.{feature_lent};
+ghost use Rattle.bt_bed.specs.model.input.GoodBlocks.{AreInBlocks};
+ghost use Rattle.bt_lines.specs.calls.LentLine.{line_seen};
+ghost use Rattle.bt_seq.specs.calls.MaskStage.{IsNext, MaskStage, first_stage, given, held_by, line_given_last, want_at, with_lines_ended};
+ghost use Rattle.bt_seq.specs.calls.MaskStanding.{MaskStandsAt};
+ghost use Rattle.bt_seq.specs.calls.MaskAdvance.{GivesBoth, GivesRecord, Stays, StopsAt, left_to_give};
+ghost use Rattle.bt_seq.specs.calls.MaskSteps.{ChecksRecord, EndsCheck, EndsRecords, GivesNextLine, GivesBed};
+ghost use Rattle.bt_seq.specs.model.Sequences.{SequenceLine};
+
+use crate::mask::mask_how::MaskHow;
+use crate::mask::mask_state::MaskState;
+use crate::mask::mask_want::MaskWant;
+use bt_bed::{BedRef, Cursor, Record, Taken};
+use bt_lines::{BufferedLines, Fault, Line, Out, Sink};
+use std::alloc::Global;
+use std::marker::Model;
+
+/// Masks the bases of a FASTA input that records of a BED input cover. It is given what it wants
+/// ([`Mask::want`]): the lines of the FASTA input and the records of the BED input, each one after
+/// another, and finally the end of each. A line is written as soon as no later record can change it.
+/// Contiguous records of one chromosome are a block; a block masks the first sequence of
+/// its name after that of the block before it. Positions of a sequence count from 0. Only one line is kept,
+/// and of the records of its sequence's block those that reach into it. A first fault ends it: then it wants nothing.
+#[derive(Drop)]
+pub struct Mask {
+    // After a fault it wants nothing.
+    state: MaskState,
+}
+
+impl Model for Mask {
+    ghost use Rattle.bt_seq.specs.calls.MaskState.{Masking};
+
+    ghost Value = { Masking };
+
+    ghost view = { λ m. m.state };
+}
+
+impl Mask {
+    /// An engine that was given nothing. With `full` a sequence's name is its whole header, and else
+    /// what comes before the first space or tab. It doesn't allocate.
+    pub fn new(alloc: Global, how: MaskHow, full: bool) -> Mask
+        ensures stands { MaskStandsAt how full first_stage result }
+    {
+        Mask {
+            state: MaskState::new(alloc, how, full),
+        }
+    }
+
+    /// What it wants next.
+    pub fn want(&self) -> MaskWant
+        ensures is { result ≡ self.now.want }
+        ensures stage { (how : MaskHow) (full : Bool) (stage : MaskStage)
+            → MaskStandsAt how full stage self.now → result ≡ want_at stage }
+    {
+        self.state.want()
+    }
+
+    /// How many records it holds: those of the sequence's block that start before the end of the line
+    /// given last and reach past its start. After the last line none is added, since the records of
+    /// a block rise.
+    pub fn kept_len(&self) -> usize
+        ensures stage { (how : MaskHow) (full : Bool) (stage : MaskStage)
+            → MaskStandsAt how full stage self.now
+            → (stage.lines_ended ≡ false) ⊎ AreInBlocks stage.taken
+            → result ≡ length (held_by (line_given_last (given stage)) stage.taken) }
+    {
+        self.state.kept_len()
+    }
+
+    /// Takes the next line. It is written at once if the records have ended, if it is a blank line
+    /// before the first header, or if it is no header and the record ahead, which wasn't taken,
+    /// decides it. Else it waits. It fails with `TextBeforeHeader` if it has text before the first
+    /// header, and with `WriteFailed` if it can't be written. It fails with `NoMemory` if a header can't
+    /// be named, or a line that waits or is to be masked can't be kept.
+    pub fn give_line<K: Sink>(&mut self, line: &Line<'_>, out: &mut Out<K>) -> Result<(), Fault>
+        requires { self.old.want ≡ MaskWant.Line }
+        ensures gives { (how : MaskHow) (full : Bool) (stage : MaskStage) → MaskStandsAt how full stage self.old
+            → GivesNextLine how full stage (line_seen line.now) out.old.output result self.new out.new.output }
+        ensures stops { OnErr result (self.new.want ≡ MaskWant.Nothing) }
+    {
+        self.state.take_line(line, out)
+    }
+
+    /// Takes lines and records, one after another, as long as the next one that it wants is available. It fails as
+    /// [`Mask::give_line`] and [`Mask::give_bed`] do. Lines that nothing masks are written together. An engine that wants
+    /// nothing takes nothing.
+    pub fn advance<C: Cursor, K: Sink>(
+        &mut self,
+        lines: &mut BufferedLines<'_>,
+        records: &mut C,
+        out: &mut Out<K>,
+    ) -> Result<(), Fault>
+        ensures gives { GivesBoth C.gives C.line C.has_ended self.old lines.old records.old out.old.output result
+            self.new lines.new records.new out.new.output }
+        ensures stops { OnOk result (StopsAt C.gives C.line C.has_ended self.new.want lines.new records.new) }
+        ensures idle { self.old.want ≡ MaskWant.Nothing → (result ≡ Ok tt) × Stays self.old lines.old records.old out.old.output
+            self.new lines.new records.new out.new.output }
+    {
+        while self.gives_next(lines, records, out)? {}
+        Ok(())
+    }
+
+    // Takes what it wants next, and returns true if that is available.
+    #[inline(always)]
+    fn gives_next<C: Cursor, K: Sink>(
+        &mut self,
+        lines: &mut BufferedLines<'_>,
+        records: &mut C,
+        out: &mut Out<K>,
+    ) -> Result<bool, Fault>
+        ensures gives { GivesBoth C.gives C.line C.has_ended self.old lines.old records.old out.old.output result
+            self.new lines.new records.new out.new.output }
+        ensures stops { result ≡ Ok false → StopsAt C.gives C.line C.has_ended self.new.want lines.new records.new }
+        ensures shrinks { result ≡ Ok true → left_to_give C.room self.new lines.new records.new
+            < left_to_give C.room self.old lines.old records.old }
+        ensures idle { self.old.want ≡ MaskWant.Nothing → (result ≡ Ok false) × Stays self.old lines.old records.old out.old.output
+            self.new lines.new records.new out.new.output }
+    {
+        match self.want() {
+            MaskWant::Line => self.state.give_lines(lines, out),
+            MaskWant::Bed => self.give_record(records, out),
+            MaskWant::Nothing => Ok(false),
+        }
+    }
+
+    // Takes the next record, if there is one, unless it decides the line that waits.
+    #[inline(always)]
+    fn give_record<C: Cursor, K: Sink>(
+        &mut self,
+        records: &mut C,
+        out: &mut Out<K>,
+    ) -> Result<bool, Fault>
+        requires { self.old.want ≡ MaskWant.Bed }
+        ensures gives { GivesRecord C.gives C.line C.has_ended self.old records.old out.old.output result self.new records.new out.new.output }
+        ensures stops { result ≡ Ok false → C.has_ended records.new × (self.new.want ≡ MaskWant.Bed) }
+        ensures shrinks { result ≡ Ok true → (C.room records.new < C.room records.old)
+            ⊎ ((records.new ≡ records.old) × (self.new.want ≡ MaskWant.Line)) }
+    {
+        let mut later = *records;
+        let Some(next) = later.next() else {
+            return Ok(false);
+        };
+        match self.give_bed(&next.bed(), later.line(), out)? {
+            Taken::Yes => {
+                *records = later;
+                Ok(true)
+            }
+            Taken::No => Ok(true),
+        }
+    }
+
+    /// Takes the end of the lines. Nothing is written. Records are wanted until they end: each has
+    /// to belong to a sequence.
+    pub fn end_lines(&mut self)
+        requires { self.old.want ≡ MaskWant.Line }
+        ensures stands { (how : MaskHow) (full : Bool) (stage : MaskStage) → MaskStandsAt how full stage self.old
+            → MaskStandsAt how full (with_lines_ended stage) self.new }
+    {
+        self.state.end_lines();
+    }
+
+    /// Takes the next record, which is on this line, counted from 1, unless it decides the line that waits: then
+    /// that is written, and the record is to be given again. It fails with `WriteFailed` if the line
+    /// can't be written, and with `NoMemory` if the record has to be held and can't be. After the
+    /// last line it fails with `NoSequence` if its block belongs to no sequence. For a record that neither
+    /// decides nor has to be held it doesn't allocate.
+    pub fn give_bed<K: Sink>(
+        &mut self,
+        bed: &BedRef<'_>,
+        line: u64,
+        out: &mut Out<K>,
+    ) -> Result<Taken, Fault>
+        requires { self.old.want ≡ MaskWant.Bed }
+        ensures waits { (how : MaskHow) (full : Bool) (stage : MaskStage) (waiting : SequenceLine)
+            → MaskStandsAt how full stage self.old → stage.waiting ≡ Some waiting
+            → IsNext stage.ahead (feature_lent bed.now)
+            → GivesBed how full stage waiting (feature_lent bed.now) out.old.output result self.new out.new.output }
+        ensures none_waits { (how : MaskHow) (full : Bool) (stage : MaskStage)
+            → MaskStandsAt how full stage self.old → stage.waiting ≡ None
+            → IsNext stage.ahead (feature_lent bed.now)
+            → ChecksRecord how full stage (feature_lent bed.now) line out.old.output result self.new out.new.output }
+        ensures stops { OnErr result (self.new.want ≡ MaskWant.Nothing) }
+        ensures leaves { result ≡ Ok Taken.No → self.new.want ≡ MaskWant.Line }
+    {
+        if self.state.waits() {
+            return self.state.take_bed(bed, out);
+        }
+        self.state.check_bed(bed, line)?;
+        Ok(Taken::Yes)
+    }
+
+    /// Takes the end of the records, and writes the line that waits. It fails with `WriteFailed` if
+    /// that can't be written.
+    pub fn end_bed<K: Sink>(&mut self, out: &mut Out<K>) -> Result<(), Fault>
+        requires { self.old.want ≡ MaskWant.Bed }
+        ensures waits { (how : MaskHow) (full : Bool) (stage : MaskStage) (waiting : SequenceLine)
+            → MaskStandsAt how full stage self.old → stage.waiting ≡ Some waiting
+            → EndsRecords how full stage waiting out.old.output result self.new out.new.output }
+        ensures none_waits { (how : MaskHow) (full : Bool) (stage : MaskStage)
+            → MaskStandsAt how full stage self.old → stage.waiting ≡ None
+            → EndsCheck how full stage out.old.output result self.new out.new.output }
+        ensures stops { OnErr result (self.new.want ≡ MaskWant.Nothing) }
+    {
+        self.state.end_bed(out)
+    }
+}
+
+#[cfg(test)]
+mod tests;

@@ -1,7 +1,0 @@
-use Rattle.std.proofs.Common.{◌≡◌, false, nat_le, take}
-use Rattle.std.specs.List.{list_any}
-use Rattle.bt_bed.specs.Feature.{Feature}
-use Rattle.bt_sweep.proofs.held_list.has_ended.Given as goal
-
-abbrev pub invariant-loop-index : goal.invariant-loop-index
-invariant-loop-index l = list_any (λ (r : Feature). nat_le r.stop l.place) (take l.index (take l.count l.records.items)) ≡ false

@@ -1,9 +1,0 @@
-use Rattle.std.proofs.Common.{◌≡◌, false, take}
-use Rattle.std.specs.List.{list_any}
-use Rattle.bt_bed.specs.Bed.{feature_lent}
-use Rattle.bt_sweep.specs.Hits.{hits}
-use Rattle.bt_sweep.proofs.hit.is_any_hit.Given as goal
-
--- none so far hits the record
-abbrev pub invariant-loop-index : goal.invariant-loop-index
-invariant-loop-index g l = list_any (hits l.rule (feature_lent l.a)) (take l.index (g.H.Held.records l.held)) ≡ false

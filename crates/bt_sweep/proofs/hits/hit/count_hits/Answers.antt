@@ -1,0 +1,23 @@
+use Rattle.std.proofs.Common.{◌∙◌, true, false, arith, ap, sym, option_to_list, take}
+use Rattle.std.specs.List.{list_any}
+use Rattle.bt_bed.specs.calls.Bed.{feature_lent}
+use Rattle.bt_sweep.specs.model.Hits.{hits}
+use Rattle.bt_sweep.proofs.lemmas.output.HeldLemmas.{count_next, get_took}
+use Rattle.bt_sweep.proofs.hits.hit.count_hits.Goals as goal
+use Rattle.bt_sweep.proofs.hits.hit.count_hits.Goals.{then-is_hit_by, else-is_hit_by}
+
+pub loop-index-preserved : goal.loop-index-preserved
+loop-index-preserved g c =
+    let p = hits c.args.rule (feature_lent c.args.a.now) in
+    let held = g.H.Held.records c.args.held.now in
+    let i = c.loop-index.index in
+    let n = c.loop-index.hits in
+    let at = ap (λ o. list_any p (option_to_list o)) (c.nth.ensures ∙ sym (get_took held c.args.count i c.loop-index-test.true)) in
+    elim c.if-is_hit_by.branch [
+      | then-is_hit_by w ↦
+          let next = count_next p (take c.args.count held) i n true c.loop-index.invariant.counted (sym (w.if-is_hit_by.ensures ∙ at)) in
+          record { counted = omega (arith, next); few = omega (arith, c.loop-index.invariant.few) }
+      | else-is_hit_by w ↦
+          let next = count_next p (take c.args.count held) i n false c.loop-index.invariant.counted (sym (w.if-is_hit_by.ensures ∙ at)) in
+          record { counted = omega (arith, next); few = omega (arith, c.loop-index.invariant.few) }
+    ]

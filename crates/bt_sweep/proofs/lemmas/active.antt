@@ -1,0 +1,4 @@
+-- Lemmas on active.
+pub mod EndLemmas
+pub mod FilterLemmas
+pub mod HeldListLemmas

@@ -1,0 +1,2 @@
+-- Lemmas on hits.
+pub mod StartedLemmas

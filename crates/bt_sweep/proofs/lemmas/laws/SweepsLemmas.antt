@@ -1,0 +1,58 @@
+-- Lemmas on intersect as a meeting.
+use Rattle.std.proofs.Common.{◌≡◌, Bool, true, false, ap₂, List, [], ◌∷◌, ◌++◌, Option, None, refl, sym, ◌∙◌}
+use Rattle.std.specs.Prelude.{is_none}
+use Rattle.std.specs.List.{AllByRecursion, list_all}
+use Rattle.std.proofs.lemmas.Bool.{or_right}
+use Rattle.bt_lines.specs.model.Fault.{Told}
+use Rattle.bt_bed.specs.model.feature.Feature.{Feature, intervals_of}
+use Rattle.bt_bed.specs.model.order.Locus.{ArePlaced}
+use Rattle.bt_bed.specs.model.input.Meeting.{StaysDecided}
+use Rattle.bt_bed.specs.model.order.Order.{Order, IsTotal}
+use Rattle.bt_bed.proofs.lemmas.laws.MeetingLemmas.{all_written, met_lines, written_begins}
+use Rattle.bt_sweep.specs.model.Deciding.{decided}
+use Rattle.bt_sweep.specs.model.Hits.{hits_among}
+use Rattle.bt_sweep.specs.model.IntersectLines.{intersect, lines_for, lines_of}
+use Rattle.bt_sweep.specs.model.Subtract.{left_are_lines, left_lines, subtract, subtract_is_met, subtract_shape}
+use Rattle.bt_sweep.specs.model.SweepMeeting.{early_rule, faultless_are_all, sweep_rule, written_are_a_front}
+use Rattle.bt_sweep.specs.declared.hits.hit_rule.HitRule.{HitRule}
+use Rattle.bt_sweep.specs.declared.output.shape.Shape.{Shape}
+use Rattle.bt_sweep.specs.declared.output.shape.Shape.TheVariants.{Whole}
+use Rattle.bt_sweep.proofs.lemmas.laws.DecidingLemmas.{stays_decided}
+use Rattle.bt_sweep.proofs.lemmas.laws.HitLemmas.{stay_lines}
+
+all_stay : (order : Order) (shape : Shape) (rule : HitRule) (first second more : List Feature) (fault : Option Told) → IsTotal order → ArePlaced order (intervals_of first) → ArePlaced order (intervals_of (second ++ more))
+    → AllByRecursion (StaysDecided (early_rule order shape rule second) (sweep_rule order shape rule (second ++ more) fault)) first
+all_stay order shape rule [] second more fault total known placed = tt
+all_stay order shape rule (a ∷ first) second more fault total known placed = (
+  λ some. (or_right (is_none fault) (decided order a (second ++ more)) (stays_decided order a second more some), sym (stay_lines order shape rule a second more total known.0 placed some)),
+  all_stay order shape rule first second more fault total known.2 placed,
+)
+
+pub written_front : written_are_a_front
+written_front order shape rule first more_first second more_second first_fault second_fault total known placed =
+    written_begins (early_rule order shape rule second) (sweep_rule order shape rule (second ++ more_second) second_fault) first more_first first_fault (all_stay order shape rule first second more_second second_fault total known placed)
+
+all_decided : (order : Order) (shape : Shape) (rule : HitRule) (first second : List Feature) → list_all (sweep_rule order shape rule second None).decided first ≡ true
+all_decided order shape rule [] second = refl
+all_decided order shape rule (a ∷ first) second = all_decided order shape rule first second
+
+pub faultless_all : faultless_are_all
+faultless_all order shape rule first second fault =
+    met_lines (sweep_rule order shape rule second None) first fault
+    ∙ sym (all_written (sweep_rule order shape rule second None) first (all_decided order shape rule first second))
+
+whole_left : (a : Feature) (found : List Feature) → lines_of Whole a found ≡ left_lines true a found
+whole_left a [] = refl
+whole_left a (b ∷ found) = refl
+
+pub left_at : left_are_lines
+unfolding lines_for
+left_at false rule a second = refl
+left_at true rule a second = whole_left a (hits_among rule a second)
+
+left_of_all : (whole : Bool) (rule : HitRule) (first second : List Feature) → intersect (subtract_shape whole) rule first second ≡ subtract whole rule first second
+left_of_all whole rule [] second = refl
+left_of_all whole rule (a ∷ first) second = ap₂ (λ x y. x ++ y) (left_at whole rule a second) (left_of_all whole rule first second)
+
+pub subtract_met : subtract_is_met
+subtract_met order whole rule first second fault = faultless_all order (subtract_shape whole) rule first second fault ∙ left_of_all whole rule first second

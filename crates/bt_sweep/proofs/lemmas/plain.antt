@@ -1,0 +1,3 @@
+-- Lemmas on plain.
+pub mod PlainLemmas
+pub mod PlainPieceLemmas

@@ -1,0 +1,83 @@
+-- The scan of a record's positions, from the last one on, against the definition of its pieces.
+use Rattle.std.proofs.Common.{◌≡◌, ℕ, ◌+◌, ◌-◌, ◌<◌, ◌≤◌, le-leb, suc, Bool, true, false, not, ◌&&◌, ◌||◌, cond, List, [], ◌∷◌, ◌++◌, refl, sym, ap, ap₂, ◌∙◌, add-one, arith, map, ◌==◌}
+use Rattle.std.specs.List.{list_any}
+use Rattle.std.proofs.lemmas.Bool.{ne_eqb, eq-eqb, cond-true, cond-false}
+use Rattle.std.proofs.lemmas.List.{reverse-append}
+use Rattle.bt_bed.specs.model.feature.Feature.{Feature}
+use Rattle.bt_bed.specs.model.feature.Interval.{Span}
+use Rattle.bt_bed.specs.model.feature.Stretches.{stretches_from, with_position}
+use Rattle.bt_sweep.specs.model.Hits.{hits, hits_among}
+use Rattle.bt_sweep.specs.model.Pieces.{has_position, is_left, pieces}
+use Rattle.bt_sweep.specs.inside.PlainPieces.{piece_in, pieces_in}
+use Rattle.bt_sweep.specs.declared.hits.hit_rule.HitRule.{HitRule}
+use Rattle.bt_sweep.specs.declared.plain.plain_pieces.PlainPiece.{PlainPiece}
+
+-- one more was found
+pub found_push : (xs : List PlainPiece) (x : PlainPiece) → pieces_in (xs ++ x ∷ []) ≡ piece_in x ∷ pieces_in xs
+found_push xs x = ap (map piece_in) (reverse-append xs (x ∷ []))
+
+-- the next position belongs to the last of them
+pub next_joined : (front : List PlainPiece) (piece : PlainPiece) (p : ℕ) → piece.start ≡ p + 1
+    → pieces_in (front ++ record { start = p; stop = piece.stop } ∷ []) ≡ with_position p (pieces_in (front ++ piece ∷ []))
+unfolding with_position
+next_joined front piece p e =
+    found_push front (record { start = p; stop = piece.stop })
+    ∙ sym (cond-true (piece.start == p + 1) (record { start = p; stop = piece.stop } ∷ pieces_in front) (record { start = p; stop = p + 1 } ∷ piece_in piece ∷ pieces_in front) (eq-eqb piece.start (p + 1) e))
+    ∙ sym (ap (with_position p) (found_push front piece))
+
+-- or is the first one of another
+pub next_apart : (front : List PlainPiece) (piece : PlainPiece) (p : ℕ) → (piece.start ≡ p + 1 → ⊥)
+    → pieces_in ((front ++ piece ∷ []) ++ record { start = p; stop = p + 1 } ∷ []) ≡ with_position p (pieces_in (front ++ piece ∷ []))
+unfolding with_position
+next_apart front piece p other =
+    found_push (front ++ piece ∷ []) (record { start = p; stop = p + 1 })
+    ∙ ap (λ l. record { start = p; stop = p + 1 } ∷ l) (found_push front piece)
+    ∙ sym (cond-false (piece.start == p + 1) (record { start = p; stop = piece.stop } ∷ pieces_in front) (record { start = p; stop = p + 1 } ∷ piece_in piece ∷ pieces_in front) (ne_eqb piece.start (p + 1) other))
+    ∙ sym (ap (with_position p) (found_push front piece))
+
+pub first_found : (p : ℕ) → pieces_in (record { start = p; stop = p + 1 } ∷ []) ≡ with_position p []
+unfolding with_position
+first_found p = refl
+
+scan_step : (test : ℕ → Bool) (first n : ℕ) → stretches_from test first (suc n) ≡ cond (test first) (with_position first (stretches_from test (first + 1) n)) (stretches_from test (first + 1) n)
+unfolding stretches_from
+scan_step test first n = refl
+
+-- none was tested yet
+pub scan_none : (test : ℕ → Bool) (first : ℕ) → [] ≡ stretches_from test first 0
+unfolding stretches_from
+scan_none test first = refl
+
+-- one position more was tested
+pub scan_next : (test : ℕ → Bool) (stop passed : ℕ) (c : Bool) (old new : List Span) → passed < stop → test ((stop - passed) - 1) ≡ c → old ≡ stretches_from test (stop - passed) passed
+    → new ≡ cond c (with_position ((stop - passed) - 1) old) old → new ≡ stretches_from test (stop - (passed + 1)) (passed + 1)
+scan_next test stop passed c old new less e so_far step =
+    let first = (stop - passed) - 1 in
+    let here : stop - (passed + 1) ≡ first = omega arith in
+    let back : stop - passed ≡ first + 1 = omega arith in
+    let rest = stretches_from test (first + 1) passed in
+    let was : old ≡ rest = so_far ∙ ap (λ n. stretches_from test n passed) back in
+    step ∙ ap (λ l. cond c (with_position first l) l) was ∙ ap (λ b. cond b (with_position first rest) rest) (sym e)
+    ∙ sym (scan_step test first passed) ∙ ap₂ (λ f n. stretches_from test f n) (sym here) (sym (add-one passed))
+
+-- all positions were
+pub scan_all : (a : Feature) (others : List Feature) (passed : ℕ) (found : List Span) → passed ≡ a.stop
+    → found ≡ stretches_from (is_left a others) (a.stop - passed) passed → found ≡ pieces a others
+unfolding pieces
+scan_all a others passed found all so_far =
+    let first : a.stop - passed ≡ 0 = omega (arith, all) in
+    so_far ∙ ap₂ (λ f n. stretches_from (is_left a others) f n) first all
+
+any_at : (rule : HitRule) (a : Feature) (p : ℕ) (b : Feature) (bs : List Feature) (c : Bool) → hits rule a b ≡ c
+    → ((c && has_position p b) || list_any (has_position p) (hits_among rule a bs)) ≡ list_any (has_position p) (cond c (b ∷ hits_among rule a bs) (hits_among rule a bs))
+any_at rule a p b bs true e = refl
+any_at rule a p b bs false e = refl
+
+-- some of those that hit a has the position
+pub any_hit_has : (rule : HitRule) (a : Feature) (p : ℕ) (bs : List Feature) → list_any (λ b. hits rule a b && has_position p b) bs ≡ list_any (has_position p) (hits_among rule a bs)
+any_hit_has rule a p [] = refl
+any_hit_has rule a p (b ∷ bs) = ap (λ c. (hits rule a b && has_position p b) || c) (any_hit_has rule a p bs) ∙ any_at rule a p b bs (hits rule a b) refl
+
+-- a position from the start on that none of the others has
+pub left_by : (a : Feature) (others : List Feature) (p : ℕ) (taken : Bool) → a.start ≤ p → taken ≡ list_any (has_position p) others → not taken ≡ is_left a others p
+left_by a others p taken low e = ap not e ∙ sym (ap (λ c. c && not (list_any (has_position p) others)) (le-leb a.start p low))

@@ -1,0 +1,169 @@
+-- Lemmas on what is held.
+use Rattle.std.proofs.Common.{◌≡◌, ℕ, ◌≤◌, ◌<◌, inl, inr, Bool, true, false, not, ◌&&◌, ◌||◌, cond, List, [], ◌∷◌, ◌++◌, Option, None, Some, refl, sym, ap, ◌∙◌, subst, ltb, arith, filter, bytes_eq}
+use Rattle.std.specs.Prelude.{IsTrue}
+use Rattle.std.specs.List.{list_all}
+use Rattle.std.specs.Ordering.{ordering_reverse}
+use Rattle.std.proofs.lemmas.Bool.{false≢true, ltb-true, lt-ltb, and_from, and_parts, and_right, or_parts, or_left, or_right, cases_Bool}
+use Rattle.std.proofs.lemmas.List.Elements.{filter-append}
+use Rattle.std.proofs.lemmas.List.Folds.{list_any-append, list_all-append}
+use Rattle.std.specs.declared.cmp.Ordering.{Ordering}
+use Rattle.std.specs.declared.cmp.Ordering.TheVariants.{Less, Equal, Greater}
+use Rattle.bt_bed.specs.model.feature.Feature.{Feature, intervals_of}
+use Rattle.bt_bed.specs.model.order.Order.{Order, IsTotal}
+use Rattle.bt_bed.specs.model.input.GoodBed.{locus_at}
+use Rattle.bt_bed.specs.model.order.Locus.{is_below_at, IsUpTo, ArePlaced}
+use Rattle.bt_bed.specs.model.order.Together.{has_records}
+use Rattle.bt_bed.proofs.lemmas.parse.NameLemmas.{name_eq, name_ne, other_name, same_name}
+use Rattle.bt_sweep.specs.model.Deciding.{decides}
+use Rattle.bt_sweep.specs.calls.Standing.{is_held, held_for, last_after, last_given, leaves_some, HoldsFor}
+use Rattle.bt_sweep.specs.inside.StateSteps.{held_with}
+use Rattle.bt_sweep.proofs.lemmas.active.FilterLemmas.{filter-both}
+use Rattle.bt_sweep.proofs.lemmas.laws.PlacedLemmas.{last_given-push, last_is_there, next_lies}
+
+-- what is held once a is given, after the one that was given last
+abbrev pub held_behind : Option Feature → List Feature → Feature → List Feature
+held_behind None held a = []
+held_behind (Some last) held a = cond (bytes_eq last.chrom a.chrom) (filter (λ b. ltb a.start b.stop) held) []
+
+-- places that come in order
+pub up_trans : (order : Order) (x y z : Feature) → IsTotal order → IsTrue (order.knows x.chrom) → IsTrue (order.knows y.chrom) → IsTrue (order.knows z.chrom) → IsUpTo order (locus_at x) (locus_at y) → IsUpTo order (locus_at y) (locus_at z) → IsUpTo order (locus_at x) (locus_at z)
+up_trans order x y z total kx ky kz first second =
+    elim first [
+      | inl less ↦ elim second [
+        | inl more ↦ inl (total.ascends x.chrom y.chrom z.chrom kx ky kz less more)
+        | inr same ↦ inl (subst (λ (c : List ℕ). order.compare x.chrom c ≡ Less) same.0 less)
+      ]
+      | inr here ↦ elim second [
+        | inl more ↦ inl (subst (λ (c : List ℕ). order.compare c z.chrom ≡ Less) (sym here.0) more)
+        | inr same ↦ inr (here.0 ∙ same.0, omega (arith, here.1, same.1))
+      ]
+    ]
+
+pub last_known : (order : Order) (xs : List Feature) (y : Feature) → ArePlaced order (intervals_of (xs ++ y ∷ [])) → IsTrue (order.knows y.chrom)
+last_known order [] y placed = placed.0
+last_known order (x ∷ xs) y placed = last_known order xs y placed.2
+
+up_to_last : (order : Order) (x : Feature) (xs : List Feature) (y : Feature) → IsTotal order → ArePlaced order (intervals_of (x ∷ xs ++ y ∷ [])) → IsUpTo order (locus_at x) (locus_at y)
+up_to_last order x [] y total placed = placed.1
+up_to_last order x (h ∷ hs) y total placed = up_trans order x h y total placed.0 placed.2.0 (last_known order hs y placed.2.2) placed.1 (up_to_last order h hs y total placed.2)
+
+below_not_greater : (c : Ordering) (start stop : ℕ) → not (not (is_below_at c start stop)) ≡ true → c ≡ Greater → ⊥
+below_not_greater Less start stop e f = cc
+below_not_greater Equal start stop e f = cc
+below_not_greater Greater start stop e f = false≢true e
+
+-- a record on a chromosome that comes anew decides all that was given before
+left_at : (order : Order) (a b g : Feature) → IsTotal order → IsTrue (order.knows a.chrom) → IsTrue (order.knows g.chrom) → a.chrom ≡ b.chrom → (a.chrom ≡ g.chrom → ⊥) → IsUpTo order (locus_at g) (locus_at a) → not (decides order g b) ≡ true → ⊥
+left_at order a b g total ka kg same other up e =
+    elim up [
+      | inl less ↦
+          let it : order.compare b.chrom g.chrom ≡ Greater = ap (λ (c : List ℕ). order.compare c g.chrom) (sym same) ∙ total.swapped g.chrom a.chrom kg ka ∙ ap ordering_reverse less in
+          below_not_greater (order.compare b.chrom g.chrom) b.start g.stop e it
+      | inr here ↦ other (sym here.0)
+    ]
+
+leaves_none : (order : Order) (a b : Feature) (gs : List Feature) → IsTotal order → ArePlaced order (intervals_of (gs ++ a ∷ [])) → has_records a.chrom (intervals_of gs) ≡ false → a.chrom ≡ b.chrom → leaves_some order gs b ≡ true → ⊥
+leaves_none order a b [] total placed none same some = false≢true some
+leaves_none order a b (g ∷ gs) total placed none same some =
+    let parts = or_parts (bytes_eq g.chrom a.chrom) (has_records a.chrom (intervals_of gs)) none in
+    elim (cases_Bool (not (decides order g b))) [
+      | inl here ↦ left_at order a b g total (last_known order gs a placed.2) placed.0 same (λ e. other_name g.chrom a.chrom parts.0 (sym e)) (up_to_last order g gs a total placed) here
+      | inr gone ↦ leaves_none order a b gs total placed.2 parts.1 same (ap (λ c. c || leaves_some order gs b) (sym gone) ∙ some)
+    ]
+
+skips_at : (a b : Feature) (taken : List Feature) → bytes_eq a.chrom b.chrom ≡ false → filter (is_held a) taken ≡ [] → filter (is_held a) (b ∷ taken) ≡ []
+skips_at a b taken e rest = ap (λ c. cond (c && ltb a.start b.stop) (b ∷ filter (is_held a) taken) (filter (is_held a) taken)) e ∙ rest
+
+-- of a chromosome that comes anew nothing was taken
+none_new : (order : Order) (a : Feature) (gs taken : List Feature) → IsTotal order → ArePlaced order (intervals_of (gs ++ a ∷ [])) → has_records a.chrom (intervals_of gs) ≡ false → list_all (leaves_some order gs) taken ≡ true → filter (is_held a) taken ≡ []
+none_new order a gs [] total placed none reached = refl
+none_new order a gs (b ∷ taken) total placed none reached =
+    let parts = and_parts (leaves_some order gs b) (list_all (leaves_some order gs) taken) reached in
+    skips_at a b taken (name_ne a.chrom b.chrom (λ e. leaves_none order a b gs total placed none e parts.0)) (none_new order a gs taken total placed none parts.1)
+
+narrow_at : (c : Bool) (l a : ℕ) (stop : ℕ) → l ≤ a → (c && ltb a stop) ≡ ((c && ltb l stop) && ltb a stop)
+narrow_at false l a stop h = refl
+narrow_at true l a stop h =
+    elim (cases_Bool (ltb a stop)) [
+      | inl t ↦ t ∙ sym (and_from (ltb l stop) (ltb a stop) (lt-ltb l stop (let less : a < stop = ltb-true a stop t in omega arith)) t)
+      | inr f ↦ f ∙ sym (and_right (ltb l stop) (ltb a stop) f)
+    ]
+
+-- on the same chromosome what is held becomes less
+same_held : (l a : Feature) (taken : List Feature) → a.chrom ≡ l.chrom → l.start ≤ a.start → filter (λ b. ltb a.start b.stop) (filter (is_held l) taken) ≡ filter (is_held a) taken
+same_held l a taken same up =
+    filter-both (is_held a) (is_held l) (λ b. ltb a.start b.stop)
+    (λ b. narrow_at (bytes_eq a.chrom b.chrom) l.start a.start b.stop up ∙ ap (λ (c : List ℕ). (bytes_eq c b.chrom && ltb l.start b.stop) && ltb a.start b.stop) same)
+    taken
+
+held_on : (l a : Feature) (held : List Feature) (c : Bool) → bytes_eq l.chrom a.chrom ≡ c → held_behind (Some l) held a ≡ cond c (filter (λ b. ltb a.start b.stop) held) []
+held_on l a held c e = ap (λ b. cond b (filter (λ b. ltb a.start b.stop) held) []) e
+
+-- what is held once a is given
+pub held_next : (order : Order) (gs taken held : List Feature) (a : Feature) → IsTotal order → ArePlaced order (intervals_of (gs ++ a ∷ [])) → HoldsFor order gs taken held → held_behind (last_given gs) held a ≡ filter (is_held a) taken
+held_next order [] [] held a total placed holds = refl
+held_next order [] (b ∷ taken) held a total placed holds = absurd (false≢true holds.reached)
+held_next order (q ∷ qs) taken held a total placed holds =
+    let l = last_after q qs in
+    elim (next_lies order q qs a total placed) [
+      | inl same ↦
+          held_on l a held true (name_eq l.chrom a.chrom (sym same.0))
+          ∙ ap (filter (λ b. ltb a.start b.stop)) holds.held_is ∙ same_held l a taken same.0 same.1
+      | inr new ↦
+          held_on l a held false (name_ne l.chrom a.chrom (λ e. false≢true (sym new ∙ ap (λ (c : List ℕ). has_records c (intervals_of (q ∷ qs))) (sym e) ∙ last_is_there q qs)))
+          ∙ sym (none_new order a (q ∷ qs) taken total placed new holds.reached)
+    ]
+
+-- what was reached stays reached with more given
+reached_more : (order : Order) (gs more taken : List Feature) → list_all (leaves_some order gs) taken ≡ true → list_all (leaves_some order (gs ++ more)) taken ≡ true
+reached_more order gs more [] reached = refl
+reached_more order gs more (b ∷ taken) reached =
+    let parts = and_parts (leaves_some order gs b) (list_all (leaves_some order gs) taken) reached in
+    and_from (leaves_some order (gs ++ more) b) (list_all (leaves_some order (gs ++ more)) taken)
+    (list_any-append (λ a. not (decides order a b)) gs more ∙ or_left (leaves_some order gs b) (leaves_some order more b) parts.0)
+    (reached_more order gs more taken parts.1)
+
+-- with one more record of the first input
+pub holds_a : (order : Order) (gs taken held : List Feature) (a : Feature) → IsTotal order → ArePlaced order (intervals_of (gs ++ a ∷ [])) → HoldsFor order gs taken held
+    → HoldsFor order (gs ++ a ∷ []) taken (held_behind (last_given gs) held a)
+holds_a order gs taken held a total placed holds = record {
+  held_is = held_next order gs taken held a total placed holds ∙ ap (λ l. held_for l taken) (sym (last_given-push gs a));
+  reached = reached_more order gs (a ∷ []) taken holds.reached;
+}
+
+-- with one more record of the second, which leaves the last of the first undecided
+pub holds_b : (order : Order) (gs taken held : List Feature) (a b : Feature) → HoldsFor order (gs ++ a ∷ []) taken held → decides order a b ≡ false
+    → HoldsFor order (gs ++ a ∷ []) (taken ++ b ∷ []) (held ++ filter (is_held a) (b ∷ []))
+holds_b order gs taken held a b holds e = record {
+  held_is = ap (λ h. h ++ filter (is_held a) (b ∷ [])) (holds.held_is ∙ ap (λ l. held_for l taken) (last_given-push gs a))
+      ∙ sym (filter-append (is_held a) taken (b ∷ [])) ∙ ap (λ l. held_for l (taken ++ b ∷ [])) (sym (last_given-push gs a));
+  reached = list_all-append (leaves_some order (gs ++ a ∷ [])) taken (b ∷ [])
+      ∙ and_from (list_all (leaves_some order (gs ++ a ∷ [])) taken) (leaves_some order (gs ++ a ∷ []) b && true) holds.reached
+      (and_from (leaves_some order (gs ++ a ∷ []) b) true
+      (list_any-append (λ a. not (decides order a b)) gs (a ∷ []) ∙ or_right (leaves_some order gs b) (not (decides order a b) || false) (or_left (not (decides order a b)) false (ap not e))) refl);
+}
+
+-- ---- the first shows which of them lie on a chromosome
+
+first_at : (l x b : Feature) (xs more : List Feature) (c : Bool) → is_held l x ≡ c → (filter (is_held l) xs ≡ b ∷ more → b.chrom ≡ l.chrom)
+    → cond c (x ∷ filter (is_held l) xs) (filter (is_held l) xs) ≡ b ∷ more → b.chrom ≡ l.chrom
+first_at l x b xs more true held rest e =
+    let same : x ≡ b = cc in
+    subst (λ (f : Feature). f.chrom ≡ l.chrom) same (sym (same_name l.chrom x.chrom (and_parts (bytes_eq l.chrom x.chrom) (ltb l.start x.stop) held).0))
+first_at l x b xs more false held rest e = rest e
+
+first_on : (l : Feature) (taken : List Feature) (b : Feature) (more : List Feature) → filter (is_held l) taken ≡ b ∷ more → b.chrom ≡ l.chrom
+first_on l [] b more e = absurd (let apart : [] ≡ b ∷ more = e in cc)
+first_on l (x ∷ xs) b more e = first_at l x b xs more (is_held l x) refl (first_on l xs b more) e
+
+none_either : (c : Bool) → cond {A = List Feature} c [] [] ≡ []
+none_either true = refl
+none_either false = refl
+
+pub held_is_behind : (order : Order) (gs taken held : List Feature) (a : Feature) → HoldsFor order gs taken held → held_with held a ≡ held_behind (last_given gs) held a
+held_is_behind order [] taken [] a holds = refl
+held_is_behind order (q ∷ qs) taken [] a holds = sym (none_either (bytes_eq (last_after q qs).chrom a.chrom))
+held_is_behind order [] taken (b ∷ more) a holds = absurd (let apart : b ∷ more ≡ [] = holds.held_is in cc)
+held_is_behind order (q ∷ qs) taken (b ∷ more) a holds =
+    let on : b.chrom ≡ (last_after q qs).chrom = first_on (last_after q qs) taken b more (sym holds.held_is) in
+    ap (λ (name : List ℕ). cond (bytes_eq name a.chrom) (filter (λ r. ltb a.start r.stop) (b ∷ more)) []) on

@@ -1,0 +1,427 @@
+-- Lemmas on records of both inputs that are joined.
+use Rattle.std.proofs.Common.{◌≡◌, ◌<◌, ◌≤◌, inl, inr, ℕ, true, false, List, [], ◌∷◌, ◌++◌, Option, Some, None, Ok, Err, Result, option_map, refl, sym, ap, ◌∙◌, subst, append-nil, append_assoc, option_to_list, bytes_eq, length, ltb}
+use Rattle.std.specs.Prelude.{All, IfSome}
+use Rattle.std.specs.List.{list_all}
+use Rattle.std.proofs.lemmas.Bool.{and_from, and_parts, ltb-true, or_left, or_right}
+use Rattle.std.proofs.lemmas.List.Folds.{list_any-append}
+use Rattle.bt_lines.specs.model.Fault.{Told}
+use Rattle.bt_lines.specs.calls.Names.{told}
+use Rattle.bt_lines.specs.calls.Output.{Output}
+use Rattle.bt_lines.specs.calls.Putting.{FailsToAdd, Grown}
+use Rattle.bt_lines.specs.declared.fault.Fault.{Fault}
+use Rattle.bt_bed.specs.model.feature.Feature.{Feature, intervals_of}
+use Rattle.bt_bed.specs.model.order.Locus.{ArePlaced}
+use Rattle.bt_bed.specs.model.order.Order.{Order, IsTotal}
+use Rattle.bt_sweep.specs.model.Deciding.{decided, decides}
+use Rattle.bt_sweep.specs.calls.Held.{CanHit}
+use Rattle.bt_sweep.specs.model.IntersectLines.{intersect}
+use Rattle.bt_sweep.specs.inside.Joining.{AreDecided, AreDecidedOn, Behind, Breaks, CannotBeHeld, Cuts, CutsOff, EndUpTo, GoesTo, GrownWith, Joins, JoinsSo, Keeps, LeavesLast, LeavesOn, LieOn, TakenEach, TakenFor, WaitsOn, Writes, WritesSo}
+use Rattle.bt_sweep.specs.inside.Relating.{GivesKnown}
+use Rattle.bt_sweep.specs.calls.Standing.{held_for, is_held, last_given}
+use Rattle.bt_sweep.specs.inside.StateSteps.{CannotHold, has_room_in, holding}
+use Rattle.bt_sweep.specs.calls.Steps.{has_room}
+use Rattle.bt_sweep.specs.calls.SweepState.{Sweeping}
+use Rattle.bt_sweep.specs.declared.hits.hit_rule.HitRule.{HitRule}
+use Rattle.bt_sweep.specs.declared.output.shape.Shape.{Shape}
+use Rattle.bt_sweep.proofs.lemmas.laws.DecidingLemmas.{placed_back}
+use Rattle.bt_sweep.proofs.lemmas.sweep.KeepLemmas.{cut_both, decided_before, decided_behind, decided_both, decides_beside, keeps_held, keeps_taken, lines_both, lines_stay_so, undecided_beside}
+use Rattle.bt_sweep.proofs.lemmas.sweep.PendingLemmas.{fails_again, with_none, with_rest, with_rest_cut}
+use Rattle.bt_sweep.proofs.lemmas.laws.PlacedLemmas.{front_placed, last_given-push}
+use Rattle.bt_sweep.proofs.lemmas.sweep.WriteLemmas.{front_of, split_last, split_more}
+
+-- the chromosome of the next record is known
+pub known_head : {B : Type 0} (order : Order) (gives : B → List Feature → B → Type 0) (from : B) (b : Feature) (after : B) (name : List ℕ) → GivesKnown gives order from → gives from (b ∷ []) after → b.chrom ≡ name → order.knows name ≡ true
+known_head order gives from b after name known given on =
+    subst (λ (c : List ℕ). order.knows c ≡ true) on (and_parts (order.knows b.chrom) true (known (b ∷ []) after given)).0
+
+pub lie_more : (name : List ℕ) (bs : List Feature) (b : Feature) → LieOn name bs → b.chrom ≡ name → LieOn name (bs ++ b ∷ [])
+lie_more name [] b on is = (is, tt)
+lie_more name (x ∷ bs) b on is = (on.0, lie_more name bs b on.1 is)
+
+-- ---- the record of the second input that was taken last
+
+no_last : (before : List Feature) (b : Feature) → [] ≡ before ++ b ∷ [] → ⊥
+no_last [] b e = cc
+no_last (x ∷ before) b e = cc
+
+pub leaves_none : (order : Order) (seconds : List Feature) (a : Feature) → seconds ≡ [] → LeavesLast order seconds a
+leaves_none order seconds a none before b e = absurd (no_last before b (sym none ∙ e))
+
+same_some : (a b : Feature) → Some a ≡ Some b → a ≡ b
+same_some a b e = cc
+
+leaves_push : (seconds : List Feature) (b a : Feature) → b.chrom ≡ a.chrom → b.start < a.stop → LeavesOn (seconds ++ b ∷ []) a
+leaves_push seconds b a on before_end order total known before x e =
+    let same : b ≡ x = same_some b x (sym (last_given-push seconds b) ∙ ap last_given e ∙ last_given-push before x) in
+    subst (λ (f : Feature). decides order a f ≡ false) same (undecided_beside order total a b known on before_end)
+
+-- ---- the records of the second input, each taken for one of the first
+
+taken_wider : (order : Order) (limit : Option ℕ) (as_given more taken : List Feature) (b : Feature) → TakenFor order limit as_given taken b → TakenFor order limit (as_given ++ more) taken b
+taken_wider order limit as_given more taken b t = record {
+  before = t.before;
+  a = t.a;
+  after = t.after ++ more;
+  parts = ap (λ (l : List Feature). l ++ more) t.parts ∙ append_assoc t.before (t.a ∷ t.after) more;
+  settled = t.settled;
+  undecided = t.undecided;
+  within = t.within;
+}
+
+each_wider : (order : Order) (limit : Option ℕ) (as_given more taken seconds : List Feature) → TakenEach order limit as_given taken seconds → TakenEach order limit (as_given ++ more) taken seconds
+each_wider order limit as_given more taken [] each = tt
+each_wider order limit as_given more taken (b ∷ seconds) each = (taken_wider order limit as_given more taken b each.0, each_wider order limit as_given more (taken ++ b ∷ []) seconds each.1)
+
+each_push : (order : Order) (limit : Option ℕ) (as_given : List Feature) (b : Feature) (taken seconds : List Feature) → TakenEach order limit as_given taken seconds → TakenFor order limit as_given (taken ++ seconds) b
+    → TakenEach order limit as_given taken (seconds ++ b ∷ [])
+each_push order limit as_given b taken [] each last = (subst (λ (l : List Feature). TakenFor order limit as_given l b) (append-nil taken) last, tt)
+each_push order limit as_given b taken (x ∷ seconds) each last =
+    (each.0, each_push order limit as_given b (taken ++ x ∷ []) seconds each.1 (subst (λ (l : List Feature). TakenFor order limit as_given l b) (sym (append_assoc taken (x ∷ []) seconds)) last))
+
+-- ---- one run behind another
+
+module _ (first : Feature) (firsts seconds newly : List Feature) (cur : Feature) (are : first ∷ firsts ≡ newly ++ cur ∷ []) (old mid : Sweeping) (goes : GoesTo first firsts seconds old mid) where
+  pub behind_more : (firsts2 seconds2 : List Feature) (P : Order → Shape → HitRule → Option ℕ → List Feature → List Feature → Type 0) → Behind cur firsts2 seconds2 mid P
+      → Behind first (firsts ++ firsts2) (seconds ++ seconds2) old P
+  behind_more firsts2 seconds2 P behind order shape rule limit before taken total kept pg pt =
+      let whole = split_more before first firsts newly cur are firsts2 in
+      let both : taken ++ (seconds ++ seconds2) ≡ (taken ++ seconds) ++ seconds2 = sym (append_assoc taken seconds seconds2) in
+      let pt' = subst (λ (l : List Feature). ArePlaced order (intervals_of l)) both pt in
+      let k = subst (λ (g : List Feature). Keeps order shape rule limit g (taken ++ seconds) mid) (split_last before first firsts newly cur are)
+      (goes order shape rule limit before taken total kept (front_of order before first firsts firsts2 pg) (front_placed order (taken ++ seconds) seconds2 pt')) in
+      subst (λ (g : List Feature). P order shape rule limit g (taken ++ (seconds ++ seconds2))) (sym whole)
+      (subst (λ (t : List Feature). P order shape rule limit ((before ++ newly) ++ cur ∷ firsts2) t) (sym both)
+      (behind order shape rule limit (before ++ newly) (taken ++ seconds) total k (subst (λ (l : List Feature). ArePlaced order (intervals_of l)) whole pg) pt'))
+
+  -- without a record of the second input
+  pub behind_same : (firsts2 : List Feature) (P : Order → Shape → HitRule → Option ℕ → List Feature → List Feature → Type 0) → Behind cur firsts2 [] mid P → Behind first (firsts ++ firsts2) seconds old P
+  behind_same firsts2 P behind = subst (λ (l : List Feature). Behind first (firsts ++ firsts2) l old P) (append-nil seconds) (behind_more firsts2 [] P behind)
+
+-- ---- what was written behind what was
+
+module _ (first : Feature) (firsts seconds newly : List Feature) (cur : Feature) (are : first ∷ firsts ≡ newly ++ cur ∷ []) (old mid : Sweeping) (goes : GoesTo first firsts seconds old mid)
+    (pending left : List ℕ) (out grown : Output) (wrote : Writes first firsts seconds old newly pending out left grown) (firsts2 newly2 : List Feature) where
+  pub writes_both : (rest : List ℕ) (now : Output) → Writes cur firsts2 [] mid newly2 left grown rest now → Writes first (firsts ++ firsts2) seconds old (newly ++ newly2) pending out rest now
+  writes_both rest now more order shape rule limit before taken total kept pg pt =
+      lines_both shape rule (taken ++ seconds) pending left out grown newly
+      (wrote order shape rule limit before taken total kept (front_of order before first firsts firsts2 pg) pt) newly2 rest now
+      (behind_same first firsts seconds newly cur are old mid goes firsts2 (λ order shape rule limit as_given taken. GrownWith left grown (intersect shape rule newly2 taken) rest now) more
+      order shape rule limit before taken total kept pg pt)
+
+  pub cuts_both : (fault : Told) (now : Output) → Cuts cur firsts2 [] mid newly2 left grown fault now → Cuts first (firsts ++ firsts2) seconds old (newly ++ newly2) pending out fault now
+  cuts_both fault now more order shape rule limit before taken total kept pg pt =
+      cut_both shape rule (taken ++ seconds) pending left out grown newly
+      (wrote order shape rule limit before taken total kept (front_of order before first firsts firsts2 pg) pt) newly2 fault now
+      (behind_same first firsts seconds newly cur are old mid goes firsts2 (λ order shape rule limit as_given taken. FailsToAdd grown (left ++ intersect shape rule newly2 taken) fault now) more
+      order shape rule limit before taken total kept pg pt)
+
+pub are_both : (first : Feature) (firsts newly : List Feature) (cur : Feature) (firsts2 newly2 rest : List Feature) → first ∷ firsts ≡ newly ++ cur ∷ [] → cur ∷ firsts2 ≡ newly2 ++ rest → first ∷ (firsts ++ firsts2) ≡ (newly ++ newly2) ++ rest
+are_both first firsts newly cur firsts2 newly2 rest are more =
+    ap (λ (l : List Feature). l ++ firsts2) are ∙ append_assoc newly (cur ∷ []) firsts2 ∙ ap (λ (l : List Feature). newly ++ l) more ∙ sym (append_assoc newly newly2 rest)
+
+-- ---- what is decided on one chromosome
+
+ends_decided : (order : Order) (name : List ℕ) (b : Feature) (bs newly : List Feature) → IsTotal order → order.knows name ≡ true → b.chrom ≡ name → EndUpTo name b.start newly → AreDecided order newly (bs ++ b ∷ [])
+ends_decided order name b bs [] total known on end = refl
+ends_decided order name b bs (a ∷ newly) total known on end =
+    and_from (decided order a (bs ++ b ∷ [])) (list_all (λ x. decided order x (bs ++ b ∷ [])) newly)
+    (list_any-append (decides order a) bs (b ∷ [])
+    ∙ or_right (decided order a bs) (decided order a (b ∷ []))
+    (or_left (decides order a b) false (decides_beside order total a b (subst (λ (c : List ℕ). order.knows c ≡ true) (sym end.0) known) (on ∙ sym end.0) end.1)))
+    (ends_decided order name b bs newly total known on end.2)
+
+module _ {A B : Type 0} (a_gives : A → List Feature → A → Type 0) (a_ended : A → Type 0) (a_none : (x : A) → a_gives x [] x)
+    (a_more : (old mid new : A) (xs ys : List Feature) → a_gives old xs mid → a_gives mid ys new → a_gives old (xs ++ ys) new)
+    (b_gives : B → List Feature → B → Type 0) (b_ended : B → Type 0) (b_line : B → ℕ) (b_none : (x : B) → b_gives x [] x)
+    (b_more : (old mid new : B) (xs ys : List Feature) → b_gives old xs mid → b_gives mid ys new → b_gives old (xs ++ ys) new)
+    (old : Sweeping) (first : Feature) (from_a : A) (from_b : B) (pending : List ℕ) (out : Output) where
+  pub joins_first : (For : Order → Type 0) (Settles : List Feature → List Feature → Type 0) → Settles [] [] → All (CanHit first) old.held → (j : JoinsSo a_gives a_ended b_gives b_ended b_line For Settles old first from_a from_b pending out (Some first) old from_a from_b pending out) × (j.next ≡ None) × (j.seconds ≡ [])
+  joins_first For Settles settles hits = (
+    record {
+      firsts = [];
+      seconds = [];
+      newly = [];
+      gives_firsts = a_none from_a;
+      gives_seconds = b_none from_b;
+      are = refl;
+      waits = (refl, hits);
+      next = None;
+      comes = tt;
+      settles = settles;
+      each = λ order shape rule limit before taken total kept pg pt. tt;
+      goes = λ order shape rule limit before taken total kept pg pt. subst (λ (t : List Feature). Keeps order shape rule limit (before ++ first ∷ []) t old) (sym (append-nil taken)) kept;
+      writes = λ order shape rule limit before taken total kept pg pt. with_none pending out;
+    },
+    refl,
+    refl,
+  )
+
+  abbrev Decided : List Feature → List Feature → Type 0
+  Decided = AreDecidedOn first.chrom
+
+  abbrev So : Option Feature → Sweeping → A → B → List ℕ → Output → Type 0
+  So = JoinsSo a_gives a_ended b_gives b_ended b_line IsTotal Decided old first from_a from_b pending out
+
+  abbrev BreaksSo : Told → A → B → List ℕ → Output → Type 0
+  BreaksSo = Breaks a_gives a_ended b_gives b_ended b_line IsTotal Decided old first from_a from_b pending out
+
+  -- ---- the lines that are left pending are put at last
+
+  module _ (to_a : A) (to_b : B) (left : List ℕ) (grown now : Output) where
+    -- it had failed before
+    breaks_rest : (fault : Told) → BreaksSo fault to_a to_b left grown → Grown grown left now → BreaksSo fault to_a to_b [] now
+    breaks_rest fault b puts = record {
+      firsts = b.firsts;
+      seconds = b.seconds;
+      newly = b.newly;
+      waiting = b.waiting;
+      gives_firsts = b.gives_firsts;
+      gives_seconds = b.gives_seconds;
+      are = b.are;
+      next = b.next;
+      comes = b.comes;
+      settles = b.settles;
+      each = b.each;
+      cause = elim b.cause [
+        | inl cut ↦ inl (record {
+          cuts = λ order shape rule limit before taken total kept pg pt.
+              fails_again {T = Unit {0}} grown now (pending ++ intersect shape rule b.newly (taken ++ b.seconds)) left fault out (Ok tt) (cut.cuts order shape rule limit before taken total kept pg pt) puts;
+        })
+        | inr lack ↦ inr (record {
+          last = lack.last;
+          waits = lack.waits;
+          b = lack.b;
+          after = lack.after;
+          gives = lack.gives;
+          chrom = lack.chrom;
+          starts = lack.starts;
+          ends = lack.ends;
+          writes = λ order shape rule limit before taken total kept pg pt.
+              with_rest pending (intersect shape rule b.newly (taken ++ b.seconds)) left out grown (lack.writes order shape rule limit before taken total kept pg pt) now puts;
+          lacks = lack.lacks;
+        })
+      ];
+    }
+
+    breaks_cut : (fault : Told) (failed : Fault) → BreaksSo fault to_a to_b left grown → FailsToAdd grown left (told failed) now → BreaksSo (told failed) to_a to_b [] now
+    breaks_cut fault failed b fails = record {
+      firsts = b.firsts;
+      seconds = b.seconds;
+      newly = b.newly;
+      waiting = b.waiting;
+      gives_firsts = b.gives_firsts;
+      gives_seconds = b.gives_seconds;
+      are = b.are;
+      next = b.next;
+      comes = b.comes;
+      settles = b.settles;
+      each = b.each;
+      cause = inl (record {
+        cuts = λ order shape rule limit before taken total kept pg pt.
+            elim b.cause [
+              | inl cut ↦
+                  let here = cut.cuts order shape rule limit before taken total kept pg pt in
+                  let again = fails_again {T = Unit {0}} grown now (pending ++ intersect shape rule b.newly (taken ++ b.seconds)) left fault out (Err failed) here fails in
+                  subst (λ (f : Told). FailsToAdd out (pending ++ intersect shape rule b.newly (taken ++ b.seconds)) f now) (again.puts.is ∙ sym fails.puts.is) again
+              | inr lack ↦
+                  with_rest_cut pending (intersect shape rule b.newly (taken ++ b.seconds)) left out grown (lack.writes order shape rule limit before taken total kept pg pt) (told failed) now fails
+            ];
+      });
+    }
+
+    -- it hadn't
+    stops_cut : (waiting : Option Feature) (s : Sweeping) (fault : Told) → So waiting s to_a to_b left grown → FailsToAdd grown left fault now → BreaksSo fault to_a to_b [] now
+    stops_cut waiting s fault j fails = record {
+      firsts = j.firsts;
+      seconds = j.seconds;
+      newly = j.newly;
+      waiting = waiting;
+      gives_firsts = j.gives_firsts;
+      gives_seconds = j.gives_seconds;
+      are = j.are;
+      next = j.next;
+      comes = j.comes;
+      settles = j.settles;
+      each = j.each;
+      cause = inl (record {
+        cuts = λ order shape rule limit before taken total kept pg pt. with_rest_cut pending (intersect shape rule j.newly (taken ++ j.seconds)) left out grown (j.writes order shape rule limit before taken total kept pg pt) fault now fails;
+      });
+    }
+
+    module _ {R : Type 0} (feature : R → Feature) (s : Sweeping) where
+      abbrev Answers : Result (Option R) Fault → List ℕ → Output → Type 0
+      Answers result rest put = Joins a_gives a_ended b_gives b_ended b_line IsTotal Decided LeavesOn feature old first from_a from_b pending out result s to_a to_b rest put
+
+      pub joins_rest : (result : Result (Option R) Fault) → Answers result left grown → Grown grown left now → Answers result [] now
+      joins_rest (Ok waiting) (j, stops, leaves) puts = (
+        record {
+          firsts = j.firsts;
+          seconds = j.seconds;
+          newly = j.newly;
+          gives_firsts = j.gives_firsts;
+          gives_seconds = j.gives_seconds;
+          are = j.are;
+          waits = j.waits;
+          next = j.next;
+          comes = j.comes;
+          settles = j.settles;
+          each = j.each;
+          goes = j.goes;
+          writes = λ order shape rule limit before taken total kept pg pt. with_rest pending (intersect shape rule j.newly (taken ++ j.seconds)) left out grown (j.writes order shape rule limit before taken total kept pg pt) now puts;
+        },
+        stops,
+        leaves,
+      )
+      joins_rest (Err fault) b puts = breaks_rest (told fault) b puts
+
+      pub joins_cut : (result : Result (Option R) Fault) (failed : Fault) → Answers result left grown → FailsToAdd grown left (told failed) now → BreaksSo (told failed) to_a to_b [] now
+      joins_cut (Ok waiting) failed (j, stops, leaves) fails = stops_cut (option_map feature waiting) s (told failed) j fails
+      joins_cut (Err fault) failed b fails = breaks_cut (told fault) failed b fails
+
+  module _ (cur : Feature) (s : Sweeping) (to_a : A) (to_b : B) (left : List ℕ) (grown : Output) (j : So (Some cur) s to_a to_b left grown) (b : Feature) (after : B) (gives_b : b_gives to_b (b ∷ []) after) (on : b.chrom ≡ first.chrom) where
+    module _ (front : j.next ≡ None) where
+      settled : Decided j.newly j.seconds
+      settled = subst (λ (l : List Feature). Decided j.newly l) (ap (λ (n : Option Feature). j.seconds ++ option_to_list n) front ∙ append-nil j.seconds) j.settles
+
+      both_settled : (newly2 : List Feature) → EndUpTo cur.chrom b.start newly2 → Decided (j.newly ++ newly2) (j.seconds ++ b ∷ [])
+      both_settled newly2 end order total known =
+          decided_both order j.newly newly2 (j.seconds ++ b ∷ []) (decided_before order j.newly j.seconds (b ∷ []) (settled order total known))
+          (ends_decided order cur.chrom b j.seconds newly2 total (subst (λ (c : List ℕ). order.knows c ≡ true) (sym j.waits.0) known) (on ∙ sym j.waits.0) end)
+
+      waits_on : (held : List Feature) (waiting : Option Feature) → WaitsOn cur.chrom held waiting → WaitsOn first.chrom held waiting
+      waits_on held None is = tt
+      waits_on held (Some a) is = (is.0 ∙ j.waits.0, is.1)
+
+      -- records that it decides were written
+      pub joins_write : (s2 : Sweeping) (to_a2 : A) (rest : List ℕ) (now : Output) (waiting : Option Feature) → WritesSo a_gives a_ended b.start s cur to_a left grown waiting s2 to_a2 rest now
+          → (k : So waiting s2 to_a2 to_b rest now) × (k.next ≡ Some b)
+      joins_write s2 to_a2 rest now waiting w = (
+        record {
+          firsts = j.firsts ++ w.firsts;
+          seconds = j.seconds;
+          newly = j.newly ++ w.newly;
+          gives_firsts = a_more from_a to_a to_a2 j.firsts w.firsts j.gives_firsts w.given;
+          gives_seconds = j.gives_seconds;
+          are = are_both first j.firsts j.newly cur w.firsts w.newly (option_to_list waiting) j.are w.are;
+          waits = waits_on s2.held waiting w.waits;
+          next = Some b;
+          comes = (after, gives_b);
+          settles = both_settled w.newly w.end;
+          each = λ order shape rule limit before taken total kept pg pt. each_wider order limit (first ∷ j.firsts) w.firsts taken j.seconds (j.each order shape rule limit before taken total kept (front_of order before first j.firsts w.firsts pg) pt);
+          goes = behind_same first j.firsts j.seconds j.newly cur j.are old s j.goes w.firsts (λ order shape rule limit as_given taken. Keeps order shape rule limit as_given taken s2) w.goes;
+          writes = writes_both first j.firsts j.seconds j.newly cur j.are old s j.goes pending left out grown j.writes w.firsts w.newly rest now w.writes;
+        },
+        refl,
+      )
+
+      -- they couldn't all be
+      pub breaks_write : (to_a2 : A) (rest : List ℕ) (now : Output) (fault : Told) → CutsOff a_gives a_ended b.start s cur to_a left grown fault to_a2 now → BreaksSo fault to_a2 to_b rest now
+      breaks_write to_a2 rest now fault cut = record {
+        firsts = j.firsts ++ cut.firsts;
+        seconds = j.seconds;
+        newly = j.newly ++ cut.newly;
+        waiting = cut.waiting;
+        gives_firsts = a_more from_a to_a to_a2 j.firsts cut.firsts j.gives_firsts cut.given;
+        gives_seconds = j.gives_seconds;
+        are = are_both first j.firsts j.newly cur cut.firsts cut.newly (option_to_list cut.waiting) j.are cut.are;
+        next = Some b;
+        comes = (after, gives_b);
+        each = λ order shape rule limit before taken total kept pg pt. each_wider order limit (first ∷ j.firsts) cut.firsts taken j.seconds (j.each order shape rule limit before taken total kept (front_of order before first j.firsts cut.firsts pg) pt);
+        settles = both_settled cut.newly cut.end;
+        cause = inl (record { cuts = cuts_both first j.firsts j.seconds j.newly cur j.are old s j.goes pending left out grown j.writes cut.firsts cut.newly fault now cut.cuts });
+      }
+
+    module _ (next : j.next ≡ Some b) (before_end : b.start < cur.stop) where
+      settled_by : Decided j.newly (j.seconds ++ b ∷ [])
+      settled_by = subst (λ (l : List Feature). Decided j.newly l) (ap (λ (n : Option Feature). j.seconds ++ option_to_list n) next) j.settles
+
+      -- b was taken
+      pub joins_take : (new : Sweeping) → new ≡ holding s cur b → (is_held cur b ≡ true → has_room_in s ≡ true) → All (CanHit cur) new.held → (k : So (Some cur) new to_a after left grown) × (k.next ≡ None) × LeavesOn k.seconds cur
+      joins_take new is room hits = (
+        record {
+          firsts = j.firsts;
+          seconds = j.seconds ++ b ∷ [];
+          newly = j.newly;
+          gives_firsts = j.gives_firsts;
+          gives_seconds = b_more from_b to_b after j.seconds (b ∷ []) j.gives_seconds gives_b;
+          are = j.are;
+          waits = (j.waits.0, hits);
+          next = None;
+          comes = tt;
+          settles = subst (λ (l : List Feature). Decided j.newly l) (sym (append-nil (j.seconds ++ b ∷ []))) settled_by;
+          each = λ order shape rule limit before taken total kept pg pt.
+              let both : taken ++ (j.seconds ++ b ∷ []) ≡ (taken ++ j.seconds) ++ b ∷ [] = sym (append_assoc taken j.seconds (b ∷ [])) in
+              let front = front_placed order (taken ++ j.seconds) (b ∷ []) (subst (λ (l : List Feature). ArePlaced order (intervals_of l)) both pt) in
+              let k = subst (λ (g : List Feature). Keeps order shape rule limit g (taken ++ j.seconds) s) (split_last before first j.firsts j.newly cur j.are) (j.goes order shape rule limit before taken total kept pg front) in
+              let known_first = (placed_back order before (first ∷ j.firsts) pg).0 in
+              let undecided = undecided_beside order total cur b (subst (λ (c : List ℕ). order.knows c ≡ true) (sym j.waits.0) known_first) (on ∙ sym j.waits.0) before_end in
+              let next = keeps_taken order shape rule limit (before ++ j.newly) cur (taken ++ j.seconds) s k b undecided room in
+              each_push order limit (first ∷ j.firsts) b taken j.seconds (j.each order shape rule limit before taken total kept pg front) (record {
+                before = j.newly;
+                a = cur;
+                after = [];
+                parts = j.are;
+                settled = subst (λ (l : List Feature). AreDecided order j.newly l) both (decided_behind order j.newly taken (j.seconds ++ b ∷ []) (settled_by order total known_first));
+                undecided = undecided;
+                within = subst (λ (l : List Feature). IfSome limit (λ most. length l ≤ most)) (keeps_held order shape rule limit (before ++ j.newly) cur ((taken ++ j.seconds) ++ b ∷ []) (holding s cur b) next) next.within;
+              });
+          goes = λ order shape rule limit before taken total kept pg pt.
+              let both : taken ++ (j.seconds ++ b ∷ []) ≡ (taken ++ j.seconds) ++ b ∷ [] = sym (append_assoc taken j.seconds (b ∷ [])) in
+              let front = front_placed order (taken ++ j.seconds) (b ∷ []) (subst (λ (l : List Feature). ArePlaced order (intervals_of l)) both pt) in
+              let split = split_last before first j.firsts j.newly cur j.are in
+              let k = subst (λ (g : List Feature). Keeps order shape rule limit g (taken ++ j.seconds) s) split (j.goes order shape rule limit before taken total kept pg front) in
+              let known = subst (λ (c : List ℕ). order.knows c ≡ true) (sym j.waits.0) (placed_back order before (first ∷ j.firsts) pg).0 in
+              let next = keeps_taken order shape rule limit (before ++ j.newly) cur (taken ++ j.seconds) s k b (undecided_beside order total cur b known (on ∙ sym j.waits.0) before_end) room in
+              subst (λ (n : Sweeping). Keeps order shape rule limit (before ++ first ∷ j.firsts) (taken ++ (j.seconds ++ b ∷ [])) n) (sym is)
+              (subst (λ (g : List Feature). Keeps order shape rule limit g (taken ++ (j.seconds ++ b ∷ [])) (holding s cur b)) (sym split)
+              (subst (λ (t : List Feature). Keeps order shape rule limit ((before ++ j.newly) ++ cur ∷ []) t (holding s cur b)) (sym both) next));
+          writes = λ order shape rule limit before taken total kept pg pt.
+              let both : taken ++ (j.seconds ++ b ∷ []) ≡ (taken ++ j.seconds) ++ b ∷ [] = sym (append_assoc taken j.seconds (b ∷ [])) in
+              let pt' = subst (λ (l : List Feature). ArePlaced order (intervals_of l)) both pt in
+              let known = (placed_back order before (first ∷ j.firsts) pg).0 in
+              let all = placed_back order before j.newly (front_placed order (before ++ j.newly) (cur ∷ []) (subst (λ (l : List Feature). ArePlaced order (intervals_of l)) (split_last before first j.firsts j.newly cur j.are) pg)) in
+              let told_so = subst (λ (l : List Feature). AreDecided order j.newly l) both (decided_behind order j.newly taken (j.seconds ++ b ∷ []) (settled_by order total known)) in
+              let same = ap (intersect shape rule j.newly) both ∙ lines_stay_so order total shape rule (taken ++ j.seconds) b [] pt' j.newly all told_so in
+              subst (λ (l : List ℕ). GrownWith pending out l left grown) (sym same) (j.writes order shape rule limit before taken total kept pg (front_placed order (taken ++ j.seconds) (b ∷ []) pt'));
+        },
+        refl,
+        leaves_push j.seconds b cur (on ∙ sym j.waits.0) before_end,
+      )
+
+      room_is : (order : Order) (shape : Shape) (rule : HitRule) (limit : Option ℕ) (gs taken : List Feature) → Keeps order shape rule limit (gs ++ cur ∷ []) taken s → has_room limit (length (held_for (Some cur) taken)) ≡ has_room_in s
+      room_is order shape rule limit gs taken k =
+          ap (λ (l : List Feature). has_room limit (length l)) (sym (keeps_held order shape rule limit gs cur taken s k)) ∙ ap (λ (l : Option ℕ). has_room l (length s.held)) (sym k.limit_is)
+
+      cannot : (fault : Fault) (line : ℕ) (limit : Option ℕ) (taken : List Feature) → has_room limit (length (held_for (Some cur) taken)) ≡ has_room_in s → CannotHold s line fault → CannotBeHeld limit cur taken line (told fault)
+      cannot fault line limit taken room (inl full) = inl (room ∙ full.0, full.1)
+      cannot fault line limit taken room (inr lacks) = inr (room ∙ lacks.0, lacks.1)
+
+      -- b has to be held, and can't be
+      pub breaks_take : (fault : Fault) → is_held cur b ≡ true → CannotHold s (b_line after) fault → BreaksSo (told fault) to_a to_b left grown
+      breaks_take fault held lacks = record {
+        firsts = j.firsts;
+        seconds = j.seconds;
+        newly = j.newly;
+        waiting = Some cur;
+        gives_firsts = j.gives_firsts;
+        gives_seconds = j.gives_seconds;
+        are = j.are;
+        next = j.next;
+        comes = j.comes;
+        settles = j.settles;
+        each = j.each;
+        cause = inr (record {
+          last = cur;
+          waits = refl;
+          b = b;
+          after = after;
+          gives = gives_b;
+          chrom = on ∙ sym j.waits.0;
+          starts = before_end;
+          ends = ltb-true cur.start b.stop (and_parts (bytes_eq cur.chrom b.chrom) (ltb cur.start b.stop) held).1;
+          writes = j.writes;
+          lacks = λ order shape rule limit before taken total kept pg pt.
+              let k = subst (λ (g : List Feature). Keeps order shape rule limit g (taken ++ j.seconds) s) (split_last before first j.firsts j.newly cur j.are) (j.goes order shape rule limit before taken total kept pg pt) in
+              cannot fault (b_line after) limit (taken ++ j.seconds) (room_is order shape rule limit (before ++ j.newly) (taken ++ j.seconds) k) lacks;
+        });
+      }

@@ -1,0 +1,280 @@
+-- Lemmas on records of the second input on one chromosome beside those of the first on one.
+use Rattle.std.proofs.Common.{◌≡◌, inl, inr, ℕ, Bool, true, false, not, ◌&&◌, cond, List, [], ◌∷◌, ◌++◌, Option, Some, None, Ok, Err, Result, refl, sym, ap, ◌∙◌, subst, append-nil, append_assoc, arith, filter, length, ◌≤◌, ltb, option_map, option_to_list}
+use Rattle.std.specs.Prelude.{All, IfSome}
+use Rattle.std.specs.List.{list_all}
+use Rattle.std.specs.declared.cmp.Ordering.{Ordering}
+use Rattle.std.specs.declared.cmp.Ordering.TheVariants.{Less, Equal, Greater}
+use Rattle.std.proofs.lemmas.Bool.{and_from, or_left}
+use Rattle.bt_lines.specs.calls.Names.{told}
+use Rattle.bt_lines.specs.model.Number.{max_number}
+use Rattle.bt_lines.specs.calls.Output.{Output}
+use Rattle.bt_lines.specs.calls.Putting.{FailsToAdd}
+use Rattle.bt_lines.specs.declared.fault.Fault.{Fault}
+use Rattle.bt_bed.specs.model.feature.Feature.{Feature}
+use Rattle.bt_bed.specs.model.order.Locus.{is_below_at}
+use Rattle.bt_bed.specs.model.order.Order.{Order, IsTotal}
+use Rattle.bt_bed.proofs.lemmas.parse.NameLemmas.{name_ne}
+use Rattle.bt_sweep.specs.calls.Advancing.{IsThis, Settles}
+use Rattle.bt_sweep.specs.model.Deciding.{decided, decides}
+use Rattle.bt_sweep.specs.calls.Held.{CanHit}
+use Rattle.bt_sweep.specs.model.IntersectLines.{intersect}
+use Rattle.bt_sweep.specs.inside.Joining.{AreDecided, AreDecidedOn, Behind, BehindFor, CannotBeHeld, ComesNext, GoesToFor, GrownWith, StopsAt, EndUpTo, Joins, Keeps, LeavesLast, LeavesOn, LieOn, TakenEach, WaitsOn, SkipsAll, WritesUpTo}
+use Rattle.bt_sweep.specs.inside.Relating.{Compares, EndsWhile, Relates}
+use Rattle.bt_sweep.specs.calls.Standing.{HoldsFor, is_held}
+use Rattle.bt_sweep.specs.calls.SweepState.{Sweeping}
+use Rattle.bt_sweep.specs.declared.hits.hit_rule.HitRule.{HitRule}
+use Rattle.bt_sweep.specs.declared.sweep.phase.Phase.TheVariants.{First}
+use Rattle.bt_sweep.specs.declared.sweep.relation.Relation.TheVariants.{After}
+use Rattle.bt_sweep.specs.declared.output.shape.Shape.{Shape}
+use Rattle.bt_sweep.proofs.lemmas.laws.DecidingLemmas.{decides_from}
+use Rattle.bt_sweep.proofs.lemmas.sweep.HoldLemmas.{holds_b}
+use Rattle.bt_sweep.proofs.lemmas.sweep.JoinLemmas.{joins_first, leaves_none}
+use Rattle.bt_sweep.proofs.lemmas.sweep.KeepLemmas.{keeps_held}
+use Rattle.bt_sweep.proofs.lemmas.sweep.PendingLemmas.{with_none}
+
+lie_last : (name : List ℕ) (before : List Feature) (b : Feature) → LieOn name (before ++ b ∷ []) → b.chrom ≡ name
+lie_last name [] b on = on.0
+lie_last name (x ∷ before) b on = lie_last name before b on.1
+
+-- ---- on a chromosome before theirs
+
+module _ (order : Order) (total : IsTotal order) (a : Feature) (known : order.knows a.chrom ≡ true) (name : List ℕ) (compared : order.compare name a.chrom ≡ Less) where
+  other_name : (b : Feature) → b.chrom ≡ name → a.chrom ≡ b.chrom → ⊥
+  other_name b on same =
+      let less : order.compare a.chrom a.chrom ≡ Less = ap (λ (c : List ℕ). order.compare c a.chrom) (same ∙ on) ∙ compared in
+      let apart : Less ≡ Equal = sym less ∙ total.same a.chrom known in
+      cc
+
+  undecided_before : (b : Feature) → b.chrom ≡ name → decides order a b ≡ false
+  undecided_before b on = ap (λ (c : Ordering). not (is_below_at c b.start a.stop)) (ap (λ (c : List ℕ). order.compare c a.chrom) on ∙ compared)
+
+  none_kept : (b : Feature) → b.chrom ≡ name → filter (is_held a) (b ∷ []) ≡ []
+  none_kept b on = ap (λ (c : Bool). cond (c && ltb a.start b.stop) (b ∷ []) []) (name_ne a.chrom b.chrom (other_name b on))
+
+  -- taken, they change nothing
+  holds_before : (gs taken held seconds : List Feature) → LieOn name seconds → HoldsFor order (gs ++ a ∷ []) taken held → HoldsFor order (gs ++ a ∷ []) (taken ++ seconds) held
+  holds_before gs taken held [] on holds = subst (λ (t : List Feature). HoldsFor order (gs ++ a ∷ []) t held) (sym (append-nil taken)) holds
+  holds_before gs taken held (b ∷ seconds) on holds =
+      let one = subst (λ (h : List Feature). HoldsFor order (gs ++ a ∷ []) (taken ++ b ∷ []) h) (ap (λ (l : List Feature). held ++ l) (none_kept b on.0) ∙ append-nil held)
+      (holds_b order gs taken held a b holds (undecided_before b on.0)) in
+      subst (λ (t : List Feature). HoldsFor order (gs ++ a ∷ []) t held) (append_assoc taken (b ∷ []) seconds) (holds_before gs (taken ++ b ∷ []) held seconds on.1 one)
+
+-- ---- on one behind it
+
+after_decided : (order : Order) (b : Feature) (name : List ℕ) (newly : List Feature) (place : ℕ) → IsTotal order → order.knows name ≡ true → order.compare b.chrom name ≡ Greater → EndUpTo name place newly → AreDecided order newly (b ∷ [])
+after_decided order b name [] place total known compared end = refl
+after_decided order b name (a ∷ newly) place total known compared end =
+    and_from (decided order a (b ∷ [])) (list_all (λ x. decided order x (b ∷ [])) newly)
+    (or_left (decides order a b) false
+    (decides_from order a b total (subst (λ (c : List ℕ). order.knows c ≡ true) (sym end.0) known) (inl (subst (λ (c : List ℕ). order.compare b.chrom c ≡ Greater) (sym end.0) compared))))
+    (after_decided order b name newly place total known compared end.2)
+
+module _ {A B R : Type 0} (a_gives : A → List Feature → A → Type 0) (a_ended : A → Type 0) (a_none : (x : A) → a_gives x [] x)
+    (a_more : (old mid new : A) (xs ys : List Feature) → a_gives old xs mid → a_gives mid ys new → a_gives old (xs ++ ys) new)
+    (b_gives : B → List Feature → B → Type 0) (b_ended : B → Type 0) (b_line : B → ℕ) (b_none : (x : B) → b_gives x [] x)
+    (b_more : (old mid new : B) (xs ys : List Feature) → b_gives old xs mid → b_gives mid ys new → b_gives old (xs ++ ys) new)
+    (feature : R → Feature) (order : Order) (total : IsTotal order) (old : Sweeping) (r : R) (from_a : A) (from_b : B) (out : Output) (known : order.knows (feature r).chrom ≡ true) (hits : All (CanHit (feature r)) old.held) where
+  abbrev first : Feature
+  first = feature r
+
+  abbrev Decides : Result (Option R) Fault → Sweeping → A → B → Output → Type 0
+  Decides result new to_a to_b grown = Joins a_gives a_ended b_gives (EndsWhile b_ended old.phase) b_line (IsThis order) (Settles order old.phase) (LeavesLast order) feature old first from_a from_b [] out result new to_a to_b [] grown
+
+  abbrev Lies : List ℕ → Ordering → Type 0
+  Lies name is = Compares b_gives b_ended name order old.phase first.chrom from_b is
+
+  -- none of the second input was there
+  pub decides_none : b_ended from_b × (old.phase ≡ First → ⊥) → Decides (Ok (Some r)) old from_a from_b out
+  decides_none ended =
+      let j = joins_first a_gives a_ended a_none a_more b_gives (EndsWhile b_ended old.phase) b_line b_none b_more old first from_a from_b [] out (IsThis order) (Settles order old.phase) (inr refl) hits in
+      (j.0, ended, leaves_none order j.0.seconds first j.2)
+
+  keeps_one : (name : List ℕ) (b : Feature) (other : Order) (shape : Shape) (rule : HitRule) (limit : Option ℕ) (before taken : List Feature) → IsThis order other → order.compare name first.chrom ≡ Less → b.chrom ≡ name
+      → Keeps other shape rule limit (before ++ first ∷ []) taken old → Keeps other shape rule limit (before ++ first ∷ []) (taken ++ b ∷ []) old
+  keeps_one name b other shape rule limit before taken this compared on kept =
+      subst (λ (o : Order). Keeps o shape rule limit (before ++ first ∷ []) (taken ++ b ∷ []) old) (sym this)
+      (let k = subst (λ (o : Order). Keeps o shape rule limit (before ++ first ∷ []) taken old) this kept in
+      let all : Keeps order shape rule limit (before ++ first ∷ []) (taken ++ b ∷ []) old = record {
+        shape_is = k.shape_is;
+        rule_is = k.rule_is;
+        limit_is = k.limit_is;
+        holds = holds_before order total first known name compared before taken old.held (b ∷ []) (on, tt) k.holds;
+        within = k.within;
+      } in
+      all)
+
+  keeps_before : (name : List ℕ) (seconds : List Feature) → order.compare name first.chrom ≡ Less → LieOn name seconds → GoesToFor (IsThis order) first [] seconds old old
+  keeps_before name seconds compared on other shape rule limit before taken this kept pg pt =
+      subst (λ (o : Order). Keeps o shape rule limit (before ++ first ∷ []) (taken ++ seconds) old) (sym this)
+      (let k = subst (λ (o : Order). Keeps o shape rule limit (before ++ first ∷ []) taken old) this kept in
+      let all : Keeps order shape rule limit (before ++ first ∷ []) (taken ++ seconds) old = record {
+        shape_is = k.shape_is;
+        rule_is = k.rule_is;
+        limit_is = k.limit_is;
+        holds = holds_before order total first known name compared before taken old.held seconds on k.holds;
+        within = k.within;
+      } in
+      all)
+
+  -- each was taken for the first
+  each_before : (name : List ℕ) (seconds : List Feature) (other : Order) (shape : Shape) (rule : HitRule) (limit : Option ℕ) (before taken : List Feature) → IsThis order other → order.compare name first.chrom ≡ Less → LieOn name seconds
+      → Keeps other shape rule limit (before ++ first ∷ []) taken old → TakenEach other limit (first ∷ []) taken seconds
+  each_before name [] other shape rule limit before taken this compared on kept = tt
+  each_before name (b ∷ seconds) other shape rule limit before taken this compared on kept =
+      let next = keeps_one name b other shape rule limit before taken this compared on.0 kept in (
+        record {
+          before = [];
+          a = first;
+          after = [];
+          parts = refl;
+          settled = refl;
+          undecided = subst (λ (o : Order). decides o first b ≡ false) (sym this) (undecided_before order total first known name compared b on.0);
+          within = subst (λ (l : List Feature). IfSome limit (λ most. length l ≤ most)) (keeps_held other shape rule limit before first (taken ++ b ∷ []) old next) next.within;
+        },
+        each_before name seconds other shape rule limit before (taken ++ b ∷ []) this compared on.1 next,
+      )
+
+  -- they lie before
+  pub decides_before : (name : List ℕ) (to_b : B) → Lies name Less → SkipsAll b_gives b_ended name from_b to_b → Decides (Ok (Some r)) old from_a to_b out
+  decides_before name to_b lies skip = (
+    record {
+      firsts = [];
+      seconds = skip.seconds;
+      newly = [];
+      gives_firsts = a_none from_a;
+      gives_seconds = skip.given;
+      are = refl;
+      waits = (refl, hits);
+      next = None;
+      comes = tt;
+      settles = inr refl;
+      each = λ other shape rule limit before taken this kept pg pt. each_before name skip.seconds other shape rule limit before taken this lies.compared skip.on kept;
+      goes = keeps_before name skip.seconds lies.compared skip.on;
+      writes = λ other shape rule limit before taken this kept pg pt. with_none [] out;
+    },
+    (skip.ended, lies.going),
+    λ before b e. undecided_before order total first known name lies.compared b (lie_last name before b (subst (LieOn name) e skip.on)),
+  )
+
+  to_this : (firsts seconds : List Feature) (P : Order → Shape → HitRule → Option ℕ → List Feature → List Feature → Type 0) → Behind first firsts seconds old P → BehindFor (IsThis order) first firsts seconds old P
+  to_this firsts seconds P behind other shape rule limit before taken this kept pg pt = behind other shape rule limit before taken (subst IsTotal (sym this) total) kept pg pt
+
+  abbrev JoinsBeside : Result (Option R) Fault → Sweeping → A → B → Output → Type 0
+  JoinsBeside result new to_a to_b grown = Joins a_gives a_ended b_gives b_ended b_line IsTotal (AreDecidedOn first.chrom) LeavesOn feature old first from_a from_b [] out result new to_a to_b [] grown
+
+  stops_beside : (waiting : Option R) (to_a : A) (to_b : B) → (old.phase ≡ First → ⊥)
+      → StopsAt a_gives a_ended b_gives b_ended b_line IsTotal (AreDecidedOn first.chrom) old first from_a from_b [] out (option_map feature waiting) to_a to_b
+      → StopsAt a_gives a_ended b_gives (EndsWhile b_ended old.phase) b_line (IsThis order) (Settles order old.phase) old first from_a from_b [] out (option_map feature waiting) to_a to_b
+  stops_beside None to_a to_b going ended = ended
+  stops_beside (Some a) to_a to_b going ended = (ended, going)
+
+  leaves_beside : (waiting : Option R) (held seconds : List Feature) → WaitsOn first.chrom held (option_map feature waiting) → IfSome (option_map feature waiting) (LeavesOn seconds) → IfSome (option_map feature waiting) (LeavesLast order seconds)
+  leaves_beside None held seconds waits leaves = tt
+  leaves_beside (Some a) held seconds waits leaves = leaves order total (subst (λ (c : List ℕ). order.knows c ≡ true) (sym waits.0) known)
+
+  -- they lie beside
+  pub decides_beside : (result : Result (Option R) Fault) (new : Sweeping) (to_a : A) (to_b : B) (grown : Output) → (old.phase ≡ First → ⊥) → JoinsBeside result new to_a to_b grown → Decides result new to_a to_b grown
+  decides_beside (Ok waiting) new to_a to_b grown going (j, stops, leaves) = (
+    record {
+      firsts = j.firsts;
+      seconds = j.seconds;
+      newly = j.newly;
+      gives_firsts = j.gives_firsts;
+      gives_seconds = j.gives_seconds;
+      are = j.are;
+      waits = j.waits;
+      next = j.next;
+      comes = j.comes;
+      settles = inr (j.settles order total known);
+      each = λ other shape rule limit before taken this kept pg pt. j.each other shape rule limit before taken (subst IsTotal (sym this) total) kept pg pt;
+      goes = to_this j.firsts j.seconds (λ order shape rule limit as_given taken. Keeps order shape rule limit as_given taken new) j.goes;
+      writes = to_this j.firsts j.seconds (λ order shape rule limit as_given taken. GrownWith [] out (intersect shape rule j.newly taken) [] grown) j.writes;
+    },
+    stops_beside waiting to_a to_b going stops,
+    leaves_beside waiting new.held j.seconds j.waits leaves,
+  )
+  decides_beside (Err fault) new to_a to_b grown going b = record {
+    firsts = b.firsts;
+    seconds = b.seconds;
+    newly = b.newly;
+    waiting = b.waiting;
+    gives_firsts = b.gives_firsts;
+    gives_seconds = b.gives_seconds;
+    are = b.are;
+    next = b.next;
+    comes = b.comes;
+    settles = inr (b.settles order total known);
+    each = λ other shape rule limit before taken this kept pg pt. b.each other shape rule limit before taken (subst IsTotal (sym this) total) kept pg pt;
+    cause = elim b.cause [
+      | inl cut ↦ inl (record {
+        cuts = to_this b.firsts b.seconds (λ order shape rule limit as_given taken. FailsToAdd out ([] ++ intersect shape rule b.newly taken) (told fault) grown) cut.cuts;
+      })
+      | inr lack ↦ inr (record {
+        last = lack.last;
+        waits = lack.waits;
+        b = lack.b;
+        after = lack.after;
+        gives = lack.gives;
+        chrom = lack.chrom;
+        starts = lack.starts;
+        ends = lack.ends;
+        writes = to_this b.firsts b.seconds (λ order shape rule limit as_given taken. GrownWith [] out (intersect shape rule b.newly taken) [] grown) lack.writes;
+        lacks = to_this b.firsts b.seconds (λ order shape rule limit as_given taken. CannotBeHeld limit lack.last taken (b_line lack.after) (told fault)) lack.lacks;
+      })
+    ];
+  }
+
+  -- they lie behind, or the input has ended: what comes next then, and that it decides each
+  abbrev IsBehind : List ℕ → Type 0
+  IsBehind name = Relates b_gives b_ended name order old.phase first.chrom from_b After
+
+  abbrev next_of : (name : List ℕ) → IsBehind name → Option Feature
+  next_of name (inl ended) = None
+  next_of name (inr lies) = Some lies.b
+
+  comes_of : (name : List ℕ) (behind : IsBehind name) → ComesNext b_gives from_b (next_of name behind)
+  comes_of name (inl ended) = tt
+  comes_of name (inr lies) = (lies.after, lies.gives_b)
+
+  settles_of : (name : List ℕ) (behind : IsBehind name) (newly : List Feature) → EndUpTo first.chrom max_number newly → Settles order old.phase newly ([] ++ option_to_list (next_of name behind))
+  settles_of name (inl ended) newly end = inl ended
+  settles_of name (inr lies) newly end =
+      inr (after_decided order lies.b first.chrom newly max_number total known (ap (λ (c : List ℕ). order.compare c first.chrom) lies.on ∙ lies.compares.compared) end)
+
+  -- each is written
+  pub decides_after : (name : List ℕ) (result : Result (Option R) Fault) (new : Sweeping) (to_a : A) (grown : Output) → IsBehind name → WritesUpTo a_gives a_ended feature max_number old first from_a [] out result new to_a [] grown
+      → Decides result new to_a from_b grown
+  decides_after name (Ok (Some a)) new to_a grown behind w = absurd (omega (arith, w.1.0, w.1.1))
+  decides_after name (Ok None) new to_a grown behind (w, ended) = (
+    record {
+      firsts = w.firsts;
+      seconds = [];
+      newly = w.newly;
+      gives_firsts = w.given;
+      gives_seconds = b_none from_b;
+      are = w.are;
+      waits = tt;
+      next = next_of name behind;
+      comes = comes_of name behind;
+      settles = settles_of name behind w.newly w.end;
+      each = λ other shape rule limit before taken this kept pg pt. tt;
+      goes = to_this w.firsts [] (λ order shape rule limit as_given taken. Keeps order shape rule limit as_given taken new) w.goes;
+      writes = to_this w.firsts [] (λ order shape rule limit as_given taken. GrownWith [] out (intersect shape rule w.newly taken) [] grown) w.writes;
+    },
+    ended,
+    tt,
+  )
+  decides_after name (Err fault) new to_a grown behind cut = record {
+    firsts = cut.firsts;
+    seconds = [];
+    newly = cut.newly;
+    waiting = cut.waiting;
+    gives_firsts = cut.given;
+    gives_seconds = b_none from_b;
+    are = cut.are;
+    next = next_of name behind;
+    comes = comes_of name behind;
+    each = λ other shape rule limit before taken this kept pg pt. tt;
+    settles = settles_of name behind cut.newly cut.end;
+    cause = inl (record { cuts = to_this cut.firsts [] (λ order shape rule limit as_given taken. FailsToAdd out ([] ++ intersect shape rule cut.newly taken) (told fault) grown) cut.cuts });
+  }

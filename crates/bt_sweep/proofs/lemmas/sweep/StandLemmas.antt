@@ -1,0 +1,298 @@
+-- Lemmas on where a sweep stands once records of both inputs were given and taken.
+use Rattle.std.proofs.Common.{◌≡◌, inl, inr, ℕ, Bool, true, false, List, [], ◌∷◌, ◌++◌, Option, Some, None, Ok, Err, Result, refl, sym, ap, ◌∙◌, subst, append-nil, append_assoc, option_to_list}
+use Rattle.std.specs.Prelude.{IfSome, is_some}
+use Rattle.bt_lines.specs.model.Fault.{Told, no_memory}
+use Rattle.bt_lines.specs.calls.Names.{told}
+use Rattle.bt_lines.specs.declared.fault.Fault.{Fault}
+use Rattle.bt_lines.specs.calls.Output.{Output}
+use Rattle.bt_lines.specs.calls.Putting.{FailsToAdd, Grown}
+use Rattle.bt_lines.proofs.lemmas.writer.PuttingLemmas.{grown_none}
+use Rattle.bt_bed.specs.model.feature.Feature.{Feature, intervals_of}
+use Rattle.bt_bed.specs.model.order.Locus.{ArePlaced}
+use Rattle.bt_bed.specs.model.order.Order.{Order, IsTotal}
+use Rattle.bt_bed.specs.calls.Single.{GivesSingle, single_left}
+use Rattle.bt_bed.specs.declared.read.cursor.Single.{Single}
+use Rattle.bt_sweep.specs.calls.Advancing.{Advances, AdvancesSo, AtEach, FailsAt, IsThis, PutsEach, Settles, StopsFor, stage_after}
+use Rattle.bt_sweep.specs.model.IntersectLines.{intersect}
+use Rattle.bt_sweep.specs.inside.Joining.{BehindFor, Breaks, CannotBeHeld, JoinsSo, Keeps, LeavesLast, TakenEach, TakesEachFor, WritesFor}
+use Rattle.bt_sweep.specs.calls.Standing.{HoldsFor, Stage, StandsAt, given, phase_of}
+use Rattle.bt_sweep.specs.inside.StateSteps.{KeepsOne, held_with}
+use Rattle.bt_sweep.specs.calls.SweepState.{Sweeping, is_over, want_in, want_of}
+use Rattle.bt_sweep.specs.declared.hits.hit_rule.HitRule.{HitRule}
+use Rattle.bt_sweep.specs.declared.sweep.phase.Phase.{Phase}
+use Rattle.bt_sweep.specs.declared.sweep.phase.Phase.TheVariants.{Both, First, Over}
+use Rattle.bt_sweep.specs.declared.output.shape.Shape.{Shape}
+use Rattle.bt_sweep.specs.declared.sweep.want.Want.{Want}
+use Rattle.bt_sweep.specs.declared.sweep.want.Want.TheVariants.{A as WantA, B as WantB, Nothing}
+use Rattle.bt_sweep.proofs.lemmas.sweep.JoinLemmas.{leaves_none}
+use Rattle.bt_sweep.proofs.lemmas.sweep.KeepLemmas.{keeps_first}
+use Rattle.bt_sweep.proofs.lemmas.sweep.PendingLemmas.{with_no_pending}
+use Rattle.bt_sweep.proofs.lemmas.laws.PlacedLemmas.{front_placed}
+
+pub keeps_of : (order : Order) (shape : Shape) (rule : HitRule) (limit : Option ℕ) (stage : Stage) (s : Sweeping) → StandsAt order shape rule limit stage s → Keeps order shape rule limit (given stage) stage.taken s
+keeps_of order shape rule limit stage s st = record { shape_is = st.shape_is; rule_is = st.rule_is; limit_is = st.limit_is; holds = st.holds; within = st.within }
+
+-- neither input has ended
+pub both_open : (a b : Bool) (phase : Phase) → phase ≡ phase_of a b → (phase ≡ First → ⊥) → (phase ≡ Over → ⊥) → (a ≡ false) × (b ≡ false)
+both_open true b phase e first over = absurd (over e)
+both_open false true phase e first over = absurd (first e)
+both_open false false phase e first over = (refl, refl)
+
+-- both go on
+still_both : (phase : Phase) → (phase ≡ First → ⊥) → (phase ≡ Over → ⊥) → phase ≡ Both
+still_both Both first over = refl
+still_both First first over = absurd (first refl)
+still_both Over first over = absurd (over refl)
+
+-- ---- where none waits
+
+module _ (order : Order) (total : IsTotal order) (old : Sweeping) (none : old.current ≡ None) (first : Feature) (mid : Sweeping) (mid_is : mid ≡ record old { held = held_with old.held first }) where
+  pub pre_next : option_to_list old.current ++ first ∷ [] ≡ first ∷ []
+  pre_next = ap (λ (o : Option Feature). option_to_list o ++ first ∷ []) none
+
+  pub keeps_entered : (shape : Shape) (rule : HitRule) (limit : Option ℕ) (stage : Stage) → StandsAt order shape rule limit stage old → ArePlaced order (intervals_of (stage.written ++ first ∷ []))
+      → Keeps order shape rule limit (stage.written ++ first ∷ []) stage.taken mid
+  keeps_entered shape rule limit stage st placed =
+      let gone : given stage ≡ stage.written = ap (λ (o : Option Feature). stage.written ++ option_to_list o) (sym st.current_is ∙ none) ∙ append-nil stage.written in
+      subst (λ (n : Sweeping). Keeps order shape rule limit (stage.written ++ first ∷ []) stage.taken n) (sym mid_is)
+      (keeps_first order shape rule limit stage.written first stage.taken old total placed (subst (λ (g : List Feature). Keeps order shape rule limit g stage.taken old) gone (keeps_of order shape rule limit stage old st)))
+
+-- ---- where one does
+
+module _ (order : Order) (old : Sweeping) (first : Feature) (some : old.current ≡ Some first) (mid : Sweeping) (mid_is : mid ≡ record old { current = None }) where
+  pub pre_current : option_to_list old.current ++ [] ≡ first ∷ []
+  pre_current = ap (λ (o : Option Feature). option_to_list o ++ []) some
+
+  pub keeps_current : (shape : Shape) (rule : HitRule) (limit : Option ℕ) (stage : Stage) → StandsAt order shape rule limit stage old → ArePlaced order (intervals_of (stage.written ++ first ∷ []))
+      → Keeps order shape rule limit (stage.written ++ first ∷ []) stage.taken mid
+  keeps_current shape rule limit stage st placed =
+      let all : given stage ≡ stage.written ++ first ∷ [] = ap (λ (o : Option Feature). stage.written ++ option_to_list o) (sym st.current_is ∙ some) in
+      let k = subst (λ (g : List Feature). Keeps order shape rule limit g stage.taken old) all (keeps_of order shape rule limit stage old st) in
+      let here : Keeps order shape rule limit (stage.written ++ first ∷ []) stage.taken (record old { current = None }) = record { shape_is = k.shape_is; rule_is = k.rule_is; limit_is = k.limit_is; holds = k.holds; within = k.within } in
+      subst (λ (n : Sweeping). Keeps order shape rule limit (stage.written ++ first ∷ []) stage.taken n) (sym mid_is) here
+
+-- ---- what is asked for
+
+want_none : (current : Option Feature) (phase : Phase) → current ≡ None → (phase ≡ Over → ⊥) → want_of (is_some current) (is_over phase) ≡ WantA
+want_none (Some a) phase none going = absurd (let apart : Some a ≡ None = none in cc)
+want_none None Both none going = refl
+want_none None First none going = refl
+want_none None Over none going = absurd (going refl)
+
+pub want_a : (s : Sweeping) → s.current ≡ None → (s.phase ≡ Over → ⊥) → want_in s ≡ WantA
+want_a s none going = want_none s.current s.phase none going
+
+pub want_over : (s : Sweeping) → s.current ≡ None → s.phase ≡ Over → want_in s ≡ Nothing
+want_over s none over = ap (λ (o : Option Feature). want_of (is_some o) (is_over s.phase)) none ∙ ap (λ (p : Phase). want_of false (is_over p)) over
+
+pub want_b : (s : Sweeping) (a : Feature) → s.current ≡ Some a → want_in s ≡ WantB
+want_b s a some = ap (λ (o : Option Feature). want_of (is_some o) (is_over s.phase)) some
+
+module _ {U V : Type 0} (u_gives : U → List Feature → U → Type 0) (u_ended : U → Type 0) (v_gives : V → List Feature → V → Type 0) (v_ended : V → Type 0) (v_line : V → ℕ) (order : Order) (old : Sweeping) (from_u to_u : U) (from_v to_v : V) (out : Output) (s : Sweeping) where
+  abbrev Stops : Want → Type 0
+  Stops want = StopsFor u_gives u_ended v_gives v_ended v_line order old from_u from_v out want to_u to_v
+
+  pub stops_nothing : want_in s ≡ Nothing → Stops (want_in s)
+  stops_nothing e = subst Stops (sym e) tt
+
+  pub stops_a : want_in s ≡ WantA → u_ended to_u → Stops (want_in s)
+  stops_a e ended = subst Stops (sym e) ended
+
+  pub stops_b : want_in s ≡ WantB → v_ended to_v → Stops (want_in s)
+  stops_b e ended = subst Stops (sym e) ended
+
+-- ---- from there on
+
+module _ (order : Order) (old mid : Sweeping) (first : Feature) (pre : List Feature) (pre_is : option_to_list old.current ++ pre ≡ first ∷ [])
+    (keeps : (shape : Shape) (rule : HitRule) (limit : Option ℕ) (stage : Stage) → StandsAt order shape rule limit stage old → ArePlaced order (intervals_of (stage.written ++ first ∷ [])) → Keeps order shape rule limit (stage.written ++ first ∷ []) stage.taken mid)
+    (phase : mid.phase ≡ old.phase) where
+  given_more : (shape : Shape) (rule : HitRule) (limit : Option ℕ) (stage : Stage) → StandsAt order shape rule limit stage old → (firsts : List Feature) → given stage ++ (pre ++ firsts) ≡ stage.written ++ first ∷ firsts
+  given_more shape rule limit stage st firsts =
+      ap (λ (o : Option Feature). (stage.written ++ option_to_list o) ++ (pre ++ firsts)) (sym st.current_is)
+      ∙ append_assoc stage.written (option_to_list old.current) (pre ++ firsts)
+      ∙ ap (λ (l : List Feature). stage.written ++ l) (sym (append_assoc (option_to_list old.current) pre firsts) ∙ ap (λ (l : List Feature). l ++ firsts) pre_is)
+
+  each_given : (firsts : List Feature) → option_to_list old.current ++ (pre ++ firsts) ≡ first ∷ firsts
+  each_given firsts = sym (append_assoc (option_to_list old.current) pre firsts) ∙ ap (λ (l : List Feature). l ++ firsts) pre_is
+
+  each_from : (firsts seconds : List Feature) → TakesEachFor (IsThis order) first firsts seconds mid
+      → AtEach order old (pre ++ firsts) seconds (λ shape rule limit stage. TakenEach order limit (option_to_list old.current ++ (pre ++ firsts)) stage.taken seconds)
+  each_from firsts seconds each shape rule limit stage st pg pt =
+      let pg' = subst (λ (l : List Feature). ArePlaced order (intervals_of l)) (given_more shape rule limit stage st firsts) pg in
+      let front = front_placed order (stage.written ++ first ∷ []) firsts (subst (λ (l : List Feature). ArePlaced order (intervals_of l)) (sym (append_assoc stage.written (first ∷ []) firsts)) pg') in
+      subst (λ (l : List Feature). TakenEach order limit l stage.taken seconds) (sym (each_given firsts)) (each order shape rule limit stage.written stage.taken refl (keeps shape rule limit stage st front) pg' pt)
+
+  at_each : (firsts seconds : List Feature) (P : Order → Shape → HitRule → Option ℕ → List Feature → List Feature → Type 0) → BehindFor (IsThis order) first firsts seconds mid P
+      → AtEach order old (pre ++ firsts) seconds (λ shape rule limit stage. P order shape rule limit (stage.written ++ first ∷ firsts) (stage.taken ++ seconds))
+  at_each firsts seconds P behind shape rule limit stage st pg pt =
+      let pg' = subst (λ (l : List Feature). ArePlaced order (intervals_of l)) (given_more shape rule limit stage st firsts) pg in
+      let front = front_placed order (stage.written ++ first ∷ []) firsts (subst (λ (l : List Feature). ArePlaced order (intervals_of l)) (sym (append_assoc stage.written (first ∷ []) firsts)) pg') in
+      behind order shape rule limit stage.written stage.taken refl (keeps shape rule limit stage st front) pg' pt
+
+  puts_each : (firsts seconds newly : List Feature) (out grown : Output) → WritesFor (IsThis order) first firsts seconds mid newly [] out [] grown → PutsEach order old (pre ++ firsts) seconds newly out grown
+  puts_each firsts seconds newly out grown writes =
+      at_each firsts seconds (λ order shape rule limit as_given taken. Grown out (intersect shape rule newly taken) grown)
+      (λ other shape rule limit before taken this kept pg pt. with_no_pending out grown (intersect shape rule newly (taken ++ seconds)) (writes other shape rule limit before taken this kept pg pt))
+
+  abbrev IsOpen : Option Feature → Type 0
+  IsOpen waiting = is_some waiting ≡ true → (shape : Shape) (rule : HitRule) (limit : Option ℕ) (stage : Stage) → StandsAt order shape rule limit stage old → (stage.a_ended ≡ false) × (stage.b_ended ≡ false)
+
+  stands_from : (shape : Shape) (rule : HitRule) (limit : Option ℕ) (stage : Stage) (firsts seconds newly : List Feature) (waiting : Option Feature) (new final : Sweeping) → StandsAt order shape rule limit stage old
+      → Keeps order shape rule limit (stage.written ++ first ∷ firsts) (stage.taken ++ seconds) new → first ∷ firsts ≡ newly ++ option_to_list waiting → new.phase ≡ old.phase → final ≡ record new { current = waiting } → IsOpen waiting
+      → StandsAt order shape rule limit (stage_after stage newly final.current seconds) final
+  stands_from shape rule limit stage firsts seconds newly waiting new final st k are same is goes_on =
+      let all : stage.written ++ first ∷ firsts ≡ (stage.written ++ newly) ++ option_to_list waiting = ap (λ (l : List Feature). stage.written ++ l) are ∙ sym (append_assoc stage.written newly (option_to_list waiting)) in
+      let here : StandsAt order shape rule limit (stage_after stage newly waiting seconds) (record new { current = waiting }) = record {
+        shape_is = k.shape_is;
+        rule_is = k.rule_is;
+        limit_is = k.limit_is;
+        current_is = refl;
+        phase_is = same ∙ st.phase_is;
+        holds = subst (λ (g : List Feature). HoldsFor order g (stage.taken ++ seconds) new.held) all k.holds;
+        within = k.within;
+        unended = λ some. goes_on some shape rule limit stage st;
+      } in
+      subst (λ (n : Sweeping). StandsAt order shape rule limit (stage_after stage newly n.current seconds) n) (sym is) here
+
+  module _ {A B U : Type 0} (a_gives : A → List Feature → A → Type 0) (a_ended : A → Type 0) (b_gives : B → List Feature → B → Type 0) (b_ended b_ended' : B → Type 0) (b_line : B → ℕ)
+      (u_gives : U → List Feature → U → Type 0) (u_ended : U → Type 0) (from_u to_u : U) (from_a to_a : A) (from_b to_b : B) (out grown : Output) (new : Sweeping) where
+    pub advances_from : (waiting : Option Feature) (final : Sweeping) (j : JoinsSo a_gives a_ended b_gives b_ended' b_line (IsThis order) (Settles order mid.phase) mid first from_a from_b [] out waiting new to_a to_b [] grown)
+        → u_gives from_u (pre ++ j.firsts) to_u → new.phase ≡ old.phase → final ≡ record new { current = waiting } → IsOpen waiting → IfSome waiting (LeavesLast order j.seconds) → AdvancesSo u_gives u_ended b_gives b_ended b_line order old from_u from_b out final to_u to_b grown
+    advances_from waiting final j gives same is goes_on leaves = record {
+      firsts = pre ++ j.firsts;
+      seconds = j.seconds;
+      newly = j.newly;
+      gives_firsts = gives;
+      gives_seconds = j.gives_seconds;
+      are = sym (append_assoc (option_to_list old.current) pre j.firsts) ∙ ap (λ (l : List Feature). l ++ j.firsts) pre_is ∙ j.are ∙ ap (λ (n : Sweeping). j.newly ++ option_to_list n.current) (sym is);
+      next = j.next;
+      comes = j.comes;
+      settles = subst (λ (p : Phase). Settles order p j.newly (j.seconds ++ option_to_list j.next)) phase j.settles;
+      each = each_from j.firsts j.seconds j.each;
+      leaves = subst (λ (n : Sweeping). IfSome n.current (LeavesLast order j.seconds)) (sym is) leaves;
+      stands = λ shape rule limit stage st pg pt.
+          stands_from shape rule limit stage j.firsts j.seconds j.newly waiting new final st
+          (at_each j.firsts j.seconds (λ order shape rule limit as_given taken. Keeps order shape rule limit as_given taken new) j.goes shape rule limit stage st pg pt) j.are same is goes_on;
+      puts = puts_each j.firsts j.seconds j.newly out grown j.writes;
+    }
+
+    -- it failed at one of them
+    pub fails_from : (fault : Told) (b : Breaks a_gives a_ended b_gives b_ended' b_line (IsThis order) (Settles order mid.phase) mid first from_a from_b [] out fault to_a to_b [] grown)
+        → u_gives from_u (pre ++ b.firsts) to_u → FailsAt u_gives u_ended b_gives b_ended b_line order old from_u from_b out fault to_u to_b grown
+    fails_from fault b gives = record {
+      firsts = pre ++ b.firsts;
+      seconds = b.seconds;
+      newly = b.newly;
+      waiting = b.waiting;
+      gives_firsts = gives;
+      gives_seconds = b.gives_seconds;
+      are = sym (append_assoc (option_to_list old.current) pre b.firsts) ∙ ap (λ (l : List Feature). l ++ b.firsts) pre_is ∙ b.are;
+      next = b.next;
+      comes = b.comes;
+      settles = subst (λ (p : Phase). Settles order p b.newly (b.seconds ++ option_to_list b.next)) phase b.settles;
+      each = each_from b.firsts b.seconds b.each;
+      cause = elim b.cause [
+        | inl cut ↦ inl (record {
+          cuts = at_each b.firsts b.seconds (λ order shape rule limit as_given taken. FailsToAdd out (intersect shape rule b.newly taken) fault grown) cut.cuts;
+        })
+        | inr lack ↦ inr (inl (record {
+          last = lack.last;
+          waits = lack.waits;
+          b = lack.b;
+          after = lack.after;
+          gives = lack.gives;
+          chrom = lack.chrom;
+          starts = lack.starts;
+          ends = lack.ends;
+          puts = puts_each b.firsts b.seconds b.newly out grown lack.writes;
+          lacks = at_each b.firsts b.seconds (λ order shape rule limit as_given taken. CannotBeHeld limit lack.last taken (b_line lack.after) fault) lack.lacks;
+        }))
+      ];
+    }
+
+    -- the one that waits can't be kept
+    pub lacks_from : (a : Feature) (fault : Told) (j : JoinsSo a_gives a_ended b_gives b_ended' b_line (IsThis order) (Settles order mid.phase) mid first from_a from_b [] out (Some a) new to_a to_b [] grown)
+        → u_gives from_u (pre ++ j.firsts) to_u → old.current ≡ None → old.phase ≡ Both → b_ended to_b → fault ≡ no_memory → FailsAt u_gives u_ended b_gives b_ended b_line order old from_u from_b out fault to_u to_b grown
+    lacks_from a fault j gives none both ended is = record {
+      firsts = pre ++ j.firsts;
+      seconds = j.seconds;
+      newly = j.newly;
+      waiting = Some a;
+      gives_firsts = gives;
+      gives_seconds = j.gives_seconds;
+      are = sym (append_assoc (option_to_list old.current) pre j.firsts) ∙ ap (λ (l : List Feature). l ++ j.firsts) pre_is ∙ j.are;
+      next = j.next;
+      comes = j.comes;
+      settles = subst (λ (p : Phase). Settles order p j.newly (j.seconds ++ option_to_list j.next)) phase j.settles;
+      each = each_from j.firsts j.seconds j.each;
+      cause = inr (inr (record { last = a; waits = refl; is = is; none = none; both = both; ended = ended; puts = puts_each j.firsts j.seconds j.newly out grown j.writes }));
+    }
+
+    -- it is kept, or can't be
+    pub kept_or_not : {T : Type 0} (a : Feature) (j : JoinsSo a_gives a_ended b_gives b_ended' b_line (IsThis order) (Settles order mid.phase) mid first from_a from_b [] out (Some a) new to_a to_b [] grown) → old.current ≡ None → b_ended to_b → (mid.phase ≡ First → ⊥)
+        → u_gives from_u (pre ++ j.firsts) to_u → new.phase ≡ old.phase → (old.phase ≡ Over → ⊥) → LeavesLast order j.seconds a → (result : Result T Fault) (final : Sweeping) → KeepsOne new a result final
+        → Advances u_gives u_ended b_gives b_ended b_line order old from_u from_b out result final to_u to_b grown
+    kept_or_not a j none ended not_first gives same not_over leaves (Ok t) final is = (
+      advances_from (Some a) final j gives same is (λ w shape rule limit stage st. both_open stage.a_ended stage.b_ended old.phase st.phase_is (λ e. not_first (phase ∙ e)) not_over) leaves,
+      stops_b u_gives u_ended b_gives b_ended b_line order old from_u to_u from_b to_b out final (want_b final a (ap (λ (s : Sweeping). s.current) is)) ended,
+    )
+    kept_or_not a j none ended not_first gives same not_over leaves (Err fault) final is = lacks_from a (told fault) j gives none (still_both old.phase (λ e. not_first (phase ∙ e)) not_over) ended is.1
+
+-- ---- where nothing is given or taken
+
+module _ {U V : Type 0} (u_gives : U → List Feature → U → Type 0) (u_ended : U → Type 0) (v_gives : V → List Feature → V → Type 0) (v_ended : V → Type 0) (v_line : V → ℕ) (order : Order) (old : Sweeping) (from_u : U) (from_v : V) (out : Output)
+    (u_none : u_gives from_u [] from_u) (v_none : v_gives from_v [] from_v) where
+  same_stands : (shape : Shape) (rule : HitRule) (limit : Option ℕ) (stage : Stage) → StandsAt order shape rule limit stage old → StandsAt order shape rule limit (stage_after stage [] old.current []) old
+  same_stands shape rule limit stage st = record {
+    shape_is = st.shape_is;
+    rule_is = st.rule_is;
+    limit_is = st.limit_is;
+    current_is = refl;
+    phase_is = st.phase_is;
+    holds = subst (λ (g : List Feature). HoldsFor order g (stage.taken ++ []) old.held)
+        (ap (λ (o : Option Feature). stage.written ++ option_to_list o) (sym st.current_is) ∙ ap (λ (l : List Feature). l ++ option_to_list old.current) (sym (append-nil stage.written)))
+        (subst (λ (t : List Feature). HoldsFor order (given stage) t old.held) (sym (append-nil stage.taken)) st.holds);
+    within = st.within;
+    unended = λ some. st.unended (ap is_some (sym st.current_is) ∙ some);
+  }
+
+  leaves_nothing : (current : Option Feature) → IfSome current (LeavesLast order [])
+  leaves_nothing None = tt
+  leaves_nothing (Some a) = leaves_none order [] a refl
+
+  pub advances_none : AdvancesSo u_gives u_ended v_gives v_ended v_line order old from_u from_v out old from_u from_v out
+  advances_none = record {
+    firsts = [];
+    seconds = [];
+    newly = [];
+    gives_firsts = u_none;
+    gives_seconds = v_none;
+    are = append-nil (option_to_list old.current);
+    next = None;
+    comes = tt;
+    settles = inr refl;
+    each = λ shape rule limit stage st pg pt. tt;
+    leaves = leaves_nothing old.current;
+    stands = λ shape rule limit stage st pg pt. same_stands shape rule limit stage st;
+    puts = λ shape rule limit stage st pg pt. grown_none out;
+  }
+
+-- ---- one record, or none
+
+no_more : (fs left : List Feature) → [] ≡ fs ++ left → fs ≡ []
+no_more [] left e = refl
+no_more (f ∷ fs) left e = absurd (let apart : [] ≡ f ∷ (fs ++ left) = e in cc)
+
+pub single_none : (old new : Single) (fs : List Feature) → single_left old ≡ [] → GivesSingle old fs new → fs ≡ []
+single_none old new fs none gives = no_more fs (single_left new) (sym none ∙ gives.left)
+
+same_heads : (a b : Feature) (xs ys : List Feature) → a ∷ xs ≡ b ∷ ys → (a ≡ b) × (xs ≡ ys)
+same_heads a b xs ys e = (let same : a ≡ b = cc in same, let rest : xs ≡ ys = cc in rest)
+
+some_more : (newly : List Feature) (w : Feature) → [] ≡ newly ++ w ∷ [] → ⊥
+some_more [] w e = cc
+some_more (x ∷ newly) w e = cc
+
+pub only_first : (first w : Feature) (newly : List Feature) → first ∷ [] ≡ newly ++ w ∷ [] → first ≡ w
+only_first first w [] e = (same_heads first w [] [] e).0
+only_first first w (x ∷ newly) e = absurd (some_more newly w (same_heads first x [] (newly ++ w ∷ []) e).1)

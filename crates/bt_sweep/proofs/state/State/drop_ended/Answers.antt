@@ -1,9 +1,0 @@
-use Rattle.std.proofs.Common.{ap, ◌∙◌}
-use Rattle.bt_sweep.specs.SweepState.{Sweeping}
-use Rattle.bt_sweep.proofs.StateLemmas.{ready_none, together_filter}
-use Rattle.bt_sweep.proofs.state.State.drop_ended.Goals as goal
-
-pub invariant_of-self : goal.invariant_of-self
-invariant_of-self g c =
-    ready_none c.self.inside.current _ (ap (λ (s : Sweeping). s.current) c.self.view_is ∙ c.requires)
-    (rw c.drop_ended.ensures (together_filter _ (g.H.Held.records c.self.inside.held) c.self.invariant.together))

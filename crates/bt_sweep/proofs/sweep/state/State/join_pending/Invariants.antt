@@ -1,0 +1,23 @@
+use Rattle.std.proofs.Common.{◌≡◌, Some, None}
+use Rattle.bt_bed.specs.model.order.Order.{IsTotal}
+use Rattle.bt_sweep.specs.inside.Joining.{AreDecidedOn, JoinsSo, LeavesOn}
+use Rattle.bt_sweep.specs.inside.Pending.{IsQuiet, line_in, pending_in}
+use Rattle.bt_sweep.proofs.sweep.state.State.join_pending.Given as goal
+
+abbrev pub invariant-loop-next : goal.invariant-loop-next
+invariant-loop-next g l = record {
+  none : l.self.current ≡ None;
+  phase : l.self.phase ≡ l.fn.self.phase;
+  on : g.A.Cursor.name l.firsts.cursor ≡ g.A.Cursor.name l.fn.firsts.cursor;
+  line : line_in (g.A.Cursor.consumed l.firsts.cursor) l.firsts.to ≡ g.A.Record.Record.raw l.current;
+  quiet : IsQuiet l.self.shape (pending_in (g.A.Cursor.consumed l.firsts.cursor) l.firsts.from l.firsts.to);
+  beside : g.B.Cursor.name l.ahead ≡ g.B.Cursor.name l.fn.seconds;
+  same : l.ahead ≡ l.seconds;
+  going : (j : JoinsSo g.A.Cursor.gives g.A.Cursor.has_ended g.B.Cursor.gives g.B.Cursor.has_ended g.B.Cursor.line IsTotal (AreDecidedOn (g.A.Record.Record.feature l.fn.first).chrom)
+      l.fn.self (g.A.Record.Record.feature l.fn.first) l.fn.firsts.cursor l.fn.seconds (pending_in (g.A.Cursor.consumed l.fn.firsts.cursor) l.fn.firsts.from l.fn.firsts.to) l.fn.out.output
+      (Some (g.A.Record.Record.feature l.current)) l.self l.firsts.cursor l.seconds (pending_in (g.A.Cursor.consumed l.firsts.cursor) l.firsts.from l.firsts.to) l.out.output)
+      × (j.next ≡ None) × LeavesOn j.seconds (g.A.Record.Record.feature l.current);
+}
+
+abbrev pub decreases-loop-next : goal.decreases-loop-next
+decreases-loop-next g l = g.B.Cursor.room l.ahead

@@ -1,0 +1,68 @@
+use Rattle.std.proofs.Common.{◌≡◌, ◌≤◌, ◌∷◌, ◌++◌, ℕ, List, [], ap, filter, refl, subst, sym, ◌∙◌}
+use Rattle.std.specs.Prelude.{nat_lt}
+use Rattle.std.proofs.lemmas.Result.{err_from_is_err_and}
+use Rattle.bt_lines.specs.calls.Names.{told}
+use Rattle.bt_bed.specs.model.feature.Feature.{Feature}
+use Rattle.bt_sweep.specs.inside.Pending.{IsQuiet, pending_in}
+use Rattle.bt_sweep.specs.calls.SweepState.{Sweeping}
+use Rattle.bt_sweep.proofs.lemmas.sweep.WriteLemmas.{cuts_off, writes_first, writes_last, writes_more}
+use Rattle.bt_sweep.proofs.sweep.state.State.write_up_to.Goals as goal
+
+pub loop-self-init : goal.loop-self-init
+loop-self-init g c = record {
+  none = c.requires.none;
+  phase = refl;
+  on = refl;
+  line = c.requires.line;
+  quiet = c.requires.quiet;
+  going = writes_first g.A.Cursor.gives g.A.Cursor.has_ended g.met.A.Cursor.gives_none g.met.A.Cursor.gives_more c.args.place c.args.self.now (g.A.Record.Record.feature c.args.first)
+      c.args.firsts.now.cursor (pending_in (g.A.Cursor.consumed c.args.firsts.now.cursor) c.args.firsts.now.from c.args.firsts.now.to) c.args.out.now.output c.requires.hits;
+}
+
+pub returns-in_err-write-clause-writes : goal.returns-in_err-write-clause-writes
+returns-in_err-write-clause-writes g c =
+    let e = err_from_is_err_and c.from_residual.result c.from_residual.ensures.1 in
+    let left = pending_in (g.A.Cursor.consumed c.loop-self.firsts.cursor) c.loop-self.firsts.from c.loop-self.firsts.to in
+    rw (e.1, e.2, c.write.ensures.cursor)
+    (cuts_off g.A.Cursor.gives g.A.Cursor.has_ended g.met.A.Cursor.gives_none g.met.A.Cursor.gives_more c.args.place c.args.self.now (g.A.Record.Record.feature c.args.first)
+    c.args.firsts.now.cursor (pending_in (g.A.Cursor.consumed c.args.firsts.now.cursor) c.args.firsts.now.from c.args.firsts.now.to) c.args.out.now.output
+    (g.A.Record.Record.feature c.loop-self.current) c.loop-self.self c.loop-self.firsts.cursor left c.loop-self.out.output c.loop-self.invariant.going
+    (told c.in_err-write.field-0.0) c.write.new.out.output (subst (λ (n : ℕ). n ≤ c.args.place) c.stop.ensures.is c.loop-self-test.true) c.in_err-write.ensures.puts)
+
+pub returns-in_default-clause-writes : goal.returns-in_default-clause-writes
+returns-in_default-clause-writes g c =
+    let same = c.in_ok-write.ensures.same in
+    let stays = c.in_default.ensures.unchanged ∙ c.write.ensures.cursor in
+    let left = pending_in (g.A.Cursor.consumed c.loop-self.firsts.cursor) c.loop-self.firsts.from c.loop-self.firsts.to in
+    let rest = pending_in (g.A.Cursor.consumed c.write.new.firsts.cursor) c.write.new.firsts.from c.write.new.firsts.to in (
+      rw (c.next.ensures.pending, same, stays)
+          (writes_last g.A.Cursor.gives g.A.Cursor.has_ended g.met.A.Cursor.gives_none g.met.A.Cursor.gives_more c.args.place c.args.self.now (g.A.Record.Record.feature c.args.first)
+          c.args.firsts.now.cursor (pending_in (g.A.Cursor.consumed c.args.firsts.now.cursor) c.args.firsts.now.from c.args.firsts.now.to) c.args.out.now.output
+          (g.A.Record.Record.feature c.loop-self.current) c.loop-self.self c.loop-self.firsts.cursor left c.loop-self.out.output c.loop-self.invariant.going
+          rest c.write.new.out.output c.in_ok-write.ensures.puts (subst (λ (n : ℕ). n ≤ c.args.place) c.stop.ensures.is c.loop-self-test.true)),
+      rw c.in_default.ensures.unchanged c.in_default.ensures.none,
+    )
+
+pub loop-self-preserved : goal.loop-self-preserved
+loop-self-preserved g c =
+    let same = c.in_ok-write.ensures.same in
+    let r = g.A.Record.Record.feature c.in-Some.next in
+    let left = pending_in (g.A.Cursor.consumed c.loop-self.firsts.cursor) c.loop-self.firsts.from c.loop-self.firsts.to in
+    let rest = pending_in (g.A.Cursor.consumed c.write.new.firsts.cursor) c.write.new.firsts.from c.write.new.firsts.to in
+    let given = subst (λ (x : g.row.A.Denot). g.A.Cursor.gives x (r ∷ []) c.next.new.self.cursor) c.write.ensures.cursor c.in-Some.ensures.some in
+    let on = c.in-Some.ensures.on ∙ ap (λ (x : g.row.A.Denot). g.A.Cursor.name x) c.write.ensures.cursor ∙ c.loop-self.invariant.on ∙ c.requires.on in
+    let more = writes_more g.A.Cursor.gives g.A.Cursor.has_ended g.met.A.Cursor.gives_none g.met.A.Cursor.gives_more c.args.place c.args.self.now (g.A.Record.Record.feature c.args.first)
+    c.args.firsts.now.cursor (pending_in (g.A.Cursor.consumed c.args.firsts.now.cursor) c.args.firsts.now.from c.args.firsts.now.to) c.args.out.now.output
+    (g.A.Record.Record.feature c.loop-self.current) c.loop-self.self c.loop-self.firsts.cursor left c.loop-self.out.output c.loop-self.invariant.going
+    rest c.write.new.out.output c.in_ok-write.ensures.puts r c.drop_ended.new.self c.next.new.self.cursor
+    (subst (λ (n : ℕ). n ≤ c.args.place) c.stop.ensures.is c.loop-self-test.true) given on
+    (c.drop_ended.ensures ∙ ap (λ (s : Sweeping). record s { held = filter (λ (b : Feature). nat_lt c.start.result b.stop) s.held }) same
+    ∙ ap (λ (n : ℕ). record c.loop-self.self { held = filter (λ (b : Feature). nat_lt n b.stop) c.loop-self.self.held }) c.start.ensures) in
+    record {
+      none = ap (λ (s : Sweeping). s.current) c.drop_ended.ensures ∙ ap (λ (s : Sweeping). s.current) same ∙ c.loop-self.invariant.none;
+      phase = ap (λ (s : Sweeping). s.phase) c.drop_ended.ensures ∙ ap (λ (s : Sweeping). s.phase) same ∙ c.loop-self.invariant.phase;
+      on = c.next.ensures.same ∙ ap (λ (x : g.row.A.Denot). g.A.Cursor.name x) c.write.ensures.cursor ∙ c.loop-self.invariant.on;
+      line = c.in-Some.ensures.line ∙ ap (λ (l : List ℕ). l ++ g.A.Record.Record.raw c.in-Some.next) c.in_ok-write.ensures.line;
+      quiet = λ needs. c.next.ensures.pending ∙ c.in_ok-write.ensures.quiet (rw (← ap (λ (s : Sweeping). s.shape) c.drop_ended.ensures ∙ ap (λ (s : Sweeping). s.shape) same) needs);
+      going = rw c.next.ensures.pending more;
+    }

@@ -1,0 +1,8 @@
+-- What calls do, as contracts say it.
+pub mod Advancing
+pub mod Held
+pub mod Standing
+pub mod Steps
+pub mod SweepState
+pub mod SweepView
+pub mod Worked

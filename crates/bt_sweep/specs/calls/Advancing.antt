@@ -1,0 +1,178 @@
+-- What a sweep does with records of both inputs that come one after another.
+use Rattle.std.specs.Prelude.{◌≡◌, ◌⊎◌, ℕ, ◌<◌, ⊤, Bool, true, false, List, [], ◌∷◌, ◌++◌, Option, Some, None}
+use Rattle.std.specs.Prelude.{IfSome, IsOk, Result, Ok, Err, is_some, option_to_list}
+use Rattle.bt_lines.specs.model.Fault.{Told, no_memory}
+use Rattle.bt_lines.specs.calls.Names.{told}
+use Rattle.bt_lines.specs.calls.Output.{Output}
+use Rattle.bt_lines.specs.calls.Putting.{FailsToAdd, Grown}
+use Rattle.bt_lines.specs.declared.fault.Fault.{Fault}
+use Rattle.bt_bed.specs.model.feature.Feature.{Feature, intervals_of}
+use Rattle.bt_bed.specs.model.order.Locus.{ArePlaced}
+use Rattle.bt_bed.specs.model.order.Order.{Order}
+use Rattle.bt_sweep.specs.model.IntersectLines.{intersect}
+use Rattle.bt_sweep.specs.inside.Joining.{AreDecided, CannotBeHeld, ComesNext, LeavesLast, TakenEach}
+use Rattle.bt_sweep.specs.calls.Standing.{Stage, StandsAt, given}
+use Rattle.bt_sweep.specs.calls.SweepState.{Sweeping, want_in}
+use Rattle.bt_sweep.specs.declared.hits.hit_rule.HitRule.{HitRule}
+use Rattle.bt_sweep.specs.declared.sweep.phase.Phase.{Phase}
+use Rattle.bt_sweep.specs.declared.sweep.phase.Phase.TheVariants.{Both, First}
+use Rattle.bt_sweep.specs.declared.output.shape.Shape.{Shape}
+use Rattle.bt_sweep.specs.declared.sweep.want.Want.{Want}
+use Rattle.bt_sweep.specs.declared.sweep.want.Want.TheVariants.{A, B, Nothing}
+
+-- the stage with the lines of further records written, another one that waits, and further records of
+-- the second input taken
+abbrev pub stage_after : Stage → List Feature → Option Feature → List Feature → Stage
+stage_after stage newly waiting seconds =
+    record stage { written = stage.written ++ newly; waiting = waiting; taken = stage.taken ++ seconds }
+
+-- the second input has ended, or these of it decide each
+abbrev pub Settles : Order → Phase → List Feature → List Feature → Type 0
+Settles order phase as_given bs = (phase ≡ First) ⊎ AreDecided order as_given bs
+
+-- the order is this one
+abbrev pub IsThis : Order → Order → Type 0
+IsThis order other = other ≡ order
+
+-- Wherever it stands: with these given and taken, where they are in order.
+abbrev pub AtEach : Order → Sweeping → List Feature → List Feature
+    → (Shape → HitRule → Option ℕ → Stage → Type 0) → Type 0
+AtEach order old firsts seconds P =
+    (shape : Shape) (rule : HitRule) (limit : Option ℕ) (stage : Stage)
+    → StandsAt order shape rule limit stage old
+    → ArePlaced order (intervals_of (given stage ++ firsts))
+    → ArePlaced order (intervals_of (stage.taken ++ seconds))
+    → P shape rule limit stage
+
+-- the lines of these were written
+abbrev pub PutsEach : Order → Sweeping → List Feature → List Feature → List Feature → Output → Output
+    → Type 0
+PutsEach order old firsts seconds newly out grown =
+    AtEach order old firsts seconds
+    (λ shape rule limit stage. Grown out (intersect shape rule newly (stage.taken ++ seconds)) grown)
+
+module _ {U V : Type 0} (a_gives : U → List Feature → U → Type 0) (a_ended : U → Type 0)
+    (b_gives : V → List Feature → V → Type 0) (b_ended : V → Type 0) (b_line : V → ℕ) (order : Order)
+    (old : Sweeping) (from_a : U) (from_b : V) (out : Output) where
+  -- records of both inputs were given and taken, the lines of those that are decided are written, and
+  -- one of the first may wait
+  pub record AdvancesSo (new : Sweeping) (to_a : U) (to_b : V) (grown : Output) : Type 0 where
+    pub firsts : List Feature
+    pub seconds : List Feature
+    pub newly : List Feature
+    pub gives_firsts : a_gives from_a firsts to_a
+    pub gives_seconds : b_gives from_b seconds to_b
+    pub are : option_to_list old.current ++ firsts ≡ newly ++ option_to_list new.current
+    pub next : Option Feature
+    pub comes : ComesNext b_gives to_b next
+    pub settles : Settles order old.phase newly (seconds ++ option_to_list next)
+    -- each was taken for one that those taken leave undecided, within the limit
+    pub each : AtEach order old firsts seconds
+        (λ shape rule limit stage. TakenEach order limit (option_to_list old.current ++ firsts)
+        stage.taken seconds)
+    -- the record of the second input that was taken last leaves the one that waits undecided
+    pub leaves : IfSome new.current (LeavesLast order seconds)
+    pub stands : AtEach order old firsts seconds
+        (λ shape rule limit stage. StandsAt order shape rule limit
+        (stage_after stage newly new.current seconds) new)
+    pub puts : PutsEach order old firsts seconds newly out grown
+
+  -- the input that is asked for then gives no more
+  abbrev pub StopsFor : Want → U → V → Type 0
+  StopsFor A to_a to_b = a_ended to_a
+  StopsFor B to_a to_b = b_ended to_b
+  StopsFor Nothing to_a to_b = ⊤
+
+  module _ (firsts seconds newly : List Feature) (waiting : Option Feature) (to_b : V) (fault : Told)
+      (grown : Output) where
+    -- the lines couldn't all be written
+    pub record FailsToWrite : Type 0 where
+      pub cuts : AtEach order old firsts seconds
+          (λ shape rule limit stage. FailsToAdd out
+          (intersect shape rule newly (stage.taken ++ seconds)) fault grown)
+
+    -- they were written; the next record of the second input shares a base with the one that waits, and
+    -- can't be held
+    pub record FailsToTake : Type 0 where
+      pub last : Feature
+      pub waits : waiting ≡ Some last
+      pub b : Feature
+      pub after : V
+      pub gives : b_gives to_b (b ∷ []) after
+      pub chrom : b.chrom ≡ last.chrom
+      pub starts : b.start < last.stop
+      pub ends : last.start < b.stop
+      pub puts : PutsEach order old firsts seconds newly out grown
+      pub lacks : AtEach order old firsts seconds
+          (λ shape rule limit stage. CannotBeHeld limit last (stage.taken ++ seconds) (b_line after) fault)
+
+    -- they were written; neither input has ended, none waited before, all records of the second input that
+    -- there are were taken, and the one of the first that waits can't be kept
+    pub record FailsToKeep : Type 0 where
+      pub last : Feature
+      pub waits : waiting ≡ Some last
+      pub is : fault ≡ no_memory
+      pub none : old.current ≡ None
+      pub both : old.phase ≡ Both
+      pub ended : b_ended to_b
+      pub puts : PutsEach order old firsts seconds newly out grown
+
+  -- it failed once the lines of these records of the first input were settled
+  pub record FailsAt (fault : Told) (to_a : U) (to_b : V) (grown : Output) : Type 0 where
+    pub firsts : List Feature
+    pub seconds : List Feature
+    pub newly : List Feature
+    pub waiting : Option Feature
+    pub gives_firsts : a_gives from_a firsts to_a
+    pub gives_seconds : b_gives from_b seconds to_b
+    pub are : option_to_list old.current ++ firsts ≡ newly ++ option_to_list waiting
+    pub next : Option Feature
+    pub comes : ComesNext b_gives to_b next
+    pub settles : Settles order old.phase newly (seconds ++ option_to_list next)
+    -- each was taken for one that those taken leave undecided, within the limit
+    pub each : AtEach order old firsts seconds
+        (λ shape rule limit stage. TakenEach order limit (option_to_list old.current ++ firsts)
+        stage.taken seconds)
+    pub cause : FailsToWrite firsts seconds newly waiting to_b fault grown
+        ⊎ (FailsToTake firsts seconds newly waiting to_b fault grown
+        ⊎ FailsToKeep firsts seconds newly waiting to_b fault grown)
+
+  -- what the answer says
+  abbrev pub Advances : {T : Type 0} → Result T Fault → Sweeping → U → V → Output → Type 0
+  Advances (Ok done) new to_a to_b grown =
+      AdvancesSo new to_a to_b grown × StopsFor (want_in new) to_a to_b
+  Advances (Err fault) new to_a to_b grown = FailsAt (told fault) to_a to_b grown
+
+  -- the same, but the one that waited before is written, and what comes behind it isn't looked at
+  abbrev pub HasWritten : Sweeping → Type 0
+  HasWritten new = (is_some old.current ≡ true) × (new.current ≡ None)
+
+  abbrev pub AdvancesOn : {T : Type 0} → Result T Fault → Sweeping → U → V → Output → Type 0
+  AdvancesOn (Ok done) new to_a to_b grown =
+      AdvancesSo new to_a to_b grown × (StopsFor (want_in new) to_a to_b ⊎ HasWritten new)
+  AdvancesOn (Err fault) new to_a to_b grown = FailsAt (told fault) to_a to_b grown
+
+-- a sweep that wants nothing takes nothing, and writes nothing
+abbrev pub IsIdle : {T U V : Type 0} → Sweeping → U → V → Output → Result T Fault → Sweeping → U → V → Output
+    → Type 0
+IsIdle old from_a from_b out result new to_a to_b grown =
+    IsOk result × (new ≡ old) × (to_a ≡ from_a) × (to_b ≡ from_b) × (grown ≡ out)
+
+-- no record of the first input was given
+abbrev pub NoneGiven : Unit {0} → List Feature → Unit {0} → Type 0
+NoneGiven from firsts to = firsts ≡ []
+
+-- of the second input alone, for the record that waits, if one does: whether it still does
+module _ {V : Type 0} (b_gives : V → List Feature → V → Type 0) (b_ended : V → Type 0) (b_line : V → ℕ)
+    (order : Order) (old : Sweeping) (from_b : V) (out : Output) where
+  -- where one does, there is none of the second input
+  abbrev pub IsLeft : Bool → Sweeping → V → Type 0
+  IsLeft true new to_b = (want_in new ≡ B) × b_ended to_b
+  IsLeft false new to_b = new.current ≡ None
+
+  abbrev pub DecidesCurrent : Result Bool Fault → Sweeping → V → Output → Type 0
+  DecidesCurrent (Ok is_left) new to_b grown =
+      AdvancesSo NoneGiven (λ u. ⊤) b_gives b_ended b_line order old tt from_b out new tt to_b grown
+      × IsLeft is_left new to_b
+  DecidesCurrent (Err fault) new to_b grown =
+      FailsAt NoneGiven (λ u. ⊤) b_gives b_ended b_line order old tt from_b out (told fault) tt to_b grown

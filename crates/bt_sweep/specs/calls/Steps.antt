@@ -1,0 +1,115 @@
+-- What the calls of a sweep do.
+use Rattle.std.specs.Prelude.{◌≡◌, ◌⊎◌, ℕ, Bool, true, false, cond, List, [], Option}
+use Rattle.std.specs.Prelude.{Some, None, Result, Ok, Err, length, nat_lt}
+use Rattle.bt_lines.specs.model.Fault.{Told, no_memory}
+use Rattle.bt_lines.specs.calls.Names.{told}
+use Rattle.bt_lines.specs.calls.Output.{Output}
+use Rattle.bt_lines.specs.calls.Putting.{FailsToAdd, Grown}
+use Rattle.bt_lines.specs.declared.fault.Fault.{Fault}
+use Rattle.bt_lines.specs.declared.fault.Input.TheVariants.{Second}
+use Rattle.bt_lines.specs.declared.fault.Kind.TheVariants.{TooManyHeld}
+use Rattle.bt_bed.specs.model.feature.Feature.{Feature}
+use Rattle.bt_bed.specs.model.feature.LineKind.{fault_at_line}
+use Rattle.bt_bed.specs.model.order.Order.{Order}
+use Rattle.bt_sweep.specs.model.Deciding.{decides}
+use Rattle.bt_sweep.specs.model.IntersectLines.{LinesBefore, lines_for}
+use Rattle.bt_sweep.specs.calls.Standing.{Stage, StandsAt, held_for, is_held, with_a, with_b}
+use Rattle.bt_sweep.specs.calls.Standing.{with_b_ended, with_lines}
+use Rattle.bt_sweep.specs.calls.SweepState.{Sweeping, want_in}
+use Rattle.bt_sweep.specs.declared.hits.hit_rule.HitRule.{HitRule}
+use Rattle.bt_sweep.specs.declared.output.shape.Shape.{Shape}
+use Rattle.bt_bed.specs.declared.record.taken.Taken.{Taken}
+use Rattle.bt_bed.specs.declared.record.taken.Taken.TheVariants.{Yes, No}
+use Rattle.bt_sweep.specs.declared.sweep.want.Want.TheVariants.{Nothing}
+
+-- Why a call didn't put its lines. They couldn't be written, only if the sink failed, and a
+-- prefix of them was. Or memory ran out before any of them was put.
+abbrev pub Fails : Output → List ℕ → Told → Output → Type 0
+Fails out lines fault grown =
+    FailsToAdd out lines fault grown ⊎ ((fault ≡ no_memory) × (grown ≡ out))
+
+-- the lines that are written when a is given: its own if the second input has ended,
+-- and else none
+abbrev pub lines_with : Shape → HitRule → Stage → Feature → List ℕ
+lines_with shape rule stage a = cond stage.b_ended (lines_for shape rule a stage.taken) []
+
+-- what a call with the next record of the first input does; after a fault nothing is wanted
+abbrev pub GivesA : {A : Type 0} → Order → Shape → HitRule → Option ℕ → Stage → Feature → Output
+    → Result A Fault → Sweeping → Output → Type 0
+GivesA order shape rule limit stage a out (Ok done) new grown =
+    StandsAt order shape rule limit (with_a stage a) new
+    × Grown out (lines_with shape rule stage a) grown
+GivesA order shape rule limit stage a out (Err fault) new grown =
+    (want_in new ≡ Nothing) × Fails out (lines_with shape rule stage a) (told fault) grown
+
+-- what the end of the second input does, while a waits
+abbrev pub EndsB : {A : Type 0} → Order → Shape → HitRule → Option ℕ → Stage → Feature → Output
+    → Result A Fault → Sweeping → Output → Type 0
+EndsB order shape rule limit stage a out (Ok done) new grown =
+    StandsAt order shape rule limit (with_b_ended stage) new
+    × Grown out (lines_for shape rule a stage.taken) grown
+EndsB order shape rule limit stage a out (Err fault) new grown =
+    (want_in new ≡ Nothing) × FailsToAdd out (lines_for shape rule a stage.taken) (told fault) grown
+
+-- whether one more record may be held beside `count`
+abbrev pub has_room : Option ℕ → ℕ → Bool
+has_room None count = true
+has_room (Some most) count = nat_lt count most
+
+-- one more record of the second input, at a line, while a waits
+module _ (order : Order) (shape : Shape) (rule : HitRule) (limit : Option ℕ) (stage : Stage)
+    (a b : Feature) (line : ℕ) (out : Output) where
+  -- it leaves a undecided, and is taken
+  pub record TakesB (new : Sweeping) (grown : Output) : Type 0 where
+    pub undecided : decides order a b ≡ false
+    pub stands : StandsAt order shape rule limit (with_b stage b) new
+    pub same_output : grown ≡ out
+
+  -- it decides a: the lines of a are written, which stay whatever follows in order
+  pub record WritesA (new : Sweeping) (grown : Output) : Type 0 where
+    pub decides : decides order a b ≡ true
+    pub stands : StandsAt order shape rule limit (with_lines stage) new
+    pub puts : Grown out (lines_for shape rule a stage.taken) grown
+    pub settled : LinesBefore order shape rule a stage.taken b
+
+  -- it decides a, whose lines couldn't be written
+  pub record FailsToWriteA (fault : Told) (grown : Output) : Type 0 where
+    pub decides : decides order a b ≡ true
+    pub fails : FailsToAdd out (lines_for shape rule a stage.taken) fault grown
+
+  -- it leaves a undecided and has to be held, for which the limit leaves no room
+  pub record PassesLimit (fault : Told) (grown : Output) : Type 0 where
+    pub undecided : decides order a b ≡ false
+    pub to_hold : is_held a b ≡ true
+    pub is_full : has_room limit (length (held_for (Some a) stage.taken)) ≡ false
+    pub is : fault ≡ fault_at_line Second line TooManyHeld
+    pub same_output : grown ≡ out
+
+  -- it leaves a undecided and has to be held, for which the limit leaves room, but there is no
+  -- memory
+  pub record FailsToHold (fault : Told) (grown : Output) : Type 0 where
+    pub undecided : decides order a b ≡ false
+    pub to_hold : is_held a b ≡ true
+    pub room : has_room limit (length (held_for (Some a) stage.taken)) ≡ true
+    pub is : fault ≡ no_memory
+    pub same_output : grown ≡ out
+
+  -- what the result says
+  abbrev pub GivesB : Result Taken Fault → Sweeping → Output → Type 0
+  GivesB (Ok Yes) new grown = TakesB new grown
+  GivesB (Ok No) new grown = WritesA new grown
+  GivesB (Err fault) new grown =
+      (want_in new ≡ Nothing)
+      × (FailsToWriteA (told fault) grown
+      ⊎ (PassesLimit (told fault) grown ⊎ FailsToHold (told fault) grown))
+
+-- a record that leaves the waiting one undecided and hasn't to be held is taken,
+-- and nothing is written
+abbrev pub quiet_are_taken : Type 0
+quiet_are_taken =
+    (order : Order) (shape : Shape) (rule : HitRule) (limit : Option ℕ) (stage : Stage)
+    (a b : Feature) (line : ℕ) (out : Output)
+    (answer : Result Taken Fault) (new : Sweeping) (grown : Output)
+    → GivesB order shape rule limit stage a b line out answer new grown → decides order a b ≡ false
+    → is_held a b ≡ false
+    → (answer ≡ Ok Yes) × (grown ≡ out)

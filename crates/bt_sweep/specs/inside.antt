@@ -1,0 +1,11 @@
+-- Words of contracts inside of the crate.
+pub mod Ends
+pub mod HeldIndex
+pub mod HeldList
+pub mod Joining
+pub mod Pending
+pub mod PlainPieces
+pub mod Reaching
+pub mod Relating
+pub mod StateSteps
+pub mod Walking

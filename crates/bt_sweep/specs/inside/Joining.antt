@@ -1,0 +1,290 @@
+-- What runs of steps over records of both inputs come to. Callers know them by `Advancing`.
+use Rattle.std.specs.Prelude.{◌≡◌, ◌⊎◌, ℕ, ◌<◌, ◌≤◌, ⊤, true, false, All, IfSome, List, [], ◌∷◌, ◌++◌, Option, filter}
+use Rattle.std.specs.Prelude.{None, Some, Result, Ok, Err, length, option_map, option_to_list}
+use Rattle.std.specs.List.{list_all}
+use Rattle.bt_lines.specs.model.Fault.{Told, no_memory}
+use Rattle.bt_lines.specs.calls.Names.{told}
+use Rattle.bt_lines.specs.model.Number.{max_number}
+use Rattle.bt_lines.specs.calls.Output.{Output}
+use Rattle.bt_lines.specs.calls.Putting.{FailsToAdd, Grown}
+use Rattle.bt_lines.specs.declared.fault.Fault.{Fault}
+use Rattle.bt_lines.specs.declared.fault.Input.TheVariants.{Second}
+use Rattle.bt_lines.specs.declared.fault.Kind.TheVariants.{TooManyHeld}
+use Rattle.bt_bed.specs.model.feature.Feature.{Feature, intervals_of}
+use Rattle.bt_bed.specs.model.feature.LineKind.{fault_at_line}
+use Rattle.bt_bed.specs.model.order.Locus.{ArePlaced}
+use Rattle.bt_bed.specs.model.order.Order.{Order, IsTotal}
+use Rattle.bt_sweep.specs.model.Deciding.{decided, decides}
+use Rattle.bt_sweep.specs.calls.Held.{CanHit}
+use Rattle.bt_sweep.specs.model.IntersectLines.{intersect}
+use Rattle.bt_sweep.specs.calls.Standing.{HoldsFor, held_for, is_held}
+use Rattle.bt_sweep.specs.calls.Steps.{has_room}
+use Rattle.bt_sweep.specs.calls.SweepState.{Sweeping}
+use Rattle.bt_sweep.specs.declared.hits.hit_rule.HitRule.{HitRule}
+use Rattle.bt_sweep.specs.declared.output.shape.Shape.{Shape}
+
+-- the sweep keeps what it has to once these records of both inputs were given and taken
+pub record Keeps (order : Order) (shape : Shape) (rule : HitRule) (limit : Option ℕ)
+    (as_given taken : List Feature) (sweep : Sweeping) : Type 0 where
+  pub shape_is : sweep.shape ≡ shape
+  pub rule_is : sweep.rule ≡ rule
+  pub limit_is : sweep.limit ≡ limit
+  pub holds : HoldsFor order as_given taken sweep.held
+  pub within : IfSome limit (λ most. length sweep.held ≤ most)
+
+-- these lines were put after those that were pending, but not the ones that are left pending
+pub record GrownWith (pending : List ℕ) (out : Output) (lines left : List ℕ) (grown : Output) : Type 0 where
+  pub bytes : List ℕ
+  pub parts : pending ++ lines ≡ bytes ++ left
+  pub puts : Grown out bytes grown
+
+-- what putting them does, where none of them could be left out
+abbrev pub AddsWith : {T : Type 0} → List ℕ → Output → List ℕ → Result T Fault → List ℕ → Output → Type 0
+AddsWith pending out lines (Ok done) left grown = GrownWith pending out lines left grown
+AddsWith pending out lines (Err fault) left grown = FailsToAdd out (pending ++ lines) (told fault) grown
+
+-- In such orders, wherever it stands with `first` given last: once these are given and taken.
+abbrev pub BehindFor : (Order → Type 0) → Feature → List Feature → List Feature → Sweeping
+    → (Order → Shape → HitRule → Option ℕ → List Feature → List Feature → Type 0) → Type 0
+BehindFor For first firsts seconds old P =
+    (order : Order) (shape : Shape) (rule : HitRule) (limit : Option ℕ) (before taken : List Feature)
+    → For order → Keeps order shape rule limit (before ++ first ∷ []) taken old
+    → ArePlaced order (intervals_of (before ++ first ∷ firsts))
+    → ArePlaced order (intervals_of (taken ++ seconds))
+    → P order shape rule limit (before ++ first ∷ firsts) (taken ++ seconds)
+
+-- it keeps what it has to
+abbrev pub GoesToFor : (Order → Type 0) → Feature → List Feature → List Feature → Sweeping → Sweeping
+    → Type 0
+GoesToFor For first firsts seconds old new =
+    BehindFor For first firsts seconds old
+    (λ order shape rule limit as_given taken. Keeps order shape rule limit as_given taken new)
+
+-- the lines of these were written after those that were pending, but for the ones that are left pending
+abbrev pub WritesFor : (Order → Type 0) → Feature → List Feature → List Feature → Sweeping
+    → List Feature → List ℕ → Output → List ℕ → Output → Type 0
+WritesFor For first firsts seconds old newly pending out left grown =
+    BehindFor For first firsts seconds old
+    (λ order shape rule limit as_given taken. GrownWith pending out (intersect shape rule newly taken) left grown)
+
+-- they couldn't all be
+abbrev pub CutsFor : (Order → Type 0) → Feature → List Feature → List Feature → Sweeping → List Feature
+    → List ℕ → Output → Told → Output → Type 0
+CutsFor For first firsts seconds old newly pending out fault grown =
+    BehindFor For first firsts seconds old
+    (λ order shape rule limit as_given taken. FailsToAdd out (pending ++ intersect shape rule newly taken) fault grown)
+
+-- the same in every order
+abbrev pub Behind : Feature → List Feature → List Feature → Sweeping
+    → (Order → Shape → HitRule → Option ℕ → List Feature → List Feature → Type 0) → Type 0
+Behind = BehindFor IsTotal
+
+abbrev pub GoesTo : Feature → List Feature → List Feature → Sweeping → Sweeping → Type 0
+GoesTo = GoesToFor IsTotal
+
+abbrev pub Writes : Feature → List Feature → List Feature → Sweeping → List Feature → List ℕ → Output
+    → List ℕ → Output → Type 0
+Writes = WritesFor IsTotal
+
+abbrev pub Cuts : Feature → List Feature → List Feature → Sweeping → List Feature → List ℕ → Output → Told
+    → Output → Type 0
+Cuts = CutsFor IsTotal
+
+-- the records of the second input decide each
+abbrev pub AreDecided : Order → List Feature → List Feature → Type 0
+AreDecided order as_given bs = list_all (λ a. decided order a bs) as_given ≡ true
+
+-- a record of the second input was taken while one of these of the first was the first that those taken
+-- leave undecided, and no more of them were held for it then than the limit allows
+pub record TakenFor (order : Order) (limit : Option ℕ) (as_given taken : List Feature) (b : Feature)
+    : Type 0 where
+  pub before : List Feature
+  pub a : Feature
+  pub after : List Feature
+  pub parts : as_given ≡ before ++ a ∷ after
+  pub settled : AreDecided order before (taken ++ b ∷ [])
+  pub undecided : decides order a b ≡ false
+  pub within : IfSome limit (λ most. length (filter (is_held a) (taken ++ b ∷ [])) ≤ most)
+
+-- so was each of these, one after another
+abbrev pub TakenEach : Order → Option ℕ → List Feature → List Feature → List Feature → Type 0
+TakenEach order limit as_given taken [] = ⊤
+TakenEach order limit as_given taken (b ∷ more) =
+    TakenFor order limit as_given taken b × TakenEach order limit as_given (taken ++ b ∷ []) more
+
+-- the same in such orders, wherever it stands with `first` given last
+abbrev pub TakesEachFor : (Order → Type 0) → Feature → List Feature → List Feature → Sweeping → Type 0
+TakesEachFor For first firsts seconds old =
+    (order : Order) (shape : Shape) (rule : HitRule) (limit : Option ℕ) (before taken : List Feature)
+    → For order → Keeps order shape rule limit (before ++ first ∷ []) taken old
+    → ArePlaced order (intervals_of (before ++ first ∷ firsts))
+    → ArePlaced order (intervals_of (taken ++ seconds))
+    → TakenEach order limit (first ∷ firsts) taken seconds
+
+-- each lies on the chromosome
+abbrev pub LieOn : List ℕ → List Feature → Type 0
+LieOn name [] = ⊤
+LieOn name (b ∷ more) = (b.chrom ≡ name) × LieOn name more
+
+-- each lies on the chromosome, and ends at the place or before it
+abbrev pub EndUpTo : List ℕ → ℕ → List Feature → Type 0
+EndUpTo name place [] = ⊤
+EndUpTo name place (a ∷ more) = (a.chrom ≡ name) × (a.stop ≤ place) × EndUpTo name place more
+
+-- the record that waits lies on the chromosome, and those that are held can hit it
+abbrev pub WaitsOn : List ℕ → List Feature → Option Feature → Type 0
+WaitsOn name held waiting = IfSome waiting (λ a. (a.chrom ≡ name) × All (CanHit a) held)
+
+-- records of the first input alone, from `first` on
+module _ {A : Type 0} (gives : A → List Feature → A → Type 0) (has_ended : A → Type 0) (place : ℕ)
+    (old : Sweeping) (first : Feature) (from : A) (pending : List ℕ) (out : Output) where
+  -- their lines were written or are left pending, but for the last one, where that waits
+  pub record WritesSo (waiting : Option Feature) (new : Sweeping) (to : A) (left : List ℕ)
+      (grown : Output) : Type 0 where
+    pub firsts : List Feature
+    pub newly : List Feature
+    pub given : gives from firsts to
+    pub are : first ∷ firsts ≡ newly ++ option_to_list waiting
+    pub end : EndUpTo first.chrom place newly
+    pub waits : WaitsOn first.chrom new.held waiting
+    pub goes : GoesTo first firsts [] old new
+    pub writes : Writes first firsts [] old newly pending out left grown
+
+  -- one waits that ends behind the place, or there is none
+  abbrev pub StopsBehind : Option Feature → A → Type 0
+  StopsBehind None to = has_ended to
+  StopsBehind (Some a) to = (place < a.stop) × (a.stop ≤ max_number)
+
+  -- they couldn't all be written
+  pub record CutsOff (fault : Told) (to : A) (grown : Output) : Type 0 where
+    pub firsts : List Feature
+    pub newly : List Feature
+    pub waiting : Option Feature
+    pub given : gives from firsts to
+    pub are : first ∷ firsts ≡ newly ++ option_to_list waiting
+    pub end : EndUpTo first.chrom place newly
+    pub cuts : Cuts first firsts [] old newly pending out fault grown
+
+abbrev pub WritesUpTo : {A R : Type 0} → (A → List Feature → A → Type 0) → (A → Type 0) → (R → Feature) → ℕ
+    → Sweeping → Feature → A → List ℕ → Output → Result (Option R) Fault → Sweeping → A → List ℕ → Output
+    → Type 0
+WritesUpTo gives has_ended feature place old first from pending out (Ok waiting) new to left grown =
+    WritesSo gives has_ended place old first from pending out (option_map feature waiting) new to left grown
+    × StopsBehind gives has_ended place old first from pending out (option_map feature waiting) to
+WritesUpTo gives has_ended feature place old first from pending out (Err fault) new to left grown =
+    CutsOff gives has_ended place old first from pending out (told fault) to grown
+
+-- all records that there were are given
+pub record SkipsAll {B : Type 0} (gives : B → List Feature → B → Type 0) (has_ended : B → Type 0)
+    (name : List ℕ) (from to : B) : Type 0 where
+  pub seconds : List Feature
+  pub given : gives from seconds to
+  pub on : LieOn name seconds
+  pub ended : has_ended to
+
+-- a record that has to be held can't be: for want of room, or of memory
+abbrev pub CannotBeHeld : Option ℕ → Feature → List Feature → ℕ → Told → Type 0
+CannotBeHeld limit last taken line fault =
+    ((has_room limit (length (held_for (Some last) taken)) ≡ false)
+    × (fault ≡ fault_at_line Second line TooManyHeld))
+    ⊎ ((has_room limit (length (held_for (Some last) taken)) ≡ true) × (fault ≡ no_memory))
+
+-- the record that a cursor gives next, if one is told
+abbrev pub ComesNext : {B : Type 0} → (B → List Feature → B → Type 0) → B → Option Feature → Type 0
+ComesNext {B} gives to next = IfSome next (λ b. (after : B) × gives to (b ∷ []) after)
+
+-- records of both inputs, from `first` of the first on
+module _ {A B : Type 0} (a_gives : A → List Feature → A → Type 0) (a_ended : A → Type 0)
+    (b_gives : B → List Feature → B → Type 0) (b_ended : B → Type 0) (b_line : B → ℕ)
+    (For : Order → Type 0) (Settles : List Feature → List Feature → Type 0)
+    (old : Sweeping) (first : Feature) (from_a : A) (from_b : B) (pending : List ℕ) (out : Output) where
+  -- the lines of those of the first were written or are left pending, but for the last one, where that waits
+  pub record JoinsSo (waiting : Option Feature) (new : Sweeping) (to_a : A) (to_b : B) (left : List ℕ)
+      (grown : Output) : Type 0 where
+    pub firsts : List Feature
+    pub seconds : List Feature
+    pub newly : List Feature
+    pub gives_firsts : a_gives from_a firsts to_a
+    pub gives_seconds : b_gives from_b seconds to_b
+    pub are : first ∷ firsts ≡ newly ++ option_to_list waiting
+    pub waits : WaitsOn first.chrom new.held waiting
+    pub next : Option Feature
+    pub comes : ComesNext b_gives to_b next
+    pub settles : Settles newly (seconds ++ option_to_list next)
+    pub each : TakesEachFor For first firsts seconds old
+    pub goes : GoesToFor For first firsts seconds old new
+    pub writes : WritesFor For first firsts seconds old newly pending out left grown
+
+  -- one waits and there is none of the second input, or there is none of the first
+  abbrev pub StopsAt : Option Feature → A → B → Type 0
+  StopsAt None to_a to_b = a_ended to_a
+  StopsAt (Some a) to_a to_b = b_ended to_b
+
+  module _ (firsts seconds newly : List Feature) (waiting : Option Feature) (to_b : B) (fault : Told)
+      (left : List ℕ) (grown : Output) where
+    -- the lines couldn't all be written
+    pub record CutsLines : Type 0 where
+      pub cuts : CutsFor For first firsts seconds old newly pending out fault grown
+
+    -- the next record of the second input shares a base with the one that waits, and can't be held
+    pub record LacksRoom : Type 0 where
+      pub last : Feature
+      pub waits : waiting ≡ Some last
+      pub b : Feature
+      pub after : B
+      pub gives : b_gives to_b (b ∷ []) after
+      pub chrom : b.chrom ≡ last.chrom
+      pub starts : b.start < last.stop
+      pub ends : last.start < b.stop
+      pub writes : WritesFor For first firsts seconds old newly pending out left grown
+      pub lacks : BehindFor For first firsts seconds old
+          (λ order shape rule limit as_given taken. CannotBeHeld limit last taken (b_line after) fault)
+
+  -- it failed once these lines of the first were settled
+  pub record Breaks (fault : Told) (to_a : A) (to_b : B) (left : List ℕ) (grown : Output) : Type 0 where
+    pub firsts : List Feature
+    pub seconds : List Feature
+    pub newly : List Feature
+    pub waiting : Option Feature
+    pub gives_firsts : a_gives from_a firsts to_a
+    pub gives_seconds : b_gives from_b seconds to_b
+    pub are : first ∷ firsts ≡ newly ++ option_to_list waiting
+    pub next : Option Feature
+    pub comes : ComesNext b_gives to_b next
+    pub settles : Settles newly (seconds ++ option_to_list next)
+    pub each : TakesEachFor For first firsts seconds old
+    pub cause : CutsLines firsts seconds newly waiting to_b fault left grown
+        ⊎ LacksRoom firsts seconds newly waiting to_b fault left grown
+
+abbrev pub Joins : {A B R : Type 0} → (A → List Feature → A → Type 0) → (A → Type 0)
+    → (B → List Feature → B → Type 0) → (B → Type 0) → (B → ℕ) → (Order → Type 0)
+    → (List Feature → List Feature → Type 0)
+    → (List Feature → Feature → Type 0)
+    → (R → Feature) → Sweeping → Feature → A → B → List ℕ → Output → Result (Option R) Fault → Sweeping → A → B
+    → List ℕ → Output → Type 0
+Joins a_gives a_ended b_gives b_ended b_line For Settles Leaves feature old first from_a from_b pending out
+    (Ok waiting) new to_a to_b left grown =
+    (j : JoinsSo a_gives a_ended b_gives b_ended b_line For Settles old first from_a from_b pending out
+    (option_map feature waiting) new to_a to_b left grown)
+    × StopsAt a_gives a_ended b_gives b_ended b_line For Settles old first from_a from_b pending out
+    (option_map feature waiting) to_a to_b
+    × IfSome (option_map feature waiting) (Leaves j.seconds)
+Joins a_gives a_ended b_gives b_ended b_line For Settles Leaves feature old first from_a from_b pending out
+    (Err fault) new to_a to_b left grown =
+    Breaks a_gives a_ended b_gives b_ended b_line For Settles old first from_a from_b pending out (told fault)
+    to_a to_b left grown
+
+-- the record of the second input that was taken last leaves it undecided
+abbrev pub LeavesLast : Order → List Feature → Feature → Type 0
+LeavesLast order seconds a =
+    (before : List Feature) (b : Feature) → seconds ≡ before ++ b ∷ [] → decides order a b ≡ false
+
+-- in every order that knows its chromosome
+abbrev pub LeavesOn : List Feature → Feature → Type 0
+LeavesOn seconds a =
+    (order : Order) → IsTotal order → order.knows a.chrom ≡ true → LeavesLast order seconds a
+
+-- in every order that knows the chromosome the records of the second input decide each
+abbrev pub AreDecidedOn : List ℕ → List Feature → List Feature → Type 0
+AreDecidedOn name as_given bs =
+    (order : Order) → IsTotal order → order.knows name ≡ true → AreDecided order as_given bs

@@ -1,0 +1,99 @@
+-- A limit on how many records of the second input are held at a time, which is this program's own
+-- (option -held of intersect and subtract). If more would have to be held, that line of the
+-- second input is at fault.
+use Rattle.std.specs.Prelude.{◌≡◌, ℕ, ◌<◌, Bool, false, true, not, ◌&&◌, List, [], ◌∷◌}
+use Rattle.std.specs.Prelude.{◌++◌, Option, None, Some, bytes_eq, filter, if◌then◌else◌, length, map}
+use Rattle.std.specs.Prelude.{nat_lt}
+use Rattle.std.specs.List.{find, list_all}
+use Rattle.bt_lines.specs.model.Fault.{Told}
+use Rattle.bt_lines.specs.declared.fault.Input.TheVariants.{Second}
+use Rattle.bt_lines.specs.declared.fault.Kind.TheVariants.{TooManyHeld}
+use Rattle.bt_bed.specs.model.feature.Feature.{Feature}
+use Rattle.bt_bed.specs.model.input.Good.{Good, Member, items_in}
+use Rattle.bt_bed.specs.model.feature.LineKind.{fault_at_line}
+use Rattle.bt_bed.specs.model.order.Order.{Order}
+use Rattle.bt_sweep.specs.model.Deciding.{decided}
+use Rattle.bt_sweep.specs.model.IntersectLines.{intersect}
+use Rattle.bt_sweep.specs.model.SweepMeeting.{intersect_met}
+use Rattle.bt_sweep.specs.declared.hits.hit_rule.HitRule.{HitRule}
+use Rattle.bt_sweep.specs.declared.output.shape.Shape.{Shape}
+
+-- Whether a or a later record of the first input can be hit by b, as far as a tells. It can if b lies on
+-- the chromosome of a, and ends above its start.
+abbrev pub is_held : Feature → Feature → Bool
+is_held a b = bytes_eq a.chrom b.chrom && nat_lt a.start b.stop
+
+-- which of these records of the second input are held for a record of the first, if there is one
+abbrev pub held_for : Option Feature → List Feature → List Feature
+held_for None taken = []
+held_for (Some a) taken = filter (is_held a) taken
+
+-- the first record that those of the second input leave undecided, if there is one
+abbrev pub first_open : Order → List Feature → List Feature → Option Feature
+first_open order first second = find (λ a. not (decided order a second)) first
+
+-- whether these records of the second input are too many: more than `most` of them are held for
+-- the first record that they leave undecided
+abbrev pub are_too_many : Order → ℕ → List Feature → List Feature → Bool
+are_too_many order most first second =
+    nat_lt most (length (held_for (first_open order first second) second))
+
+-- The members after others, up to the first with which they are too many, where the fault of the
+-- limit lies. If there is none, all of them and their own fault.
+abbrev pub cut_behind : (List Feature → Bool) → List (Member Feature) → List (Member Feature)
+    → Option Told → Good Feature
+cut_behind too_many past [] fault = record { members = past; fault = fault }
+cut_behind too_many past (m ∷ more) fault =
+    if too_many (map (λ m. m.item) (past ++ m ∷ []))
+    then record {
+      members = past ++ m ∷ [];
+      fault = Some (fault_at_line Second m.line TooManyHeld);
+    }
+    else cut_behind too_many (past ++ m ∷ []) more fault
+
+-- The second input as the records of the first meet it, if at most `most` are held: up to
+-- the first record with which they would be too many. Without a limit it is whole.
+abbrev pub limited : Order → Option ℕ → List Feature → Good Feature → Good Feature
+limited order None first second = second
+limited order (Some most) first second =
+    cut_behind (are_too_many order most first) [] second.members second.fault
+
+-- a is the first record of the first input that these of the second leave undecided, and more of
+-- them than `most` are held for it
+pub record HoldsTooMany (order : Order) (most : ℕ) (before : List Feature) (a : Feature)
+    (second : List Feature) : Type 0 where
+  pub decided_before : list_all (λ x. decided order x second) before ≡ true
+  pub undecided : decided order a second ≡ false
+  pub many : most < length (filter (is_held a) second)
+
+-- no record of the first input is one for which too many of these of the second are held
+abbrev pub HoldsEnough : Order → ℕ → List Feature → List Feature → Type 0
+HoldsEnough order most first second =
+    (before after : List Feature) (a : Feature) → first ≡ before ++ a ∷ after
+    → HoldsTooMany order most before a second → ⊥
+
+-- The case that the records up to a line of the second input are too many, and those up to no line
+-- before it. The lines of the records before the undecided one are written, and the limit's fault is
+-- reported at that line.
+abbrev pub limit_stops : Type 0
+limit_stops =
+    (order : Order) (shape : Shape) (rule : HitRule) (most : ℕ) (first second : Good Feature)
+    (before after : List Feature) (a : Feature) (past more : List (Member Feature))
+    (m : Member Feature)
+    → items_in first ≡ before ++ a ∷ after → second.members ≡ past ++ m ∷ more
+    → ((front rest : List (Member Feature)) → past ≡ front ++ rest
+    → HoldsEnough order most (items_in first) (map (λ m. m.item) front))
+    → HoldsTooMany order most before a (map (λ m. m.item) (past ++ m ∷ []))
+    → intersect_met order shape rule first (limited order (Some most) (items_in first) second)
+    ≡ record {
+      lines = intersect shape rule before (map (λ m. m.item) (past ++ m ∷ []));
+      fault = Some (fault_at_line Second m.line TooManyHeld);
+    }
+
+-- If the records up to no line are too many, the limit changes nothing.
+abbrev pub limit_is_kept : Type 0
+limit_is_kept =
+    (order : Order) (most : ℕ) (first : List Feature) (second : Good Feature)
+    → ((front rest : List (Member Feature)) → second.members ≡ front ++ rest
+    → HoldsEnough order most first (map (λ m. m.item) front))
+    → limited order (Some most) first second ≡ second

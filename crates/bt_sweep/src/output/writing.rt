@@ -1,0 +1,196 @@
+//! The lines of one record.
+
+ghost use Rattle.std.specs.Prelude.{◌≡◌, ◌∷◌, [], ◌<◌, All, IsTrue, cond, decimal, not, flat_map, option_copied, option_to_list, take};
+ghost use Rattle.bt_lines.specs.calls.Putting.{Adds, Puts};
+ghost use Rattle.bt_bed.specs.calls.Bed.{feature_lent};
+ghost use Rattle.bt_bed.specs.model.feature.Record.{bed_text, cut_to};
+ghost use Rattle.bt_sweep.specs.calls.Held.{AreOn, AreRising, CanHit};
+ghost use Rattle.std.specs.List.{list_any};
+ghost use Rattle.bt_sweep.specs.model.Hits.{hits, hits_among, shared_bases};
+ghost use Rattle.bt_sweep.specs.model.IntersectLines.{hit_line, line_with, lines_for};
+
+use crate::active::held::Held;
+use crate::hits::hit::{count_started_hits, is_any_hit, is_hit};
+use crate::hits::hit_rule::HitRule;
+use crate::hits::started::count_started;
+use crate::output::pieces::put_pieces;
+use crate::output::shape::Shape;
+use crate::output::written::{Written, put_written};
+use crate::sweep::unmatched::put_unmatched;
+use bt_bed::{BedRef, Rec, Record, put_bed, put_cut};
+use bt_lines::{Fault, Out, Sink, put_number};
+
+// Puts the lines of a record against these, which can hit it and come by their starts.
+#[inline(always)]
+pub(crate) fn put_against<R: Record, H: Held, K: Sink>(
+    shape: Shape,
+    rule: HitRule,
+    a: &R,
+    held: &H,
+    out: &mut Out<K>,
+) -> Result<(), Fault>
+    requires filled { (R.feature a.now).start < (R.feature a.now).stop }
+    requires hits { All (CanHit (R.feature a.now)) (H.records held.now) }
+    ensures { AreRising (H.records held.now)
+        → Adds out.old.output (lines_for shape rule (R.feature a.now) (H.records held.now)) result out.new.output }
+{
+    if held.len() == 0 {
+        return put_unmatched(shape, a, out);
+    }
+    put_lines(shape, rule, &Written::of(a), held, out)
+}
+
+// Puts the lines of a record against these, which can hit it and come by their starts. Those that start
+// at its end or after it are passed over. It takes no memory.
+#[tactic(auto, using(crate::proofs::lemmas::output::OpenLemmas::on_name))]
+#[inline(always)]
+pub(crate) fn put_lines<H: Held, K: Sink>(
+    shape: Shape,
+    rule: HitRule,
+    a: &Written<'_>,
+    held: &H,
+    out: &mut Out<K>,
+) -> Result<(), Fault>
+    requires { All (CanHit (feature_lent a.now.bed)) (H.records held.now) }
+    ensures { AreRising (H.records held.now)
+        → Adds out.old.output (lines_for shape rule (feature_lent a.now.bed) (H.records held.now)) result out.new.output }
+{
+    let bed = &a.bed;
+    match shape {
+        Shape::Count => {
+            let count = count_started(held, bed.stop);
+            put_counted(a, count_started_hits(rule, bed, held, count) as u64, out)
+        }
+        Shape::Once => put_where(is_any_hit(rule, bed, held), a, out),
+        Shape::Missing | Shape::Whole => put_where(!is_any_hit(rule, bed, held), a, out),
+        Shape::Cut | Shape::OrigA | Shape::CutAndB | Shape::OrigBoth | Shape::Overlap => {
+            put_hits(shape, rule, a, held, count_started(held, bed.stop), out)
+        }
+        Shape::Pieces => put_pieces(rule, bed, held, count_started(held, bed.stop), out),
+    }
+}
+
+// Puts a line for each of so many held records from the first that hits the record.
+#[inline(always)]
+fn put_hits<H: Held, K: Sink>(
+    shape: Shape,
+    rule: HitRule,
+    a: &Written<'_>,
+    held: &H,
+    count: usize,
+    out: &mut Out<K>,
+) -> Result<(), Fault>
+    requires { AreOn a.now.bed.chrom.now (H.records held.now) }
+    ensures { Adds out.old.output (flat_map (hit_line shape (feature_lent a.now.bed))
+        (hits_among rule (feature_lent a.now.bed) (take count (H.records held.now)))) result out.new.output }
+{
+    for index in 0..count {
+        put_if_hit(shape, rule, a, held.nth(index), out)?;
+    }
+    Ok(())
+}
+
+// Puts the line of a held record, if there is one and it hits the record.
+#[inline(always)]
+fn put_if_hit<K: Sink>(
+    shape: Shape,
+    rule: HitRule,
+    a: &Written<'_>,
+    b: Option<&Rec>,
+    out: &mut Out<K>,
+) -> Result<(), Fault>
+    requires { AreOn a.now.bed.chrom.now (option_to_list (option_copied b)) }
+    ensures { Adds out.old.output (flat_map (hit_line shape (feature_lent a.now.bed))
+        (hits_among rule (feature_lent a.now.bed) (option_to_list (option_copied b.entry)))) result out.new.output }
+{
+    let Some(b) = b else {
+        return Ok(());
+    };
+    let b = b.as_bed();
+    if !is_hit(rule, &a.bed, &b) {
+        return Ok(());
+    }
+    put_hit(shape, a, &b, out)
+}
+
+// Puts the line of a record that shares a base with the record, in a shape that has one for each hit.
+#[inline(always)]
+fn put_hit<K: Sink>(
+    shape: Shape,
+    a: &Written<'_>,
+    b: &BedRef<'_>,
+    out: &mut Out<K>,
+) -> Result<(), Fault>
+    requires { 0 < shared_bases (feature_lent a.now.bed) (feature_lent b.now) }
+    ensures { Adds out.old.output (hit_line shape (feature_lent a.now.bed) (feature_lent b.now)) result out.new.output }
+{
+    let bed = &a.bed;
+    let start = bed.start.max(b.start);
+    let stop = bed.stop.min(b.stop);
+    match shape {
+        Shape::Cut => put_cut(bed, start, stop, b"\n", out),
+        Shape::OrigA => put_written(a, b"\n", out),
+        Shape::CutAndB => put_both(bed, start, stop, b, out),
+        Shape::OrigBoth => put_beside(a, b, out),
+        Shape::Overlap => put_overlap(a, b, stop.saturating_sub(start), out),
+        Shape::Once | Shape::Missing | Shape::Count | Shape::Pieces | Shape::Whole => Ok(()),
+    }
+}
+
+// Puts the record's line where it is to be written, and nothing else.
+#[inline(always)]
+fn put_where<K: Sink>(is_put: bool, a: &Written<'_>, out: &mut Out<K>) -> Result<(), Fault>
+    ensures { Adds out.old.output (cond is_put (line_with (bed_text (feature_lent a.now.bed) ∷ [])) []) result out.new.output }
+{
+    if is_put {
+        return put_written(a, b"\n", out);
+    }
+    Ok(())
+}
+
+// Puts a part of a record, and another record after it.
+fn put_both<K: Sink>(
+    a: &BedRef<'_>,
+    start: u64,
+    stop: u64,
+    b: &BedRef<'_>,
+    out: &mut Out<K>,
+) -> Result<(), Fault>
+    ensures { Puts out.old.output (line_with (bed_text (cut_to start stop (feature_lent a.now))
+        ∷ bed_text (feature_lent b.now) ∷ [])) result out.new.output }
+{
+    put_cut(a, start, stop, b"\t", out)?;
+    put_bed(b, b"\n", out)
+}
+
+// Puts a record and a number.
+#[inline(never)]
+fn put_counted<K: Sink>(a: &Written<'_>, count: u64, out: &mut Out<K>) -> Result<(), Fault>
+    ensures { Puts out.old.output (line_with (bed_text (feature_lent a.now.bed) ∷ decimal count ∷ [])) result out.new.output }
+{
+    put_written(a, b"\t", out)?;
+    put_number(count, b"\n", out)
+}
+
+// Puts two records.
+fn put_beside<K: Sink>(a: &Written<'_>, b: &BedRef<'_>, out: &mut Out<K>) -> Result<(), Fault>
+    ensures { Puts out.old.output (line_with (bed_text (feature_lent a.now.bed)
+        ∷ bed_text (feature_lent b.now) ∷ [])) result out.new.output }
+{
+    put_written(a, b"\t", out)?;
+    put_bed(b, b"\n", out)
+}
+
+// Puts two records and a number.
+fn put_overlap<K: Sink>(
+    a: &Written<'_>,
+    b: &BedRef<'_>,
+    count: u64,
+    out: &mut Out<K>,
+) -> Result<(), Fault>
+    ensures { Puts out.old.output (line_with (bed_text (feature_lent a.now.bed)
+        ∷ bed_text (feature_lent b.now) ∷ decimal count ∷ [])) result out.new.output }
+{
+    put_written(a, b"\t", out)?;
+    put_counted(&Written::of_bed(*b), count, out)
+}

@@ -1,0 +1,312 @@
+//! The sweep over two sorted inputs.
+
+pub(crate) mod pending;
+pub(crate) mod phase;
+pub(crate) mod reach;
+pub(crate) mod relation;
+pub(crate) mod state;
+pub(crate) mod unmatched;
+pub(crate) mod want;
+
+ghost use Rattle.std.specs.Prelude.{◌≡◌, IsTrue, Some};
+ghost use Rattle.bt_bed.specs.model.feature.Feature.{Feature};
+
+use crate::active::held::Held;
+use crate::hits::hit_rule::HitRule;
+use crate::output::shape::Shape;
+use crate::sweep::pending::Pending;
+use crate::sweep::phase::Phase;
+use crate::sweep::reach::{Reach, reach_of};
+use crate::sweep::relation::{Relation, relation_of};
+use crate::sweep::state::{State, skip};
+use crate::sweep::want::Want;
+use bt_bed::{BedRef, ChromOrder, Cursor, Record, Single, Taken};
+use bt_lines::{Fault, Out, Sink};
+use std::alloc::Global;
+
+/// Compares two inputs that are sorted in one order of the chromosomes, and writes the lines of each
+/// record of the first as soon as no later record of the second can hit it. It is given what it wants
+/// ([`Sweep::want`]): the records of an input one after another, none below the one before it, by
+/// chromosome and then by start, and at last its end. It holds the records of the second input that lie
+/// on the chromosome of the record of the first given last and end above its start. A first fault ends
+/// it: then it wants nothing.
+#[derive(Drop)]
+pub struct Sweep<'o, H: Held, O: ChromOrder> {
+    // Knows the chromosome of each record given.
+    order: &'o O,
+    // Always valid; after a fault it wants nothing.
+    state: State<H>,
+    ghost known: { (a : Feature) → state.current ≡ Some a
+        → IsTrue ((O.order order.now).knows a.chrom) },
+}
+
+impl<'o, H: Held, O: ChromOrder> Sweep<'o, H, O> {
+    ghost use Rattle.std.specs.Prelude.{◌≡◌, ℕ, All, List, [], IsTrue, None, OnErr, OnOk, Option, Some};
+    ghost use Rattle.bt_bed.specs.calls.Bed.{feature_lent};
+    ghost use Rattle.bt_bed.specs.model.feature.Feature.{intervals_of};
+    ghost use Rattle.bt_bed.specs.model.order.Locus.{ArePlaced};
+    ghost use Rattle.bt_bed.specs.model.order.Order.{Order};
+    ghost use Rattle.bt_sweep.specs.calls.Standing.{IsInOrder, Stage, StandsAt, first_stage, given, held_for, last_given, want_at, with_a, with_a_ended};
+    ghost use Rattle.bt_sweep.specs.calls.Steps.{EndsB, GivesA, GivesB};
+    ghost use Rattle.bt_sweep.specs.calls.Advancing.{Advances, AdvancesOn, DecidesCurrent, IsIdle, IsThis, Settles};
+    ghost use Rattle.bt_sweep.specs.calls.Held.{CanHit};
+    ghost use Rattle.bt_sweep.specs.inside.Joining.{Joins, LeavesLast};
+    ghost use Rattle.bt_sweep.specs.inside.Pending.{line_in, pending_in};
+    ghost use Rattle.bt_sweep.specs.inside.Relating.{EndsWhile, GivesKnown};
+    ghost use Rattle.bt_sweep.specs.calls.SweepView.{order_of, state_of};
+    ghost use Rattle.bt_sweep.specs.calls.SweepState.{want_in};
+
+    /// A sweep that was given nothing, over an empty list of held records. With a limit no more records
+    /// than that are held. It doesn't allocate.
+    pub fn new(
+        alloc: Global,
+        held: H,
+        shape: Shape,
+        rule: HitRule,
+        limit: Option<u64>,
+        order: &'o O,
+    ) -> Sweep<'o, H, O>
+        requires { H.records held ≡ [] }
+        ensures stands { StandsAt (O.order order.now) shape rule limit first_stage (state_of result) }
+        ensures order { order_of result ≡ O.order order.now }
+    {
+        Sweep {
+            order,
+            state: State::new(alloc, held, shape, rule, limit),
+        }
+    }
+
+    /// What it wants next.
+    pub fn want(&self) -> Want
+        ensures is { result ≡ want_in (state_of self.now) }
+        ensures stage { (order : Order) (shape : Shape) (rule : HitRule) (limit : Option ℕ) (stage : Stage)
+            → StandsAt order shape rule limit stage (state_of self.now) → result ≡ want_at stage }
+    {
+        self.state.want()
+    }
+
+    /// The records of the second input that it holds.
+    pub fn held(&self) -> &H
+        ensures is { H.records result.now ≡ (state_of self.now).held }
+        ensures stage { (order : Order) (shape : Shape) (rule : HitRule) (limit : Option ℕ) (stage : Stage)
+            → StandsAt order shape rule limit stage (state_of self.now)
+            → H.records result.now ≡ held_for (last_given (given stage)) stage.taken }
+    {
+        self.state.held()
+    }
+
+    /// Takes records of both inputs, one after another, as [`Sweep::give_a`] and [`Sweep::give_b`] do with each, as long as
+    /// the input that it wants has a next one. It stops too once the record is written that waited before.
+    /// If it wants nothing, it takes none. It fails as these calls do.
+    pub fn advance<A: Cursor, B: Cursor, K: Sink>(
+        &mut self,
+        a: &mut A,
+        b: &mut B,
+        out: &mut Out<K>,
+    ) -> Result<(), Fault>
+        requires known_a { GivesKnown A.gives (order_of self.old) a.old }
+        requires known_b { GivesKnown B.gives (order_of self.old) b.old }
+        ensures advances { AdvancesOn A.gives A.has_ended B.gives B.has_ended B.line (order_of self.old) (state_of self.old)
+            a.old b.old out.old.output result (state_of self.new) a.new b.new out.new.output }
+        ensures idle { want_in (state_of self.old) ≡ Want.Nothing
+            → IsIdle (state_of self.old) a.old b.old out.old.output result (state_of self.new) a.new b.new out.new.output }
+        ensures stops { OnErr result (want_in (state_of self.new) ≡ Want.Nothing) }
+        ensures order { order_of self.new ≡ order_of self.old }
+    {
+        if !self.state.waits() {
+            return self.go_on(a, b, out);
+        }
+        match self.is_current_left(b, out) {
+            Ok(_) => Ok(()),
+            Err(fault) => Err(fault),
+        }
+    }
+
+    /// Takes the next record of the first input. If the second has ended its lines are written at
+    /// once, and else nothing is. For those the records of the second input have to be in order too, since
+    /// pieces are found by their starts. It fails with `NoMemory` if the record can't be kept, and with
+    /// `WriteFailed` if the lines can't be written.
+    pub fn give_a<K: Sink>(&mut self, a: &BedRef<'_>, out: &mut Out<K>) -> Result<(), Fault>
+        requires want { want_in (state_of self.old) ≡ Want.A }
+        requires known { IsTrue ((order_of self.old).knows a.now.chrom.now) }
+        ensures gives { (shape : Shape) (rule : HitRule) (limit : Option ℕ) (stage : Stage) → StandsAt (order_of self.old) shape rule limit stage (state_of self.old)
+            → IsInOrder (order_of self.old) (with_a stage (feature_lent a.now))
+            → GivesA (order_of self.old) shape rule limit stage (feature_lent a.now) out.old.output result
+            (state_of self.new) out.new.output }
+        ensures stops { OnErr result (want_in (state_of self.new) ≡ Want.Nothing) }
+        ensures order { order_of self.new ≡ order_of self.old }
+    {
+        self.state.enter(a);
+        if let Phase::First = self.state.phase() {
+            return self.state.put(a, out);
+        }
+        self.state.keep(a)
+    }
+
+    /// Takes the end of the first input. Nothing is written, and nothing more is wanted.
+    pub fn end_a(&mut self)
+        requires { want_in (state_of self.old) ≡ Want.A }
+        ensures stands { (shape : Shape) (rule : HitRule) (limit : Option ℕ) (stage : Stage) → StandsAt (order_of self.old) shape rule limit stage (state_of self.old)
+            → StandsAt (order_of self.old) shape rule limit (with_a_ended stage) (state_of self.new) }
+        ensures nothing { want_in (state_of self.new) ≡ Want.Nothing }
+        ensures order { order_of self.new ≡ order_of self.old }
+    {
+        self.state.end_a();
+    }
+
+    /// Takes the next record of the second input, which is at this line, counted from 1, unless it decides the
+    /// current record of the first: then that one's lines are written, and the record is to be given again. It
+    /// fails with `WriteFailed` if they can't be written. If the record has to be held, it fails with
+    /// `TooManyHeld` at the line if as many are held as the limit allows, and else with `NoMemory` if it
+    /// can't be. For a record that neither decides nor has to be held it doesn't allocate.
+    pub fn give_b<K: Sink>(
+        &mut self,
+        b: &BedRef<'_>,
+        line: u64,
+        out: &mut Out<K>,
+    ) -> Result<Taken, Fault>
+        requires want { want_in (state_of self.old) ≡ Want.B }
+        requires known { IsTrue ((order_of self.old).knows b.now.chrom.now) }
+        ensures gives { (shape : Shape) (rule : HitRule) (limit : Option ℕ) (stage : Stage) (a : Feature)
+            → StandsAt (order_of self.old) shape rule limit stage (state_of self.old) → stage.waiting ≡ Some a
+            → ArePlaced (order_of self.old) (intervals_of stage.taken)
+            → GivesB (order_of self.old) shape rule limit stage a (feature_lent b.now) line out.old.output result
+            (state_of self.new) out.new.output }
+        ensures stops { OnErr result (want_in (state_of self.new) ≡ Want.Nothing) }
+        ensures order { order_of self.new ≡ order_of self.old }
+    {
+        let Some(current) = self.state.take_current() else {
+            return Ok(Taken::Yes);
+        };
+        let a = current.as_bed();
+        match reach_of(self.order, &a, b) {
+            Reach::Before => {
+                self.state.put_back(current);
+                Ok(Taken::Yes)
+            }
+            Reach::Within => {
+                self.state.take(&a, b, line)?;
+                self.state.put_back(current);
+                Ok(Taken::Yes)
+            }
+            Reach::Past => {
+                self.state.put(&a, out)?;
+                Ok(Taken::No)
+            }
+        }
+    }
+
+    /// Takes the end of the second input, and writes the lines of the current record of the first. It
+    /// fails with `WriteFailed` if they can't be written.
+    pub fn end_b<K: Sink>(&mut self, out: &mut Out<K>) -> Result<(), Fault>
+        requires { want_in (state_of self.old) ≡ Want.B }
+        ensures gives { (shape : Shape) (rule : HitRule) (limit : Option ℕ) (stage : Stage) (a : Feature)
+            → StandsAt (order_of self.old) shape rule limit stage (state_of self.old) → stage.waiting ≡ Some a
+            → ArePlaced (order_of self.old) (intervals_of stage.taken)
+            → EndsB (order_of self.old) shape rule limit stage a out.old.output result (state_of self.new) out.new.output }
+        ensures stops { OnErr result (want_in (state_of self.new) ≡ Want.Nothing) }
+        ensures order { order_of self.new ≡ order_of self.old }
+    {
+        let Some(current) = self.state.take_current() else {
+            return Ok(());
+        };
+        self.state.end_b();
+        self.state.put(&current.as_bed(), out)
+    }
+
+    // Whether there is a record that waits, and it still does after these of the second input.
+    fn is_current_left<B: Cursor, K: Sink>(
+        &mut self,
+        b: &mut B,
+        out: &mut Out<K>,
+    ) -> Result<bool, Fault>
+        requires known_b { GivesKnown B.gives (order_of self.old) b.old }
+        ensures decides { DecidesCurrent B.gives B.has_ended B.line (order_of self.old) (state_of self.old) b.old
+            out.old.output result (state_of self.new) b.new out.new.output }
+        ensures phase { OnOk result ((state_of self.new).phase ≡ (state_of self.old).phase) }
+        ensures stops { OnErr result (want_in (state_of self.new) ≡ Want.Nothing) }
+        ensures order { order_of self.new ≡ order_of self.old }
+    {
+        let Some(current) = self.state.take_current() else {
+            return Ok(false);
+        };
+        let bed = current.as_bed();
+        let mut none = Pending::new(Single::none(bed.chrom));
+        let Some(_) = self.decide(bed, &mut none, b, out)? else {
+            return Ok(false);
+        };
+        self.state.put_back(current);
+        Ok(true)
+    }
+
+    // Takes records of both inputs, where none of the first waits.
+    fn go_on<A: Cursor, B: Cursor, K: Sink>(
+        &mut self,
+        a: &mut A,
+        b: &mut B,
+        out: &mut Out<K>,
+    ) -> Result<(), Fault>
+        requires none { (state_of self.old).current ≡ None }
+        requires known_a { GivesKnown A.gives (order_of self.old) a.old }
+        requires known_b { GivesKnown B.gives (order_of self.old) b.old }
+        ensures advances { Advances A.gives A.has_ended B.gives B.has_ended B.line (order_of self.old) (state_of self.old)
+            a.old b.old out.old.output result (state_of self.new) a.new b.new out.new.output }
+        ensures idle { want_in (state_of self.old) ≡ Want.Nothing
+            → IsIdle (state_of self.old) a.old b.old out.old.output result (state_of self.new) a.new b.new out.new.output }
+        ensures stops { OnErr result (want_in (state_of self.new) ≡ Want.Nothing) }
+        ensures order { order_of self.new ≡ order_of self.old }
+    {
+        if let Phase::Over = self.state.phase() {
+            return Ok(());
+        }
+        let mut firsts = Pending::new(*a);
+        let Some(first) = firsts.next() else {
+            return Ok(());
+        };
+        self.state.enter(&first);
+        let decided = self.decide(first, &mut firsts, b, out);
+        *a = firsts.cursor;
+        let Some(waiting) = decided? else {
+            return Ok(());
+        };
+        self.state.keep(&waiting)
+    }
+
+    // Writes records of the first input, from this one on, as far as those of the second decide them, which are taken up to
+    // there. It returns the one that is left, if there is one.
+    fn decide<A: Cursor, B: Cursor, K: Sink>(
+        &mut self,
+        first: A::Record,
+        a: &mut Pending<A>,
+        b: &mut B,
+        out: &mut Out<K>,
+    ) -> Result<Option<A::Record>, Fault>
+        requires none { (state_of self.old).current ≡ None }
+        requires hits { All (CanHit (A.Record.feature first)) (state_of self.old).held }
+        requires on { A.name a.old.cursor ≡ (A.Record.feature first).chrom }
+        requires line { line_in (A.consumed a.old.cursor) a.old.to ≡ A.Record.raw first }
+        requires pending { pending_in (A.consumed a.old.cursor) a.old.from a.old.to ≡ [] }
+        requires known { IsTrue ((order_of self.old).knows (A.Record.feature first).chrom) }
+        requires known_b { GivesKnown B.gives (order_of self.old) b.old }
+        ensures joins { Joins A.gives A.has_ended B.gives (EndsWhile B.has_ended (state_of self.old).phase) B.line (IsThis (order_of self.old)) (Settles (order_of self.old) (state_of self.old).phase)
+            (LeavesLast (order_of self.old)) A.Record.feature (state_of self.old) (A.Record.feature first) a.old.cursor b.old [] out.old.output result (state_of self.new)
+            a.new.cursor b.new [] out.new.output }
+        ensures none { (state_of self.new).current ≡ None }
+        ensures phase { OnOk result ((state_of self.new).phase ≡ (state_of self.old).phase) }
+        ensures stops { OnErr result (want_in (state_of self.new) ≡ Want.Nothing) }
+        ensures order { order_of self.new ≡ order_of self.old }
+    {
+        match relation_of(self.order, self.state.phase(), first.bed().chrom, b) {
+            Relation::Unknown => Ok(Some(first)),
+            Relation::Before => {
+                skip(b);
+                Ok(Some(first))
+            }
+            Relation::Beside => self.state.join(first, a, b, out),
+            Relation::After => self.state.write_all(first, a, out),
+        }
+    }
+}
+
+#[cfg(test)]
+mod tests;

@@ -1,0 +1,509 @@
+//! What a sweep keeps, and its steps.
+
+ghost use Rattle.std.specs.Prelude.{◌≡◌, ◌∷◌, ◌++◌, ◌<◌, [], All, IfErr, IfOk, IfSome, IsTrue, None, Some, false, filter, is_some, nat_lt, true, OnOk, OnErr};
+ghost use Rattle.bt_lines.specs.calls.Names.{told};
+ghost use Rattle.bt_lines.specs.model.Number.{max_number};
+ghost use Rattle.bt_lines.specs.calls.Putting.{Adds};
+ghost use Rattle.bt_bed.specs.model.feature.LineKind.{fault_at_line};
+ghost use Rattle.bt_bed.specs.model.order.Order.{IsTotal};
+ghost use Rattle.bt_sweep.specs.calls.Held.{AreReady, AreRising, CanHit, CanHitAt};
+ghost use Rattle.bt_sweep.specs.model.IntersectLines.{lines_for};
+ghost use Rattle.bt_sweep.specs.inside.Joining.{AddsWith, AreDecidedOn, Joins, LeavesOn, SkipsAll, WritesUpTo};
+ghost use Rattle.bt_sweep.specs.inside.Pending.{IsQuiet, PutsOr, line_in, pending_in};
+ghost use Rattle.bt_sweep.specs.inside.StateSteps.{CannotHold, KeepsOne, Takes, are_on, has_room_in, held_with, stopped};
+ghost use Rattle.bt_sweep.specs.calls.SweepState.{want_in};
+
+use crate::active::held::Held;
+use crate::hits::hit_rule::HitRule;
+use crate::output::shape::Shape;
+use crate::output::writing::put_against;
+use crate::sweep::pending::{Pending, put_copied};
+use crate::sweep::phase::Phase;
+use crate::sweep::unmatched::{Unmatched, unmatched_in};
+use crate::sweep::want::Want;
+use bt_bed::{Cursor, Rec, Record, at_line, is_same_name};
+use bt_lines::{Fault, Input, Kind, MAX_NUMBER, Out, Place, Sink, no_memory, write_failed};
+use std::alloc::{AllocError, Global};
+use std::marker::Model;
+
+// What a sweep keeps beside the order of the chromosomes. The held records lie on one chromosome.
+#[derive(Drop)]
+pub(crate) struct State<H: Held> {
+    // Allocates the copies of records.
+    alloc: Global,
+    // What is written of a record and its hits.
+    shape: Shape,
+    // What a hit is.
+    rule: HitRule,
+    // How many records may be held, if that is limited.
+    limit: Option<u64>,
+    // The record of the first input that isn't decided, if one waits.
+    current: Option<Rec>,
+    // What can still hit the record given last or a later one; nothing before the first.
+    held: H,
+    // How far it has come.
+    phase: Phase,
+}
+
+impl<H: Held> Model for State<H> {
+    ghost use Rattle.bt_sweep.specs.calls.Held.{AreReady};
+    ghost use Rattle.bt_sweep.specs.calls.SweepState.{Sweeping};
+
+    ghost Value = { Sweeping };
+
+    ghost view = { λ s. record {
+      shape = s.shape;
+      rule = s.rule;
+      limit = s.limit;
+      current = s.current;
+      held = H.records s.held;
+      phase = s.phase;
+    } };
+
+    ghost invariant = { λ s. AreReady s.current (H.records s.held) };
+}
+
+impl<H: Held> State<H> {
+    pub(crate) fn new(
+        alloc: Global,
+        held: H,
+        shape: Shape,
+        rule: HitRule,
+        limit: Option<u64>,
+    ) -> State<H>
+        requires { H.records held ≡ [] }
+        ensures { result ≡ record {
+          shape = shape;
+          rule = rule;
+          limit = limit;
+          current = None;
+          held = [];
+          phase = Phase.Both;
+        } }
+    {
+        State {
+            alloc,
+            shape,
+            rule,
+            limit,
+            current: None,
+            held,
+            phase: Phase::Both,
+        }
+    }
+
+    pub(crate) fn want(&self) -> Want
+        ensures { result ≡ want_in self.now }
+    {
+        if self.current.is_some() {
+            Want::B
+        } else if self.phase == Phase::Over {
+            Want::Nothing
+        } else {
+            Want::A
+        }
+    }
+
+    pub(crate) fn held(&self) -> &H
+        ensures { H.records result.now ≡ self.now.held }
+    {
+        &self.held
+    }
+
+    pub(crate) fn phase(&self) -> Phase
+        ensures { result ≡ self.now.phase }
+    {
+        self.phase
+    }
+
+    // Whether a record of the first input waits.
+    pub(crate) fn waits(&self) -> bool
+        ensures { result ≡ is_some self.now.current }
+    {
+        self.current.is_some()
+    }
+
+    // Says that the first input has ended.
+    pub(crate) fn end_a(&mut self)
+        ensures { self.new ≡ record self.old { phase = Phase.Over } }
+    {
+        self.phase = Phase::Over;
+    }
+
+    // Says that the second has.
+    pub(crate) fn end_b(&mut self)
+        ensures { self.new ≡ record self.old { phase = Phase.First } }
+    {
+        self.phase = Phase::First;
+    }
+
+    // Takes out the record that waits.
+    pub(crate) fn take_current(&mut self) -> Option<Rec>
+        ensures is { result ≡ self.old.current }
+        ensures taken { self.new ≡ record self.old { current = None } }
+        ensures hits { IfSome result (λ a. All (CanHit a) self.new.held) }
+    {
+        self.current.take()
+    }
+
+    // Makes this the record that waits.
+    pub(crate) fn put_back(&mut self, current: Rec)
+        requires { All (CanHit current) self.old.held }
+        ensures { self.new ≡ record self.old { current = Some current } }
+    {
+        self.current = Some(current);
+    }
+
+    // Makes a copy of this the record that waits.
+    pub(crate) fn keep<R: Record>(&mut self, a: &R) -> Result<(), Fault>
+        requires { All (CanHit (R.feature a.now)) self.old.held }
+        ensures { KeepsOne self.old (R.feature a.now) result self.new }
+    {
+        match a.bed().to_rec(self.alloc) {
+            Ok(rec) => {
+                self.current = Some(rec);
+                Ok(())
+            }
+            Err(_) => {
+                self.phase = Phase::Over;
+                Err(no_memory())
+            }
+        }
+    }
+
+    // Drops the held records that can hit neither this one of the first input nor a later one.
+    pub(crate) fn enter<R: Record>(&mut self, a: &R)
+        requires { self.old.current ≡ None }
+        ensures entered { self.new ≡ record self.old { held = held_with self.old.held (R.feature a.now) } }
+        ensures hits { All (CanHit (R.feature a.now)) self.new.held }
+    {
+        if are_on(&self.held, a.bed().chrom) {
+            self.held.drop_ended(a.start());
+        } else {
+            self.held.clear();
+        }
+    }
+
+    // Drops the held records that end at the place or before it.
+    #[inline(always)]
+    fn drop_ended(&mut self, place: u64)
+        requires { self.old.current ≡ None }
+        ensures { self.new ≡ record self.old { held = filter (λ b. nat_lt place b.stop) self.old.held } }
+    {
+        self.held.drop_ended(place);
+    }
+
+    // Writes the lines of a record against what is held.
+    #[inline(always)]
+    pub(crate) fn put<R: Record, K: Sink>(&mut self, a: &R, out: &mut Out<K>) -> Result<(), Fault>
+        requires filled { (R.feature a.now).start < (R.feature a.now).stop }
+        requires hits { All (CanHit (R.feature a.now)) self.old.held }
+        ensures same { OnOk result (self.new ≡ self.old) }
+        ensures stops { OnErr result (self.new ≡ stopped self.old) }
+        ensures puts { AreRising self.old.held
+            → Adds out.old.output (lines_for self.old.shape self.old.rule (R.feature a.now) self.old.held) result out.new.output }
+    {
+        let put = put_against(self.shape, self.rule, a, &self.held, out);
+        if put.is_err() {
+            self.phase = Phase::Over;
+        }
+        put
+    }
+
+    // Takes a record of the second input, which stands on a line and leaves this one of the first undecided: it is held
+    // where it can hit that or a later one. Whether there is room for it is asked before it is copied.
+    #[inline(always)]
+    pub(crate) fn take<A: Record, B: Record>(
+        &mut self,
+        a: &A,
+        b: &B,
+        line: u64,
+    ) -> Result<(), Fault>
+        requires none { self.old.current ≡ None }
+        requires hits { All (CanHit (A.feature a.now)) self.old.held }
+        requires on { (B.feature b.now).chrom ≡ (A.feature a.now).chrom }
+        ensures takes { Takes self.old (A.feature a.now) (B.feature b.now) line result self.new }
+        ensures hits { OnOk result (All (CanHit (A.feature a.now)) self.new.held) }
+    {
+        if b.stop() <= a.start() {
+            return Ok(());
+        }
+        // A copy is borrowed, so that the record itself stays in registers.
+        let given = *b;
+        if self.hold(a.start(), &given) {
+            return Ok(());
+        }
+        if self.has_room() {
+            return Err(no_memory());
+        }
+        Err(too_many_held(line))
+    }
+
+    // Holds it, as it ends after that one's start. It returns false if there is no room for it, or memory runs out.
+    #[inline(never)]
+    fn hold<B: Record>(&mut self, start: u64, b: &B) -> bool
+        requires none { self.old.current ≡ None }
+        requires ends { start < (B.feature b.now).stop }
+        requires filled { (B.feature b.now).start < (B.feature b.now).stop }
+        requires hits { All (CanHitAt (B.feature b.now).chrom start) self.old.held }
+        ensures held { result ≡ true → (self.new ≡ record self.old { held = self.old.held ++ B.feature b.now ∷ [] })
+            × (has_room_in self.old ≡ true) }
+        ensures lacks { result ≡ false → self.new ≡ stopped self.old }
+        ensures hits { result ≡ true → All (CanHitAt (B.feature b.now).chrom start) self.new.held }
+    {
+        if !self.has_room() || hold_copy(self.alloc, &mut self.held, b).is_err() {
+            self.phase = Phase::Over;
+            return false;
+        }
+        true
+    }
+
+    // Whether one more record may be held.
+    fn has_room(&self) -> bool
+        ensures { result ≡ has_room_in self.now }
+    {
+        match self.limit {
+            None => true,
+            Some(most) => (self.held.len() as u64) < most,
+        }
+    }
+
+    // Puts the lines of a record after those that are pending. Where the line of one that nothing hits is what is written, it
+    // is left pending too.
+    #[inline(always)]
+    fn write<A: Cursor, K: Sink>(
+        &mut self,
+        a: &A::Record,
+        firsts: &mut Pending<A>,
+        out: &mut Out<K>,
+    ) -> Result<(), Fault>
+        requires filled { (A.Record.feature a.now).start < (A.Record.feature a.now).stop }
+        requires hits { All (CanHit (A.Record.feature a.now)) self.old.held }
+        requires line { line_in (A.consumed firsts.old.cursor) firsts.old.to ≡ A.Record.raw a.now }
+        requires quiet { IsQuiet self.old.shape (pending_in (A.consumed firsts.old.cursor) firsts.old.from firsts.old.to) }
+        ensures same { OnOk result (self.new ≡ self.old) }
+        ensures stops { OnErr result (self.new ≡ stopped self.old) }
+        ensures cursor { firsts.new.cursor ≡ firsts.old.cursor }
+        ensures line { OnOk result (line_in (A.consumed firsts.new.cursor) firsts.new.to ≡ []) }
+        ensures quiet { OnOk result (IsQuiet self.old.shape (pending_in (A.consumed firsts.new.cursor) firsts.new.from firsts.new.to)) }
+        ensures puts { AreRising self.old.held
+            → AddsWith (pending_in (A.consumed firsts.old.cursor) firsts.old.from firsts.old.to) out.old.output
+            (lines_for self.old.shape self.old.rule (A.Record.feature a.now) self.old.held) result
+            (pending_in (A.consumed firsts.new.cursor) firsts.new.from firsts.new.to) out.new.output }
+    {
+        if self.held.len() == 0 {
+            match unmatched_in(self.shape) {
+                Unmatched::Nothing => {
+                    firsts.clear();
+                    return Ok(());
+                }
+                Unmatched::Itself => {
+                    if a.is_canonical() {
+                        firsts.add_line();
+                        return Ok(());
+                    }
+                }
+                Unmatched::Counted => {}
+            }
+        }
+        // A copy is borrowed, so that the record itself stays in registers.
+        let given = *a;
+        if !self.put_after(firsts.lines(), &given, out) {
+            return Err(write_failed());
+        }
+        firsts.clear();
+        Ok(())
+    }
+
+    // Puts lines, and then those of a record, and returns true if it could. It is out of line, so that the loops over the
+    // records stay small.
+    #[inline(never)]
+    fn put_after<R: Record, K: Sink>(&mut self, lines: &[u8], a: &R, out: &mut Out<K>) -> bool
+        requires filled { (R.feature a.now).start < (R.feature a.now).stop }
+        requires hits { All (CanHit (R.feature a.now)) self.old.held }
+        ensures same { result ≡ true → self.new ≡ self.old }
+        ensures stops { result ≡ false → self.new ≡ stopped self.old }
+        ensures puts { AreRising self.old.held → PutsOr result out.old.output
+            (lines.now ++ lines_for self.old.shape self.old.rule (R.feature a.now) self.old.held) out.new.output }
+    {
+        self.put_pending(lines, out).is_ok() && self.put(a, out).is_ok()
+    }
+
+    // Puts lines, of which there may be none.
+    #[inline(always)]
+    fn put_pending<K: Sink>(&mut self, lines: &[u8], out: &mut Out<K>) -> Result<(), Fault>
+        ensures same { OnOk result (self.new ≡ self.old) }
+        ensures stops { OnErr result (self.new ≡ stopped self.old) }
+        ensures puts { Adds out.old.output lines.now result out.new.output }
+    {
+        let put = put_copied(lines, out);
+        if put.is_err() {
+            self.phase = Phase::Over;
+        }
+        put
+    }
+
+    // Writes records of the first input, from this one on, as long as they end at the place or before it. It returns the
+    // first one that doesn't, if there is one. Lines may be left pending.
+    #[inline(always)]
+    fn write_up_to<A: Cursor, K: Sink>(
+        &mut self,
+        place: u64,
+        first: A::Record,
+        firsts: &mut Pending<A>,
+        out: &mut Out<K>,
+    ) -> Result<Option<A::Record>, Fault>
+        requires none { self.old.current ≡ None }
+        requires hits { All (CanHit (A.Record.feature first)) self.old.held }
+        requires on { A.name firsts.old.cursor ≡ (A.Record.feature first).chrom }
+        requires line { line_in (A.consumed firsts.old.cursor) firsts.old.to ≡ A.Record.raw first }
+        requires quiet { IsQuiet self.old.shape (pending_in (A.consumed firsts.old.cursor) firsts.old.from firsts.old.to) }
+        ensures writes { WritesUpTo A.gives A.has_ended A.Record.feature place self.old (A.Record.feature first) firsts.old.cursor
+            (pending_in (A.consumed firsts.old.cursor) firsts.old.from firsts.old.to) out.old.output result self.new firsts.new.cursor
+            (pending_in (A.consumed firsts.new.cursor) firsts.new.from firsts.new.to) out.new.output }
+        ensures on { A.name firsts.new.cursor ≡ A.name firsts.old.cursor }
+        ensures line { IfOk result (λ waiting. IfSome waiting (λ a. line_in (A.consumed firsts.new.cursor) firsts.new.to ≡ A.Record.raw a)) }
+        ensures quiet { OnOk result (IsQuiet self.new.shape (pending_in (A.consumed firsts.new.cursor) firsts.new.from firsts.new.to)) }
+        ensures none { self.new.current ≡ None }
+        ensures phase { OnOk result (self.new.phase ≡ self.old.phase) }
+        ensures stops { OnErr result (self.new.phase ≡ Phase.Over) }
+    {
+        let mut current = first;
+        while current.stop() <= place {
+            self.write(&current, firsts, out)?;
+            let Some(next) = firsts.next() else {
+                return Ok(None);
+            };
+            self.drop_ended(next.start());
+            current = next;
+        }
+        Ok(Some(current))
+    }
+
+    // Writes all records of the first input, from this one on.
+    #[inline(never)]
+    pub(crate) fn write_all<A: Cursor, K: Sink>(
+        &mut self,
+        first: A::Record,
+        firsts: &mut Pending<A>,
+        out: &mut Out<K>,
+    ) -> Result<Option<A::Record>, Fault>
+        requires none { self.old.current ≡ None }
+        requires hits { All (CanHit (A.Record.feature first)) self.old.held }
+        requires on { A.name firsts.old.cursor ≡ (A.Record.feature first).chrom }
+        requires line { line_in (A.consumed firsts.old.cursor) firsts.old.to ≡ A.Record.raw first }
+        requires pending { pending_in (A.consumed firsts.old.cursor) firsts.old.from firsts.old.to ≡ [] }
+        ensures writes { WritesUpTo A.gives A.has_ended A.Record.feature max_number self.old (A.Record.feature first) firsts.old.cursor
+            [] out.old.output result self.new firsts.new.cursor [] out.new.output }
+        ensures none { self.new.current ≡ None }
+        ensures phase { OnOk result (self.new.phase ≡ self.old.phase) }
+        ensures stops { OnErr result (self.new.phase ≡ Phase.Over) }
+    {
+        let written = self.write_up_to(MAX_NUMBER, first, firsts, out)?;
+        self.put_pending(firsts.lines(), out)?;
+        Ok(written)
+    }
+
+    // Joins records of both inputs on one chromosome, from this one of the first on. Where all that there are of the
+    // second are taken, it returns the record that they leave undecided, and none where one of them decides all of the first.
+    #[inline(never)]
+    pub(crate) fn join<A: Cursor, B: Cursor, K: Sink>(
+        &mut self,
+        first: A::Record,
+        firsts: &mut Pending<A>,
+        seconds: &mut B,
+        out: &mut Out<K>,
+    ) -> Result<Option<A::Record>, Fault>
+        requires none { self.old.current ≡ None }
+        requires hits { All (CanHit (A.Record.feature first)) self.old.held }
+        requires on { A.name firsts.old.cursor ≡ (A.Record.feature first).chrom }
+        requires beside { B.name seconds.old ≡ (A.Record.feature first).chrom }
+        requires line { line_in (A.consumed firsts.old.cursor) firsts.old.to ≡ A.Record.raw first }
+        requires pending { pending_in (A.consumed firsts.old.cursor) firsts.old.from firsts.old.to ≡ [] }
+        ensures joins { Joins A.gives A.has_ended B.gives B.has_ended B.line IsTotal (AreDecidedOn (A.Record.feature first).chrom) LeavesOn
+            A.Record.feature self.old (A.Record.feature first) firsts.old.cursor seconds.old [] out.old.output result self.new
+            firsts.new.cursor seconds.new [] out.new.output }
+        ensures none { self.new.current ≡ None }
+        ensures phase { OnOk result (self.new.phase ≡ self.old.phase) }
+        ensures stops { OnErr result (self.new.phase ≡ Phase.Over) }
+    {
+        let mut ahead = *seconds;
+        let joined = self.join_pending(first, firsts, &mut ahead, out);
+        *seconds = ahead;
+        self.put_pending(firsts.lines(), out)?;
+        joined
+    }
+
+    // The same, but lines may be left pending.
+    #[inline(always)]
+    fn join_pending<A: Cursor, B: Cursor, K: Sink>(
+        &mut self,
+        first: A::Record,
+        firsts: &mut Pending<A>,
+        seconds: &mut B,
+        out: &mut Out<K>,
+    ) -> Result<Option<A::Record>, Fault>
+        requires none { self.old.current ≡ None }
+        requires hits { All (CanHit (A.Record.feature first)) self.old.held }
+        requires on { A.name firsts.old.cursor ≡ (A.Record.feature first).chrom }
+        requires beside { B.name seconds.old ≡ (A.Record.feature first).chrom }
+        requires line { line_in (A.consumed firsts.old.cursor) firsts.old.to ≡ A.Record.raw first }
+        requires quiet { IsQuiet self.old.shape (pending_in (A.consumed firsts.old.cursor) firsts.old.from firsts.old.to) }
+        ensures joins { Joins A.gives A.has_ended B.gives B.has_ended B.line IsTotal (AreDecidedOn (A.Record.feature first).chrom) LeavesOn
+            A.Record.feature self.old (A.Record.feature first) firsts.old.cursor seconds.old
+            (pending_in (A.consumed firsts.old.cursor) firsts.old.from firsts.old.to) out.old.output result self.new
+            firsts.new.cursor seconds.new (pending_in (A.consumed firsts.new.cursor) firsts.new.from firsts.new.to) out.new.output }
+        ensures none { self.new.current ≡ None }
+        ensures phase { OnOk result (self.new.phase ≡ self.old.phase) }
+        ensures stops { OnErr result (self.new.phase ≡ Phase.Over) }
+    {
+        let mut current = first;
+        let mut ahead = *seconds;
+        while let Some(next) = ahead.next() {
+            let Some(waiting) = self.write_up_to(next.start(), current, firsts, out)? else {
+                return Ok(None);
+            };
+            current = waiting;
+            self.take(&current, &next, ahead.line())?;
+            *seconds = ahead;
+        }
+        Ok(Some(current))
+    }
+}
+
+// Whether there are held records, and they lie on the chromosome.
+fn are_on<H: Held>(held: &H, chrom: &[u8]) -> bool
+    ensures { result ≡ are_on (H.records held.now) chrom.now }
+{
+    match held.nth(0) {
+        None => false,
+        Some(first) => is_same_name(first.as_bed().chrom, chrom),
+    }
+}
+
+// Takes all records that there are.
+pub(crate) fn skip<B: Cursor>(seconds: &mut B)
+    ensures { SkipsAll B.gives B.has_ended (B.name seconds.old) seconds.old seconds.new }
+{
+    while let Some(_next) = seconds.next() {}
+}
+
+// The fault of a record that would be held beyond the limit.
+fn too_many_held(line: u64) -> Fault
+    ensures { told result ≡ fault_at_line Input.Second line Kind.TooManyHeld }
+{
+    let input = Input::Second;
+    at_line(Kind::TooManyHeld, Place { input, line })
+}
+
+// Holds a copy of the record.
+fn hold_copy<H: Held, R: Record>(alloc: Global, held: &mut H, b: &R) -> Result<(), AllocError>
+    ensures held { OnOk result (H.records held.new ≡ H.records held.old ++ R.feature b.now ∷ []) }
+    ensures none { OnErr result (H.records held.new ≡ H.records held.old) }
+{
+    let rec = b.bed().to_rec(alloc)?;
+    match held.push(rec) {
+        Ok(()) => Ok(()),
+        Err(_) => Err(AllocError),
+    }
+}

@@ -1,0 +1,9 @@
+use Rattle.bt_tool.proofs.lemmas.laws.HeadlineLemmas.{shows_report, usage_reported}
+use Rattle.bt_tool.proofs.laws.headline.runs_show_the_report.Goals as goal
+
+pub returns-clause-usage : goal.returns-clause-usage
+returns-clause-usage g c = usage_reported
+
+pub returns-clause-run : goal.returns-clause-run
+returns-clause-run g c =
+    shows_report g.G.Source.left g.G.Source.has_failed g.A.Source.left g.A.Source.has_failed g.A.Source.end_told g.B.Source.left g.B.Source.has_failed g.K.Sink.took g.K.Sink.has_failed

@@ -1,0 +1,5 @@
+-- Lemmas by theme.
+pub mod laws
+pub mod options
+pub mod planning
+pub mod running

@@ -1,0 +1,3 @@
+-- Lemmas on laws.
+pub mod Division
+pub mod HeadlineLemmas

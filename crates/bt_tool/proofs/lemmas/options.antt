@@ -1,0 +1,7 @@
+-- Lemmas on options.
+pub mod Asked
+pub mod FractionLemmas
+pub mod GivenLemmas
+pub mod NamedLemmas
+pub mod Reading
+pub mod ReportWords

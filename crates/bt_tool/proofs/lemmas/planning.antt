@@ -1,0 +1,2 @@
+-- Lemmas on planning.
+pub mod TableLemmas

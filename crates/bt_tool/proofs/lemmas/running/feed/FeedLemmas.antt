@@ -1,0 +1,439 @@
+-- What was taken of a reader's members and written of them so far, whatever they are, and what is so when the reading stops. By it, feeding an engine with the records of a reader.
+use Rattle.std.proofs.Common.{◌≡◌, ℕ, suc, ◌+◌, ◌<◌, ◌≤◌, Bool, true, List, [], ◌∷◌, ◌++◌, length, Option, None, Some, Ok, Err, refl, sym, ap, ◌∙◌, subst, append-nil, append_assoc, length-append, arith, inl, inr}
+use Rattle.std.specs.Prelude.{◌⊎◌, ◌≢◌, IfSome}
+use Rattle.std.proofs.lemmas.List.{map-append}
+use Rattle.std.proofs.lemmas.List.Elements.{All-cons, All-head, All-nil, All-tail}
+use Rattle.std.specs.Io.KnownBytes.{Appends}
+use Rattle.bt_lines.proofs.lemmas.writer.PuttingLemmas.{grows_nothing}
+use Rattle.bt_lines.proofs.lemmas.writer.OutputLemmas.{grows_both}
+use Rattle.bt_lines.specs.model.Fault.{Told, write_failed, no_memory}
+use Rattle.bt_lines.specs.model.Lines.{TextLine}
+use Rattle.bt_lines.specs.calls.Output.{Output, HoldsBlock, IsFrontOf, Grows, block_size}
+use Rattle.bt_lines.specs.calls.Putting.{WorksAsBefore, PutsRest, CutsRest}
+use Rattle.bt_lines.specs.calls.Reader.{Hands, fault_kept as line_fault, lines_given}
+use Rattle.bt_lines.specs.declared.fault.Kind.{Kind}
+use Rattle.bt_lines.specs.declared.fault.Fault.{Fault}
+use Rattle.bt_lines.specs.calls.Names.{told}
+use Rattle.bt_bed.specs.model.feature.Feature.{Feature, interval_of, intervals_of}
+use Rattle.bt_bed.specs.model.input.Good.{Format, Member}
+use Rattle.bt_bed.specs.model.input.GoodBed.{bed_format}
+use Rattle.bt_bed.specs.model.order.Sorting.{sorting_of}
+use Rattle.bt_bed.proofs.lemmas.read.batch.NeighbourLemmas.{wrong_of_bed}
+use Rattle.bt_bed.proofs.lemmas.order.TogetherLemmas.{placed_front}
+use Rattle.bt_bed.specs.model.feature.LineKind.{IsBedKind}
+use Rattle.bt_bed.specs.model.feature.Interval.{AreNonEmpty, Interval}
+use Rattle.bt_bed.specs.model.order.Order.{IsTotal, Order}
+use Rattle.bt_bed.specs.model.order.Locus.{ArePlaced, Locus}
+use Rattle.bt_bed.specs.calls.Reading.{AreSaid, MemberReader, good_coming, members_from}
+use Rattle.bt_bed.specs.calls.Records.{below, buffered_in, last_locus, order_in, view_of}
+use Rattle.bt_bed.specs.declared.order.ChromOrder.{Ghosts}
+use Rattle.bt_bed.specs.declared.read.records.Records.{Records}
+use Rattle.bt_runs.specs.calls.Engine.{Feeds as EngineFeeds, NotTaken, TakesEach}
+use Rattle.bt_tool.specs.calls.run.Telling.{IsPutTo}
+use Rattle.bt_tool.specs.inside.feed.Feeding.{AreInOrder, GoesOn, IsFresh, PutsLines, Took, TookButBlock, FeedsAll, FeedsUpTo}
+use Rattle.bt_tool.specs.inside.feed.FeedsBuffered.{FailsAmong, FeedsBuffered, TakesBuffered}
+use Rattle.bt_tool.specs.inside.feed.Passed.{HasTaken, IsFilled, IsOver, IsReadFor, IsStopped, Passes, member_items}
+use Rattle.bt_tool.proofs.lemmas.running.feed.ComeLemmas.{begins_with}
+use Rattle.bt_tool.proofs.lemmas.running.members.MemberLemmas.{bytes_more, items_take, passes_all, passes_end, passes_fill, passes_start, passes_stop, passes_take, read_alone, read_at_stop, read_before, read_here}
+use Rattle.bt_tool.proofs.lemmas.running.members.PassedLemmas.{line_going, said_in_order}
+
+-- a sink that took a prefix of the lines took a prefix of all
+pub front_all : (took : Option (List ℕ)) (put : Option (List ℕ)) (before done lines whole : List ℕ) → whole ≡ done ++ lines → put ≡ Some (before ++ done) → IsFrontOf took put lines → IsFrontOf took (Some (before ++ whole)) []
+front_all None put before done lines whole e p f = tt
+front_all (Some took) put before done lines whole e p f =
+    let at : IsFrontOf (Some took) (Some (before ++ done)) lines = subst (λ x. IsFrontOf (Some took) x lines) p f in
+    (at.0, at.1 ∙ append_assoc before done lines ∙ ap (λ l. before ++ l) (sym e) ∙ sym (append-nil (before ++ whole)))
+
+pub works_both : (old mid new : Output) → WorksAsBefore old mid → WorksAsBefore mid new → WorksAsBefore old new
+works_both old mid new w more = record {
+  served = more.served ∙ w.served;
+  sink_served = more.sink_served ∙ w.sink_served;
+  put = grows_both old.put mid.put new.put w.put more.put;
+  block = λ h. more.block (w.block h);
+}
+
+-- a known text grows by the lines
+pub text_grows : (old new : Option (List ℕ)) (before done lines whole : List ℕ) → whole ≡ done ++ lines → Appends old new lines → old ≡ Some (before ++ done) → new ≡ Some (before ++ whole)
+text_grows None new before done lines whole w p e = let h : Some (before ++ done) ≡ None = sym e in absurd (cc)
+text_grows (Some old) None before done lines whole w p e = absurd p
+text_grows (Some old) (Some new) before done lines whole w p e =
+    let was : old ≡ before ++ done = cc in
+    ap (λ l. Some l) (p ∙ ap (λ l. l ++ lines) was ∙ append_assoc before done lines ∙ ap (λ l. before ++ l) (sym w))
+
+-- of what was put, the sink took all but a block
+took_held : (took put : Option (List ℕ)) (bytes : List ℕ) → HoldsBlock took put → put ≡ Some bytes
+    → IfSome took (λ taken. length bytes ≤ length taken + block_size)
+took_held None put bytes h e = tt
+took_held (Some taken) None bytes h e = cc
+took_held (Some taken) (Some put) bytes h e =
+    let same : put ≡ bytes = cc in
+    let parts : put ≡ taken ++ h.0 = h.1 in
+    omega (arith, ap length same, ap length parts, length-append taken h.0, h.2)
+
+pub took_more_than : (first took more : Option (List ℕ)) (taken : List ℕ) (size : ℕ) → first ≡ Some taken → Grows first took → Grows took more
+    → IfSome took (λ now. size ≤ length now + block_size) → IfSome more (λ now. size ≤ length now + block_size)
+took_more_than None took more taken size e f g h = cc
+took_more_than (Some first) None more taken size e f g h = absurd f.1
+took_more_than (Some first) (Some took) None taken size e f g h = absurd g.1
+took_more_than (Some first) (Some took) (Some more) taken size e f g h =
+    let parts : more ≡ took ++ g.0 = g.1 in
+    omega (arith, ap length parts, length-append took g.0, h)
+
+-- an output goes on as it is, after a failed write, or as it works
+pub goes_same : (out : Output) → GoesOn out out
+goes_same out = record { took = grows_nothing out.took; put = inr (grows_nothing out.put); stays_failed = λ failed. failed }
+
+pub goes_failed : (old new : Output) → Grows old.took new.took → new.has_failed ≡ true → GoesOn old new
+goes_failed old new grows failed = record { took = grows; put = inl failed; stays_failed = λ was. failed }
+
+pub goes_works : (old new : Output) → Grows old.took new.took → WorksAsBefore old new → GoesOn old new
+goes_works old new grows works = record { took = grows; put = inr works.put; stays_failed = λ was. works.served ∙ was }
+
+-- bytes that were put stay put
+put_more_than : (mid later : Option (List ℕ)) (size : ℕ) → Grows mid later → IsPutTo size mid → IsPutTo size later
+put_more_than None later size grows kept = cc
+put_more_than (Some mid) None size grows kept = absurd grows.1
+put_more_than (Some mid) (Some later) size grows kept =
+    let same : mid ≡ kept.0 = cc in
+    let parts : later ≡ mid ++ grows.0 = grows.1 in
+    (later, refl, omega (arith, ap length parts, length-append mid grows.0, ap length same, kept.2))
+
+keeps_later : (out grown later : Output) (bytes : List ℕ) → GoesOn grown later
+    → (grown.has_failed ≡ true) ⊎ ((before : List ℕ) → out.put ≡ Some before → IsPutTo (length (before ++ bytes)) grown.put)
+    → (later.has_failed ≡ true) ⊎ ((before : List ℕ) → out.put ≡ Some before → IsPutTo (length (before ++ bytes)) later.put)
+keeps_later out grown later bytes goes (inl failed) = inl (goes.stays_failed failed)
+keeps_later out grown later bytes goes (inr kept) =
+    elim goes.put [
+      | inl failed ↦ inl failed
+      | inr grows ↦ inr (λ before e. put_more_than grown.put later.put (length (before ++ bytes)) grows (kept before e))
+    ]
+
+-- what the sink took stays taken, and what was put stays put
+pub took_later : (out grown later : Output) (bytes : List ℕ) → Grows out.took grown.took → GoesOn grown later → TookButBlock out bytes grown
+    → TookButBlock out bytes later
+took_later out grown later bytes f goes h = record {
+  took = λ before taken e t. took_more_than out.took grown.took later.took taken (length (before ++ bytes)) t f goes.took (h.took before taken e t);
+  put = keeps_later out grown later bytes goes h.put;
+}
+
+-- of lines that were put, the sink took all but a block
+pub took_lines : (out grown : Output) (lines : List ℕ) → PutsLines out lines grown → HoldsBlock grown.took grown.put
+    → TookButBlock out lines grown
+took_lines out grown lines puts block = record {
+  took = λ before taken e t. took_held grown.took grown.put (before ++ lines) block (puts before e);
+  put = inr (λ before e. (before ++ lines, puts before e, omega arith));
+}
+
+-- members of a reader were taken, and what they settle was written
+pub record Fed {S A State : Type 0} (settled : List A → List ℕ) (left : S → Option (List ℕ)) (failed end : S → Bool) (old : MemberReader S A State) (out : Output) (past : List (Member A)) (now : MemberReader S A State) (grown : Output) : Type 0 where
+  pub passes : Passes left failed end old past now
+  pub grows : Grows out.took grown.took
+  pub puts : PutsLines out (settled (member_items past)) grown
+  pub works : WorksAsBefore out grown
+  pub block : HoldsBlock grown.took grown.put
+
+-- none yet
+pub fed_none : {S A State : Type 0} (settled : List A → List ℕ) (left : S → Option (List ℕ)) (failed end : S → Bool) (old : MemberReader S A State) (out : Output) → IsFresh left end old → line_fault old.below ≡ None → settled [] ≡ [] → HoldsBlock out.took out.put
+    → Fed settled left failed end old out [] old out
+fed_none settled left failed end old out fresh clear nothing block = record {
+  passes = passes_start left failed end old fresh clear;
+  grows = grows_nothing out.took;
+  puts = λ before e. e ∙ ap Some (sym (ap (λ l. before ++ l) nothing ∙ append-nil before));
+  works = record { served = refl; sink_served = refl; put = grows_nothing out.put; block = λ h. h };
+  block = block;
+}
+
+module _ {S A State : Type 0} (settled : List A → List ℕ) (Kinds : Kind → Type 0) (Sorted : List A → Type 0) (left : S → Option (List ℕ)) (failed end : S → Bool) (old : MemberReader S A State) (out : Output)
+    (past : List (Member A)) (now : MemberReader S A State) (grown : Output) (g : Fed settled left failed end old out past now grown) where
+  abbrev UpTo : Told → MemberReader S A State → Output → Type 0
+  UpTo fault new later = FeedsUpTo settled Kinds Sorted left failed end old out fault new later
+
+  -- one more member is buffered
+  pub fed_fill : (new : MemberReader S A State) → IsFilled left failed end now new → Fed settled left failed end old out past new grown
+  fed_fill new fills = record { passes = passes_fill left failed end old past now g.passes new fills; grows = g.grows; puts = g.puts; works = g.works; block = g.block }
+
+  -- these members were taken when the reading stops
+  taken : (new : MemberReader S A State) → (bytes : List ℕ) × Hands left now.below bytes new.below → Sorted (member_items past) → IsReadFor left failed end old past past new
+      → Took settled Kinds Sorted left failed end old out past new grown
+  taken new hands sorted read = record {
+    bytes = bytes_more left failed end old past now g.passes new hands;
+    sorted = sorted;
+    grows = g.grows;
+    before = past;
+    read = read;
+    kept = took_lines out grown (settled (member_items past)) g.puts g.block;
+  }
+
+  -- the reading stops: at the end of the input
+  pub fed_all : (Stands : List A → Type 0) (new : MemberReader S A State) → IsOver left failed end now new → Sorted (member_items past) → Stands (member_items past)
+      → FeedsAll settled Kinds Sorted left failed end Stands old out new grown
+  fed_all Stands new over sorted stands = record {
+    past = past;
+    took = taken new over.ends.stays.bytes sorted (read_here left failed end old past new (passes_end left failed end old past now g.passes new over));
+    whole = passes_all left failed end old past now g.passes new over;
+    stands = stands;
+    puts = g.puts;
+    works = g.works;
+    served = over.ends.served ∙ g.passes.served;
+    within = (over.kept g.passes.kept).within (over.clear over.ends.goes);
+  }
+
+  -- or at a fault
+  pub fed_up_to : ((state : State) (line : TextLine) (kind : Kind) → old.format.says state line ≡ Err kind → Kinds kind)
+      → (new : MemberReader S A State) (fault : Told) → IsStopped left failed end now fault new → Sorted (member_items past) → UpTo fault new grown
+  unfolding taken
+  fed_up_to of_format new fault stopped sorted =
+      let stops = passes_stop left failed end old past now g.passes Kinds of_format new fault stopped in
+      record {
+        past = past;
+        took = taken new stopped.answers.stays.bytes sorted (read_at_stop left failed end old past now g.passes new fault stopped);
+        begins = begins_with (good_coming left old) (good_coming left now) past g.passes.come;
+        cause = elim stops.cause [
+          | inl wrong ↦ inl (record { behind = inl wrong; puts = g.puts; works = g.works })
+          | inr others ↦ elim others [
+            | inl unread ↦ inl (record { behind = inr unread; puts = g.puts; works = g.works })
+            | inr lacks ↦ inr (inl (record {
+              lacks = lacks;
+              puts = g.puts;
+              works = g.works;
+            }))
+          ]
+        ];
+        exact = λ other. g.puts;
+      }
+
+-- members were taken, what those before the last one settle was written, and the last one failed
+module _ {S A State : Type 0} (settled : List A → List ℕ) (Kinds : Kind → Type 0) (Sorted : List A → Type 0) (left : S → Option (List ℕ)) (failed end : S → Bool) (old : MemberReader S A State) (out : Output)
+    (before given : List (Member A)) (a : A) (items : member_items given ≡ member_items before ++ a ∷ []) (new : MemberReader S A State) (passes : Passes left failed end old given new) (read : IsReadFor left failed end old before given new)
+    (through : Output) (grows_through : Grows out.took through.took) (puts_through : PutsLines out (settled (member_items before)) through) (works_through : WorksAsBefore out through) (block : HoldsBlock through.took through.put)
+    (sorted : Sorted (member_items before ++ a ∷ [])) where
+  begins_given : IfSome (good_coming left old) (λ good. (rest : List (Member A)) × (good.members ≡ given ++ rest))
+  begins_given = begins_with (good_coming left old) (good_coming left new) given passes.come
+
+  -- what is settled with it couldn't be written
+  pub fails_writing : (fault : Told) (later : Output) (lines : List ℕ) → settled (member_items before ++ a ∷ []) ≡ settled (member_items before) ++ lines → fault ≡ write_failed
+      → IsFrontOf later.took through.put lines → later.has_failed ≡ true → later.sink_has_failed ≡ true → Grows through.took later.took → FeedsUpTo settled Kinds Sorted left failed end old out fault new later
+  fails_writing fault later lines more is front fails sink grows = record {
+    past = given;
+    took = record {
+      bytes = passes.bytes;
+      sorted = rw items sorted;
+      grows = grows_both out.took through.took later.took grows_through grows;
+      before = before;
+      read = read_alone read;
+      kept = took_later out through later (settled (member_items before)) grows_through (goes_failed through later grows fails) (took_lines out through (settled (member_items before)) puts_through block);
+    };
+    begins = begins_given;
+    cause = inr (inr (record {
+      is = is;
+      cuts = record {
+        front = λ bytes e. front_all later.took through.put bytes (settled (member_items before)) lines (settled (member_items given)) (ap settled items ∙ more) (puts_through bytes e) front;
+        failed = fails;
+        sink_failed = sink;
+      };
+      served = passes.served;
+    }));
+    exact = λ other. absurd (other is);
+  }
+
+  -- what is settled with it was put, but memory ran out with it
+  pub fails_growing : (fault : Told) (later : Output) (lines : List ℕ) → settled (member_items before ++ a ∷ []) ≡ settled (member_items before) ++ lines → fault ≡ no_memory
+      → Appends through.put later.put lines → WorksAsBefore through later → Grows through.took later.took → FeedsUpTo settled Kinds Sorted left failed end old out fault new later
+  fails_growing fault later lines more is appends works grows =
+      let puts : PutsLines out (settled (member_items given)) later =
+      λ bytes e. text_grows through.put later.put bytes (settled (member_items before)) lines (settled (member_items given)) (ap settled items ∙ more) appends (puts_through bytes e) in
+      record {
+        past = given;
+        took = record {
+          bytes = passes.bytes;
+          sorted = rw items sorted;
+          grows = grows_both out.took through.took later.took grows_through grows;
+          before = given;
+          read = read_here left failed end old given new passes;
+          kept = took_lines out later (settled (member_items given)) puts (works.block block);
+        };
+        begins = begins_given;
+        cause = inr (inl (record {
+          lacks = record { is = is; served = passes.served };
+          puts = puts;
+          works = works_both out through later works_through works;
+        }));
+        exact = λ other. puts;
+      }
+
+-- ---- an engine that is given records one after another
+
+-- it is after these, and the lines that they settle were put
+pub record EngineAt {E : Type 0} (Stands : E → List Feature → E → Type 0) (settled : E → List Feature → List ℕ) (first : E) (out : Output) (past : List Feature) (engine : E) (grown : Output) : Type 0 where
+  pub stands : Stands first past engine
+  pub grows : Grows out.took grown.took
+  pub puts : PutsLines out (settled first past) grown
+  pub works : WorksAsBefore out grown
+  pub block : HoldsBlock grown.took grown.put
+
+full_front : (front rest : List Interval) → AreNonEmpty (front ++ rest) → AreNonEmpty front
+full_front [] rest full = All-nil (λ (r : Interval). r.start < r.stop)
+full_front (r ∷ front) rest full =
+    All-cons (λ (r : Interval). r.start < r.stop) r front (All-head (λ (r : Interval). r.start < r.stop) r (front ++ rest) full) (full_front front rest (All-tail (λ (r : Interval). r.start < r.stop) r (front ++ rest) full))
+
+-- the first of records that are in order are
+pub order_front : (order : Order) (front rest : List Feature) → AreInOrder order (front ++ rest) → AreInOrder order front
+order_front order front rest sorted =
+    let parts : intervals_of (front ++ rest) ≡ intervals_of front ++ intervals_of rest = map-append interval_of front rest in (
+      placed_front order (intervals_of front) (intervals_of rest) (subst (ArePlaced order) parts sorted.0),
+      full_front (intervals_of front) (intervals_of rest) (subst AreNonEmpty parts sorted.1),
+    )
+
+module _ {E : Type 0} (MayTake : E → List Feature → Type 0) (Stands : E → List Feature → E → Type 0) (engine_fault : E → Option Told) (settled : E → List Feature → List ℕ) (Quiet : E → List Feature → Feature → Type 0) (first : E) (out : Output)
+    (order : Order) (takes : (past : List Feature) → ArePlaced order (intervals_of past) → AreNonEmpty (intervals_of past) → MayTake first past) where
+  abbrev At : List Feature → E → Output → Type 0
+  At = EngineAt Stands settled first out
+
+  may_take : (past : List Feature) (r : Feature) (more : List Feature) → AreInOrder order (past ++ r ∷ more) → MayTake first (past ++ r ∷ [])
+  may_take past r more sorted =
+      let one = order_front order (past ++ r ∷ []) more (subst (AreInOrder order) (sym (append_assoc past (r ∷ []) more)) sorted) in
+      takes (past ++ r ∷ []) one.0 one.1
+
+  pub at_each : (past records : List Feature) (engine fed : E) (grown later : Output) → AreInOrder order (past ++ records) → At past engine grown
+      → TakesEach MayTake Stands engine_fault settled Quiet engine grown records fed later → At (past ++ records) fed later
+  at_each past [] engine fed grown later sorted at t = rw (append-nil past, t.0, t.1) at
+  at_each past (r ∷ records) engine fed grown later sorted at t =
+      let may = may_take past r records sorted in
+      let fed_one = t.2 in
+      let puts = fed_one.answers.puts first past at.stands may in
+      subst (λ (l : List Feature). At l fed later) (append_assoc past (r ∷ []) records)
+      (at_each (past ++ r ∷ []) records t.0 fed t.1 later (subst (AreInOrder order) (sym (append_assoc past (r ∷ []) records)) sorted)
+      (record {
+        stands = fed_one.answers.stands first past at.stands may;
+        grows = grows_both out.took grown.took (t.1).took at.grows fed_one.grows;
+        puts = λ before e. text_grows grown.put (t.1).put before (settled first past) puts.bytes (settled first (past ++ r ∷ [])) puts.goes_on puts.appends (at.puts before e);
+        works = works_both out grown t.1 at.works fed_one.answers.works;
+        block = fed_one.answers.works.block at.block;
+      })
+      t.3)
+
+-- ---- the run
+
+module _ {S O E : Type 0} {ghosts : Ghosts O} (MayTake : E → List Feature → Type 0) (Stands : E → List Feature → E → Type 0) (engine_fault : E → Option Told) (settled : E → List Feature → List ℕ) (first : E)
+    (left : S → Option (List ℕ)) (failed end : S → Bool) (old : Records S O ghosts) (out : Output) where
+  -- the records so far were taken
+  pub record Going (now : Records S O ghosts) (engine : E) (grown : Output) : Type 0 where
+    pub past : List (Member Feature)
+    pub fed : Fed (settled first) left failed end (view_of old) out past (view_of now) grown
+    pub order : order_in now ≡ order_in old
+    pub stands : Stands first (member_items past) engine
+
+  -- before the first record
+  pub going_start : IsFresh left end (view_of old) → Stands first [] first → settled first [] ≡ [] → HoldsBlock out.took out.put → Going old first out
+  going_start fresh stands nothing block = record {
+    past = [];
+    fed = fed_none (settled first) left failed end (view_of old) out fresh (line_going old fresh.going) nothing block;
+    order = refl;
+    stands = stands;
+  }
+
+  module _ (is_bed : (view_of old).format ≡ bed_format (sorting_of (order_in old))) (total : IsTotal (order_in old)) (none_last : last_locus old ≡ None)
+      (takes : (past : List Feature) → ArePlaced (order_in old) (intervals_of past) → AreNonEmpty (intervals_of past) → MayTake first past)
+      (now : Records S O ghosts) (engine : E) (grown : Output) (g : Going now engine grown) where
+    abbrev StopsUpTo : Told → Records S O ghosts → Output → Type 0
+    StopsUpTo fault new later = FeedsUpTo (settled first) (IsBedKind (order_in old)) (AreInOrder (order_in old)) left failed end (view_of old) out fault (view_of new) later
+
+    in_order : (past : List (Member Feature)) (new : MemberReader S Feature (Option Locus)) → Passes left failed end (view_of old) past new → AreInOrder (order_in old) (member_items past)
+    in_order past new passes =
+        said_in_order (order_in old) (member_items past) total
+        (subst (λ (f : Format Feature (Option Locus)). AreSaid f None (member_items past)) is_bed (subst (λ (s : Option Locus). AreSaid (view_of old).format s (member_items past)) none_last passes.said))
+
+    -- a record is buffered
+    pub going_fill : (new : Records S O ghosts) → IsFilled left failed end (view_of now) (view_of new) → order_in new ≡ order_in now → Going new engine grown
+    going_fill new fills same = record {
+      past = g.past;
+      fed = fed_fill (settled first) (IsBedKind (order_in old)) (AreInOrder (order_in old)) left failed end (view_of old) out g.past (view_of now) grown g.fed (view_of new) fills;
+      order = same ∙ g.order;
+      stands = g.stands;
+    }
+
+    -- after the last record
+    pub feeds_all : (new : Records S O ghosts) → IsOver left failed end (view_of now) (view_of new)
+        → FeedsAll (settled first) (IsBedKind (order_in old)) (AreInOrder (order_in old)) left failed end (λ past. Stands first past engine) (view_of old) out (view_of new) grown
+    feeds_all new over =
+        fed_all (settled first) (IsBedKind (order_in old)) (AreInOrder (order_in old)) left failed end (view_of old) out g.past (view_of now) grown g.fed (λ past. Stands first past engine) (view_of new) over
+        (in_order g.past (view_of now) g.fed.passes) g.stands
+
+    -- the reader reported a fault
+    pub stops_reading : (new : Records S O ghosts) (fault : Told) → IsStopped left failed end (view_of now) fault (view_of new) → StopsUpTo fault new grown
+    stops_reading new fault stopped =
+        fed_up_to (settled first) (IsBedKind (order_in old)) (AreInOrder (order_in old)) left failed end (view_of old) out g.past (view_of now) grown g.fed
+        (λ state line kind says. wrong_of_bed (order_in old) state line.text kind (ap (λ (f : Format Feature (Option Locus)). f.says state line) (sym is_bed) ∙ says))
+        (view_of new) fault stopped (in_order g.past (view_of now) g.fed.passes)
+
+    at_now : EngineAt Stands settled first out (member_items g.past) engine grown
+    at_now = record { stands = g.stands; grows = g.fed.grows; puts = g.fed.puts; works = g.fed.works; block = g.fed.block }
+
+    -- the records that were buffered were taken
+    pub going_taken : (Quiet : E → List Feature → Feature → Type 0) (new : Records S O ghosts) (fed : E) (later : Output) → TakesBuffered left failed end MayTake Stands engine_fault settled Quiet now engine grown new fed later → Going new fed later
+    going_taken Quiet new fed later t =
+        let passes = passes_take left failed end (view_of old) g.past (view_of now) g.fed.passes (buffered_in now) (view_of new) t.takes in
+        let items = items_take g.past (suc (lines_given (below now))) (buffered_in now) in
+        let at = at_each MayTake Stands engine_fault settled Quiet first out (order_in old) takes (member_items g.past) (buffered_in now) engine fed grown later
+        (subst (AreInOrder (order_in old)) items (in_order (g.past ++ members_from (suc (lines_given (below now))) (buffered_in now)) (view_of new) passes)) at_now t.taken in
+        record {
+          past = g.past ++ members_from (suc (lines_given (below now))) (buffered_in now);
+          fed = record { passes = passes; grows = at.grows; puts = rw items at.puts; works = at.works; block = at.block };
+          order = t.order ∙ g.order;
+          stands = rw items at.stands;
+        }
+
+    -- one of them wasn't
+    module _ (Quiet : E → List Feature → Feature → Type 0) (fault : Fault) (new : Records S O ghosts) (fed : E) (later : Output) (f : FailsAmong left failed end MayTake Stands engine_fault settled Quiet now engine grown fault new fed later) where
+      abbrev from : ℕ
+      from = suc (lines_given (below now))
+
+      abbrev before : List (Member Feature)
+      before = g.past ++ members_from from f.records
+
+      abbrev given : List (Member Feature)
+      given = g.past ++ members_from from (f.records ++ f.r ∷ [])
+
+      before_items : member_items before ≡ member_items g.past ++ f.records
+      before_items = items_take g.past from f.records
+
+      given_items : member_items given ≡ member_items before ++ f.r ∷ []
+      given_items = items_take g.past from (f.records ++ f.r ∷ []) ∙ sym (append_assoc (member_items g.past) f.records (f.r ∷ [])) ∙ ap (λ (l : List Feature). l ++ f.r ∷ []) (sym before_items)
+
+      passes : Passes left failed end (view_of old) given (view_of new)
+      passes = passes_take left failed end (view_of old) g.past (view_of now) g.fed.passes (f.records ++ f.r ∷ []) (view_of new) f.takes
+
+      sorted_given : AreInOrder (order_in old) (member_items before ++ f.r ∷ [])
+      sorted_given = subst (AreInOrder (order_in old)) given_items (in_order given (view_of new) passes)
+
+      at_mid : EngineAt Stands settled first out (member_items before) f.mid f.through
+      at_mid =
+          subst (λ (l : List Feature). EngineAt Stands settled first out l f.mid f.through) (sym before_items)
+          (at_each MayTake Stands engine_fault settled Quiet first out (order_in old) takes (member_items g.past) f.records engine f.mid grown f.through
+          (subst (AreInOrder (order_in old)) before_items (order_front (order_in old) (member_items before) (f.r ∷ []) sorted_given)) at_now f.taken)
+
+      read : IsReadFor left failed end (view_of old) before given (view_of new)
+      read = read_before left failed end (view_of old) g.past (view_of now) g.fed.passes f.records f.r (view_of new) f.takes
+
+      not_taken : MayTake first (member_items before ++ f.r ∷ []) → engine_fault f.mid ≡ None → Grows (f.through).took later.took → NotTaken MayTake Stands engine_fault settled f.mid f.r f.through (told fault) fed later → StopsUpTo (told fault) new later
+      not_taken may going grows (inl again) = absurd (let apart : None ≡ Some (told fault) = sym going ∙ again.is in cc)
+      not_taken may going grows (inr (inl fails)) =
+          let cuts = fails.cuts first (member_items before) at_mid.stands may in
+          fails_writing (settled first) (IsBedKind (order_in old)) (AreInOrder (order_in old)) left failed end (view_of old) out before given f.r given_items (view_of new) passes read
+          f.through at_mid.grows at_mid.puts at_mid.works at_mid.block sorted_given (told fault) later cuts.bytes cuts.goes_on fails.is cuts.front fails.failed fails.sink_failed grows
+      not_taken may going grows (inr (inr out_of)) =
+          let puts = out_of.puts first (member_items before) at_mid.stands may in
+          fails_growing (settled first) (IsBedKind (order_in old)) (AreInOrder (order_in old)) left failed end (view_of old) out before given f.r given_items (view_of new) passes read
+          f.through at_mid.grows at_mid.puts at_mid.works at_mid.block sorted_given (told fault) later puts.bytes puts.goes_on out_of.is puts.appends out_of.works grows
+
+      pub stops_feeding : StopsUpTo (told fault) new later
+      stops_feeding =
+          not_taken (takes (member_items before ++ f.r ∷ []) sorted_given.0 sorted_given.1) (f.fails.going first (member_items before) at_mid.stands) f.fails.grows f.fails.answers
+
+-- an engine that is after some records has failed at one
+pub failed_among : {S O E : Type 0} {g : Ghosts O} {left : S → Option (List ℕ)} {failed end : S → Bool} {MayTake : E → List Feature → Type 0} {Stands : E → List Feature → E → Type 0}
+    {engine_fault : E → Option Told} {settled : E → List Feature → List ℕ} {Quiet : E → List Feature → Feature → Type 0} {old : Records S O g} {engine : E} {out : Output} {fault : Fault} {new : Records S O g} {fed : E} {grown : Output}
+    → FeedsBuffered left failed end MayTake Stands engine_fault settled Quiet old engine out {A = Unit {0}} (Err fault) new fed grown → (first : E) (past : List Feature) → Stands first past engine
+    → FailsAmong left failed end MayTake Stands engine_fault settled Quiet old engine out fault new fed grown
+failed_among (inl f) first past stands = f
+failed_among (inr spent) first past stands = absurd (spent first past stands)

@@ -1,0 +1,133 @@
+-- Lemmas on the lines that an engine writes, from its intervals, and on the report that they make.
+use Rattle.std.proofs.Common.{◌≡◌, ℕ, Bool, true, List, [], Option, None, Some, refl, sym, ap, ◌∙◌}
+use Rattle.std.proofs.lemmas.Grind.{flat_map-append}
+use Rattle.std.proofs.lemmas.List.{map-append}
+use Rattle.bt_lines.specs.model.Fault.{Told}
+use Rattle.bt_lines.specs.model.Handed.{Handed}
+use Rattle.bt_lines.specs.model.Lines.{TextLine}
+use Rattle.bt_lines.specs.calls.Output.{Output}
+use Rattle.bt_lines.specs.declared.fault.Input.TheVariants.{First}
+use Rattle.bt_bed.specs.model.feature.Feature.{Feature, intervals_of}
+use Rattle.bt_bed.specs.model.order.Genome.{Entry}
+use Rattle.bt_bed.specs.model.input.Good.{good, items_in}
+use Rattle.bt_bed.specs.model.input.GoodBed.{bed_format, bed_good}
+use Rattle.bt_bed.specs.model.feature.Interval.{Interval, last_of}
+use Rattle.bt_bed.specs.model.feature.IntervalLine.{interval_line, interval_lines}
+use Rattle.bt_bed.specs.model.order.Order.{IsTotal, Order}
+use Rattle.bt_bed.specs.model.order.Locus.{ArePlaced}
+use Rattle.bt_bed.specs.model.order.Sorting.{sorting_of}
+use Rattle.bt_bed.proofs.lemmas.laws.GoodBedLemmas.{placed_good, placed_lines}
+use Rattle.bt_runs.specs.model.Gaps.{settled_gaps}
+use Rattle.bt_runs.specs.model.MergedRuns.{AreTaken, merged_runs, passed_by, settled_runs}
+use Rattle.bt_runs.specs.calls.Merging.{Merging, Together, Apart, merge_begun, settled_lines, whole_output}
+use Rattle.bt_runs.specs.model.StrandRuns.{places_of, settled_strand_runs, strand_runs}
+use Rattle.bt_runs.specs.calls.Settling.{SettledBegins, SettledStays}
+use Rattle.bt_runs.specs.declared.merge.merge_strand.MergeStrand.{MergeStrand}
+use Rattle.bt_runs.specs.declared.merge.merge_strand.MergeStrand.TheVariants.{All, Each, One}
+use Rattle.bt_runs.proofs.lemmas.order.RunOrder.{ordered_come}
+use Rattle.bt_runs.proofs.lemmas.merge.SettledRuns.{runs_begin, runs_stay}
+use Rattle.bt_runs.proofs.lemmas.merge.StrandSettling.{begin, no_strand_settled, stay}
+use Rattle.bt_tool.specs.model.report.Behaviour.{of_records}
+use Rattle.bt_tool.specs.calls.run.Writing.{WritesRecords}
+use Rattle.bt_tool.proofs.lemmas.running.feed.WritingLemmas.{alone_writes}
+use Rattle.bt_tool.specs.model.report.RecordReport.{records_report, records_settle, report_by}
+use Rattle.bt_tool.specs.model.report.Written.{Written, merge_written, pooled_written}
+
+-- intervals that stay give lines that stay
+pub lines_stay : (settled : List Feature → List Interval) (Taken : List Feature → Type 0) → SettledStays settled Taken → SettledStays (λ records. interval_lines (settled records)) Taken
+lines_stay settled Taken stays past more taken =
+    let s = stays past more taken in
+    (interval_lines s.0, ap interval_lines s.1 ∙ flat_map-append interval_line (settled past) s.0)
+
+-- and intervals that begin a whole, lines that begin its lines
+pub lines_begin : (settled whole : List Feature → List Interval) (Taken : List Feature → Type 0) → SettledBegins settled whole Taken → SettledBegins (λ records. interval_lines (settled records)) (λ records. interval_lines (whole records)) Taken
+lines_begin settled whole Taken begins past more taken =
+    let s = begins past more taken in
+    (interval_lines s.0, ap interval_lines s.1 ∙ flat_map-append interval_line (settled past) s.0)
+
+-- what a merge writes, chromosomes as they come
+abbrev pub merge_as_they_come : Merging → Written Feature
+merge_as_they_come merge = record { whole = whole_output merge; settled = settled_lines merge }
+
+-- a merge that has taken no record has settled nothing
+pub merge_begins : (merge : Merging) → settled_lines merge [] ≡ []
+unfolding settled_runs
+merge_begins (Together merge) = refl
+merge_begins (Apart merge) = ap (λ items. interval_lines (places_of items)) (no_strand_settled merge.rule.gap)
+
+-- nor does it write any of no records
+pub merge_settles_none : (order : Order) (d : ℕ) (strand : MergeStrand) → (merge_written order d strand).settled [] ≡ []
+merge_settles_none order d All = refl
+merge_settles_none order d Each = ap (λ items. interval_lines (places_of items)) (no_strand_settled d)
+merge_settles_none order d (One strand) = refl
+
+-- what it has settled stays, and begins the whole
+pub merge_stays : (merge : Merging) → SettledStays (settled_lines merge) AreTaken
+merge_stays (Together merge) = lines_stay (settled_runs merge.rule.gap merge.rule.strand) AreTaken (runs_stay merge.rule.gap merge.rule.strand)
+merge_stays (Apart merge) = lines_stay (λ records. places_of (settled_strand_runs merge.rule.gap records)) AreTaken (λ past more taken.
+    let s = stay merge.rule.gap past more taken in
+    (places_of s.0, ap places_of s.1 ∙ map-append (λ item. item.run) (settled_strand_runs merge.rule.gap past) s.0))
+
+pub merge_begins_whole : (merge : Merging) → SettledBegins (settled_lines merge) (whole_output merge) AreTaken
+merge_begins_whole (Together merge) = lines_begin (settled_runs merge.rule.gap merge.rule.strand) (merged_runs merge.rule.gap merge.rule.strand) AreTaken (runs_begin merge.rule.gap merge.rule.strand)
+merge_begins_whole (Apart merge) = lines_begin (λ records. places_of (settled_strand_runs merge.rule.gap records)) (λ records. places_of (strand_runs merge.rule.gap records)) AreTaken (λ past more taken.
+    let s = begin merge.rule.gap past more taken in
+    (places_of s.0, ap places_of s.1 ∙ map-append (λ item. item.run) (settled_strand_runs merge.rule.gap past) s.0))
+
+-- a complement that has taken no record has settled nothing
+pub complement_begins : (limit : Bool) (entries : List Entry) → interval_lines (settled_gaps limit entries []) ≡ []
+unfolding settled_gaps
+complement_begins limit entries = refl
+
+-- the records of a report are in order
+module _ (order : Order) (total : IsTotal order) where
+  -- merged runs come in that order
+  pooled_same : (d : ℕ) (strand : MergeStrand) (records : List Feature) → ArePlaced order (intervals_of records)
+      → interval_lines (merged_runs d strand records) ≡ (pooled_written order d strand).whole records
+  pooled_same d strand records placed = ap interval_lines (sym (ordered_come order d strand records total placed))
+
+  pooled_settled : (d : ℕ) (strand : MergeStrand) (records : List Feature) → ArePlaced order (intervals_of records)
+      → interval_lines (settled_runs d strand records) ≡ (pooled_written order d strand).settled records
+  unfolding settled_runs
+  pooled_settled d strand records placed =
+      ap (λ runs. interval_lines (passed_by d runs (last_of (intervals_of records)))) (sym (ordered_come order d strand records total placed))
+
+  merged_same : (d : ℕ) (strand : MergeStrand) (records : List Feature) → ArePlaced order (intervals_of records)
+      → whole_output (merge_begun d strand) records ≡ (merge_written order d strand).whole records
+  merged_same d All records placed = pooled_same d All records placed
+  merged_same d Each records placed = refl
+  merged_same d (One strand) records placed = pooled_same d (One strand) records placed
+
+  settled_same : (d : ℕ) (strand : MergeStrand) (records : List Feature) → ArePlaced order (intervals_of records)
+      → settled_lines (merge_begun d strand) records ≡ (merge_written order d strand).settled records
+  settled_same d All records placed = pooled_settled d All records placed
+  settled_same d Each records placed = refl
+  settled_same d (One strand) records placed = pooled_settled d (One strand) records placed
+
+  report_same : (d : ℕ) (strand : MergeStrand) (records : List Feature) (fault : Option Told) → ArePlaced order (intervals_of records)
+      → report_by (merge_as_they_come (merge_begun d strand)) records fault ≡ report_by (merge_written order d strand) records fault
+  report_same d strand records None placed = ap (λ l. record { output = l; fault = None }) (merged_same d strand records placed)
+  report_same d strand records (Some fault) placed = ap (λ l. record { output = l; fault = Some fault }) (settled_same d strand records placed)
+
+  -- so what a merge writes, chromosomes as they come, is the report
+  merge_reports : (d : ℕ) (strand : MergeStrand) (handed : Handed)
+      → records_report (merge_as_they_come (merge_begun d strand)) order handed ≡ records_report (merge_written order d strand) order handed
+  merge_reports d strand handed =
+      let good = bed_good First order handed in
+      report_same d strand (items_in good) good.fault (placed_good First order handed total)
+
+  merge_settles : (d : ℕ) (strand : MergeStrand) (lines : List TextLine)
+      → records_settle (merge_as_they_come (merge_begun d strand)) order lines ≡ records_settle (merge_written order d strand) order lines
+  merge_settles d strand lines =
+      settled_same d strand (items_in (good (bed_format (sorting_of order)) First lines)) (placed_lines First order lines total)
+
+  -- a merge's records were written as the command says
+  pub merge_writes : {A : Type 0} (left : A → Option (List ℕ)) (failed : A → Bool) (d : ℕ) (strand : MergeStrand) (merge : Merging) → merge ≡ merge_begun d strand
+      → (first : A) (out : Output) (fault : Option Told) (new : A) (grown : Output)
+      → WritesRecords left failed (merge_as_they_come merge) order first out fault new grown
+      → WritesRecords left failed (merge_written order d strand) order first out fault new grown
+  merge_writes left failed d strand merge begun first out fault new grown =
+      alone_writes left failed (λ source. true) left failed (of_records order (merge_as_they_come merge)) (of_records order (merge_written order d strand))
+      (λ one two. ap (λ m. records_report (merge_as_they_come m) order one) begun ∙ merge_reports d strand one)
+      (λ two lines. ap (λ m. records_settle (merge_as_they_come m) order lines) begun ∙ merge_settles d strand lines)
+      first None out fault new grown (λ t tells. tells)

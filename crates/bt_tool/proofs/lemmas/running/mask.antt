@@ -1,0 +1,9 @@
+-- Lemmas on running, mask.
+pub mod MaskAdvanced
+pub mod MaskBoth
+pub mod MaskFacts
+pub mod MaskFills
+pub mod MaskGiven
+pub mod MaskKinds
+pub mod MaskStart
+pub mod MaskedLemmas

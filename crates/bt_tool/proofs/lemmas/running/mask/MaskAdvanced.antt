@@ -1,0 +1,242 @@
+-- Lemmas on lines and records that were given to a masking engine together, over two readers.
+use Rattle.std.proofs.Common.{◌≡◌, ℕ, suc, Bool, true, false, List, [], ◌∷◌, ◌++◌, length, Option, None, Some, Err, refl, sym, ap, ◌∙◌, subst, append-nil, option_to_list, arith, inl, inr}
+use Rattle.std.specs.Prelude.{◌⊎◌, IsTrue}
+use Rattle.bt_lines.specs.model.Fault.{Told, no_memory, read_failed}
+use Rattle.bt_lines.specs.model.Lines.{AreNumbered, TextLine}
+use Rattle.bt_lines.specs.calls.Output.{Output}
+use Rattle.bt_lines.specs.calls.Putting.{FailsToAdd, Grown}
+use Rattle.bt_lines.specs.calls.Reader.{TakenLines, TakesLines, buffered_in, has_ended, input_of, lines_given}
+use Rattle.bt_lines.specs.declared.reader.buffered_lines.ConsumedLines.{ConsumedLines}
+use Rattle.bt_lines.specs.declared.fault.Input.{Input}
+use Rattle.bt_lines.specs.declared.fault.Input.TheVariants.{First}
+use Rattle.bt_lines.specs.declared.fault.Kind.{Kind}
+use Rattle.bt_lines.specs.declared.reader.line_reader.LineReader.{LineReader}
+use Rattle.bt_bed.specs.model.feature.Feature.{Feature}
+use Rattle.bt_bed.specs.model.input.Good.{Format, Member}
+use Rattle.bt_bed.specs.model.feature.LineKind.{fault_at_line, is_of_line}
+use Rattle.bt_bed.specs.model.order.Locus.{Locus}
+use Rattle.bt_bed.specs.calls.Reading.{MemberReader, members_from, state_behind}
+use Rattle.bt_seq.specs.calls.GivenLines.{SayEach}
+use Rattle.bt_seq.specs.calls.MaskSettles.{GoesOn}
+use Rattle.bt_seq.specs.calls.MaskStanding.{MaskStandsAt}
+use Rattle.bt_seq.specs.calls.MaskStage.{MaskStage, given, reached}
+use Rattle.bt_seq.specs.calls.MaskState.{Masking}
+use Rattle.bt_seq.specs.model.Sequences.{Reached, SequenceLine, line_says, sequence_format}
+use Rattle.bt_tool.specs.inside.feed.Feeding.{member_items}
+use Rattle.bt_tool.specs.model.report.MaskReport.{is_fasta_kind}
+use Rattle.bt_tool.specs.inside.pair.MaskLoop.{MaskRun, leaves_some, line_members, nothing_reached, stage_of}
+use Rattle.bt_tool.specs.inside.pair.MaskTurns.{Ends, GoesOnAt}
+use Rattle.bt_tool.specs.inside.pair.Pair.{Making, Pair, Settles, item_ahead}
+use Rattle.bt_tool.specs.inside.pair.PairComes.{Follows, Stage, TakesFurther}
+use Rattle.bt_tool.specs.inside.pair.PairEnds.{AsksFor, IsKnown}
+use Rattle.bt_tool.specs.inside.feed.Passed.{HasTaken}
+use Rattle.bt_tool.proofs.lemmas.running.feed.FaultLemmas.{line_no_read}
+use Rattle.bt_tool.proofs.lemmas.running.members.LineMembers.{has_taken, known_members, passes_known, refused, refuses, refuses_read, say_count, wrong_is_text}
+use Rattle.bt_tool.proofs.lemmas.running.mask.MaskFacts.{asked_of}
+use Rattle.bt_tool.proofs.lemmas.running.mask.MaskGiven.{ahead_first, first_of, settles_given}
+use Rattle.bt_tool.proofs.lemmas.running.mask.MaskedLemmas.{asked, asks_for, come_so_far, making, pair, reached_behind}
+use Rattle.bt_tool.proofs.lemmas.running.pair.PairStops as stop
+use Rattle.bt_tool.proofs.lemmas.running.pair.PairTurns as turned
+use Rattle.bt_lines.proofs.lemmas.reader.block.ReadsLemmas.{some_is}
+
+pub items_from : {A : Type 0} (from : ℕ) (items : List A) → member_items (members_from from items) ≡ items
+items_from from [] = refl
+items_from from (x ∷ items) = ap (λ l. x ∷ l) (items_from (suc from) items)
+
+no_items : (front more : List TextLine) → front ++ more ≡ [] → front ≡ []
+no_items [] more e = refl
+no_items (x ∷ front) more e = cc
+
+none_long : {A : Type 0} (items : List A) → length items ≡ 0 → items ≡ []
+none_long [] e = refl
+none_long (x ∷ items) e = absurd (omega (arith, e))
+
+both_none : {A : Type 0} (xs ys : List A) → xs ++ ys ≡ [] → (xs ≡ []) × (ys ≡ [])
+both_none [] ys e = (refl, e)
+both_none (x ∷ xs) ys e = cc
+
+alone : {A : Type 0} (items : List A) (o : Option A) → o ≡ None → items ++ option_to_list o ≡ items
+alone items o none = ap (λ o. items ++ option_to_list o) none ∙ append-nil items
+
+asked_more : (lines more : List SequenceLine) (records : List Feature) → (records ≡ []) ⊎ IsTrue (leaves_some lines records) → (records ≡ []) ⊎ IsTrue (leaves_some (lines ++ more) records)
+asked_more lines more records (inl none) = inl none
+asked_more lines more records (inr some) = inr (asked_of lines more records some)
+
+-- what is known after some lines and others
+state_more : {A State : Type 0} (format : Format A State) (state : State) (items more : List A) → state_behind format state (items ++ more) ≡ state_behind format (state_behind format state items) more
+state_more format state [] more = refl
+state_more format state (x ∷ items) more = state_more format (format.after state x) items more
+
+module _ {A B : Type 0} (a_left : A → Option (List ℕ)) (a_failed a_end : A → Bool) (b_left : B → Option (List ℕ)) (b_failed b_end : B → Bool) (run : MaskRun A B) where
+  abbrev Going : Reached → LineReader A → MemberReader B Feature (Option Locus) → Masking → Output → Type 0
+  Going = GoesOnAt a_left a_failed a_end b_left b_failed b_end run
+
+  abbrev EndsAt : Option Told → LineReader A → MemberReader B Feature (Option Locus) → Output → Type 0
+  EndsAt = Ends a_left a_failed a_end b_left b_failed b_end run
+
+  abbrev rule : Making SequenceLine Feature
+  rule = making a_left a_failed a_end b_left b_failed b_end run
+
+  abbrev both : Pair A B SequenceLine Feature Reached (Option Locus)
+  both = pair a_left a_failed a_end b_left b_failed b_end run
+
+  abbrev old_first : MemberReader A SequenceLine Reached
+  old_first = line_members run.full nothing_reached run.lines
+
+  module _ (at : Reached) (lines : LineReader A) (second : MemberReader B Feature (Option Locus)) (mask : Masking) (grown : Output) (s : Going at lines second mask grown)
+      (new : LineReader A) (over : has_ended lines ≡ true → buffered_in lines ≡ []) (consumed : ConsumedLines) (takes : TakesLines a_left a_end lines consumed new)
+      (taken : List Feature) (second_now : MemberReader B Feature (Option Locus)) (has : HasTaken b_left b_failed b_end second taken second_now) where
+    abbrev stage : MaskStage
+    stage = s.stage
+
+    abbrev more_second : List (Member Feature)
+    more_second = members_from (suc (lines_given second.below)) taken
+
+    -- after the end of the records none was taken
+    none_more : stage.bed_ended ≡ true → (taken ≡ []) × (second_now.buffered ≡ [])
+    none_more e = both_none taken second_now.buffered (sym has.takes.buffered ∙ (s.comes.second_all e).1)
+
+    ended_second : stage.bed_ended ≡ true → (more_second ≡ []) × (second_now.buffered ≡ [])
+    ended_second e = let none = none_more e in (ap (members_from (suc (lines_given second.below))) none.0, none.1)
+
+    settled_now : IsKnown both → Settles rule stage.written s.comes.bytes (stage.taken ++ option_to_list (first_of (taken ++ second_now.buffered))) stage.bed_ended
+    settled_now known =
+        subst (λ (o : Option Feature). Settles rule stage.written s.comes.bytes (stage.taken ++ option_to_list o) stage.bed_ended) (ahead_first second ∙ ap first_of has.takes.buffered) (s.comes.settles known)
+
+    takes_second : TakesFurther b_left b_failed b_end run.records s.past_second more_second second second_now
+    takes_second = turned.takes_further b_left b_failed b_end run.records s.past_second second s.comes.second_passes taken second_now has
+
+    asks_here : stage.lines_ended ≡ false → AsksFor rule both run.out s.past_first second
+    asks_here = asks_for a_left a_failed a_end b_left b_failed b_end run at lines second mask grown s
+
+    asked_here : stage.lines_ended ≡ false → rule.Asks (given stage) stage.taken
+    asked_here = asked a_left a_failed a_end b_left b_failed b_end run at lines second mask grown s
+
+    -- some lines and these records led to a stage, and the record ahead is the next one
+    module _ (texts : List TextLine) (final : MaskStage) (bytes : List ℕ) (goes : GoesOn run.how run.full stage texts taken final bytes) (kept : (r : Feature) → final.ahead ≡ Some r → item_ahead second_now ≡ Some r) where
+      abbrev items : List SequenceLine
+      items = goes.items
+
+      abbrev more_first : List (Member SequenceLine)
+      more_first = members_from (suc (lines_given lines)) items
+
+      say_here : SayEach run.full at texts items
+      say_here = subst (λ (r : Reached). SayEach run.full r texts items) (sym (come_so_far a_left a_failed a_end b_left b_failed b_end run at lines second mask grown s)) goes.say
+
+      reached_now : state_behind (sequence_format run.full) at items ≡ reached final
+      reached_now =
+          ap (λ (r : Reached). state_behind (sequence_format run.full) r items) (come_so_far a_left a_failed a_end b_left b_failed b_end run at lines second mask grown s ∙ sym (reached_behind run.full (given stage)))
+          ∙ sym (state_more (sequence_format run.full) nothing_reached (given stage) items) ∙ ap (state_behind (sequence_format run.full) nothing_reached) (sym goes.given_is) ∙ reached_behind run.full (given final)
+
+      given_now : given final ≡ given stage ++ member_items more_first
+      given_now = goes.given_is ∙ ap (λ l. given stage ++ l) (sym (items_from (suc (lines_given lines)) items))
+
+      taken_now : final.taken ≡ stage.taken ++ member_items more_second
+      taken_now = goes.taken_is ∙ ap (λ l. stage.taken ++ l) (sym (items_from (suc (lines_given second.below)) taken))
+
+      pub settled : IsKnown both → Settles rule final.written (s.comes.bytes ++ bytes) (final.taken ++ option_to_list (item_ahead second_now)) stage.bed_ended
+      settled known =
+          rw (goes.written_is, goes.taken_is, ahead_first second_now)
+          (settles_given run.how run.full stage.written s.comes.bytes bytes stage final texts taken second_now.buffered (settled_now known) goes none_more (λ r e. sym (ahead_first second_now) ∙ kept r e))
+
+      -- they were taken, and no more
+      module _ (more : List TextLine) (parts : buffered_in lines ≡ texts ++ more) (numbered : AreNumbered (suc (lines_given lines)) texts) (are : TakenLines lines consumed (length texts)) where
+        abbrev pub first_now : MemberReader A SequenceLine Reached
+        first_now = line_members run.full (state_behind (sequence_format run.full) at items) new
+
+        has_first : HasTaken a_left a_failed a_end (known_members a_left a_failed a_end run.full at items lines) items first_now
+        has_first = has_taken a_left a_failed a_end run.full at lines new s.comes.first_passes.clear texts more items say_here parts numbered consumed (length texts) are takes (say_count run.full at texts items say_here)
+
+        takes_first : TakesFurther a_left a_failed a_end old_first s.past_first more_first (line_members run.full at lines) first_now
+        takes_first =
+            let known = passes_known a_left a_failed a_end run.full at lines new s.comes.first_passes.clear texts more items say_here parts numbered consumed (length texts) are takes (say_count run.full at texts items say_here) old_first s.past_first s.comes.first_passes in
+            let t = turned.takes_further a_left a_failed a_end old_first s.past_first (known_members a_left a_failed a_end run.full at items lines) known items first_now has_first in
+            record { passes = t.passes; last = t.last; source = t.source; told = t.told }
+
+        ended_first : stage.lines_ended ≡ true → (more_first ≡ []) × (first_now.buffered ≡ [])
+        ended_first e =
+            let none : texts ≡ [] = no_items texts more (sym parts ∙ over (s.lines_over e)) in
+            (ap (members_from (suc (lines_given lines))) (none_long items (omega (arith, say_count run.full at texts items say_here, ap length none))), refl)
+
+        -- the engine is at the final stage
+        pub come_on : (masked : Masking) (now : Output) → MaskStandsAt run.how run.full final masked → Grown grown bytes now → (going : Going (state_behind (sequence_format run.full) at items) new second_now masked now) × (going.stage ≡ final)
+        come_on masked now stands puts = (
+          record {
+            past_first = s.past_first ++ more_first;
+            past_second = s.past_second ++ more_second;
+            stage = final;
+            stands = stands;
+            comes = turned.goes_on rule both run.out (stage_of stage) s.past_first s.past_second (line_members run.full at lines) second grown s.comes more_first more_second first_now second_now takes_first takes_second ended_first ended_second goes.newly (stage_of final)
+                (record { given_is = given_now; written_is = goes.written_is; taken_is = taken_now; first_is = goes.lines_ended_is; second_is = goes.bed_ended_is })
+                bytes now (λ known. subst (λ (b : Bool). Settles rule final.written (s.comes.bytes ++ bytes) (final.taken ++ option_to_list (item_ahead second_now)) b) (sym goes.bed_ended_is) (settled known)) puts;
+            kept_ahead = kept;
+            lines_over = λ e. takes.ended_is ∙ s.lines_over (sym goes.lines_ended_is ∙ e);
+          },
+          refl,
+        )
+
+        -- what is settled wasn't all written
+        pub fails_write : (puts rest : List ℕ) → bytes ≡ puts ++ rest → (through now : Output) (fault : Told) → Grown grown puts through → FailsToAdd through rest fault now → EndsAt (Some fault) new second_now now
+        fails_write puts rest is through now fault adds fails = (
+          first_now,
+          refl,
+          stop.fails_to_write rule both run.out (stage_of stage) s.past_first s.past_second (line_members run.full at lines) second grown s.comes asks_here (λ known. tt) more_first more_second first_now second_now takes_first takes_second
+              final.written (option_to_list final.waiting) given_now (λ known. tt) ended_second puts rest (λ known. rw (← taken_now, ← is) (settled known)) through now fault adds fails,
+          λ input line e. e,
+        )
+
+        -- memory ran out after others were written
+        pub lacks_room : (mid : Stage SequenceLine Feature) (newly : List SequenceLine) → Follows (stage_of stage) (member_items more_first) newly (member_items more_second) mid → (put : List ℕ) (now : Output)
+            → (IsKnown both → Settles rule mid.written (s.comes.bytes ++ put) (mid.taken ++ option_to_list (item_ahead second_now)) mid.second_ended) → Grown grown put now → (fault : Told) → fault ≡ no_memory
+            → EndsAt (Some fault) new second_now now
+        lacks_room mid newly follows put now settles adds fault is = (
+          first_now,
+          refl,
+          stop.lacks_memory rule both run.out mid (s.past_first ++ more_first) (s.past_second ++ more_second) first_now second_now now
+              (turned.goes_on rule both run.out (stage_of stage) s.past_first s.past_second (line_members run.full at lines) second grown s.comes more_first more_second first_now second_now takes_first takes_second ended_first ended_second newly mid follows put now settles adds)
+              (λ e. stop.asks_then rule both run.out (stage_of stage) s.past_first s.past_second (line_members run.full at lines) second grown s.comes (asked_here (sym follows.first_is ∙ e)) (λ extra asks. asked_more (given stage) extra stage.taken asks) more_first more_second second_now takes_second)
+              (λ known. tt) fault is,
+          λ input line e. e,
+        )
+
+      -- they were taken, and one more line, which is at fault
+      module _ (line : TextLine) (more : List TextLine) (parts : buffered_in lines ≡ (texts ++ line ∷ []) ++ more) (numbered : AreNumbered (suc (lines_given lines)) (texts ++ line ∷ [])) (are : TakenLines lines consumed (length (texts ++ line ∷ [])))
+          (none : final.waiting ≡ None) (kind : Kind) (says : line_says run.full (reached final) line ≡ Err kind) (fault : Told) (is : fault ≡ fault_at_line First line.number kind) where
+        says_now : line_says run.full (state_behind (sequence_format run.full) at items) line ≡ Err kind
+        says_now = ap (λ (r : Reached). line_says run.full r line) reached_now ∙ says
+
+        is_now : fault ≡ fault_at_line (input_of run.lines) line.number kind
+        is_now = is ∙ ap (λ (i : Input). fault_at_line i line.number kind) (sym run.first)
+
+        no_end : (xs : List TextLine) → (xs ++ line ∷ []) ++ more ≡ [] → ⊥
+        no_end [] e = cc
+        no_end (x ∷ xs) e = cc
+
+        going_by : (b : Bool) → stage.lines_ended ≡ b → stage.lines_ended ≡ false
+        going_by true e = absurd (no_end texts (sym parts ∙ over (s.lines_over e)))
+        going_by false e = e
+
+        going : stage.lines_ended ≡ false
+        going = going_by stage.lines_ended refl
+
+        all_written : final.written ≡ given stage ++ member_items more_first
+        all_written = sym (alone final.written final.waiting none) ∙ given_now
+
+        never_read : (input : Input) (number : ℕ) → Some fault ≡ Some (read_failed input number) → ⊥
+        never_read input number e =
+            line_no_read First line.number kind input number (subst (λ (k : Kind). is_of_line k ≡ true) (sym (wrong_is_text run.full (reached final) line kind says)) refl) (sym is ∙ some_is fault (read_failed input number) e)
+
+        pub refuses_line : (through : Output) → Grown grown bytes through → EndsAt (Some fault) new second_now through
+        refuses_line through adds = (
+          refused a_left a_failed a_end run.full old_first s.past_first at lines new s.comes.first_passes texts line more items say_here kind says_now parts numbered consumed are takes fault is_now,
+          refl,
+          stop.first_fails rule both run.out (stage_of stage) s.past_first s.past_second (line_members run.full at lines) second grown s.comes asks_here (λ known. tt) going more_first more_second second_now takes_second ended_second bytes
+              (λ known. rw (← all_written, ← taken_now) (settled known)) (λ known. tt)
+              (stop.asks_then rule both run.out (stage_of stage) s.past_first s.past_second (line_members run.full at lines) second grown s.comes (asked_here going) (λ extra asks. asked_more (given stage) extra stage.taken asks) more_first more_second second_now takes_second)
+              fault (refused a_left a_failed a_end run.full old_first s.past_first at lines new s.comes.first_passes texts line more items say_here kind says_now parts numbered consumed are takes fault is_now)
+              (refuses a_left a_failed a_end run.full old_first s.past_first at lines new s.comes.first_passes texts line more items say_here kind says_now parts numbered consumed are takes fault is_now (λ k. is_fasta_kind k ≡ true)
+              (subst (λ (k : Kind). is_fasta_kind k ≡ true) (sym (wrong_is_text run.full (reached final) line kind says)) refl))
+              (refuses_read a_left a_failed a_end run.full old_first s.past_first at lines new s.comes.first_passes texts line more items say_here kind says_now parts numbered consumed are takes fault is_now)
+              through adds,
+          λ input number e. absurd (never_read input number e),
+        )

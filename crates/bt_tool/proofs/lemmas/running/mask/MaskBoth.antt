@@ -1,0 +1,348 @@
+-- Lemmas on a round of masking in which lines and records were given together.
+use Rattle.std.proofs.Common.{◌≡◌, ℕ, zero, suc, ◌-◌, drop, length-take, ◌+◌, ◌≤◌, ◌<◌, Bool, true, false, List, [], ◌∷◌, ◌++◌, length, take, Option, None, Some, Result, Ok, Err, refl, sym, ap, ◌∙◌, subst, append-nil, append_assoc, option_to_list, arith, inl, inr}
+use Rattle.std.specs.Prelude.{◌⊎◌, OnOk, is_some, nat_eq, option_map}
+use Rattle.std.proofs.lemmas.Bool.{false≢true}
+use Rattle.bt_lines.proofs.lemmas.reader.block.BufferLemmas.{fed_none}
+use Rattle.bt_lines.proofs.lemmas.reader.lines.TextLemmas.{bytes_in-lines, whole_count}
+use Rattle.bt_lines.specs.calls.Buffered.{BeginsLines, buffered_lines, lines_in}
+use Rattle.bt_lines.specs.model.Fault.{Told, no_memory}
+use Rattle.bt_lines.specs.model.Lines.{AreNumbered, TextLine, bytes_in}
+use Rattle.bt_lines.specs.calls.Names.{told}
+use Rattle.bt_lines.specs.calls.Output.{Output}
+use Rattle.bt_lines.specs.calls.Putting.{FailsToAdd}
+use Rattle.bt_lines.specs.calls.Reader.{TakenLines, TakesLines, buffered_bytes, buffered_in, has_ended, is_open, lines_given, room as line_room}
+use Rattle.bt_lines.specs.inside.Shape.{IsLast, is_fed}
+use Rattle.bt_lines.specs.declared.reader.buffered_lines.BufferedLines.{BufferedLines}
+use Rattle.bt_lines.specs.declared.reader.buffered_lines.ConsumedLines.{ConsumedLines}
+use Rattle.bt_lines.specs.declared.fault.Fault.{Fault}
+use Rattle.bt_lines.specs.declared.reader.line_reader.LineReader.{LineReader}
+use Rattle.bt_bed.specs.calls.Batch.{HasEnded, Passes, cursor_in, left, line_in}
+use Rattle.bt_bed.specs.model.feature.Feature.{Feature}
+use Rattle.bt_bed.specs.model.order.Locus.{Locus}
+use Rattle.bt_bed.specs.calls.Reading.{MemberReader, state_behind}
+use Rattle.bt_bed.specs.declared.read.batch.Batch.{Batch}
+use Rattle.bt_seq.proofs.lemmas.mask.steps.SettleLemmas.{goes_more, line_goes}
+use Rattle.bt_seq.proofs.lemmas.mask.steps.StandLemmas.{wants_line}
+use Rattle.bt_seq.specs.calls.GivenLines.{SayEach}
+use Rattle.bt_seq.specs.calls.MaskAdvance.{BothCome, ComesAfter, ComesNext, FailsAtLines, FailsAtRecord, FailsBehind, HasCome, StopsAt}
+use Rattle.bt_seq.specs.calls.MaskSettles.{GoesOn}
+use Rattle.bt_seq.specs.calls.MaskStage.{IsNext, MaskStage, given, is_written_at_once, reached, want_at, want_of, with_line}
+use Rattle.bt_seq.specs.calls.MaskStanding.{MaskStandsAt, kept_line}
+use Rattle.bt_seq.specs.calls.MaskSteps.{FailsWithLine, RefusesLine, bytes_with}
+use Rattle.bt_seq.specs.calls.MaskState.{Masking}
+use Rattle.bt_seq.specs.model.Sequences.{Reached, SequenceLine, sequence_format}
+use Rattle.bt_seq.specs.declared.mask.mask_how.MaskHow.{MaskHow}
+use Rattle.bt_seq.specs.declared.mask.mask_want.MaskWant.{MaskWant}
+use Rattle.bt_seq.specs.declared.mask.mask_want.MaskWant.TheVariants.{Line as WantLine, Bed as WantBed, Nothing}
+use Rattle.bt_tool.specs.inside.pair.MaskLoop.{MaskRun, mask_making}
+use Rattle.bt_tool.specs.inside.pair.MaskTurns.{Ends, Gives, GoesOnAt, IsThere, asks, left_to_ask}
+use Rattle.bt_tool.specs.inside.pair.Pair.{Settles, item_ahead}
+use Rattle.bt_tool.specs.inside.pair.PairComes.{Stage}
+use Rattle.bt_tool.specs.inside.feed.Passed.{HasTaken}
+use Rattle.bt_tool.proofs.lemmas.running.mask.MaskAdvanced.{come_on, fails_write, items_from, lacks_room, refuses_line, settled}
+use Rattle.bt_tool.proofs.lemmas.running.mask.MaskGiven.{ahead_first, first_of}
+use Rattle.bt_tool.proofs.lemmas.running.mask.MaskedLemmas.{fails_record}
+
+-- ---- the record ahead
+
+cancel : {A : Type 0} (front a b : List A) → front ++ a ≡ front ++ b → a ≡ b
+cancel [] a b e = e
+cancel (x ∷ front) a b e = cancel front a b (let rest : front ++ a ≡ front ++ b = cc in rest)
+
+module _ {S State : Type 0} (second second_now : MemberReader S Feature State) (first last : Batch) (lent : left first ≡ second.buffered) where
+  -- the next record that a batch gives is the one ahead
+  next_is : (ahead : Option Feature) → ((r : Feature) → ahead ≡ Some r → item_ahead second ≡ Some r) → (r : Feature) (later : Batch) → Passes first (r ∷ []) later → IsNext ahead r
+  next_is None kept r later passes = tt
+  next_is (Some a) kept r later passes =
+      let here : Some a ≡ Some r = sym (kept a refl) ∙ ahead_first second ∙ ap first_of (sym lent ∙ passes.left_is) in
+      cc
+
+  -- and it is the next one of those that are left
+  kept_after : (was : Option Feature) → ((r : Feature) → was ≡ Some r → item_ahead second ≡ Some r) → (taken : List Feature) → second.buffered ≡ taken ++ second_now.buffered → (ahead : Option Feature)
+      → ComesAfter Passes line_in HasEnded was first taken ahead → (r : Feature) → ahead ≡ Some r → item_ahead second_now ≡ Some r
+  kept_after was kept taken split ahead comes r e = elim (comes r e) [
+    | inl same ↦ ahead_first second_now ∙ ap first_of (sym (split ∙ ap (λ (l : List Feature). l ++ second_now.buffered) same.1)) ∙ sym (ahead_first second) ∙ kept r same.0
+    | inr there ↦
+        let rest : second_now.buffered ≡ left there.0 = cancel taken second_now.buffered (left there.0) (sym split ∙ sym lent ∙ there.2.left_is) in
+        ahead_first second_now ∙ ap first_of (rest ∙ there.3.left_is)
+  ]
+
+-- ---- how much is still wanted
+
+some_kept : (o : Option SequenceLine) → is_some (option_map kept_line o) ≡ is_some o
+some_kept None = refl
+some_kept (Some line) = refl
+
+pub waits_is : {how : MaskHow} {full : Bool} {stage : MaskStage} {mask : Masking} → MaskStandsAt how full stage mask → is_some mask.waiting ≡ is_some stage.waiting
+waits_is {how} {full} {stage} {mask} stands = ap is_some stands.waiting_is ∙ some_kept stage.waiting
+
+pub asks_most : (waits : Bool) (want : MaskWant) → asks waits want ≤ 3
+asks_most waits WantLine = omega arith
+asks_most true WantBed = omega arith
+asks_most false WantBed = omega arith
+asks_most waits Nothing = omega arith
+
+pub asks_few : (waits : Bool) (want : MaskWant) → waits ≡ false → asks waits want ≤ 2
+asks_few waits WantLine e = omega arith
+asks_few true WantBed e = absurd (false≢true (sym e))
+asks_few false WantBed e = omega arith
+asks_few waits Nothing e = omega arith
+
+-- if nothing was given, a line that waited was written, or the same is wanted
+none_front : (newly : List SequenceLine) (o : Option SequenceLine) → newly ++ option_to_list o ≡ [] → o ≡ None
+none_front [] None e = refl
+none_front [] (Some x) e = cc
+none_front (y ∷ newly) o e = cc
+
+no_more_by : (o final : Option SequenceLine) (newly written : List SequenceLine) → o ≡ None → (written ++ newly) ++ option_to_list final ≡ written ++ option_to_list o → final ≡ None
+no_more_by o final newly written none e =
+    none_front newly final (cancel written (newly ++ option_to_list final) [] (sym (append_assoc written newly (option_to_list final)) ∙ e ∙ ap (λ (o : Option SequenceLine). written ++ option_to_list o) none))
+
+stays_by : (o final : Option SequenceLine) (l b : Bool) (old_want new_want : MaskWant) (old_waits new_waits : Bool) → old_want ≡ want_of (is_some o) l b → new_want ≡ want_of (is_some final) l b → old_waits ≡ is_some o → new_waits ≡ is_some final → (o ≡ None → final ≡ None)
+    → (asks new_waits new_want < asks old_waits old_want) ⊎ ((new_want ≡ old_want) × (new_waits ≡ old_waits))
+stays_by None final l b old_want new_want old_waits new_waits w v x y none =
+    let same : is_some final ≡ false = ap is_some (none refl) in
+    inr (v ∙ ap (λ s. want_of s l b) same ∙ sym w, y ∙ same ∙ sym x)
+stays_by (Some a) None l b old_want new_want old_waits new_waits w v x y none =
+    let most : asks old_waits old_want ≡ 3 = ap (λ s. asks s old_want) x ∙ ap (asks true) w in
+    let few = asks_few new_waits new_want y in
+    inl (omega (arith, most, few))
+stays_by (Some a) (Some c) l b old_want new_want old_waits new_waits w v x y none = inr (v ∙ sym w, y ∙ sym x)
+
+not_one : (n : ℕ) → nat_eq n 1 ≡ false → n - 1 ≡ 0 → n ≡ 0
+not_one zero e h = refl
+not_one (suc zero) e h = absurd (false≢true (sym e))
+not_one (suc (suc n)) e h = absurd (omega (arith, h))
+
+-- if bytes are buffered, a line is
+no_bytes : (is_open : Bool) (lines : ℕ) (bytes : List ℕ) → is_fed bytes ≡ true → IsLast is_open is_open bytes [] → buffered_lines is_open lines bytes ≡ [] → length bytes ≡ 0
+no_bytes false lines bytes fed last none =
+    ap length (fed_none bytes fed (sym (whole_count (suc lines) bytes) ∙ ap length none))
+no_bytes true lines bytes fed last none =
+    let size : length (take (length bytes - 1) bytes) ≡ 0 = sym (bytes_in-lines (suc lines) (take (length bytes - 1) bytes)) ∙ ap bytes_in none in
+    not_one (length bytes) (last.some refl) (omega (arith, size, length-take (length bytes - 1) bytes))
+
+some_buffered : {S : Type 0} (reader : LineReader S) (first : BufferedLines) → BeginsLines (buffered_bytes reader) (lines_given reader) (is_open reader) first → buffered_in reader ≡ [] → 0 < length (buffered_bytes reader) → ⊥
+some_buffered reader first begins none some =
+    let whole : drop first.at first.all.now ≡ buffered_bytes reader = ap (λ (k : ℕ). drop k first.all.now) begins.at ∙ begins.bytes_are in
+    let fed : is_fed (buffered_bytes reader) ≡ true = subst (λ (l : List ℕ). is_fed l ≡ true) whole first.fed in
+    let last : IsLast (is_open reader) (is_open reader) (buffered_bytes reader) [] =
+    subst (λ (b : Bool). IsLast b b (buffered_bytes reader) []) begins.open_is (subst (λ (l : List ℕ). IsLast first.is_open first.is_open l []) whole first.last) in
+    absurd (omega (arith, some, no_bytes (is_open reader) (lines_given reader) (buffered_bytes reader) fed last none))
+
+no_length : {A : Type 0} (items : List A) → length items ≡ 0 → items ≡ []
+no_length [] e = refl
+no_length (x ∷ items) e = absurd (omega (arith, e))
+
+module _ {A B : Type 0} (a_left : A → Option (List ℕ)) (a_failed a_end : A → Bool) (b_left : B → Option (List ℕ)) (b_failed b_end : B → Bool) (run : MaskRun A B) (at : Reached) (lines : LineReader A)
+    (second : MemberReader B Feature (Option Locus)) (mask : Masking) (out : Output) (s : GoesOnAt a_left a_failed a_end b_left b_failed b_end run at lines second mask out)
+    (first_lines last_lines : BufferedLines) (begins : BeginsLines (buffered_bytes lines) (lines_given lines) (is_open lines) first_lines) (texts : List TextLine) (parts : buffered_in lines ≡ texts ++ lines_in last_lines)
+    (numbered : AreNumbered (suc (lines_given lines)) texts) (first_beds last_beds : Batch) (lent : left first_beds ≡ second.buffered) (lent_at : (cursor_in first_beds).lines ≡ lines_given second.below)
+    (taken : List Feature) (gave : Passes first_beds taken last_beds) (new : LineReader A) (over : has_ended lines ≡ true → buffered_in lines ≡ []) (consumed : ConsumedLines) (are : TakenLines lines consumed (length texts)) (takes : TakesLines a_left a_end lines consumed new)
+    (second_now : MemberReader B Feature (Option Locus)) (has : HasTaken b_left b_failed b_end second taken second_now) where
+  abbrev EndsAt : Option Told → Output → Type 0
+  EndsAt fault grown = Ends a_left a_failed a_end b_left b_failed b_end run fault new second_now grown
+
+  -- the record ahead is the next one that is given
+  comes_next : ComesNext Passes line_in HasEnded s.stage.ahead first_beds
+  comes_next r later passes = next_is second second_now first_beds last_beds lent s.stage.ahead s.kept_ahead r later passes
+
+  kept_then : (ahead : Option Feature) → ComesAfter Passes line_in HasEnded s.stage.ahead first_beds taken ahead → (r : Feature) → ahead ≡ Some r → item_ahead second_now ≡ Some r
+  kept_then ahead comes = kept_after second second_now first_beds last_beds lent s.stage.ahead s.kept_ahead taken has.takes.buffered ahead comes
+
+  left_then : left last_beds ≡ second_now.buffered
+  left_then = cancel taken (left last_beds) second_now.buffered (sym gave.left_is ∙ lent ∙ has.takes.buffered)
+
+  -- after what was given, something else is wanted
+  module _ (masked : Masking) (now : Output) (comes : HasCome run.how run.full s.stage texts taken out masked now) (stops : StopsAt Passes line_in HasEnded masked.want last_lines last_beds) where
+    abbrev final : MaskStage
+    final = comes.stage
+
+    less_room : line_room new + length texts ≤ line_room lines
+    less_room = omega (arith, takes.taken_is, takes.shrinks, are.feeds)
+
+    same_by : texts ≡ [] → s.stage.waiting ≡ None → final.waiting ≡ None
+    same_by none waits =
+        let items : comes.goes_on.items ≡ [] = no_items texts comes.goes_on.items none comes.goes_on.say in
+        no_more_by s.stage.waiting final.waiting comes.goes_on.newly s.stage.written waits
+        (ap (λ (l : List SequenceLine). l ++ option_to_list final.waiting) (sym comes.goes_on.written_is) ∙ comes.goes_on.given_is ∙ ap (λ (l : List SequenceLine). given s.stage ++ l) items ∙ append-nil (given s.stage))
+      where
+        no_items : (texts : List TextLine) (items : List SequenceLine) → texts ≡ [] → SayEach run.full (reached s.stage) texts items → items ≡ []
+        no_items [] items e say = say
+        no_items (x ∷ xs) items e say = cc
+
+    stays : texts ≡ [] → (asks (is_some masked.waiting) masked.want < asks (is_some mask.waiting) mask.want) ⊎ ((masked.want ≡ mask.want) × (is_some masked.waiting ≡ is_some mask.waiting))
+    stays none =
+        stays_by s.stage.waiting final.waiting s.stage.lines_ended s.stage.bed_ended mask.want masked.want (is_some mask.waiting) (is_some masked.waiting) s.stands.want_is
+        (comes.stands.want_is ∙ ap (λ (l : Bool). want_of (is_some final.waiting) l final.bed_ended) comes.goes_on.lines_ended_is ∙ ap (λ (b : Bool). want_of (is_some final.waiting) s.stage.lines_ended b) comes.goes_on.bed_ended_is)
+        (waits_is s.stands) (waits_is comes.stands) (same_by none)
+
+    stuck_by : (want : MaskWant) → texts ≡ [] → taken ≡ [] → StopsAt Passes line_in HasEnded want last_lines last_beds → IsThere want lines second → ⊥
+    stuck_by WantLine none unread stops there = some_buffered lines first_lines begins (parts ∙ ap (λ (l : List TextLine). l ++ lines_in last_lines) none ∙ stops) there
+    stuck_by WantBed none unread stops there =
+        let gone : second.buffered ≡ [] = has.takes.buffered ∙ ap (λ (l : List Feature). l ++ second_now.buffered) unread ∙ sym left_then ∙ stops.none in
+        absurd (omega (arith, there, ap length gone))
+    stuck_by Nothing none unread stops there = there
+
+    stuck : texts ≡ [] → taken ≡ [] → masked.want ≡ mask.want → IsThere mask.want lines second → ⊥
+    stuck none unread same there = stuck_by mask.want none unread (subst (λ (w : MaskWant). StopsAt Passes line_in HasEnded w last_lines last_beds) same stops) there
+
+    few_by : (n : ℕ) → length texts + length taken ≡ n → (left_to_ask new second_now masked ≤ left_to_ask lines second mask) × (IsThere mask.want lines second → left_to_ask new second_now masked < left_to_ask lines second mask)
+    few_by zero e =
+        let none : texts ≡ [] = no_length texts (omega (arith, e)) in
+        let unread : taken ≡ [] = no_length taken (omega (arith, e)) in
+        elim (stays none) [
+          | inl less ↦ (omega (arith, less_room, has.takes.shrinks, less), λ there. omega (arith, less_room, has.takes.shrinks, less))
+          | inr same ↦ (
+            omega (arith, less_room, has.takes.shrinks, ap (λ w. asks (is_some masked.waiting) w) same.0, ap (λ b. asks b mask.want) same.1),
+            λ there. absurd (stuck none unread same.0 there),
+          )
+        ]
+    few_by (suc n) e =
+        let most = asks_most (is_some masked.waiting) masked.want in
+        let less : left_to_ask new second_now masked < left_to_ask lines second mask = omega (arith, less_room, has.takes.shrinks, most, e) in
+        (omega (arith, less), λ there. less)
+
+    gave_both : ComesAfter Passes line_in HasEnded s.stage.ahead first_beds taken final.ahead → {T : Type 0} (done : T) → Gives a_left a_failed a_end b_left b_failed b_end run lines second mask (Ok done) new second_now masked now
+    gave_both after done =
+        let few = few_by (length texts + length taken) refl in (
+          (
+            state_behind (sequence_format run.full) at comes.goes_on.items,
+            (come_on a_left a_failed a_end b_left b_failed b_end run at lines second mask out s new over consumed takes taken second_now has texts final comes.bytes comes.goes_on (kept_then final.ahead after) (lines_in last_lines) parts numbered are masked now comes.stands comes.puts).0,
+          ),
+          few.0,
+          few.1,
+        )
+
+  -- the last of what was given failed
+  module _ (fault : Told) (now : Output) (behind : FailsBehind Passes line_in HasEnded run.how run.full s.stage texts taken out first_beds fault last_beds now) where
+    abbrev comes : HasCome run.how run.full s.stage behind.before taken out behind.mask behind.through
+    comes = behind.comes
+
+    kept : (r : Feature) → comes.stage.ahead ≡ Some r → item_ahead second_now ≡ Some r
+    kept = kept_then comes.stage.ahead behind.ahead_is
+
+    -- lines that are settled weren't all written
+    module _ (final : MaskStage) (bytes : List ℕ) (goes : GoesOn run.how run.full comes.stage behind.failing [] final bytes) (ahead_is : final.ahead ≡ comes.stage.ahead) where
+      all_go : GoesOn run.how run.full s.stage texts taken final (comes.bytes ++ bytes)
+      all_go =
+          subst (λ (t : List TextLine). GoesOn run.how run.full s.stage t taken final (comes.bytes ++ bytes)) (sym behind.parts)
+          (subst (λ (l : List Feature). GoesOn run.how run.full s.stage (behind.before ++ behind.failing) l final (comes.bytes ++ bytes)) (append-nil taken)
+          (goes_more run.how run.full s.stage comes.stage final behind.before behind.failing taken [] comes.bytes bytes comes.goes_on goes))
+
+      kept_final : (r : Feature) → final.ahead ≡ Some r → item_ahead second_now ≡ Some r
+      kept_final r e = kept r (sym ahead_is ∙ e)
+
+      fails_copying : FailsToAdd behind.through bytes fault now → EndsAt (Some fault) now
+      fails_copying fails =
+          fails_write a_left a_failed a_end b_left b_failed b_end run at lines second mask out s new over consumed takes taken second_now has texts final (comes.bytes ++ bytes) all_go kept_final (lines_in last_lines) parts numbered are comes.bytes bytes refl
+          behind.through now fault comes.puts fails
+
+    -- a line failed
+    module _ (wants : want_at comes.stage ≡ WantLine) where
+      none_waits : comes.stage.waiting ≡ None
+      none_waits = (wants_line comes.stage.waiting comes.stage.lines_ended comes.stage.bed_ended wants).0
+
+      module _ (line : TextLine) (one : behind.failing ≡ line ∷ []) where
+        texts_are : texts ≡ behind.before ++ line ∷ []
+        texts_are = behind.parts ∙ ap (λ l. behind.before ++ l) one
+
+        refuses_one : RefusesLine run.how run.full comes.stage line behind.through fault now → EndsAt (Some fault) now
+        refuses_one refuses =
+            rw refuses.same_output
+            (refuses_line a_left a_failed a_end b_left b_failed b_end run at lines second mask out s new over consumed takes taken second_now has behind.before comes.stage comes.bytes comes.goes_on kept line (lines_in last_lines)
+            (parts ∙ ap (λ l. l ++ lines_in last_lines) texts_are) (subst (AreNumbered (suc (lines_given lines))) texts_are numbered) (subst (λ (l : List TextLine). TakenLines lines consumed (length l)) texts_are are)
+            none_waits refuses.kind refuses.says fault refuses.is behind.through comes.puts)
+
+        module _ (fails : FailsWithLine run.how run.full comes.stage line behind.through fault now) where
+          with_it : GoesOn run.how run.full comes.stage behind.failing [] (with_line comes.stage fails.item) (bytes_with run.how comes.stage fails.item)
+          with_it =
+              subst (λ (l : List TextLine). GoesOn run.how run.full comes.stage l [] (with_line comes.stage fails.item) (bytes_with run.how comes.stage fails.item)) (sym one)
+              (line_goes run.how run.full comes.stage line fails.item none_waits fails.says)
+
+          ahead_same : (b : Bool) → is_written_at_once comes.stage fails.item ≡ b → (with_line comes.stage fails.item).ahead ≡ comes.stage.ahead
+          ahead_same true e = rw e refl
+          ahead_same false e = rw e refl
+
+          same_ahead : (with_line comes.stage fails.item).ahead ≡ comes.stage.ahead
+          same_ahead = ahead_same (is_written_at_once comes.stage fails.item) refl
+
+          -- it waits if memory ran out
+          abbrev mid : Stage SequenceLine Feature
+          mid = record {
+            written = comes.stage.written;
+            waiting = Some fails.item;
+            taken = comes.stage.taken;
+            first_ended = comes.stage.lines_ended;
+            second_ended = comes.stage.bed_ended;
+          }
+
+          with_given : (b : Bool) → is_written_at_once comes.stage fails.item ≡ b → given (with_line comes.stage fails.item) ≡ comes.stage.written ++ fails.item ∷ []
+          with_given true e = rw e (ap (λ (o : Option SequenceLine). (comes.stage.written ++ fails.item ∷ []) ++ option_to_list o) none_waits ∙ append-nil (comes.stage.written ++ fails.item ∷ []))
+          with_given false e = rw e refl
+
+          whole : GoesOn run.how run.full s.stage texts taken (with_line comes.stage fails.item) (comes.bytes ++ bytes_with run.how comes.stage fails.item)
+          whole = all_go (with_line comes.stage fails.item) (bytes_with run.how comes.stage fails.item) with_it same_ahead
+
+          kept_whole : (r : Feature) → (with_line comes.stage fails.item).ahead ≡ Some r → item_ahead second_now ≡ Some r
+          kept_whole r e = kept r (sym same_ahead ∙ e)
+
+          lacks_one : fault ≡ no_memory → EndsAt (Some fault) behind.through
+          lacks_one is =
+              lacks_room a_left a_failed a_end b_left b_failed b_end run at lines second mask out s new over consumed takes taken second_now has texts (with_line comes.stage fails.item) (comes.bytes ++ bytes_with run.how comes.stage fails.item) whole kept_whole
+              (lines_in last_lines) parts numbered are mid comes.goes_on.newly
+              (record {
+                given_is = sym (with_given (is_written_at_once comes.stage fails.item) refl) ∙ whole.given_is ∙ ap (λ l. given s.stage ++ l) (sym (items_from (suc (lines_given lines)) whole.items));
+                written_is = comes.goes_on.written_is;
+                taken_is = comes.goes_on.taken_is ∙ ap (λ l. s.stage.taken ++ l) (sym (items_from (suc (lines_given second.below)) taken));
+                first_is = comes.goes_on.lines_ended_is;
+                second_is = comes.goes_on.bed_ended_is;
+              })
+              comes.bytes behind.through
+              (λ known. subst (λ (b : Bool). Settles (mask_making run.how) comes.stage.written (s.comes.bytes ++ comes.bytes) (comes.stage.taken ++ option_to_list (item_ahead second_now)) b) (sym comes.goes_on.bed_ended_is)
+              (settled a_left a_failed a_end b_left b_failed b_end run at lines second mask out s new over consumed takes taken second_now has behind.before comes.stage comes.bytes comes.goes_on kept known)) comes.puts fault is
+
+          fails_one : EndsAt (Some fault) now
+          fails_one = elim fails.fails [
+            | inl adds ↦ fails_copying (with_line comes.stage fails.item) (bytes_with run.how comes.stage fails.item) with_it same_ahead adds
+            | inr ran ↦ rw ran.1 (lacks_one ran.0)
+          ]
+
+      fails_lines : FailsAtLines run.how run.full comes.stage behind.failing behind.through fault now → EndsAt (Some fault) now
+      fails_lines (inl (line, one, inl refuses)) = refuses_one line one refuses
+      fails_lines (inl (line, one, inr fails)) = fails_one line one fails
+      fails_lines (inr copies) = fails_copying copies.stage copies.bytes copies.goes_on copies.ahead_is copies.fails
+
+    -- the record that comes next failed
+    module _ (r : Feature) (later : Batch) (none : behind.failing ≡ []) (wants : want_at comes.stage ≡ WantBed) (passes : Passes last_beds (r ∷ []) later) where
+      before_is : texts ≡ behind.before
+      before_is = behind.parts ∙ ap (λ l. behind.before ++ l) none ∙ append-nil behind.before
+
+      number_is : line_in later ≡ suc (lines_given second_now.below)
+      unfolding line_in cursor_in
+      number_is = omega (arith, passes.lines.given, gave.lines.given, lent_at, has.takes.given)
+
+      fails_next : FailsAtRecord run.how run.full comes.stage.waiting comes.stage r (line_in later) behind.through fault now → EndsAt (Some fault) now
+      fails_next fails =
+          let here =
+          come_on a_left a_failed a_end b_left b_failed b_end run at lines second mask out s new over consumed takes taken second_now has behind.before comes.stage comes.bytes comes.goes_on kept (lines_in last_lines)
+          (parts ∙ ap (λ l. l ++ lines_in last_lines) before_is) (subst (AreNumbered (suc (lines_given lines))) before_is numbered) (subst (λ (l : List TextLine). TakenLines lines consumed (length l)) before_is are) behind.mask behind.through comes.stands comes.puts in
+          fails_record a_left a_failed a_end b_left b_failed b_end run (state_behind (sequence_format run.full) at comes.goes_on.items) new second_now behind.mask behind.through here.0 (comes.stands.want_is ∙ wants) r (left later)
+          (sym left_then ∙ passes.left_is) fault now
+          (subst (λ (n : ℕ). FailsAtRecord run.how run.full here.0.stage.waiting here.0.stage r n behind.through fault now) number_is
+          (subst (λ (stage : MaskStage). FailsAtRecord run.how run.full stage.waiting stage r (line_in later) behind.through fault now) (sym here.1) fails))
+
+    fails_both : ((want_at comes.stage ≡ WantLine) × FailsAtLines run.how run.full comes.stage behind.failing behind.through fault now)
+        ⊎ ((r : Feature) × (later : Batch) × (behind.failing ≡ []) × (want_at comes.stage ≡ WantBed) × Passes last_beds (r ∷ []) later × FailsAtRecord run.how run.full comes.stage.waiting comes.stage r (line_in later) behind.through fault now)
+        → EndsAt (Some fault) now
+    fails_both (inl at_lines) = fails_lines at_lines.0 at_lines.1
+    fails_both (inr at_record) = fails_next at_record.0 at_record.1 at_record.2 at_record.3 at_record.4 at_record.5
+
+    failed_both : EndsAt (Some fault) now
+    failed_both = fails_both behind.fails
+
+  -- what the result says
+  pub gives_both : {T : Type 0} (answer : Result T Fault) (masked : Masking) (now : Output) → (ComesNext Passes line_in HasEnded s.stage.ahead first_beds → BothCome Passes line_in HasEnded run.how run.full s.stage texts taken out first_beds answer masked last_beds now)
+      → OnOk answer (StopsAt Passes line_in HasEnded masked.want last_lines last_beds) → Gives a_left a_failed a_end b_left b_failed b_end run lines second mask answer new second_now masked now
+  gives_both (Ok done) masked now come stops = let both = come comes_next in gave_both masked now both.0 stops both.2 done
+  gives_both (Err fault) masked now come stops = let both = come comes_next in failed_both (told fault) now both.1

@@ -1,0 +1,91 @@
+-- The facts of masking that its report and its reading rest on.
+use Rattle.std.proofs.Common.{◌≡◌, ℕ, suc, ◌<◌, ◌≤◌, Bool, true, false, not, List, [], ◌∷◌, ◌++◌, take, refl, sym, ap, ◌∙◌, subst, append-nil, append_assoc, inl, inr}
+use Rattle.std.specs.Prelude.{◌⊎◌, ◌||◌, All, IsTrue}
+use Rattle.std.specs.List.{list_all}
+use Rattle.std.proofs.lemmas.Bool.{false≢true, or_left, or_right}
+use Rattle.std.proofs.lemmas.List.Elements.{All-head, All-tail}
+use Rattle.std.proofs.lemmas.List.Folds.{list_any-append}
+use Rattle.bt_lines.specs.model.Lines.{TextLine, bytes_in}
+use Rattle.bt_bed.specs.model.feature.Feature.{Feature}
+use Rattle.bt_bed.specs.model.input.Good.{Member}
+use Rattle.bt_seq.specs.model.Masked.{decided}
+use Rattle.bt_seq.specs.model.Sequences.{SequenceLine}
+use Rattle.bt_seq.specs.declared.mask.mask_how.MaskHow.{MaskHow}
+use Rattle.bt_seq.proofs.lemmas.laws.MaskFrontLemmas.{decided_stays}
+use Rattle.bt_tool.specs.model.report.SweepReport.{bytes_up_to}
+use Rattle.bt_tool.specs.inside.feed.Feeding.{member_items}
+use Rattle.bt_tool.specs.model.report.MaskReport.{last_needed}
+use Rattle.bt_tool.specs.inside.pair.MaskLoop.{leaves_some, mask_making}
+use Rattle.bt_tool.proofs.lemmas.running.pair.PairLimits.{AreLimits}
+use Rattle.bt_tool.proofs.lemmas.running.pair.PairNear.{AreNeeded, least_by, not_all, skip_by, take_whole}
+
+-- a line that more records leave undecided, fewer do too
+undecided_by : (b c : Bool) → (b ≡ true → c ≡ true) → not c ≡ true → not b ≡ true
+undecided_by true c h e = absurd (false≢true (ap not (sym (h refl)) ∙ e))
+undecided_by false c h e = refl
+
+not_or : (a b c d : Bool) → (not a ≡ true → not c ≡ true) → (b ≡ true → d ≡ true) → (not a || b) ≡ true → (not c || d) ≡ true
+not_or true b c d h k e = or_right (not c) d (k e)
+not_or false b c d h k e = or_left (not c) d (h refl)
+
+-- so who leave one of some lines undecided, do so with fewer records
+fewer_leave : (lines : List SequenceLine) (records more : List Feature) → leaves_some lines (records ++ more) ≡ true → leaves_some lines records ≡ true
+fewer_leave [] records more e = e
+fewer_leave (line ∷ lines) records more e =
+    not_or (decided line (records ++ more)) (leaves_some lines (records ++ more)) (decided line records) (leaves_some lines records)
+    (undecided_by (decided line records) (decided line (records ++ more)) (decided_stays line records more)) (fewer_leave lines records more) e
+
+-- none of these is the last one needed
+needed_from : (lines : List SequenceLine) (before : List Feature) (past rest : List (Member Feature)) → (past ≡ []) ⊎ IsTrue (leaves_some lines (before ++ member_items past))
+    → last_needed lines before (past ++ rest) ≡ last_needed lines (before ++ member_items past) rest
+needed_from lines before [] rest h = ap (λ (l : List Feature). last_needed lines l rest) (sym (append-nil before))
+needed_from lines before (m ∷ ms) rest (inl none) = cc
+needed_from lines before (m ∷ ms) rest (inr some) =
+    let parts : (before ++ m.item ∷ []) ++ member_items ms ≡ before ++ m.item ∷ member_items ms = append_assoc before (m.item ∷ []) (member_items ms) in
+    let more : leaves_some lines ((before ++ m.item ∷ []) ++ member_items ms) ≡ true = ap (leaves_some lines) parts ∙ some in
+    skip_by (list_all (λ line. decided line (before ++ m.item ∷ [])) lines) m (last_needed lines (before ++ m.item ∷ []) (ms ++ rest))
+    (not_all (λ line. decided line (before ++ m.item ∷ [])) lines (fewer_leave lines (before ++ m.item ∷ []) (member_items ms) more))
+    ∙ needed_from lines (before ++ m.item ∷ []) ms rest (inr more)
+    ∙ ap (λ (l : List Feature). last_needed lines l rest) parts
+
+needed_behind : (lines : List SequenceLine) (past rest : List (Member Feature)) → (past ≡ []) ⊎ IsTrue (leaves_some lines (member_items past))
+    → last_needed lines [] (past ++ rest) ≡ last_needed lines (member_items past) rest
+needed_behind lines past rest h = needed_from lines [] past rest h
+
+-- who leave one of some lines undecided, leave one of more
+pub asked_of : (given extra : List SequenceLine) (records : List Feature) → IsTrue (leaves_some given records) → IsTrue (leaves_some (given ++ extra) records)
+asked_of given extra records some =
+    list_any-append (λ line. not (decided line records)) given extra ∙ or_left (leaves_some given records) (leaves_some extra records) some
+
+none_taken : (past : List (Member Feature)) → member_items past ≡ [] → past ≡ []
+none_taken [] e = refl
+none_taken (m ∷ ms) e = cc
+
+asked_by : (given extra : List SequenceLine) (past : List (Member Feature)) → (member_items past ≡ []) ⊎ IsTrue (leaves_some given (member_items past))
+    → (past ≡ []) ⊎ IsTrue (leaves_some (given ++ extra) (member_items past))
+asked_by given extra past (inl none) = inl (none_taken past none)
+asked_by given extra past (inr some) = inr (asked_of given extra (member_items past) some)
+
+-- the last one needed is after the first lines
+reaches_least : (on : List SequenceLine) (before : List Feature) (rest : List (Member Feature)) (lines : List TextLine) (count : ℕ) → All (λ m. count < m.line) rest
+    → bytes_in (take (suc count) lines) ≤ bytes_up_to lines (last_needed on before rest)
+reaches_least on before [] lines count high = take_whole (suc count) lines
+reaches_least on before (m ∷ ms) lines count high =
+    least_by (list_all (λ line. decided line (before ++ m.item ∷ [])) on) m (last_needed on (before ++ m.item ∷ []) ms) lines count (All-head (λ (m : Member Feature). count < m.line) m ms high)
+    (reaches_least on (before ++ m.item ∷ []) ms lines count (All-tail (λ (m : Member Feature). count < m.line) m ms high))
+
+-- what lines need lies after the records that were taken for them
+pub mask_needs : (how : MaskHow) → AreNeeded (mask_making how)
+mask_needs how given extra past rest lines count asked high =
+    subst (λ o. bytes_in (take (suc count) lines) ≤ bytes_up_to lines o) (sym (needed_behind (given ++ extra) past rest (asked_by given extra past asked)))
+    (reaches_least (given ++ extra) (member_items past) rest lines count high)
+
+-- masking has no limit on what is held
+pub mask_limits : (how : MaskHow) → AreLimits (mask_making how)
+mask_limits how = record {
+  more = λ given later past fits. tt;
+  whole = λ first past fault fits. refl;
+  keeps = λ first past ahead rest fault fits. (rest, refl);
+  done = λ first past ahead rest fault fits ordered all. refl;
+  ordered = λ first second ordered. ordered;
+}

@@ -1,0 +1,127 @@
+-- Lemmas on a round of masking in which an input is read on: a line or a record is buffered, or its end is given.
+use Rattle.std.proofs.Common.{◌≡◌, ℕ, ◌≤◌, ◌<◌, Bool, true, false, List, [], ◌∷◌, length, Option, None, Some, Ok, Err, refl, sym, ap, ◌∙◌, subst, arith, inl, inr}
+use Rattle.std.specs.Prelude.{◌⊎◌, is_some}
+use Rattle.bt_lines.specs.calls.Names.{told}
+use Rattle.bt_lines.specs.calls.Output.{Output}
+use Rattle.bt_lines.specs.calls.Reader.{GivesEnd, IsKept, MakesLine}
+use Rattle.bt_lines.specs.declared.fault.Fault.{Fault}
+use Rattle.bt_lines.specs.declared.reader.line_reader.LineReader.{LineReader}
+use Rattle.bt_bed.proofs.lemmas.read.good.CameLemmas.{same_room}
+use Rattle.bt_bed.specs.model.feature.Feature.{Feature}
+use Rattle.bt_bed.specs.model.input.Good.{Member}
+use Rattle.bt_bed.specs.model.order.Locus.{Locus}
+use Rattle.bt_bed.specs.calls.Reading.{MemberReader, first_from}
+use Rattle.bt_seq.specs.calls.MaskStage.{want_of, with_lines_ended}
+use Rattle.bt_seq.specs.calls.MaskStanding.{MaskStandsAt}
+use Rattle.bt_seq.specs.calls.MaskSteps.{EndsCheck, EndsRecords}
+use Rattle.bt_seq.specs.calls.MaskState.{Masking}
+use Rattle.bt_seq.specs.model.Sequences.{Reached, SequenceLine}
+use Rattle.bt_seq.specs.declared.mask.mask_want.MaskWant.{MaskWant}
+use Rattle.bt_seq.specs.declared.mask.mask_want.MaskWant.TheVariants.{Line as WantLine, Bed as WantBed, Nothing}
+use Rattle.bt_tool.specs.inside.pair.MaskLoop.{MaskRun}
+use Rattle.bt_tool.specs.inside.pair.MaskTurns.{Fills, GoesOnAt, IsThere, asks}
+use Rattle.bt_tool.specs.inside.feed.Passed.{IsFilled, IsOver}
+use Rattle.bt_tool.proofs.lemmas.running.members.LineMembers.{gives_over}
+use Rattle.bt_tool.proofs.lemmas.running.mask.MaskBoth.{asks_few, waits_is}
+use Rattle.bt_tool.proofs.lemmas.running.mask.MaskedLemmas.{ends_alone, ends_lines, ends_waiting, fails_at_end, line_made, lines_done, none_waits, record_made}
+
+-- what is wanted at some points
+at_line : (waits : Bool) (want : MaskWant) → want ≡ WantLine → asks waits want ≡ 2
+at_line waits want e = ap (asks waits) e
+
+at_waiting : (waits : Bool) (want : MaskWant) → waits ≡ true → want ≡ WantBed → asks waits want ≡ 3
+at_waiting waits want e w = ap (λ b. asks b want) e ∙ ap (asks true) w
+
+at_records : (waits : Bool) (want : MaskWant) → waits ≡ false → want ≡ WantBed → asks waits want ≡ 1
+at_records waits want e w = ap (λ b. asks b want) e ∙ ap (asks false) w
+
+at_last : (waits bed_ended : Bool) (want : MaskWant) → waits ≡ false → want ≡ want_of false true bed_ended → asks waits want ≤ 1
+at_last waits true want e w = omega (arith, ap (λ b. asks b want) e, ap (asks false) w)
+at_last waits false want e w = omega (arith, ap (λ b. asks b want) e, ap (asks false) w)
+
+at_end : (waits : Bool) (want : MaskWant) → want ≡ Nothing → asks waits want ≡ 0
+at_end waits want e = ap (asks waits) e
+
+some_there : (line : ℕ) (records : List Feature) (m : Member Feature) → first_from line records ≡ Some m → 0 < length records
+some_there line [] m e = absurd (let apart : None ≡ Some m = e in cc)
+some_there line (r ∷ records) m e = omega arith
+
+-- a round leaves less to be wanted
+pub turn_falls : (before filled after : ℕ) (There : Type 0) → (filled < before) ⊎ ((filled ≤ before) × There) → after ≤ filled → (There → after < filled) → after < before
+turn_falls before filled after There (inl less) few some = omega (arith, less, few)
+turn_falls before filled after There (inr at) few some = omega (arith, at.0, some at.1)
+
+module _ {A B : Type 0} (a_left : A → Option (List ℕ)) (a_failed a_end : A → Bool) (b_left : B → Option (List ℕ)) (b_failed b_end : B → Bool) (run : MaskRun A B) (at : Reached) (lines : LineReader A)
+    (second : MemberReader B Feature (Option Locus)) (mask : Masking) (out : Output) (s : GoesOnAt a_left a_failed a_end b_left b_failed b_end run at lines second mask out) where
+  module _ (wants : mask.want ≡ WantLine) (new : LineReader A) (kept : IsKept a_left a_end lines → IsKept a_left a_end new) where
+    pub line_filled : MakesLine a_left a_failed lines new → Fills a_left a_failed a_end b_left b_failed b_end run lines second mask (Ok true) new second mask out
+    line_filled makes = (
+      (at, line_made a_left a_failed a_end b_left b_failed b_end run at lines second mask out s wants new makes kept),
+      inr (
+        omega (arith, same_room a_left a_failed a_end lines new new makes),
+        subst (λ (w : MaskWant). IsThere w new second) (sym wants) makes.some,
+      ),
+    )
+
+    pub lines_ended : GivesEnd a_left a_failed lines new → (masked : Masking) → MaskStandsAt run.how run.full (with_lines_ended s.stage) masked → Fills a_left a_failed a_end b_left b_failed b_end run lines second mask (Ok true) new second masked out
+    lines_ended ends masked stands =
+        let over = gives_over a_left a_failed a_end run.full at lines new kept ends in
+        let none = ap is_some (none_waits a_left a_failed a_end b_left b_failed b_end run at lines second mask out s wants) in (
+          (at, ends_lines a_left a_failed a_end b_left b_failed b_end run at lines second mask out s wants new masked ends kept stands),
+          inl (omega (
+            arith,
+            over.ends.shrinks,
+            at_line (is_some mask.waiting) mask.want wants,
+            at_last (is_some masked.waiting) s.stage.bed_ended masked.want (waits_is stands ∙ none) (stands.want_is ∙ ap (λ w. want_of w true s.stage.bed_ended) none),
+          )),
+        )
+
+  module _ (wants : mask.want ≡ WantBed) (second_now : MemberReader B Feature (Option Locus)) where
+    pub record_filled : IsFilled b_left b_failed b_end second second_now → Fills a_left a_failed a_end b_left b_failed b_end run lines second mask (Ok true) lines second_now mask out
+    record_filled filled = (
+      (at, record_made a_left a_failed a_end b_left b_failed b_end run at lines second mask out s wants second_now filled),
+      inr (
+        omega (arith, filled.gives.shrinks),
+        subst (λ (w : MaskWant). IsThere w lines second_now) (sym wants) (some_there _ second_now.buffered filled.m filled.gives.ahead),
+      ),
+    )
+
+    module _ (over : IsOver b_left b_failed b_end second second_now) (masked : Masking) (now : Output) where
+      ends_by : (o : Option SequenceLine) → s.stage.waiting ≡ o → {T : Type 0} (done : T)
+          → ((waiting : SequenceLine) → s.stage.waiting ≡ Some waiting → EndsRecords run.how run.full s.stage waiting out (Ok done) masked now) → (s.stage.waiting ≡ None → EndsCheck run.how run.full s.stage out (Ok done) masked now)
+          → Fills a_left a_failed a_end b_left b_failed b_end run lines second mask (Ok true) lines second_now masked now
+      ends_by (Some a) e done waits none =
+          let ends = waits a e in (
+            (at, ends_waiting a_left a_failed a_end b_left b_failed b_end run at lines second mask out s wants second_now over a e masked now ends.0 ends.1),
+            inl (omega (
+              arith,
+              over.ends.shrinks,
+              at_waiting (is_some mask.waiting) mask.want (waits_is s.stands ∙ ap is_some e) wants,
+              asks_few (is_some masked.waiting) masked.want (waits_is ends.0),
+            )),
+          )
+      ends_by None e done waits none =
+          let ends = none e in
+          let finished = lines_done a_left a_failed a_end b_left b_failed b_end run at lines second mask out s wants e in (
+            (at, rw ends.1 (ends_alone a_left a_failed a_end b_left b_failed b_end run at lines second mask out s wants second_now over e masked ends.0)),
+            inl (omega (
+              arith,
+              over.ends.shrinks,
+              at_records (is_some mask.waiting) mask.want (waits_is s.stands ∙ ap is_some e) wants,
+              at_end (is_some masked.waiting) masked.want (ends.0.want_is ∙ ap (λ b. want_of false b true) finished),
+            )),
+          )
+
+      pub records_ended : {T : Type 0} (done : T) → ((waiting : SequenceLine) → s.stage.waiting ≡ Some waiting → EndsRecords run.how run.full s.stage waiting out (Ok done) masked now) → (s.stage.waiting ≡ None → EndsCheck run.how run.full s.stage out (Ok done) masked now)
+          → Fills a_left a_failed a_end b_left b_failed b_end run lines second mask (Ok true) lines second_now masked now
+      records_ended done waits none = ends_by s.stage.waiting refl done waits none
+
+      unended_by : (o : Option SequenceLine) → s.stage.waiting ≡ o → (fault : Fault)
+          → ((waiting : SequenceLine) → s.stage.waiting ≡ Some waiting → EndsRecords {A = Unit {0}} run.how run.full s.stage waiting out (Err fault) masked now) → (s.stage.waiting ≡ None → EndsCheck {A = Unit {0}} run.how run.full s.stage out (Err fault) masked now)
+          → Fills a_left a_failed a_end b_left b_failed b_end run lines second mask (Err fault) lines second_now masked now
+      unended_by (Some a) e fault waits none = fails_at_end a_left a_failed a_end b_left b_failed b_end run at lines second mask out s wants second_now over a e (told fault) now (waits a e).1
+      unended_by None e fault waits none = absurd (none e)
+
+      pub records_unended : (fault : Fault) → ((waiting : SequenceLine) → s.stage.waiting ≡ Some waiting → EndsRecords {A = Unit {0}} run.how run.full s.stage waiting out (Err fault) masked now)
+          → (s.stage.waiting ≡ None → EndsCheck {A = Unit {0}} run.how run.full s.stage out (Err fault) masked now) → Fills a_left a_failed a_end b_left b_failed b_end run lines second mask (Err fault) lines second_now masked now
+      records_unended fault waits none = unended_by s.stage.waiting refl fault waits none

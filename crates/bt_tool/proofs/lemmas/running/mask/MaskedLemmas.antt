@@ -1,0 +1,429 @@
+-- Lemmas on how far a masking engine over two readers has come: what it wants, and what its inputs still have then.
+use Rattle.std.proofs.Common.{◌≡◌, ℕ, suc, Bool, true, false, not, ◌||◌, List, [], ◌∷◌, ◌++◌, Option, None, Some, Err, refl, sym, ap, ◌∙◌, subst, append-nil, append_assoc, option_to_list, inl, inr}
+use Rattle.std.specs.Prelude.{◌⊎◌, IfSome, IsSome, IsTrue, is_some, option_map}
+use Rattle.std.proofs.lemmas.Bool.{false≢true, or_left, or_right}
+use Rattle.std.proofs.lemmas.List.{map-append}
+use Rattle.bt_lines.specs.model.Fault.{Told}
+use Rattle.bt_lines.specs.model.Lines.{TextLine}
+use Rattle.bt_lines.specs.calls.Output.{Output}
+use Rattle.bt_lines.specs.calls.Putting.{FailsToAdd, Grown}
+use Rattle.bt_lines.specs.calls.Reader.{GivesEnd, GivesFault, IsKept, MakesLine, lines_given}
+use Rattle.bt_lines.specs.declared.fault.Input.TheVariants.{Second}
+use Rattle.bt_lines.specs.declared.fault.Kind.{Kind}
+use Rattle.bt_lines.specs.declared.fault.Kind.TheVariants.{NoSequence}
+use Rattle.bt_lines.specs.declared.reader.line_reader.LineReader.{LineReader}
+use Rattle.bt_bed.specs.model.feature.Feature.{Feature}
+use Rattle.bt_bed.specs.model.input.Good.{Format, Good, Member}
+use Rattle.bt_bed.specs.model.input.GoodBlocks.{AreInBlocks}
+use Rattle.bt_bed.specs.model.feature.LineKind.{fault_at_line}
+use Rattle.bt_bed.specs.model.order.Locus.{Locus}
+use Rattle.bt_bed.specs.calls.Reading.{MemberReader, ahead_in, first_from, good_coming, state_behind}
+use Rattle.bt_seq.proofs.lemmas.laws.MaskFrontLemmas.{decided_stays}
+use Rattle.bt_seq.specs.calls.MaskAdvance.{FailsAtRecord}
+use Rattle.bt_seq.specs.calls.MaskFronts.{LineBefore}
+use Rattle.bt_seq.proofs.lemmas.laws.MaskMetLemmas.{first_is_told, lack_none}
+use Rattle.bt_seq.specs.calls.MaskStage.{MaskStage, given, line_given_last, reached, reached_by, want_of, with_bed_ended, with_lines_ended}
+use Rattle.bt_seq.specs.calls.MaskStanding.{IsOpen, MaskStandsAt}
+use Rattle.bt_seq.specs.model.Masked.{decided, is_unnamed, masked_line, names_of, no_sequence}
+use Rattle.bt_seq.specs.calls.MaskState.{Masking}
+use Rattle.bt_seq.specs.model.Owners.{left_after}
+use Rattle.bt_seq.specs.model.Sequences.{Reached, SequenceLine, line_says, sequence_format}
+use Rattle.bt_seq.specs.declared.mask.mask_want.MaskWant.TheVariants.{Line as WantLine, Bed as WantBed, Nothing}
+use Rattle.bt_tool.specs.inside.feed.Feeding.{ComeFirst, member_items}
+use Rattle.bt_tool.specs.model.report.MaskReport.{is_fasta_kind, is_mask_kind}
+use Rattle.bt_tool.specs.inside.pair.MaskLoop.{AreOwned, MaskRun, leaves_some, line_members, mask_making, mask_pair, nothing_reached, stage_of}
+use Rattle.bt_tool.specs.inside.pair.MaskTurns.{Ends, GoesOnAt}
+use Rattle.bt_tool.specs.inside.pair.Pair.{Making, Pair, Settles, item_ahead}
+use Rattle.bt_tool.specs.inside.pair.PairEnds.{AsksFor, IsKnown}
+use Rattle.bt_tool.specs.inside.feed.Passed.{IsFilled, IsOver, IsStopped}
+use Rattle.bt_tool.proofs.lemmas.running.members.LineMembers.{gives_over, gives_unread, passes_made, wrong_is_text}
+use Rattle.bt_tool.proofs.lemmas.running.mask.MaskGiven.{ahead_first, first_of}
+use Rattle.bt_tool.proofs.lemmas.running.mask.MaskKinds.{says_of_blocks}
+use Rattle.bt_tool.proofs.lemmas.running.members.MemberLemmas.{read_here}
+use Rattle.bt_tool.proofs.lemmas.running.pair.PairSettles.{settles_with}
+use Rattle.bt_tool.proofs.lemmas.running.pair.PairStops as stop
+use Rattle.bt_tool.proofs.lemmas.running.pair.PairTurns as turned
+
+-- what is wanted shows what waits
+never_line : (waits lines_ended bed_ended : Bool) → want_of waits lines_ended bed_ended ≡ WantLine → (waits ≡ false) × (lines_ended ≡ false)
+never_line true l b e = absurd (let apart : WantBed ≡ WantLine = e in cc)
+never_line false false b e = (refl, refl)
+never_line false true false e = absurd (let apart : WantBed ≡ WantLine = e in cc)
+never_line false true true e = absurd (let apart : Nothing ≡ WantLine = e in cc)
+
+pub bed_goes : (waits lines_ended bed_ended : Bool) → want_of waits lines_ended bed_ended ≡ WantBed → waits ≡ false → (lines_ended ≡ true) × (bed_ended ≡ false)
+bed_goes true l b e w = absurd (false≢true (sym w))
+bed_goes false false b e w = absurd (let apart : WantLine ≡ WantBed = e in cc)
+bed_goes false true true e w = absurd (let apart : Nothing ≡ WantBed = e in cc)
+bed_goes false true false e w = (refl, refl)
+
+pub all_ended : (waits lines_ended bed_ended : Bool) → want_of waits lines_ended bed_ended ≡ Nothing → (waits ≡ false) × (lines_ended ≡ true) × (bed_ended ≡ true)
+all_ended true l b e = absurd (let apart : WantBed ≡ Nothing = e in cc)
+all_ended false false b e = absurd (let apart : WantLine ≡ Nothing = e in cc)
+all_ended false true false e = absurd (let apart : WantBed ≡ Nothing = e in cc)
+all_ended false true true e = (refl, refl, refl)
+
+none_by : (o : Option SequenceLine) → is_some o ≡ false → o ≡ None
+none_by None e = refl
+none_by (Some x) e = absurd (false≢true (sym e))
+
+-- a line after the first header isn't decided if there is no record
+pub named_open : (line : SequenceLine) → is_unnamed line.names ≡ false → decided line [] ≡ false
+named_open line e = ap (λ b. b || false) e
+
+-- how far the lines given have come is what is known after them
+reached_said : (full : Bool) (line : SequenceLine) (lines : List SequenceLine) (state : Reached)
+    → state_behind (sequence_format full) state (line ∷ lines) ≡ reached_by (line_given_last (line ∷ lines))
+reached_said full line [] state = refl
+reached_said full line (next ∷ lines) state = reached_said full next lines ((sequence_format full).after state line)
+
+pub reached_behind : (full : Bool) (lines : List SequenceLine) → state_behind (sequence_format full) (record { names = []; bases = 0 }) lines ≡ reached_by (line_given_last lines)
+reached_behind full [] = refl
+reached_behind full (line ∷ lines) = reached_said full line lines (record { names = []; bases = 0 })
+
+-- the names of the sequences of lines are those that the last line has come to
+names_reached : (lines : List SequenceLine) → names_of lines ≡ (reached_by (line_given_last lines)).names
+names_reached [] = refl
+names_reached (line ∷ []) = refl
+names_reached (line ∷ next ∷ lines) = names_reached (next ∷ lines)
+
+-- the last line is one of them
+last_leaves : (lines : List SequenceLine) (line : SequenceLine) (records : List Feature) → line_given_last lines ≡ Some line → decided line records ≡ false → IsTrue (leaves_some lines records)
+last_leaves [] line records e open_at = cc
+last_leaves (x ∷ []) line records e open_at =
+    let same : x ≡ line = cc in
+    or_left (not (decided x records)) false (ap (λ (l : SequenceLine). not (decided l records)) same ∙ ap not open_at)
+last_leaves (x ∷ next ∷ lines) line records e open_at = or_right (not (decided x records)) (leaves_some (next ∷ lines) records) (last_leaves (next ∷ lines) line records e open_at)
+
+open_leaves : (lines : List SequenceLine) (last : Option SequenceLine) (records : List Feature) → line_given_last lines ≡ last → IsOpen last records → (records ≡ []) ⊎ IsTrue (leaves_some lines records)
+open_leaves lines None records e is_open = inl is_open
+open_leaves lines (Some line) records e (inl none) = inl none
+open_leaves lines (Some line) records e (inr open_at) = inr (last_leaves lines line records e open_at)
+
+-- the first record without a sequence
+lacks_told : (names : List (List ℕ)) (members past : List (Member Feature)) (m : Member Feature) → is_some (left_after names (member_items past)) ≡ true → left_after names (member_items (past ++ m ∷ [])) ≡ None
+    → (rest : List (Member Feature)) × (members ≡ (past ++ m ∷ []) ++ rest) → no_sequence names members ≡ Some (fault_at_line Second m.line NoSequence)
+lacks_told names members past m owned unowned parts =
+    ap (no_sequence names) (parts.1 ∙ append_assoc past (m ∷ []) parts.0) ∙ first_is_told names past parts.0 m owned unowned
+
+told_by : (names : List (List ℕ)) (good : Option (Good Feature)) (past : List (Member Feature)) (m : Member Feature) (fault : Told) → fault ≡ fault_at_line Second m.line NoSequence
+    → is_some (left_after names (member_items past)) ≡ true → left_after names (member_items (past ++ m ∷ [])) ≡ None
+    → IfSome good (λ good. (rest : List (Member Feature)) × (good.members ≡ (past ++ m ∷ []) ++ rest)) → IfSome good (λ good. no_sequence names good.members ≡ Some fault)
+told_by names None past m fault is owned unowned begins = tt
+told_by names (Some good) past m fault is owned unowned begins = lacks_told names good.members past m owned unowned begins ∙ ap Some (sym is)
+
+-- a record that was ahead still is
+kept_filled : {S State : Type 0} (left : S → Option (List ℕ)) (failed end : S → Bool) (now new : MemberReader S Feature State) (r : Feature) → item_ahead now ≡ Some r → IsFilled left failed end now new → item_ahead new ≡ Some r
+kept_filled {S} {State} left failed end now new r was filled = ap (λ (x : MemberReader S Feature State). item_ahead x) (filled.gives.again (some_ahead (ahead_in now) r was)) ∙ was
+  where
+    some_ahead : (o : Option (Member Feature)) (r : Feature) → option_map (λ m. m.item) o ≡ Some r → IsSome o
+    some_ahead None r e = cc
+    some_ahead (Some m) r e = refl
+
+-- none is if nothing is buffered
+none_ahead : {S State : Type 0} (now : MemberReader S Feature State) (r : Feature) → now.buffered ≡ [] → item_ahead now ≡ Some r → ⊥
+none_ahead now r none was = let apart : None ≡ Some r = sym (ahead_first now ∙ ap first_of none) ∙ was in cc
+
+module _ {A B : Type 0} (a_left : A → Option (List ℕ)) (a_failed a_end : A → Bool) (b_left : B → Option (List ℕ)) (b_failed b_end : B → Bool) (run : MaskRun A B) where
+  abbrev pub making : Making SequenceLine Feature
+  making = mask_making run.how
+
+  abbrev pub pair : Pair A B SequenceLine Feature Reached (Option Locus)
+  pair = mask_pair a_left a_failed a_end b_left b_failed b_end run.how run.full (line_members run.full nothing_reached run.lines) run.records
+
+  abbrev Going : Reached → LineReader A → MemberReader B Feature (Option Locus) → Masking → Output → Type 0
+  Going = GoesOnAt a_left a_failed a_end b_left b_failed b_end run
+
+  abbrev EndsAt : Option Told → LineReader A → MemberReader B Feature (Option Locus) → Output → Type 0
+  EndsAt = Ends a_left a_failed a_end b_left b_failed b_end run
+
+  wrong_first : (state : Reached) (line : TextLine) (kind : Kind) → line_says run.full state line ≡ Err kind → is_fasta_kind kind ≡ true
+  wrong_first state line kind e = subst (λ (k : Kind). is_fasta_kind k ≡ true) (sym (wrong_is_text run.full state line kind e)) refl
+
+  wrong_second : (state : Option Locus) (line : TextLine) (kind : Kind) → run.records.format.says state line ≡ Err kind → is_mask_kind kind ≡ true
+  wrong_second state line kind e = says_of_blocks state line.text kind (ap (λ (f : Format Feature (Option Locus)). f.says state line) (sym run.blocks) ∙ e)
+
+  module _ (at : Reached) (lines : LineReader A) (second : MemberReader B Feature (Option Locus)) (mask : Masking) (grown : Output) (s : Going at lines second mask grown) where
+    abbrev stage : MaskStage
+    stage = s.stage
+
+    abbrev pub first : MemberReader A SequenceLine Reached
+    first = line_members run.full at lines
+
+    -- the lines given have come as far as is known
+    pub come_so_far : at ≡ reached stage
+    come_so_far =
+        s.comes.first_passes.state ∙ reached_behind run.full (member_items s.past_first) ∙ ap (λ (l : List SequenceLine). reached_by (line_given_last l)) (sym s.comes.all_given)
+
+    pub asked : stage.lines_ended ≡ false → making.Asks (given stage) stage.taken
+    asked going = open_leaves (given stage) (line_given_last (given stage)) stage.taken refl (s.stands.is_open going)
+
+    pub asks_for : stage.lines_ended ≡ false → AsksFor making pair run.out s.past_first second
+    asks_for going = stop.asks_now making pair run.out (stage_of stage) s.past_first s.past_second first second grown s.comes (asked going)
+
+    -- if no line waits, the block of each record taken belongs to a sequence of the lines
+    module _ (none : stage.waiting ≡ None) where
+      pub names_alone : names_of stage.written ≡ (reached stage).names
+      names_alone =
+          names_reached stage.written
+          ∙ ap (λ (l : List SequenceLine). (reached_by (line_given_last l)).names) (sym (ap (λ (o : Option SequenceLine). stage.written ++ option_to_list o) none ∙ append-nil stage.written))
+
+      pub owned_alone : AreOwned stage.written (member_items s.past_second)
+      owned_alone =
+          rw (← s.comes.all_taken) (subst (λ (names : List (List ℕ)). is_some (left_after names stage.taken) ≡ true) (sym names_alone) s.stands.owned)
+
+      pub none_lacks : making.last stage.written s.past_second ≡ None
+      none_lacks = lack_none (names_of stage.written) s.past_second owned_alone
+
+    -- a line that waits isn't decided by what was taken
+    undecided_by : (line : SequenceLine) → is_unnamed line.names ≡ false → (stage.taken ≡ []) ⊎ (decided line stage.taken ≡ false) → decided line stage.taken ≡ false
+    undecided_by line named (inl none) = ap (decided line) none ∙ named_open line named
+    undecided_by line named (inr is) = is
+
+    last_waits : (written : List SequenceLine) (line : SequenceLine) → line_given_last (written ++ line ∷ []) ≡ Some line
+    last_waits [] line = refl
+    last_waits (x ∷ []) line = refl
+    last_waits (x ∷ y ∷ written) line = last_waits (y ∷ written) line
+
+    pub undecided : (line : SequenceLine) → stage.waiting ≡ Some line → decided line stage.taken ≡ false
+    undecided line waits =
+        let w = s.stands.waits line waits in
+        let last : line_given_last (given stage) ≡ Some line = ap (λ (o : Option SequenceLine). line_given_last (stage.written ++ option_to_list o)) waits ∙ last_waits stage.written line in
+        undecided_by line w.named (subst (λ (o : Option SequenceLine). IsOpen o stage.taken) last (s.stands.is_open w.lines))
+
+    -- a line is wanted
+    module _ (wants : mask.want ≡ WantLine) where
+      no_line : (is_some stage.waiting ≡ false) × (stage.lines_ended ≡ false)
+      no_line = never_line (is_some stage.waiting) stage.lines_ended stage.bed_ended (sym s.stands.want_is ∙ wants)
+
+      pub none_waits : stage.waiting ≡ None
+      none_waits = none_by stage.waiting no_line.0
+
+      all_done : member_items s.past_first ≡ stage.written
+      all_done = sym s.comes.all_given ∙ ap (λ (o : Option SequenceLine). stage.written ++ option_to_list o) none_waits ∙ append-nil stage.written
+
+      -- one is buffered now
+      pub line_made : (new : LineReader A) → MakesLine a_left a_failed lines new → (IsKept a_left a_end lines → IsKept a_left a_end new) → Going at new second mask grown
+      line_made new makes kept =
+          let c = s.comes in
+          let passes = passes_made a_left a_failed a_end run.full (line_members run.full nothing_reached run.lines) s.past_first at lines new c.first_passes makes kept in
+          record {
+            past_first = s.past_first;
+            past_second = s.past_second;
+            stage = stage;
+            stands = s.stands;
+            comes = record {
+              first_passes = passes;
+              second_passes = c.second_passes;
+              all_given = c.all_given;
+              all_taken = c.all_taken;
+              bytes = c.bytes;
+              settles = c.settles;
+              first_all = λ e. absurd (false≢true (sym no_line.1 ∙ e));
+              second_all = c.second_all;
+              puts = c.puts;
+              works = c.works;
+              block = c.block;
+              grows = c.grows;
+              near_first = (
+                s.past_first,
+                all_done,
+                read_here a_left a_failed a_end (line_members run.full nothing_reached run.lines) s.past_first (line_members run.full at new) passes,
+                λ e. absurd (false≢true (sym no_line.1 ∙ e)),
+              );
+            };
+            kept_ahead = s.kept_ahead;
+            lines_over = λ e. absurd (false≢true (sym no_line.1 ∙ e));
+          }
+
+      -- the end of the lines was given
+      pub ends_lines : (new : LineReader A) (masked : Masking) → GivesEnd a_left a_failed lines new → (IsKept a_left a_end lines → IsKept a_left a_end new) → MaskStandsAt run.how run.full (with_lines_ended stage) masked → Going at new second masked grown
+      ends_lines new masked ends kept stands =
+          let over = gives_over a_left a_failed a_end run.full at lines new kept ends in
+          record {
+            past_first = s.past_first;
+            past_second = s.past_second;
+            stage = with_lines_ended stage;
+            stands = stands;
+            comes = turned.ends_first making pair run.out (stage_of stage) s.past_first s.past_second first second grown s.comes none_waits no_line.1 (line_members run.full at new) over;
+            kept_ahead = s.kept_ahead;
+            lines_over = λ e. over.ends.ends;
+          }
+
+      -- a line couldn't be read
+      pub stops_lines : (fault : Told) (new : LineReader A) → GivesFault a_left a_failed lines fault new → (IsKept a_left a_end lines → IsKept a_left a_end new) → EndsAt (Some fault) new second grown
+      stops_lines fault new gives kept = (
+        line_members run.full at new,
+        refl,
+        stop.stops_first making pair run.out (stage_of stage) s.past_first s.past_second first second grown s.comes asks_for (λ known. tt) wrong_first none_waits no_line.1 fault (line_members run.full at new)
+            (gives_unread a_left a_failed a_end run.full at lines new kept fault gives),
+        λ input line e. e,
+      )
+
+    -- a record is wanted, only while they may come
+    module _ (wants : mask.want ≡ WantBed) where
+      want_bed : want_of (is_some stage.waiting) stage.lines_ended stage.bed_ended ≡ WantBed
+      want_bed = sym s.stands.want_is ∙ wants
+
+      goes_by : (o : Option SequenceLine) → stage.waiting ≡ o → stage.bed_ended ≡ false
+      goes_by None e = (bed_goes (is_some stage.waiting) stage.lines_ended stage.bed_ended want_bed (ap is_some e)).1
+      goes_by (Some line) e = (s.stands.waits line e).bed
+
+      pub goes : stage.bed_ended ≡ false
+      goes = goes_by stage.waiting refl
+
+      pub lines_done : stage.waiting ≡ None → stage.lines_ended ≡ true
+      lines_done e = (bed_goes (is_some stage.waiting) stage.lines_ended stage.bed_ended want_bed (ap is_some e)).0
+
+      -- one is buffered now
+      pub record_made : (second_now : MemberReader B Feature (Option Locus)) → IsFilled b_left b_failed b_end second second_now → Going at lines second_now mask grown
+      record_made second_now filled = record {
+        past_first = s.past_first;
+        past_second = s.past_second;
+        stage = stage;
+        stands = s.stands;
+        comes = turned.fills_second making pair run.out (stage_of stage) s.past_first s.past_second first second grown s.comes goes second_now filled;
+        kept_ahead = λ r e. kept_filled b_left b_failed b_end second second_now r (s.kept_ahead r e) filled;
+        lines_over = s.lines_over;
+      }
+
+      -- the end of the records was given
+      module _ (second_now : MemberReader B Feature (Option Locus)) (over : IsOver b_left b_failed b_end second second_now) where
+        -- and the waiting line was written
+        pub ends_waiting : (a : SequenceLine) → stage.waiting ≡ Some a → (masked : Masking) (now : Output) → MaskStandsAt run.how run.full (with_bed_ended stage) masked → Grown grown (masked_line run.how stage.taken a) now
+            → Going at lines second_now masked now
+        ends_waiting a waits masked now stands adds = record {
+          past_first = s.past_first;
+          past_second = s.past_second;
+          stage = with_bed_ended stage;
+          stands = stands;
+          comes = turned.ends_waiting making pair run.out (stage_of stage) s.past_first s.past_second first second grown s.comes goes second_now over a waits now adds;
+          kept_ahead = λ r e. absurd (none_ahead second r over.ends.was_none (s.kept_ahead r e));
+          lines_over = s.lines_over;
+        }
+
+        -- or none waited
+        pub ends_alone : stage.waiting ≡ None → (masked : Masking) → MaskStandsAt run.how run.full (with_bed_ended stage) masked → Going at lines second_now masked grown
+        ends_alone none masked stands = record {
+          past_first = s.past_first;
+          past_second = s.past_second;
+          stage = with_bed_ended stage;
+          stands = stands;
+          comes = turned.ends_alone making pair run.out (stage_of stage) s.past_first s.past_second first second grown s.comes goes second_now over none;
+          kept_ahead = λ r e. absurd (none_ahead second r over.ends.was_none (s.kept_ahead r e));
+          lines_over = s.lines_over;
+        }
+
+        -- the waiting line wasn't written
+        pub fails_at_end : (a : SequenceLine) → stage.waiting ≡ Some a → (fault : Told) (now : Output) → FailsToAdd grown (masked_line run.how stage.taken a) fault now → EndsAt (Some fault) lines second_now now
+        fails_at_end a waits fault now fails = (
+          first,
+          refl,
+          stop.fails_at_end making pair run.out (stage_of stage) s.past_first s.past_second first second grown s.comes asks_for (λ known. tt) a waits (asked (s.stands.waits a waits).lines) goes fault second_now now over fails,
+          λ input line e. e,
+        )
+
+      -- the second input couldn't give a record
+      stops_by : (o : Option SequenceLine) → stage.waiting ≡ o → (fault : Told) (second_now : MemberReader B Feature (Option Locus)) → IsStopped b_left b_failed b_end second fault second_now → EndsAt (Some fault) lines second_now grown
+      stops_by None e fault second_now stopped = (
+        first,
+        refl,
+        stop.stops_behind making pair run.out (stage_of stage) s.past_first s.past_second first second grown s.comes asks_for (λ known. tt) (lines_done e) wrong_second goes (none_lacks e) fault second_now stopped,
+        λ input line e. e,
+      )
+      stops_by (Some a) e fault second_now stopped = (
+        first,
+        refl,
+        stop.stops_second making pair run.out (stage_of stage) s.past_first s.past_second first second grown s.comes asks_for (λ known. tt) a e wrong_second (asked (s.stands.waits a e).lines) goes (λ known none. undecided a e) fault second_now stopped,
+        λ input line e. e,
+      )
+
+      pub stops_records : (fault : Told) (second_now : MemberReader B Feature (Option Locus)) → IsStopped b_left b_failed b_end second fault second_now → EndsAt (Some fault) lines second_now grown
+      stops_records fault second_now stopped = stops_by stage.waiting refl fault second_now stopped
+
+    -- a record is buffered, and failed
+    module _ (wants : mask.want ≡ WantBed) (r : Feature) (behind : List Feature) (buffered : second.buffered ≡ r ∷ behind) where
+      abbrev m : Member Feature
+      m = record { line = suc (lines_given second.below); item = r }
+
+      next : item_ahead second ≡ Some r
+      next = ahead_first second ∙ ap first_of buffered
+
+      m_ahead : ahead_in second ≡ Some m
+      m_ahead = ap (first_from (suc (lines_given second.below))) buffered
+
+      seen : stage.taken ++ option_to_list (item_ahead second) ≡ stage.taken ++ r ∷ []
+      seen = ap (λ (o : Option Feature). stage.taken ++ option_to_list o) next
+
+      -- if it decides the waiting line, that stays as it is
+      settles_decided : (a : SequenceLine) → decided a (stage.taken ++ r ∷ []) ≡ true → LineBefore run.how a stage.taken r → IsKnown pair
+          → Settles making (stage.written ++ a ∷ []) (s.comes.bytes ++ masked_line run.how stage.taken a) (stage.taken ++ option_to_list (item_ahead second)) stage.bed_ended
+      settles_decided a decides settled known =
+          settles_with making stage.written s.comes.bytes (stage.taken ++ option_to_list (item_ahead second)) stage.bed_ended a (masked_line run.how stage.taken a) (s.comes.settles known)
+          (λ rest ordered.
+          let front : (stage.taken ++ option_to_list (item_ahead second)) ++ rest ≡ (stage.taken ++ r ∷ []) ++ rest = ap (λ (l : List Feature). l ++ rest) seen in
+          let parts : (stage.taken ++ option_to_list (item_ahead second)) ++ rest ≡ stage.taken ++ r ∷ rest = front ∙ append_assoc stage.taken (r ∷ []) rest in (
+            ap (decided a) front ∙ decided_stays a (stage.taken ++ r ∷ []) rest decides,
+            ap (λ (l : List Feature). masked_line run.how l a) parts ∙ settled rest (subst AreInBlocks parts ordered),
+          ))
+
+      unowned_by : (none : stage.waiting ≡ None) → left_after (reached stage).names (stage.taken ++ r ∷ []) ≡ None → left_after (names_of stage.written) (member_items (s.past_second ++ m ∷ [])) ≡ None
+      unowned_by none e =
+          ap (λ (l : List (List ℕ)). left_after l (member_items (s.past_second ++ m ∷ []))) (names_alone none)
+          ∙ ap (left_after (reached stage).names) (map-append (λ (x : Member Feature). x.item) s.past_second (m ∷ []) ∙ ap (λ (l : List Feature). l ++ r ∷ []) (sym s.comes.all_taken)) ∙ e
+
+      begins_by : (old now : Option (Good Feature)) → (IsSome old → IfSome now (λ good. (rest : List (Member Feature)) × (good.members ≡ m ∷ rest))) → ComeFirst old s.past_second now
+          → IfSome old (λ good. (rest : List (Member Feature)) × (good.members ≡ (s.past_second ++ m ∷ []) ++ rest))
+      begins_by None now first come = tt
+      begins_by (Some old) None first come = absurd come
+      begins_by (Some old) (Some now) first come =
+          let f = first refl in
+          (f.0, come.0 ∙ ap (λ l. s.past_second ++ l) f.1 ∙ sym (append_assoc s.past_second (m ∷ []) f.0))
+
+      fails_by : (o : Option SequenceLine) → stage.waiting ≡ o → (fault : Told) (now : Output) → FailsAtRecord run.how run.full o stage r (suc (lines_given second.below)) grown fault now → EndsAt (Some fault) lines second now
+      fails_by None none fault now lacks = (
+        first,
+        refl,
+        rw lacks.same_output
+            (stop.ends_rest making pair run.out (stage_of stage) s.past_first s.past_second first second grown s.comes asks_for (λ known. tt) (lines_done wants none) second
+            (λ some. absurd (false≢true (ap is_some (sym s.comes.second_passes.going) ∙ some))) s.comes.second_passes.bytes s.past_second (Some fault)
+            (inr (inr (
+              fault,
+              refl,
+              record {
+                line = m.line;
+                kind = NoSequence;
+                is = lacks.is;
+                of_kind = refl;
+                told = told_by (names_of stage.written) (good_coming b_left run.records) s.past_second m fault lacks.is (owned_alone none) (unowned_by none lacks.unowned)
+                    (begins_by (good_coming b_left run.records) (good_coming b_left second) (λ known. s.comes.second_passes.ahead known m m_ahead) s.comes.second_passes.come);
+                serves = record { served = s.comes.second_passes.served; within = s.comes.second_passes.kept.within s.comes.second_passes.clear };
+              },
+            )))),
+        λ input line e. e,
+      )
+      fails_by (Some a) waits fault now (inl writes) = (
+        first,
+        refl,
+        stop.fails_waiting making pair run.out (stage_of stage) s.past_first s.past_second first second grown s.comes asks_for (λ known. tt) a waits (masked_line run.how stage.taken a) (settles_decided a writes.decides writes.settled) fault now writes.fails,
+        λ input line e. e,
+      )
+      fails_by (Some a) waits fault now (inr holds) = (
+        first,
+        refl,
+        rw holds.same_output (stop.lacks_memory making pair run.out (stage_of stage) s.past_first s.past_second first second grown s.comes asks_for (λ known. tt) fault holds.is),
+        λ input line e. e,
+      )
+
+      pub fails_record : (fault : Told) (now : Output) → FailsAtRecord run.how run.full stage.waiting stage r (suc (lines_given second.below)) grown fault now → EndsAt (Some fault) lines second now
+      fails_record fault now fails = fails_by stage.waiting refl fault now fails
+
+    -- both inputs have ended
+    pub finishes : mask.want ≡ Nothing → EndsAt None lines second grown
+    finishes wants =
+        let ends = all_ended (is_some stage.waiting) stage.lines_ended stage.bed_ended (sym s.stands.want_is ∙ wants) in (
+          first,
+          refl,
+          stop.ends_all making pair run.out (stage_of stage) s.past_first s.past_second first second grown s.comes asks_for (λ known. tt) ends.1 ends.2 (none_lacks (none_by stage.waiting ends.0)),
+          λ input line e. e,
+        )

@@ -1,0 +1,11 @@
+-- Lemmas on running, members.
+pub mod BlockMembers
+pub mod CameMembers
+pub mod CursorLemmas
+pub mod HandedLemmas
+pub mod HandedReader
+pub mod LineMembers
+pub mod LinePassing
+pub mod MemberLemmas
+pub mod PassedLemmas
+pub mod SeenLemmas

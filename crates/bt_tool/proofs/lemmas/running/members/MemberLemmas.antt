@@ -1,0 +1,488 @@
+-- Lemmas on what a reader of members has consumed.
+use Rattle.std.proofs.Common.{◌≡◌, ℕ, suc, ◌+◌, ◌-◌, ◌≤◌, ◌<◌, Bool, true, false, List, [], ◌∷◌, ◌++◌, length, take, drop, Option, None, Some, Err, refl, sym, ap, ◌∙◌, subst, append_assoc, append-nil, arith, inl, inr}
+use Rattle.std.specs.Prelude.{◌⊎◌, All, IfSome, IsSome, option_map}
+use Rattle.std.proofs.lemmas.List.{drop-drop, length-append, length-drop, map-append, take-append-drop}
+use Rattle.std.proofs.lemmas.List.Elements.{All-append, All-cons, All-head, All-nil, All-tail}
+use Rattle.bt_lines.proofs.lemmas.reader.block.ReadsLemmas.{memory_no_read}
+use Rattle.bt_lines.specs.model.Fault.{Told, no_memory, read_failed}
+use Rattle.std.proofs.lemmas.Bool.{false≢true}
+use Rattle.std.specs.Io.KnownBytes.{Consumes}
+use Rattle.bt_lines.specs.calls.Reader.{Hands, IsKept, IsSound, bytes_left, end_told, fault_kept as line_fault, has_ended, held, left_at, source_of, input_of, lines_given, lines_left}
+use Rattle.bt_lines.specs.model.Lines.{AreNumbered, TextLine, bytes_in, lines_from}
+use Rattle.bt_lines.specs.calls.Output.{block_size}
+use Rattle.bt_lines.specs.declared.fault.Input.{Input}
+use Rattle.bt_lines.specs.declared.fault.Kind.{Kind}
+use Rattle.bt_lines.specs.declared.reader.line_reader.LineReader.{LineReader}
+use Rattle.bt_lines.specs.declared.reader.line_reader.State.{State}
+use Rattle.bt_lines.specs.declared.reader.line_reader.State.TheVariants.{Ended, LastLine, NoMemory, ReadFailed, Reading, TooLong}
+use Rattle.bt_lines.specs.inside.ReadBuffer.{complete, unread}
+use Rattle.bt_lines.specs.inside.ReaderState.{ended_at, lends_at, open_at, told_at}
+use Rattle.bt_lines.specs.inside.Shape.{held_at}
+use Rattle.bt_lines.proofs.lemmas.reader.lines.ReaderLemmas.{hands_none, hands_both, sound_near}
+use Rattle.bt_lines.proofs.lemmas.reader.lines.TextLemmas.{bytes_in-append}
+use Rattle.bt_bed.specs.model.input.Good.{Format, Good, Member, ends_with, good_from}
+use Rattle.bt_bed.specs.model.input.GoodLines.{IsBeyond}
+use Rattle.bt_bed.specs.model.feature.LineKind.{fault_at_line}
+use Rattle.bt_bed.specs.calls.Reading.{AnswersFault, AreSaid, Cause, IsSaidBehind, MemberReader, Remains, ahead_in, first_from, good_behind, good_coming, members_from, state_behind, with_members}
+use Rattle.bt_tool.specs.inside.feed.Feeding.{IsFresh}
+use Rattle.bt_tool.specs.inside.feed.Passed.{ComeFirst, member_items, AreAll, HasTaken, IsFilled, IsOver, IsReadFor, IsReadTo, IsStopped, IsUnreadBehind, IsWrongBehind, LacksMemory, Passes, StopsAfter}
+use Rattle.bt_tool.proofs.lemmas.running.feed.FaultLemmas.{line_no_read}
+use Rattle.bt_tool.proofs.lemmas.running.feed.ComeLemmas.{begins_beyond, begins_with, come_none, cuts_both, lines_on, near_from_start, none_passed, up_to, whole_with}
+use Rattle.bt_tool.proofs.lemmas.running.pair.StopLemmas.{StopsBehind, beyond_less, beyond_now, stops_faulty}
+
+pub nothing_ahead : {S A State : Type 0} (reader : MemberReader S A State) (m : Member A) → reader.buffered ≡ [] → ahead_in reader ≡ Some m → ⊥
+nothing_ahead reader m none is = let apart : None ≡ Some m = sym (ap (first_from (suc (lines_given reader.below))) none) ∙ is in cc
+
+one_ahead : {A : Type 0} {ahead : Option (Member A)} {m x : Member A} → ahead ≡ Some m → ahead ≡ Some x → m ≡ x
+one_ahead e f = let both = sym e ∙ f in cc
+
+-- what came first still does
+still_first : {A : Type 0} (now new : Option (Good A)) (m : Member A) → Remains now new → IfSome now (λ good. (rest : List (Member A)) × (good.members ≡ m ∷ rest))
+    → IsSome now → IfSome new (λ good. (rest : List (Member A)) × (good.members ≡ m ∷ rest))
+still_first now None m r f k = tt
+still_first None (Some new) m r f k = absurd (false≢true k)
+still_first (Some now) (Some new) m r f k = (f.0, ap (λ g. g.members) r ∙ f.1)
+
+-- ---- lists of items and of members
+
+-- what is known after these items and others
+pub state_more : {A State : Type 0} (format : Format A State) (state : State) (items more : List A)
+    → state_behind format state (items ++ more) ≡ state_behind format (state_behind format state items) more
+state_more format state [] more = refl
+state_more format state (x ∷ items) more = state_more format (format.after state x) items more
+
+pub said_more : {A State : Type 0} (format : Format A State) (state : State) (items more : List A) → AreSaid format state items
+    → AreSaid format (state_behind format state items) more → AreSaid format state (items ++ more)
+said_more format state [] more said next = next
+said_more format state (x ∷ items) more said next = (said.0, said_more format (format.after state x) items more said.1 next)
+
+items_from : {A : Type 0} (from : ℕ) (items : List A) → member_items (members_from from items) ≡ items
+items_from from [] = refl
+items_from from (x ∷ items) = ap (λ l. x ∷ l) (items_from (suc from) items)
+
+-- the items of members that were taken after others
+pub items_take : {A : Type 0} (past : List (Member A)) (from : ℕ) (taken : List A) → member_items (past ++ members_from from taken) ≡ member_items past ++ taken
+items_take past from taken = map-append (λ m. m.item) past (members_from from taken) ∙ ap (λ l. member_items past ++ l) (items_from from taken)
+
+-- members numbered from a line on are on as many lines
+pub members_low : {A : Type 0} (given : ℕ) (taken : List A) → All (λ m. m.line ≤ given + length taken) (members_from (suc given) taken)
+members_low {A} given [] = All-nil (λ (m : Member A). m.line ≤ given + 0)
+members_low {A} given (x ∷ taken) =
+    All-cons (λ (m : Member A). m.line ≤ given + length (x ∷ taken)) (record { line = suc given; item = x }) (members_from (suc (suc given)) taken) (omega arith)
+    (up_to (suc given + length taken) (given + length (x ∷ taken)) (members_from (suc (suc given)) taken) (omega arith) (members_low (suc given) taken))
+
+-- the last of some members
+members_last : {A : Type 0} (from : ℕ) (xs : List A) (a : A) → members_from from (xs ++ a ∷ []) ≡ members_from from xs ++ record { line = from + length xs; item = a } ∷ []
+members_last {A} from [] a = ap (λ (n : ℕ). record { line = n; item = a } ∷ []) (let none : from ≡ from + 0 = omega arith in none)
+members_last {A} from (x ∷ xs) a =
+    ap (λ (l : List (Member A)). record { line = from; item = x } ∷ l)
+    (members_last (suc from) xs a ∙ ap (λ (n : ℕ). members_from (suc from) xs ++ record { line = n; item = a } ∷ []) (let same : suc from + length xs ≡ from + length (x ∷ xs) = omega arith in same))
+
+-- the first members were taken of what was to come
+pub come_taken : {A : Type 0} (old now next : Option (Good A)) (past taken : List (Member A)) → ComeFirst old past now
+    → option_map (with_members taken) next ≡ now → ComeFirst old (past ++ taken) next
+come_taken None now next past taken c e = tt
+come_taken (Some o) None next past taken c e = absurd c
+come_taken (Some o) (Some n) None past taken c e = absurd (let apart : None ≡ Some n = e in cc)
+come_taken (Some o) (Some n) (Some x) past taken c e =
+    let is : with_members taken x ≡ n = cc in
+    (c.0 ∙ ap (λ g. past ++ g.members) (sym is) ∙ sym (append_assoc past taken x.members), c.1 ∙ ap (λ g. g.fault) (sym is))
+
+-- nothing of what was to come is lost
+come_same : {A : Type 0} (old now peeked : Option (Good A)) (past : List (Member A)) → ComeFirst old past now
+    → (IfSome now (λ good. peeked ≡ Some good)) → ComeFirst old past peeked
+come_same None now peeked past c r = tt
+come_same (Some o) None peeked past c r = absurd c
+come_same (Some o) (Some n) None past c r = cc
+come_same (Some o) (Some n) (Some p) past c r =
+    let is : p ≡ n = cc in
+    (c.0 ∙ ap (λ g. past ++ g.members) (sym is), c.1 ∙ ap (λ g. g.fault) (sym is))
+
+some_remains : {A : Type 0} (now peeked : Option (Good A)) → Remains now peeked → IfSome now (λ good. peeked ≡ Some good)
+some_remains None peeked r = tt
+some_remains (Some n) None r = absurd r
+some_remains (Some n) (Some p) r = ap Some r
+
+-- what is known stays known
+map_known : {A B : Type 0} (f : A → B) (o : Option A) → IsSome o → IsSome (option_map f o)
+map_known f None k = absurd (false≢true k)
+map_known f (Some x) k = refl
+
+known_map : {A B : Type 0} (f : A → B) (o : Option A) → IsSome (option_map f o) → IsSome o
+known_map f None k = absurd (false≢true k)
+known_map f (Some x) k = refl
+
+left_known : (told : Bool) (bytes : List ℕ) (left : Option (List ℕ)) → IsSome left → IsSome (left_at told bytes left)
+left_known true bytes left k = map_known (λ (rest : List ℕ). bytes) left k
+left_known false bytes left k = map_known (λ (rest : List ℕ). bytes ++ rest) left k
+
+known_left : (told : Bool) (bytes : List ℕ) (left : Option (List ℕ)) → IsSome (left_at told bytes left) → IsSome left
+known_left true bytes left k = known_map (λ (rest : List ℕ). bytes) left k
+known_left false bytes left k = known_map (λ (rest : List ℕ). bytes ++ rest) left k
+
+consumes_known : (a b : Option (List ℕ)) (bytes : List ℕ) → Consumes a b bytes → IsSome a → IsSome b
+consumes_known None b bytes c k = absurd (false≢true k)
+consumes_known (Some x) None bytes c k = absurd c
+consumes_known (Some x) (Some y) bytes c k = refl
+
+coming_known : {S A State : Type 0} (left : S → Option (List ℕ)) (old new : MemberReader S A State) (bytes : List ℕ) → Hands left old.below bytes new.below
+    → IsSome (good_coming left old) → IsSome (good_coming left new)
+unfolding good_coming bytes_left
+coming_known left old new bytes hands k =
+    map_known _ _ (map_known _ _ (left_known (end_told new.below) (held new.below) (left (source_of new.below))
+    (consumes_known (left (source_of old.below)) (left (source_of new.below)) bytes hands.left_over
+    (known_left (end_told old.below) (held old.below) (left (source_of old.below)) (known_map _ _ (known_map _ _ k))))))
+
+bytes_known : {S : Type 0} (left : S → Option (List ℕ)) (old new : LineReader S) (bytes : List ℕ) → Hands left old bytes new → IsSome (lines_left left old) → IsSome (left (source_of new))
+unfolding bytes_left
+bytes_known left old new bytes hands k =
+    consumes_known (left (source_of old)) (left (source_of new)) bytes hands.left_over
+    (known_left (end_told old) (held old) (left (source_of old)) (known_map _ _ k))
+
+-- after the last line nothing is held
+none_held : (is_open : Bool) (complete rest : List ℕ) → is_open ≡ false → complete ≡ [] → rest ≡ [] → held_at is_open complete rest ≡ []
+none_held true complete rest o c r = cc
+none_held false complete rest o c r = ap (λ (l : List ℕ). l ++ rest) c ∙ r
+
+ended_state : (state : State) → ended_at state ≡ true → (open_at state ≡ false) × (lends_at state ≡ false) × (told_at state ≡ true)
+ended_state Reading e = absurd (false≢true e)
+ended_state LastLine e = absurd (false≢true e)
+ended_state Ended e = (refl, refl, refl)
+ended_state ReadFailed e = absurd (false≢true e)
+ended_state TooLong e = absurd (false≢true e)
+ended_state NoMemory e = absurd (false≢true e)
+
+ended_held : {S : Type 0} (reader : LineReader S) → has_ended reader ≡ true → held reader ≡ []
+unfolding has_ended held
+ended_held reader e =
+    let at = ended_state reader.state e in
+    none_held (open_at reader.state) (complete reader.buffer) (unread reader.buffer) at.0 (reader.quiet at.1) (reader.last.none_behind at.2)
+
+none_left_by : (told : Bool) (number : ℕ) (bytes : List ℕ) (left : Option (List ℕ)) → told ≡ true → bytes ≡ [] → IsSome left → option_map (lines_from number) (left_at told bytes left) ≡ Some []
+unfolding lines_from
+none_left_by false number bytes left e h k = absurd (false≢true e)
+none_left_by true number bytes None e h k = absurd (false≢true k)
+none_left_by true number bytes (Some x) e h k = ap (λ (l : List ℕ). Some (lines_from number l)) h
+
+-- once the end was reached, no line is left
+none_left_told : {S : Type 0} (left : S → Option (List ℕ)) (reader : LineReader S) → end_told reader ≡ true → has_ended reader ≡ true → IsSome (left (source_of reader)) → lines_left left reader ≡ Some []
+unfolding bytes_left
+none_left_told left reader e ended k = none_left_by (end_told reader) (suc (lines_given reader)) (held reader) (left (source_of reader)) e (ended_held reader ended) k
+
+lines_end : (old new : Option (List TextLine)) (count : ℕ) → (IsSome old → new ≡ Some []) → IfSome old (λ lines. drop count lines ≡ []) → IfSome old (λ lines. new ≡ Some (drop count lines))
+lines_end None new count e d = tt
+lines_end (Some lines) new count e d = e refl ∙ ap Some (sym d)
+
+-- at the end nothing more is to come
+come_end : {A : Type 0} (old now new : Option (Good A)) (past : List (Member A)) → ComeFirst old past now → (IsSome now → IsSome new)
+    → IfSome now (λ good. good ≡ ends_with None) → IfSome new (λ good. good ≡ ends_with None) → ComeFirst old past new
+come_end None now new past c k e f = tt
+come_end (Some o) None new past c k e f = absurd c
+come_end (Some o) (Some n) None past c k e f = absurd (false≢true (k refl))
+come_end (Some o) (Some n) (Some x) past c k e f = let same : n ≡ x = e ∙ sym f in (c.0 ∙ ap (λ g. past ++ g.members) same, c.1 ∙ ap (λ g. g.fault) same)
+
+come_known : {A : Type 0} (old now : Option (Good A)) (past : List (Member A)) → ComeFirst old past now → IsSome old → IsSome now
+come_known None now past c k = absurd (false≢true k)
+come_known (Some o) None past c k = absurd c
+come_known (Some o) (Some n) past c k = refl
+
+-- if no line is left after those given later, there are no more than these
+no_more : (start now : Option (List TextLine)) (given later : ℕ) → given ≤ later
+    → IfSome start (λ lines. now ≡ Some (drop given lines))
+    → IfSome now (λ lines. drop (later - given) lines ≡ [])
+    → IfSome start (λ lines. length lines ≤ later)
+no_more None now given later h p e = tt
+no_more (Some start) None given later h p e = cc
+no_more (Some start) (Some now) given later h p e =
+    let is : now ≡ drop given start = cc in
+    omega (arith, h, length-drop given start, ap length is, length-drop (later - given) now, ap length e)
+
+-- nothing but a fault is to come if nothing is left
+none_taken : {A : Type 0} (now next : Option (Good A)) (taken : List (Member A)) (fault : Option Told) → IsSome now → option_map (with_members taken) next ≡ now
+    → IfSome now (λ good. good ≡ ends_with fault) → taken ≡ []
+none_taken None next taken fault k e f = absurd (false≢true k)
+none_taken (Some n) None taken fault k e f = absurd (let apart : None ≡ Some n = e in cc)
+none_taken (Some n) (Some x) [] fault k e f = refl
+none_taken (Some n) (Some x) (m ∷ taken) fault k e f =
+    let is : with_members (m ∷ taken) x ≡ n = cc in
+    let gone : m ∷ (taken ++ x.members) ≡ [] = ap (λ g. g.members) (is ∙ f) in
+    cc
+
+near_start : (lines : Option (List TextLine)) (rest : Option (List ℕ)) (given : ℕ) → given ≡ 0 → IfSome lines (λ lines. IfSome rest (λ rest. bytes_in lines ≤ length rest + block_size))
+    → IfSome lines (λ lines. IfSome rest (λ rest. bytes_in (drop (suc given) lines) ≤ length rest + block_size))
+near_start None rest given e h = tt
+near_start (Some lines) None given e h = tt
+near_start (Some lines) (Some rest) given e h =
+    let both = bytes_in-append (take (suc given) lines) (drop (suc given) lines) in
+    let whole = ap bytes_in (take-append-drop (suc given) lines) in
+    omega arith
+
+-- more lines leave no more
+pub near_more : (lines : Option (List TextLine)) (rest : Option (List ℕ)) (count more : ℕ) → IfSome lines (λ lines. IfSome rest (λ rest. bytes_in (drop count lines) ≤ length rest + block_size))
+    → IfSome lines (λ lines. IfSome rest (λ rest. bytes_in (drop (count + more) lines) ≤ length rest + block_size))
+near_more None rest count more h = tt
+near_more (Some lines) None count more h = tt
+near_more (Some lines) (Some rest) count more h =
+    let both = bytes_in-append (take more (drop count lines)) (drop more (drop count lines)) in
+    let whole = ap bytes_in (take-append-drop more (drop count lines)) in
+    let is = ap bytes_in (drop-drop more count lines) in
+    omega arith
+
+near_none : (start now : Option (List TextLine)) (rest : Option (List ℕ)) (given count : ℕ) → given ≤ count → IfSome start (λ lines. now ≡ Some (drop given lines))
+    → IfSome now (λ lines. drop (count - given) lines ≡ []) → IfSome start (λ lines. IfSome rest (λ rest. bytes_in (drop (suc count) lines) ≤ length rest + block_size))
+near_none None now rest given count h p e = tt
+near_none (Some start) None rest given count h p e = cc
+near_none (Some start) (Some now) None given count h p e = tt
+near_none (Some start) (Some now) (Some rest) given count h p e =
+    let is : now ≡ drop given start = cc in
+    let size : given + (count - given) ≡ count = omega arith in
+    let none : drop count start ≡ [] = ap (λ n. drop n start) (sym size) ∙ sym (drop-drop (count - given) given start) ∙ ap (drop (count - given)) (sym is) ∙ e in
+    let one : count + 1 ≡ suc count = omega arith in
+    let last : drop (suc count) start ≡ [] = ap (λ n. drop n start) (sym one) ∙ sym (drop-drop 1 count start) ∙ ap (drop 1) none in
+    omega (arith, ap bytes_in last)
+
+-- of the lines after those given, at most a block was taken
+pub near_given : (start now : Option (List TextLine)) (rest : Option (List ℕ)) (given : ℕ) → IfSome start (λ lines. now ≡ Some (drop given lines))
+    → IfSome now (λ lines. IfSome rest (λ rest. bytes_in lines ≤ length rest + block_size))
+    → IfSome start (λ lines. IfSome rest (λ rest. bytes_in (drop given lines) ≤ length rest + block_size))
+near_given None now rest given p n = tt
+near_given (Some start) None rest given p n = cc
+near_given (Some start) (Some now) None given p n = tt
+near_given (Some start) (Some now) (Some rest) given p n =
+    let is : now ≡ drop given start = cc in
+    omega (arith, ap bytes_in is, n)
+
+-- the last of some members lies after those lines too, and so does what comes after it
+pub behind_last : {A : Type 0} (count : ℕ) (old : Option (Good A)) (past : List (Member A)) (m : Member A) → suc count ≡ m.line
+    → IfSome old (λ good. (rest : List (Member A)) × (good.members ≡ (past ++ m ∷ []) ++ rest) × IsBeyond (suc count) (record { members = rest; fault = good.fault }))
+    → IfSome old (λ good. (rest : List (Member A)) × (good.members ≡ past ++ rest) × IsBeyond count (record { members = rest; fault = good.fault }))
+behind_last count None past m at b = tt
+behind_last {A} count (Some good) past m at b =
+    let less = beyond_less count (suc count) (record { members = b.0; fault = good.fault }) (omega arith) b.2 in (
+      m ∷ b.0,
+      b.1 ∙ append_assoc past (m ∷ []) b.0,
+      record { members = All-cons (λ (m : Member A). count < m.line) m b.0 (omega (arith, at)) less.members; fault = less.fault },
+    )
+
+module _ {S A State : Type 0} (left : S → Option (List ℕ)) (failed end : S → Bool) (old : MemberReader S A State) where
+  -- before the first record
+  pub passes_start : IsFresh left end old → line_fault old.below ≡ None → Passes left failed end old [] old
+  passes_start fresh clear = record {
+    format = refl;
+    bytes = ([], hands_none left old.below);
+    said = tt;
+    state = refl;
+    come = come_none (good_coming left old);
+    behind = λ k d h. absurd (omega arith);
+    lines = none_passed (lines_left left old.below) (lines_given old.below) fresh.none_given.0;
+    going = fresh.going;
+    clear = clear;
+    kept = record { end = fresh.sound.end; within = fresh.sound.within };
+    served = refl;
+    ahead = λ known m is. absurd (nothing_ahead old m fresh.none_buffered is);
+    near = near_start (lines_left left old.below) (left (source_of old.below)) (lines_given old.below) fresh.none_given.0 (sound_near left end old.below fresh.sound clear);
+  }
+
+  module _ (past : List (Member A)) (now : MemberReader S A State) (g : Passes left failed end old past now) where
+    pub bytes_more : (new : MemberReader S A State) → (bytes : List ℕ) × Hands left now.below bytes new.below → (bytes : List ℕ) × Hands left old.below bytes new.below
+    bytes_more new hands = (g.bytes.0 ++ hands.0, hands_both left old.below now.below new.below g.bytes.0 hands.0 g.bytes.1 hands.1)
+
+    -- a member is buffered
+    pub passes_fill : (new : MemberReader S A State) → IsFilled left failed end now new → Passes left failed end old past new
+    passes_fill new fills =
+        let gives = fills.gives in
+        record {
+          format = gives.stays.format ∙ g.format;
+          bytes = bytes_more new gives.stays.bytes;
+          said = g.said;
+          come = come_same (good_coming left old) (good_coming left now) (good_coming left new) past g.come (some_remains (good_coming left now) (good_coming left new) gives.good);
+          behind = up_to (lines_given now.below) (lines_given new.below) past gives.rises g.behind;
+          lines = lines_on (lines_left left old.below) (lines_left left now.below) (lines_left left new.below) (lines_given now.below) (lines_given new.below) gives.rises g.lines gives.lines;
+          state = gives.state ∙ g.state;
+          going = gives.goes ∙ g.going;
+          clear = fills.clear (gives.goes ∙ g.going);
+          kept = fills.kept g.kept;
+          served = gives.served ∙ g.served;
+          ahead = λ known m is. let same : fills.m ≡ m = one_ahead gives.ahead is in subst (λ (m : Member A). IfSome (good_coming left new) (λ good. (rest : List (Member A)) × (good.members ≡ m ∷ rest))) same
+              (still_first (good_coming left now) (good_coming left new) fills.m gives.good gives.first (come_known (good_coming left old) (good_coming left now) past g.come known));
+          near = near_from_start (lines_left left old.below) (lines_left left now.below) (left (source_of new.below)) (lines_given now.below) (lines_given new.below) gives.rises g.lines gives.near;
+        }
+
+    -- members were taken
+    pub passes_take : (taken : List A) (new : MemberReader S A State) → HasTaken left failed end now taken new
+        → Passes left failed end old (past ++ members_from (suc (lines_given now.below)) taken) new
+    passes_take taken new has =
+        let takes = has.takes in
+        let items = items_take past (suc (lines_given now.below)) taken in
+        let rises : lines_given now.below ≤ lines_given new.below = omega (arith, takes.given) in
+        let counted : suc (lines_given now.below) + length taken ≡ suc (lines_given new.below) = omega (arith, takes.given) in
+        record {
+          format = takes.format ∙ g.format;
+          bytes = bytes_more new ([], takes.hands);
+          said = rw items (said_more old.format old.state (member_items past) taken g.said
+              (subst (λ (f : Format A State). AreSaid f (state_behind old.format old.state (member_items past)) taken) g.format
+              (subst (λ (s : State). AreSaid now.format s taken) g.state takes.said)));
+          come = come_taken (good_coming left old) (good_coming left now) (good_coming left new) past (members_from (suc (lines_given now.below)) taken) g.come takes.good;
+          behind = All-append (λ (m : Member A). m.line ≤ lines_given new.below) past (members_from (suc (lines_given now.below)) taken)
+              (up_to (lines_given now.below) (lines_given new.below) past rises g.behind)
+              (up_to (lines_given now.below + length taken) (lines_given new.below) (members_from (suc (lines_given now.below)) taken) (omega (arith, takes.given)) (members_low (lines_given now.below) taken));
+          lines = lines_on (lines_left left old.below) (lines_left left now.below) (lines_left left new.below) (lines_given now.below) (lines_given new.below) rises g.lines takes.lines;
+          state = takes.state ∙ ap (λ (f : Format A State). state_behind f now.state taken) g.format ∙ ap (λ (s : State). state_behind old.format s taken) g.state
+              ∙ sym (state_more old.format old.state (member_items past) taken) ∙ ap (state_behind old.format old.state) (sym items);
+          going = takes.goes ∙ g.going;
+          clear = has.clear (takes.goes ∙ g.going);
+          kept = takes.kept g.kept;
+          served = ap failed takes.source ∙ g.served;
+          ahead = λ known. has.ahead;
+          near = rw (takes.source, ← counted) (near_more (lines_left left old.below) (left (source_of now.below)) (suc (lines_given now.below)) (length taken) g.near);
+        }
+
+    -- the input has ended
+    pub passes_all : (new : MemberReader S A State) → IsOver left failed end now new → AreAll left failed end old past
+    passes_all new ended = whole_with (good_coming left old) (good_coming left now) past None g.come ended.ends.none_left
+
+    pub passes_end : (new : MemberReader S A State) → IsOver left failed end now new → Passes left failed end old past new
+    passes_end new ended = record {
+      format = ended.ends.stays.format ∙ g.format;
+      bytes = bytes_more new ended.ends.stays.bytes;
+      said = g.said;
+      come = come_end (good_coming left old) (good_coming left now) (good_coming left new) past g.come
+          (coming_known left now new ended.ends.stays.bytes.0 ended.ends.stays.bytes.1) ended.ends.none_left ended.ends.none_comes;
+      behind = up_to (lines_given now.below) (lines_given new.below) past ended.ends.rises g.behind;
+      lines = lines_on (lines_left left old.below) (lines_left left now.below) (lines_left left new.below) (lines_given now.below) (lines_given new.below) ended.ends.rises g.lines
+          (lines_end (lines_left left now.below) (lines_left left new.below) (lines_given new.below - lines_given now.below)
+          (λ k. none_left_told left new.below ended.ends.told ended.ends.ends (bytes_known left now.below new.below ended.ends.stays.bytes.0 ended.ends.stays.bytes.1 k)) ended.ends.lines);
+      state = ended.ends.state ∙ g.state;
+      going = ended.ends.goes;
+      clear = ended.clear ended.ends.goes;
+      kept = ended.kept g.kept;
+      served = ended.ends.served ∙ g.served;
+      ahead = λ known m is. absurd (nothing_ahead new m ended.ends.none_buffered is);
+      near = near_none (lines_left left old.below) (lines_left left now.below) (left (source_of new.below)) (lines_given now.below) (lines_given new.below) ended.ends.rises g.lines ended.ends.lines;
+    }
+
+    -- nothing is read after the end
+    pub fails_before_end : (new : MemberReader S A State) (fault : Told) → IsStopped left failed end now fault new → (input : Input) (line : ℕ) → fault ≡ read_failed input line → end_told now.below ≡ false
+    fails_before_end new fault stopped input line e =
+        elim (stopped.answers.first g.going) [
+          | inl at ↦ absurd (line_no_read (input_of now.below) (lines_given new.below) at.kind input line at.of_line (sym at.place ∙ e))
+          | inr other ↦ elim other [
+            | inl unread ↦ unread.fails.before_end
+            | inr ran ↦ absurd (memory_no_read input line (sym ran.is ∙ e))
+          ]
+        ]
+
+    same_input : input_of now.below ≡ input_of old.below
+    same_input = g.bytes.1.same_input
+
+    module _ (kinds : Kind → Type 0) (of_format : (state : State) (line : TextLine) (kind : Kind) → old.format.says state line ≡ Err kind → kinds kind) where
+      cause_of : (new : MemberReader S A State) (fault : Told) → IsKept left end new.below → AnswersFault left failed end now fault new
+          → Cause left failed end now fault new
+          → IsWrongBehind left failed end old kinds past fault new ⊎ (IsUnreadBehind left failed end old past fault new ⊎ LacksMemory left failed end old fault new)
+      cause_of new fault kept answers (inl at) = inl (record {
+        whole = whole_with (good_coming left old) (good_coming left now) past (Some fault) g.come at.none_left;
+        line = lines_given new.below;
+        kind = at.kind;
+        is = at.place ∙ ap (λ input. fault_at_line input (lines_given new.below) at.kind) same_input;
+        of_kind = of_format now.state at.line at.kind (ap (λ (f : Format A State). f.says now.state at.line) (sym g.format) ∙ at.says);
+        served = at.served ∙ g.served;
+        within = kept.within at.going;
+      })
+      cause_of new fault kept answers (inr (inl unread)) = inr (inl (record {
+        is = unread.fails.is ∙ ap (λ input. read_failed input (suc (lines_given new.below))) same_input;
+        kept = answers.kept;
+        cause = unread.fails.cause;
+        cut = cuts_both left old.below now.below new.below g.bytes.0 g.bytes.1 unread.fails.before_end (g.kept.within g.clear) (unread.fails.cut g.kept);
+        members = begins_beyond (good_coming left old) (good_coming left now) past (lines_given new.below) g.come unread.passed;
+        behind = up_to (lines_given now.below) (lines_given new.below) past answers.rises g.behind;
+      }))
+      cause_of new fault kept answers (inr (inr ran)) = inr (inr (record { is = ran.is; served = ran.served ∙ g.served }))
+
+      -- it reports a fault
+      pub passes_stop : (new : MemberReader S A State) (fault : Told) → IsStopped left failed end now fault new
+          → StopsAfter left failed end old kinds past fault new
+      passes_stop new fault stopped = record {
+        bytes = bytes_more new stopped.answers.stays.bytes;
+        cause = cause_of new fault (stopped.kept g.kept) stopped.answers (stopped.answers.first g.going);
+      }
+
+    -- how far the input was read
+    unfoldable pub read_here : IsReadFor left failed end old past past now
+    read_here = record {
+      to = record {
+        count = lines_given now.below;
+        near = g.near;
+        behind = begins_beyond (good_coming left old) (good_coming left now) past (lines_given now.below) g.come (beyond_now left now g.going);
+      };
+      low = g.behind;
+      high = up_to (lines_given now.below) (suc (lines_given now.below)) past (omega arith) g.behind;
+      begins = begins_with (good_coming left old) (good_coming left now) past g.come;
+    }
+
+    -- and there are no more lines at its end
+    pub ended_after_all : (new : MemberReader S A State) → IsOver left failed end now new → IfSome (lines_left left old.below) (λ lines. length lines ≤ lines_given new.below)
+    ended_after_all new over = no_more (lines_left left old.below) (lines_left left now.below) (lines_given now.below) (lines_given new.below) over.ends.rises g.lines over.ends.lines
+
+    -- if it stops at a fault
+    pub read_at_stop : (new : MemberReader S A State) (fault : Told) → IsStopped left failed end now fault new → IsReadFor left failed end old past past new
+    read_at_stop new fault stopped =
+        let stops = stops_faulty left failed end now g.going g.kept new fault stopped.answers (stopped.kept g.kept) in
+        record {
+          to = record {
+            count = stops.0;
+            near = near_from_start (lines_left left old.below) (lines_left left now.below) (left (source_of new.below)) (lines_given now.below) stops.0 stops.1.from g.lines stops.1.near;
+            behind = begins_beyond (good_coming left old) (good_coming left now) past stops.0 g.come stops.1.passed;
+          };
+          low = up_to (lines_given now.below) stops.0 past stops.1.from g.behind;
+          high = up_to (lines_given now.below) (suc stops.0) past (let from = stops.1.from in omega arith) g.behind;
+          begins = begins_with (good_coming left old) (good_coming left now) past g.come;
+        }
+
+  -- members were taken: how far the input was read beside those before the last one
+  module _ (past : List (Member A)) (now : MemberReader S A State) (g : Passes left failed end old past now) (xs : List A) (a : A) (new : MemberReader S A State) (has : HasTaken left failed end now (xs ++ a ∷ []) new) where
+    abbrev from : ℕ
+    from = suc (lines_given now.below)
+
+    abbrev before : List (Member A)
+    before = past ++ members_from from xs
+
+    abbrev m : Member A
+    m = record { line = from + length xs; item = a }
+
+    all_is : past ++ members_from from (xs ++ a ∷ []) ≡ before ++ m ∷ []
+    all_is = ap (λ (l : List (Member A)). past ++ l) (members_last from xs a) ∙ sym (append_assoc past (members_from from xs) (m ∷ []))
+
+    pub read_before : IsReadFor left failed end old before (past ++ members_from from (xs ++ a ∷ [])) new
+    unfolding lines_given read_here
+    read_before =
+        let p = passes_take past now g (xs ++ a ∷ []) new has in
+        let size = length-append xs (a ∷ []) in
+        let count = lines_given now.below + length xs in
+        let given : suc count ≡ lines_given new.below = omega (arith, has.takes.given, size) in
+        let near = sound_near left end new.below (record { end = p.kept.end; within = p.kept.within; near = λ none. has.takes.near (omega (arith, size)) }) p.clear in
+        record {
+          to = record {
+            count = count;
+            near = rw given (near_given (lines_left left old.below) (lines_left left new.below) (left (source_of new.below)) (lines_given new.below) p.lines near);
+            behind = behind_last count (good_coming left old) before m (omega arith)
+                (rw (← all_is, given) (read_here (past ++ members_from from (xs ++ a ∷ [])) new p).to.behind);
+          };
+          low = All-append (λ (m : Member A). m.line ≤ count) past (members_from from xs) (up_to (lines_given now.below) count past (omega arith) g.behind) (members_low (lines_given now.below) xs);
+          high = up_to (lines_given new.below) (suc count) (past ++ members_from from (xs ++ a ∷ [])) (omega (arith, given)) p.behind;
+          begins = begins_with (good_coming left old) (good_coming left new) (past ++ members_from from (xs ++ a ∷ [])) p.come;
+        }
+
+begins_behind : {A : Type 0} (count : ℕ) (old : Option (Good A)) (past : List (Member A)) → IfSome old (λ good. (rest : List (Member A)) × (good.members ≡ past ++ rest) × IsBeyond count (record { members = rest; fault = good.fault }))
+    → IfSome old (λ good. (rest : List (Member A)) × (good.members ≡ past ++ rest))
+begins_behind count None past b = tt
+begins_behind count (Some good) past b = (b.0, b.1)
+
+-- how far the input was read beside some members, whatever else was given
+pub read_alone : {S A State : Type 0} {left : S → Option (List ℕ)} {failed end : S → Bool} {old : MemberReader S A State} {past given : List (Member A)} {now : MemberReader S A State}
+    → IsReadFor left failed end old past given now → IsReadFor left failed end old past past now
+read_alone {S} {A} {State} {left} {failed} {end} {old} {past} {given} {now} read = record {
+  to = read.to;
+  low = read.low;
+  high = up_to read.to.count (suc read.to.count) past (omega arith) read.low;
+  begins = begins_behind read.to.count (good_coming left old) past read.to.behind;
+}

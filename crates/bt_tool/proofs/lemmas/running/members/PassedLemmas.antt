@@ -1,0 +1,131 @@
+-- Lemmas on what a reader of records has consumed, in an order of the chromosomes.
+use Rattle.std.proofs.Common.{◌≡◌, ℕ, suc, ◌+◌, ◌<◌, Bool, true, false, List, [], ◌∷◌, ◌++◌, length, take, drop, Option, None, Some, Result, Ok, Err, refl, sym, ap, ◌∙◌, subst, append_assoc, append-nil, arith}
+use Rattle.std.specs.Prelude.{IfSome, IsTrue, map, option_map}
+use Rattle.std.specs.Option.{ForSome}
+use Rattle.std.proofs.lemmas.List.{map-append}
+use Rattle.std.proofs.lemmas.List.Elements.{All-push}
+use Rattle.bt_lines.specs.model.Fault.{Told}
+use Rattle.bt_lines.specs.calls.Names.{told}
+use Rattle.bt_lines.specs.calls.Reader.{HasRead, bytes_taken, fault_kept as line_fault, lines_given, source_of}
+use Rattle.bt_lines.proofs.lemmas.reader.block.ReadsLemmas.{counts_none}
+use Rattle.bt_lines.specs.declared.fault.Fault.{Fault}
+use Rattle.bt_bed.specs.model.feature.Feature.{Feature, interval_of, intervals_of}
+use Rattle.bt_bed.specs.calls.SortedReader.{view_with}
+use Rattle.bt_bed.specs.model.input.Good.{Good, Member, or_else}
+use Rattle.bt_bed.specs.model.input.GoodBed.{bed_format, locus_at}
+use Rattle.bt_bed.specs.model.feature.Interval.{AreNonEmpty, Interval, last_of}
+use Rattle.bt_bed.specs.model.order.Locus.{ArePlaced, IsUpTo, Locus, locus_of}
+use Rattle.bt_bed.specs.model.order.Order.{IsTotal, Order}
+use Rattle.bt_bed.specs.calls.Reading.{AreSaid, BeginsComing, MemberReader, Takes, ahead_in, first_from, good_coming, members_from, with_members}
+use Rattle.bt_bed.specs.calls.Records.{FillsRecords, TakesRecords, below, buffered_in, fault_kept, order_in, view_of}
+use Rattle.bt_bed.specs.model.order.Sorting.{sorting_of}
+use Rattle.bt_bed.specs.declared.order.ChromOrder.{Ghosts}
+use Rattle.bt_bed.specs.declared.read.records.Records.{Records}
+use Rattle.bt_bed.proofs.lemmas.read.batch.RecordsLemmas.{BehindLast, said_behind}
+use Rattle.bt_bed.proofs.lemmas.order.TogetherLemmas.{last_of-push, grows_placed}
+use Rattle.bt_tool.specs.inside.feed.Feeding.{AreInOrder}
+use Rattle.bt_tool.specs.inside.feed.Passed.{AheadComes, HasTaken, IsFilled, IsOver, IsStopped, member_items}
+
+pub or_none : (a b : Option Told) → or_else a b ≡ None → b ≡ None
+or_none None b e = e
+or_none (Some a) b e = cc
+
+-- a reader of records without a fault has a reader of lines without one
+pub line_going : {S O : Type 0} {ghosts : Ghosts O} (records : Records S O ghosts) → fault_kept records ≡ None → line_fault (below records) ≡ None
+unfolding view_of view_with
+line_going records e = or_none (option_map told records.sorted.fault) (line_fault records.sorted.reader) e
+
+-- ---- what is buffered comes next
+
+cancel_front : {A : Type 0} (front a b : List A) → front ++ a ≡ front ++ b → a ≡ b
+cancel_front [] a b e = e
+cancel_front (x ∷ front) a b e = cancel_front front a b (let rest : front ++ a ≡ front ++ b = cc in rest)
+
+members_split : {A : Type 0} (from : ℕ) (xs ys : List A) → members_from from (xs ++ ys) ≡ members_from from xs ++ members_from (from + length xs) ys
+members_split from [] ys = ap (λ (n : ℕ). members_from n ys) (let none : from ≡ from + 0 = omega arith in none)
+members_split {A} from (x ∷ xs) ys =
+    ap (λ (l : List (Member A)). record { line = from; item = x } ∷ l)
+    (members_split (suc from) xs ys ∙ ap (λ (n : ℕ). members_from (suc from) xs ++ members_from n ys) (let same : suc from + length xs ≡ from + length (x ∷ xs) = omega arith in same))
+
+first_is : {A : Type 0} (from : ℕ) (items : List A) (m : Member A) (rest : List (Member A)) → first_from from items ≡ Some m → (more : List (Member A)) × (members_from from items ++ rest ≡ m ∷ more)
+first_is from [] m rest e = absurd (let apart : None ≡ Some m = e in cc)
+first_is {A} from (x ∷ xs) m rest e =
+    let same : record { line = from; item = x } ≡ m = cc in
+    (members_from (suc from) xs ++ rest, ap (λ (m : Member A). m ∷ (members_from (suc from) xs ++ rest)) same)
+
+pub comes_next : {A : Type 0} (from given : ℕ) (now next : Option (Good A)) (taken left : List A) (m : Member A) → given ≡ from + length taken
+    → IfSome now (λ good. (rest : List (Member A)) × (good.members ≡ members_from from (taken ++ left) ++ rest)) → option_map (with_members (members_from from taken)) next ≡ now
+    → first_from given left ≡ Some m → IfSome next (λ good. (rest : List (Member A)) × (good.members ≡ m ∷ rest))
+comes_next from given now None taken left m at b e f = tt
+comes_next from given None (Some x) taken left m at b e f = absurd (let apart : Some (with_members (members_from from taken) x) ≡ None = e in cc)
+comes_next {A} from given (Some n) (Some x) taken left m at b e f =
+    let is : with_members (members_from from taken) x ≡ n = cc in
+    let both : members_from from taken ++ x.members ≡ members_from from taken ++ (members_from given left ++ b.0) =
+    ap (λ (g : Good A). g.members) is ∙ b.1 ∙ ap (λ (l : List (Member A)). l ++ b.0) (members_split from taken left ∙ ap (λ (n : ℕ). members_from from taken ++ members_from n left) (sym at))
+    ∙ append_assoc (members_from from taken) (members_from given left) b.0 in
+    let rest = first_is given left m b.0 f in
+    (rest.0, cancel_front (members_from from taken) x.members (members_from given left ++ b.0) both ∙ rest.1)
+
+-- ---- what a reader of records does, as a reader of members
+
+module _ {S O : Type 0} {ghosts : Ghosts O} (left : S → Option (List ℕ)) (failed end : S → Bool) (IsRead : S → Option ℕ → S → Type 0) (now new : Records S O ghosts) where
+  pub is_filled : FillsRecords left failed end IsRead now (Ok true) new → IsFilled left failed end (view_of now) (view_of new)
+  is_filled fills = record { m = record { line = fills.answers.1.line; item = fills.answers.0 }; gives = fills.answers.1.read; kept = fills.kept; clear = line_going new }
+
+  pub is_over : FillsRecords left failed end IsRead now (Ok false) new → IsOver left failed end (view_of now) (view_of new)
+  is_over fills = record { ends = fills.answers; kept = fills.kept; clear = line_going new }
+
+  pub is_stopped : (fault : Fault) → FillsRecords left failed end IsRead now (Err fault) new → IsStopped left failed end (view_of now) (told fault) (view_of new)
+  is_stopped fault fills = record { answers = fills.answers; kept = fills.kept }
+
+module _ {S O : Type 0} {ghosts : Ghosts O} (left : S → Option (List ℕ)) (failed end : S → Bool) (now new : Records S O ghosts) (count : ℕ) (records : List Feature) (are : take count (buffered_in now) ≡ records) where
+  -- records were consumed of those that are buffered
+  pub has_taken : BeginsComing left (view_of now) → TakesRecords left end now count new → HasTaken left failed end (view_of now) records (view_of new)
+  has_taken comes takes =
+      let t = subst (λ (l : List Feature). Takes left end (view_of now) l (view_of new)) are takes.takes in
+      record {
+        takes = t;
+        clear = line_going new;
+        ahead = λ m is.
+            comes_next (suc (lines_given (below now))) (suc (lines_given (below new))) (good_coming left (view_of now)) (good_coming left (view_of new)) records (buffered_in new) m (omega (arith, t.given))
+            (subst (λ (l : List Feature). IfSome (good_coming left (view_of now)) (λ good. (rest : List (Member Feature)) × (good.members ≡ members_from (suc (lines_given (below now))) l ++ rest))) t.buffered comes)
+            t.good is;
+      }
+
+-- taking members reads nothing
+pub taken_reads : {S A State : Type 0} (IsRead : S → Option ℕ → S → Type 0) (left : S → Option (List ℕ)) (failed end : S → Bool) (old : MemberReader S A State) (taken : List A) (new : MemberReader S A State) → HasTaken left failed end old taken new
+    → HasRead IsRead old.below new.below
+taken_reads IsRead left failed end old taken new has =
+    counts_none IsRead (source_of old.below) (source_of new.below) (bytes_taken old.below) (bytes_taken new.below) has.takes.source (omega (arith, has.takes.hands.counted))
+
+-- ---- the order of records that were consumed
+
+-- what is required of the last place is required of the last record's
+last_up_to : (last : Option Interval) (P : Locus → Type 0) → IfSome (option_map locus_of last) P → IfSome last (λ r. P (locus_of r))
+last_up_to None P h = tt
+last_up_to (Some r) P h = h
+
+abbrev IsKnownLast : Order → Option Locus → Type 0
+IsKnownLast order last = ForSome last (λ place. IsTrue (order.knows place.chrom))
+
+known_record : (order : Order) (r : Feature) → IsTrue (order.knows r.chrom) → IsKnownLast order (Some (locus_at r))
+known_record order r known place e = let same : locus_at r ≡ place = cc in subst (λ (place : Locus). IsTrue (order.knows place.chrom)) same known
+
+placed_further : (order : Order) (past records : List Feature) (last : Option Locus) → IsTotal order → IsKnownLast order last → last ≡ option_map locus_of (last_of (intervals_of past))
+    → AreInOrder order past → AreSaid (bed_format (sorting_of order)) last records → AreInOrder order (past ++ records)
+placed_further order past [] last total known is sorted said = rw (append-nil past) sorted
+placed_further order past (r ∷ records) last total known is sorted said =
+    let behind = said_behind order last said.0.0.text r total known said.0.1 in
+    let pushed : intervals_of (past ++ r ∷ []) ≡ intervals_of past ++ interval_of r ∷ [] = map-append interval_of past (r ∷ []) in
+    let next : Some (locus_at r) ≡ option_map locus_of (last_of (intervals_of (past ++ r ∷ []))) =
+    ap (option_map locus_of) (sym (last_of-push (intervals_of past) (interval_of r))) ∙ ap (λ l. option_map locus_of (last_of l)) (sym pushed) in
+    let above = last_up_to (last_of (intervals_of past)) (λ place. IsUpTo order place (locus_at r)) (subst (λ (s : Option Locus). IfSome s (λ place. IsUpTo order place (locus_at r))) is behind.in_order) in
+    let placed = grows_placed order (intervals_of past) (interval_of r) sorted.0 behind.known above in
+    let full = All-push (λ r. r.start < r.stop) (intervals_of past) (interval_of r) sorted.1 behind.feature.non_empty in
+    subst (AreInOrder order) (append_assoc past (r ∷ []) records)
+    (placed_further order (past ++ r ∷ []) records (Some (locus_at r)) total (known_record order r behind.known) next (rw pushed (placed, full)) said.1)
+
+-- records that lines say one after another are in order
+pub said_in_order : (order : Order) (records : List Feature) → IsTotal order → AreSaid (bed_format (sorting_of order)) None records → AreInOrder order records
+said_in_order order records total said =
+    placed_further order [] records None total (λ place e. let apart : None ≡ Some place = e in cc) refl (tt, λ k d h. absurd (omega arith)) said

@@ -1,0 +1,46 @@
+-- Lemmas on the members that were seen and on the lines that were put, when a run stops.
+use Rattle.std.proofs.Common.{◌≡◌, ℕ, List, [], ◌∷◌, ◌++◌, Option, None, Some, refl, sym, ap, ◌∙◌, append-nil, append_assoc, option_to_list}
+use Rattle.std.specs.Prelude.{IfSome, IsSome, option_map}
+use Rattle.std.proofs.lemmas.List.{map-append}
+use Rattle.bt_lines.specs.model.Fault.{Told}
+use Rattle.bt_lines.specs.calls.Output.{Output}
+use Rattle.bt_lines.specs.calls.Putting.{FailsToAdd}
+use Rattle.bt_bed.specs.model.input.Good.{Good, Member, items_in}
+use Rattle.bt_tool.specs.inside.feed.Feeding.{CutsLines, PutsFront, PutsLines, member_items}
+use Rattle.bt_tool.proofs.lemmas.running.feed.FeedLemmas.{front_all}
+
+-- the members before some others, by their items
+pub items_begin : {A : Type 0} (good : Option (Good A)) (past : List (Member A)) (written extra : List A) → member_items past ≡ written ++ extra
+    → IfSome good (λ good. (rest : List (Member A)) × (good.members ≡ past ++ rest))
+    → IfSome good (λ good. (rest : List A) × (items_in good ≡ written ++ (extra ++ rest)))
+items_begin None past written extra e b = tt
+items_begin (Some good) past written extra e b = (
+  member_items b.0,
+  ap member_items b.1 ∙ map-append (λ m. m.item) past b.0 ∙ ap (λ l. l ++ member_items b.0) e ∙ append_assoc written extra (member_items b.0),
+)
+
+pub items_first : {A : Type 0} (good : Option (Good A)) (written extra : List A) → IfSome good (λ good. (rest : List A) × (items_in good ≡ written ++ (extra ++ rest)))
+    → IfSome good (λ good. (rest : List A) × (items_in good ≡ written ++ rest))
+items_first None written extra b = tt
+items_first (Some good) written extra b = (extra ++ b.0, b.1)
+
+-- what holds if a value is known
+pub if_known : {T : Type 0} (o : Option T) (P : Type 0) → (IsSome o → P) → IfSome o (λ x. P)
+if_known None P h = tt
+if_known (Some x) P h = h refl
+
+-- the records seen are those that were consumed and the one ahead
+pub seen_items : {A : Type 0} (past : List (Member A)) (o : Option (Member A)) → member_items (past ++ option_to_list o) ≡ member_items past ++ option_to_list (option_map (λ m. m.item) o)
+seen_items past None = map-append (λ m. m.item) past []
+seen_items past (Some m) = map-append (λ m. m.item) past (m ∷ [])
+
+pub puts_front : (out : Output) (lines : List ℕ) (grown : Output) → PutsLines out lines grown → PutsFront out lines grown
+puts_front out lines grown puts = record { front = lines; rest = []; parts = sym (append-nil lines); puts = puts }
+
+-- the lines that couldn't be added were cut off
+pub cuts_more : (out old new : Output) (lines more : List ℕ) (fault : Told) → PutsLines out lines old → FailsToAdd old more fault new → CutsLines out (lines ++ more) new
+cuts_more out old new lines more fault puts fails = record {
+  front = λ before e. front_all new.took old.put before lines more (lines ++ more) refl (puts before e) fails.puts.front;
+  failed = fails.puts.failed;
+  sink_failed = fails.puts.sink_failed;
+}

@@ -1,0 +1,11 @@
+-- Lemmas on running, pair.
+pub mod BufferedLemmas
+pub mod PairLimits
+pub mod PairMet
+pub mod PairNear
+pub mod PairSettles
+pub mod PairStops
+pub mod PairTurns
+pub mod RestLemmas
+pub mod StartLemmas
+pub mod StopLemmas

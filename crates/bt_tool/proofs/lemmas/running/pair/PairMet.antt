@@ -1,0 +1,501 @@
+-- Lemmas from how a run over two readers of members ends to the report on how the inputs meet.
+use Rattle.std.proofs.Common.{◌≡◌, ℕ, suc, ◌+◌, ◌≤◌, ◌<◌, Bool, true, false, List, [], ◌∷◌, ◌++◌, Option, None, Some, refl, sym, ap, ◌∙◌, subst, append_assoc, append-nil, arith, flat_map, inl, inr}
+use Rattle.std.specs.Prelude.{◌⊎◌, ◌≢◌, ◌||◌, All, IfSome, IsSome, is_none, option_to_list, take}
+use Rattle.std.specs.List.{list_all}
+use Rattle.std.specs.Option.{option_or}
+use Rattle.std.proofs.lemmas.Bool.{false≢true, or_from}
+use Rattle.std.proofs.lemmas.List.{map-append}
+use Rattle.std.proofs.lemmas.List.Elements.{All-head, All-tail}
+use Rattle.bt_lines.proofs.lemmas.reader.block.ReadsLemmas.{some_is}
+use Rattle.bt_lines.specs.model.Fault.{Told, no_memory, write_failed}
+use Rattle.bt_lines.specs.model.Handed.{Handed, whole_text}
+use Rattle.bt_lines.specs.model.Lines.{TextLine, text_lines}
+use Rattle.bt_lines.specs.calls.Output.{Output, IsFrontOf, block_size}
+use Rattle.bt_lines.specs.calls.Reader.{input_of, lines_given, source_of}
+use Rattle.bt_lines.specs.declared.fault.Input.TheVariants.{First, Second}
+use Rattle.bt_bed.specs.model.input.Good.{Format, Good, Member, good_handed, items_in, or_else}
+use Rattle.bt_bed.specs.model.input.GoodLines.{IsBeyond}
+use Rattle.bt_bed.specs.model.input.Meeting.{written}
+use Rattle.bt_bed.specs.calls.Reading.{MemberReader, good_coming}
+use Rattle.bt_bed.proofs.lemmas.laws.MeetingLemmas.{all_stop, all_written, met_fault_all, met_fault_stop, met_lines, written_past, written_stop}
+use Rattle.bt_tool.specs.model.report.Behaviour.{Behaviour}
+use Rattle.bt_tool.specs.model.report.SweepReport.{met_report}
+use Rattle.bt_tool.specs.calls.run.Writing.{WritesBy}
+use Rattle.bt_tool.specs.inside.feed.Coming.{Came}
+use Rattle.bt_tool.specs.calls.run.Telling.{IsFaultButWrite, IsReported, IsWithin, ReadsNoFurther, TellsDevice, TellsInput}
+use Rattle.bt_tool.specs.inside.feed.Feeding.{PutsFront, PutsLines, member_items}
+use Rattle.bt_tool.specs.model.report.Inputs.{HandsUpTo, Holds, HoldsIf, Reads, ReadsIf, or_empty}
+use Rattle.bt_tool.specs.inside.pair.Pair.{Making, MayCome, Pair, Serves, met_by, met_whole, rule_of}
+use Rattle.bt_tool.specs.inside.pair.PairEnds.{Finishes, FirstFails, FirstStops, InputsEnd, LimitStops, RestStops, SecondFails, SecondStops, Why}
+use Rattle.bt_tool.proofs.lemmas.running.members.CameMembers.{BeginsAt, at_whole, came_cut, came_whole, is_known, says_fault, tells_fault, text_known}
+use Rattle.bt_tool.proofs.lemmas.running.feed.FaultLemmas.{memory_no_write, tells_no_write}
+use Rattle.bt_tool.proofs.lemmas.running.pair.PairLimits.{AreLimits}
+use Rattle.bt_tool.proofs.lemmas.running.members.SeenLemmas.{puts_front}
+use Rattle.bt_tool.proofs.lemmas.running.feed.WritingLemmas.{is_whole}
+
+-- an input that is there
+module _ {S : Type 0} (left : S → Option (List ℕ)) where
+  held_if : (source : S) (handed : Option Handed) → HoldsIf left (Some source) handed → Holds left source (or_empty handed)
+  held_if source None h = absurd h
+  held_if source (Some handed) h = h
+
+  read_if : (failed : S → Bool) (before after : S) (handed : Option Handed) → ReadsIf left failed (Some before) (Some after) handed → Reads left failed before after (or_empty handed)
+  read_if failed before after None h = absurd h
+  read_if failed before after (Some handed) h = h
+
+module _ {X Y : Type 0} (making : Making X Y) where
+  -- what the lines and the fault of a meeting are
+  abbrev MeetsAs : Good X → Good Y → List ℕ → Option Told → Type 0
+  MeetsAs first second bytes fault = ((met_whole making first second).lines ≡ bytes) × ((met_whole making first second).fault ≡ fault)
+
+  -- what is reported when all of the first is written
+  abbrev last_of : Good X → Good Y → Option Told
+  last_of first second = or_else (making.last (items_in first) second.members) second.fault
+
+  -- these members are decided, and have these bytes
+  abbrev HereAs : Good Y → List X → List ℕ → Type 0
+  HereAs second xs bytes = (list_all (λ x. is_none second.fault || making.decided x (items_in second)) xs ≡ true) × (flat_map (λ x. making.bytes x (items_in second)) xs ≡ bytes)
+
+  module _ (first : Good X) (second : Good Y) (xs : List X) (bytes : List ℕ) (here : HereAs second xs bytes) where
+    -- all members of the first are written
+    meets_all : items_in first ≡ xs → MeetsAs first second bytes (option_or first.fault (last_of first second))
+    meets_all is =
+        let made = rule_of making (items_in first) second in
+        let all : list_all made.decided (items_in first) ≡ true = ap (list_all made.decided) is ∙ here.0 in (
+          met_lines made (items_in first) first.fault ∙ sym (all_written made (items_in first) all) ∙ ap (flat_map made.lines) is ∙ here.1,
+          met_fault_all made (items_in first) first.fault all,
+        )
+
+    -- one of them waits, which the second input doesn't decide
+    meets_stop : (a : X) (rest : List X) (fault : Told) → items_in first ≡ xs ++ a ∷ rest → second.fault ≡ Some fault → making.decided a (items_in second) ≡ false → MeetsAs first second bytes (Some fault)
+    meets_stop a rest fault is told undecided_by =
+        let made = rule_of making (items_in first) second in
+        let undecided : made.decided a ≡ false = or_from (is_none second.fault) (making.decided a (items_in second)) (ap is_none told) undecided_by in (
+          met_lines made (items_in first) first.fault ∙ ap (written made) is ∙ written_stop made xs a rest here.0 undecided ∙ here.1,
+          met_fault_stop made (items_in first) first.fault (ap (list_all made.decided) is ∙ all_stop made xs a rest undecided) ∙ told,
+        )
+
+    -- whatever comes after them
+    meets_front : (rest : List X) → items_in first ≡ xs ++ rest → (more : List ℕ) × ((met_whole making first second).lines ≡ bytes ++ more)
+    meets_front rest is =
+        let made = rule_of making (items_in first) second in
+        (written made rest, met_lines made (items_in first) first.fault ∙ ap (written made) is ∙ written_past made xs rest here.0 ∙ ap (λ l. l ++ written made rest) here.1)
+
+module _ {Y : Type 0} where
+  -- of two fronts of a list, that which lies on lower lines begins the other
+  front_in : (past rest seen more : List (Member Y)) (count : ℕ) → past ++ rest ≡ seen ++ more → All (λ m. m.line ≤ count) seen → All (λ m. count < m.line) rest
+      → (k : List (Member Y)) × (past ≡ seen ++ k)
+  front_in past rest [] more count e low high = (past, refl)
+  front_in [] [] (m ∷ seen) more count e low high = cc
+  front_in [] (r ∷ rest) (m ∷ seen) more count e low high =
+      let same : r ≡ m = cc in
+      let up : m.line ≤ count = All-head (λ (m : Member Y). m.line ≤ count) m seen low in
+      let down : count < r.line = All-head (λ (m : Member Y). count < m.line) r rest high in
+      absurd (omega (arith, up, down, ap (λ (m : Member Y). m.line) same))
+  front_in (p ∷ past) rest (m ∷ seen) more count e low high =
+      let same : p ≡ m = cc in
+      let others : past ++ rest ≡ seen ++ more = cc in
+      let found = front_in past rest seen more count others (All-tail (λ (m : Member Y). m.line ≤ count) m seen low) high in
+      (found.0, ap (λ l. p ∷ l) found.1 ∙ ap (λ (x : Member Y). x ∷ seen ++ found.0) same)
+
+  pub may_come : (good : Option (Good Y)) (seen : List (Member Y)) (ended : Bool) → IfSome good (λ good. (rest : List (Member Y)) × (good.members ≡ seen ++ rest))
+      → (ended ≡ true → IfSome good (λ good. (good.members ≡ seen) × (good.fault ≡ None)))
+      → IfSome good (λ good. MayCome (member_items seen) ended (items_in good) good.fault)
+  may_come None seen ended b all = tt
+  may_come (Some good) seen ended b all = record {
+    begins = (member_items b.0, ap member_items b.1 ∙ map-append (λ m. m.item) seen b.0);
+    all = λ e. let whole = all e in (ap member_items whole.0, whole.1);
+  }
+
+  good_is : (good : Good Y) (members : List (Member Y)) (fault : Option Told) → good.members ≡ members → good.fault ≡ fault → good ≡ record { members = members; fault = fault }
+  good_is good members fault e f = ap (λ ms. record { members = ms; fault = good.fault }) e ∙ ap (λ (o : Option Told). record { members = members; fault = o }) f
+
+  -- the members that were seen of a second input come first, and are all if it has ended
+  abbrev Sees : List (Member Y) → Bool → Good Y → Type 0
+  Sees seen ended good = ((rest : List (Member Y)) × (good.members ≡ seen ++ rest)) × (ended ≡ true → (good.members ≡ seen) × (good.fault ≡ None))
+
+  sees_by : (good : Option (Good Y)) (seen : List (Member Y)) (ended : Bool) → IfSome good (λ good. (rest : List (Member Y)) × (good.members ≡ seen ++ rest))
+      → (ended ≡ true → IfSome good (λ good. (good.members ≡ seen) × (good.fault ≡ None))) → IfSome good (Sees seen ended)
+  sees_by None seen ended b all = tt
+  sees_by (Some good) seen ended b all = (b, all)
+
+  -- the members seen are among those that came before a failed read
+  pub seen_in : (good : Option (Good Y)) (past seen : List (Member Y)) (count : ℕ) → IsSome good
+      → IfSome good (λ good. (rest : List (Member Y)) × (good.members ≡ past ++ rest) × IsBeyond count (record { members = rest; fault = good.fault }))
+      → IfSome good (λ good. (rest : List (Member Y)) × (good.members ≡ seen ++ rest)) → All (λ m. m.line ≤ count) seen
+      → (k : List (Member Y)) × (past ≡ seen ++ k)
+  seen_in None past seen count k f b low = absurd (false≢true k)
+  seen_in (Some good) past seen count k f b low = front_in past f.0 seen b.0 count (sym f.1 ∙ b.1) low f.2.members
+
+pub from_known : {T : Type 0} (o : Option T) (P : Type 0) → IsSome o → IfSome o (λ x. P) → P
+from_known None P k h = absurd (false≢true k)
+from_known (Some x) P k h = h
+
+module _ {A B X Y U V : Type 0} (making : Making X Y) (pair : Pair A B X Y U V) (out : Output)
+    (first_format : Format X U) (second_format : Format Y V) (in_order : (two : Handed) → making.InOrder (items_in (good_handed second_format Second two))) (limits : AreLimits making)
+    (one_before : A) (two_before : B) (begins : BeginsAt pair.a_left first_format First one_before pair.first) (begins_second : BeginsAt pair.b_left second_format Second two_before pair.second)
+    (first : MemberReader A X U) (second : MemberReader B Y V) (one_after : A) (two_after : B) (ended : source_of first.below ≡ one_after) (ended_second : source_of second.below ≡ two_after)
+    (fault : Option Told) (grown : Output) (w : Finishes making pair out fault first second grown) where
+  abbrev good_one : Handed → Good X
+  good_one one = good_handed first_format First one
+
+  abbrev good_two : Handed → Good Y
+  good_two two = good_handed second_format Second two
+
+  abbrev CameOne : Option Told → Handed → Type 0
+  CameOne = Came pair.a_left pair.a_failed one_before one_after
+
+  abbrev CameTwo : Option Told → Handed → Type 0
+  CameTwo = Came pair.b_left pair.b_failed two_before two_after
+
+  -- what the first meets of the second
+  abbrev limit : Handed → Handed → Good Y
+  limit one two = making.limited (items_in (good_one one)) (good_two two)
+
+  abbrev MayBe : Good Y → Type 0
+  MayBe good = MayCome (member_items w.wrote.seen) w.wrote.ended (items_in good) good.fault
+
+  -- what the second input may have
+  second_may : IfSome (good_coming pair.b_left pair.second) MayBe
+  second_may = may_come (good_coming pair.b_left pair.second) w.wrote.seen w.wrote.ended w.wrote.second_begins w.wrote.second_all
+
+  abbrev SeesTwo : Good Y → Type 0
+  SeesTwo = Sees w.wrote.seen w.wrote.ended
+
+  second_sees : IfSome (good_coming pair.b_left pair.second) SeesTwo
+  second_sees = sees_by (good_coming pair.b_left pair.second) w.wrote.seen w.wrote.ended w.wrote.second_begins w.wrote.second_all
+
+  abbrev Begins : Good X → Type 0
+  Begins good = (rest : List X) × (items_in good ≡ w.wrote.given ++ rest)
+
+  module _ (first_good : Good X) (second_good : Good Y) (known : IsSome (good_coming pair.b_left pair.second)) (begun : Begins first_good) where
+    abbrev firsts : List X
+    firsts = items_in first_good
+
+    fits_first : making.Fits firsts w.wrote.taken
+    fits_first = subst (λ (l : List X). making.Fits l w.wrote.taken) (sym begun.1) (limits.more w.wrote.given begun.0 w.wrote.taken (w.wrote.fits known))
+
+    abbrev seen_all : List (Member Y)
+    seen_all = w.wrote.taken ++ option_to_list w.wrote.ahead
+
+    parted : (rest : List (Member Y)) → second_good.members ≡ w.wrote.seen ++ rest → second_good ≡ record { members = seen_all ++ rest; fault = second_good.fault }
+    parted rest e = good_is second_good (seen_all ++ rest) second_good.fault (e ∙ ap (λ l. l ++ rest) w.wrote.sees) refl
+
+    ended_taken : w.wrote.ended ≡ true → w.wrote.seen ≡ w.wrote.taken
+    ended_taken e = w.wrote.sees ∙ ap (λ (o : Option (Member Y)). w.wrote.taken ++ option_to_list o) (w.wrote.none_ahead e) ∙ append-nil w.wrote.taken
+
+    whole_at : w.wrote.ended ≡ true → second_good.members ≡ w.wrote.seen → making.limited firsts second_good ≡ second_good
+    whole_at e all =
+        let is = good_is second_good w.wrote.taken second_good.fault (all ∙ ended_taken e) refl in
+        ap (making.limited firsts) is ∙ limits.whole firsts w.wrote.taken second_good.fault fits_first ∙ sym is
+
+    -- what the first meets of the second begins with what was seen
+    limited_may : SeesTwo second_good → MayBe (making.limited firsts second_good)
+    limited_may sees =
+        let is = parted sees.0.0 sees.0.1 in
+        let keeps = limits.keeps firsts w.wrote.taken w.wrote.ahead sees.0.0 second_good.fault fits_first in
+        record {
+          begins = (
+            member_items keeps.0,
+            ap (λ (g : Good Y). items_in (making.limited firsts g)) is ∙ ap member_items keeps.1 ∙ ap (λ l. member_items (l ++ keeps.0)) (sym w.wrote.sees) ∙ map-append (λ m. m.item) w.wrote.seen keeps.0,
+          );
+          all = λ e.
+              let same = whole_at e (sees.1 e).0 in
+              (ap items_in same ∙ ap member_items (sees.1 e).0, ap (λ (g : Good Y). g.fault) same ∙ (sees.1 e).1);
+        }
+
+    decided_all : w.wrote.ended ≡ false → firsts ≡ w.written → making.InOrder (member_items seen_all) → list_all (λ x. making.decided x (member_items seen_all)) firsts ≡ true
+    decided_all e all ordered =
+        let seen_is : member_items w.wrote.seen ≡ member_items seen_all = ap member_items w.wrote.sees in
+        let may : MayCome (member_items w.wrote.seen) w.wrote.ended (member_items seen_all) (Some no_memory) = record {
+          begins = ([], sym seen_is ∙ sym (append-nil (member_items w.wrote.seen)));
+          all = λ t. absurd (false≢true (sym e ∙ t));
+        } in
+        ap (list_all (λ x. making.decided x (member_items seen_all))) all ∙ ((w.wrote.settles known).whatever (member_items seen_all) (Some no_memory) ordered may).0
+
+    free_by : (b : Bool) → w.wrote.ended ≡ b → firsts ≡ w.written → making.InOrder (items_in second_good) → (rest : List (Member Y)) → second_good.members ≡ w.wrote.seen ++ rest
+        → (w.wrote.ended ≡ true → second_good.members ≡ w.wrote.seen) → making.limited firsts second_good ≡ second_good
+    free_by true e all ordered rest begins ends = whole_at e (ends e)
+    free_by false e all ordered rest begins ends =
+        let is = parted rest begins in
+        ap (making.limited firsts) is
+        ∙ limits.done firsts w.wrote.taken w.wrote.ahead rest second_good.fault fits_first (subst (λ (g : Good Y). making.InOrder (items_in g)) is ordered) (decided_all e all)
+        ∙ sym is
+
+    -- if all of the first is written, the limit changes nothing
+    free : firsts ≡ w.written → making.InOrder (items_in second_good) → (rest : List (Member Y)) → second_good.members ≡ w.wrote.seen ++ rest
+        → (w.wrote.ended ≡ true → second_good.members ≡ w.wrote.seen) → making.limited firsts second_good ≡ second_good
+    free all ordered rest begins ends = free_by w.wrote.ended refl all ordered rest begins ends
+
+  first_whole : (other : Option Told) (one : Handed) → CameOne other one → Serves pair.a_failed pair.first first → (P : Good X → Type 0) → IfSome (good_coming pair.a_left pair.first) P → P (good_one one)
+  first_whole other one came serves =
+      came_whole pair.a_left pair.a_failed pair.a_end first_format First one_before pair.first begins first one_after ended other one came w.wrote.first_bytes serves.served serves.within
+
+  second_whole : (other : Option Told) (two : Handed) → CameTwo other two → Serves pair.b_failed pair.second second → (P : Good Y → Type 0) → IfSome (good_coming pair.b_left pair.second) P → P (good_two two)
+  second_whole other two came serves =
+      came_whole pair.b_left pair.b_failed pair.b_end second_format Second two_before pair.second begins_second second two_after ended_second other two came w.wrote.second_bytes serves.served serves.within
+
+  known_by : (two : List ℕ) → pair.b_left two_before ≡ Some two → IsSome (good_coming pair.b_left pair.second)
+  known_by two e = is_known pair.b_left pair.b_failed pair.b_end second_format Second two_before pair.second begins_second second two_after ended_second two e
+
+  known_two : (other : Option Told) (two : Handed) → CameTwo other two → IsSome (good_coming pair.b_left pair.second)
+  known_two other two came =
+      let text = text_known pair.b_left pair.b_failed pair.b_end second_format Second two_before pair.second begins_second second two_after ended_second other two came in
+      known_by text.0 text.1
+
+  here_by : (one two : Handed) → IsSome (good_coming pair.b_left pair.second) → MayBe (limit one two) → HereAs making (limit one two) w.written w.bytes
+  here_by one two known may = (w.wrote.settles known).whatever (items_in (limit one two)) (limit one two).fault (limits.ordered (items_in (good_one one)) (good_two two) (in_order two)) may
+
+  -- what the fault of an input says of it
+  first_wrong : (past : List (Member X)) (other : Told) (one : Handed) → CameOne (Some other) one → FirstFails making pair out past first other
+      → ((good_one one).members ≡ past) × ((good_one one).fault ≡ Some other)
+  first_wrong past other one came fails =
+      says_fault pair.a_left pair.a_failed pair.a_end first_format First one_before pair.first begins first one_after ended making.first_kinds past other one came w.wrote.first_bytes fails
+
+  second_wrong : (past : List (Member Y)) (other : Told) (two : Handed) → CameTwo (Some other) two → SecondFails making pair out w.wrote.ended past second other
+      → ((good_two two).members ≡ past) × ((good_two two).fault ≡ Some other) × MayBe (good_two two)
+      × ((rest : List (Member Y)) × ((good_two two).members ≡ w.wrote.seen ++ rest)) × (w.wrote.ended ≡ true → (good_two two).members ≡ w.wrote.seen)
+  second_wrong past other two came fails =
+      elim fails.cause [
+        | inl wrong ↦
+            let serves : Serves pair.b_failed pair.second second = record { served = wrong.served; within = wrong.within } in
+            let is = second_whole (Some other) two came serves (λ good. (good.members ≡ past) × (good.fault ≡ Some other)) wrong.whole in
+            let sees = second_whole (Some other) two came serves SeesTwo second_sees in
+            (is.0, is.1, second_whole (Some other) two came serves MayBe second_may, sees.0, λ e. (sees.1 e).0)
+        | inr unread ↦
+            let is = came_cut pair.b_left pair.b_failed pair.b_end second_format Second two_before pair.second begins_second second two_after ended_second past other two came unread in
+            let k = seen_in (good_coming pair.b_left pair.second) past w.wrote.seen (lines_given second.below) (known_two (Some other) two came) unread.members w.wrote.second_begins (w.wrote.low (subst IsSome (sym unread.kept) refl)) in
+            let may : MayCome (member_items w.wrote.seen) w.wrote.ended (member_items past) (Some other) = record {
+              begins = (member_items k.0, ap member_items k.1 ∙ map-append (λ m. m.item) w.wrote.seen k.0);
+              all = λ e. absurd (fails.before_end e (input_of pair.second.below) (suc (lines_given second.below)) unread.is);
+            } in (
+              ap (λ (g : Good Y). g.members) is,
+              ap (λ (g : Good Y). g.fault) is,
+              subst MayBe (sym is) may,
+              (k.0, ap (λ (g : Good Y). g.members) is ∙ k.1),
+              λ e. absurd (fails.before_end e (input_of pair.second.below) (suc (lines_given second.below)) unread.is),
+            )
+      ]
+
+  -- the inputs tell the end
+  module _ (one two : Handed) (came : CameOne fault one) (came_second : CameTwo fault two) where
+    known_now : IsSome (good_coming pair.b_left pair.second)
+    known_now = known_two fault two came_second
+
+    abbrev MeetsHere : Type 0
+    MeetsHere = MeetsAs making (good_one one) (limit one two) w.bytes fault
+
+    meets_first : (other : Told) → fault ≡ Some other → FirstStops making pair out w.written w.wrote.given first second other → MeetsHere
+    meets_first other is stops =
+        let says = first_wrong stops.past other one (subst (λ f. CameOne f one) is came) stops.cause in
+        let begun : Begins (good_one one) = ([], ap member_items says.0 ∙ sym stops.all_given ∙ sym (append-nil w.wrote.given)) in
+        let may = limited_may (good_one one) (good_two two) known_now begun (second_whole fault two came_second stops.serves SeesTwo second_sees) in
+        let met = meets_all making (good_one one) (limit one two) w.written w.bytes (here_by one two known_now may) (ap member_items says.0 ∙ sym stops.all) in
+        (met.0, met.1 ∙ ap (λ f. option_or f (last_of making (good_one one) (limit one two))) says.1 ∙ sym is)
+
+    meets_second : (other : Told) → fault ≡ Some other → SecondStops making pair out w.written w.wrote.ended first second other → MeetsHere
+    meets_second other is stops =
+        let says = second_wrong stops.past other two (subst (λ f. CameTwo f two) is came_second) stops.fails in
+        let waits = first_whole fault one came stops.serves (λ good. (rest : List X) × (items_in good ≡ w.written ++ stops.waiting ∷ rest)) stops.begins in
+        let all = items_in (good_one one) in
+        let fits : making.Fits all stops.past = rw (← append_assoc w.written (stops.waiting ∷ []) waits.0 ∙ sym waits.1) (limits.more (w.written ++ stops.waiting ∷ []) waits.0 stops.past (stops.fits known_now)) in
+        let cut = good_is (good_two two) stops.past (Some other) says.0 says.1 in
+        let same : limit one two ≡ good_two two = ap (making.limited all) cut ∙ limits.whole all stops.past (Some other) fits ∙ sym cut in
+        let undecided_by : making.decided stops.waiting (items_in (limit one two)) ≡ false =
+        ap (λ (g : Good Y). making.decided stops.waiting (items_in g)) same
+        ∙ ap (λ ms. making.decided stops.waiting (member_items ms)) says.0
+        ∙ from_known (good_coming pair.b_left pair.second) (making.decided stops.waiting (member_items stops.past) ≡ false) known_now stops.undecided in
+        let told : (limit one two).fault ≡ Some other = ap (λ (g : Good Y). g.fault) same ∙ says.1 in
+        let met = meets_stop making (good_one one) (limit one two) w.written w.bytes (here_by one two known_now (subst MayBe (sym same) says.2)) stops.waiting waits.0 other waits.1 told undecided_by in
+        (met.0, met.1 ∙ sym is)
+
+    meets_limit : (other : Told) → fault ≡ Some other → LimitStops making pair out w.written first second other → MeetsHere
+    meets_limit other is stops =
+        let waits = first_whole fault one came stops.serves (λ good. (rest : List X) × (items_in good ≡ w.written ++ stops.waiting ∷ rest)) stops.begins in
+        let begun = first_whole fault one came stops.serves Begins w.wrote.given_begin in
+        let comes = second_whole fault two came_second stops.serves_second (λ good. (rest : List (Member Y)) × (good.members ≡ (stops.past ++ stops.m ∷ []) ++ rest)) stops.comes in
+        let may = limited_may (good_one one) (good_two two) known_now begun (second_whole fault two came_second stops.serves_second SeesTwo second_sees) in
+        let cut : limit one two ≡ record { members = stops.past ++ stops.m ∷ []; fault = Some other } =
+        ap (λ (l : List X). making.limited l (good_two two)) waits.1
+        ∙ ap (making.limited (w.written ++ stops.waiting ∷ waits.0)) (good_is (good_two two) ((stops.past ++ stops.m ∷ []) ++ comes.0) (good_two two).fault comes.1 refl)
+        ∙ stops.cuts known_now waits.0 comes.0 (good_two two).fault in
+        let met = meets_stop making (good_one one) (limit one two) w.written w.bytes (here_by one two known_now may) stops.waiting waits.0 other waits.1 (ap (λ (g : Good Y). g.fault) cut)
+        (ap (λ (g : Good Y). making.decided stops.waiting (items_in g)) cut ∙ stops.undecided) in
+        (met.0, met.1 ∙ sym is)
+
+    -- all of the first is written
+    module _ (stops : RestStops making pair out w.written w.wrote.ended first second fault) where
+      whole_first : ((good_one one).members ≡ stops.past) × ((good_one one).fault ≡ None)
+      whole_first = first_whole fault one came stops.serves (λ good. (good.members ≡ stops.past) × (good.fault ≡ None)) stops.whole
+
+      every : items_in (good_one one) ≡ w.written
+      every = ap member_items whole_first.0 ∙ sym stops.all
+
+      at_last : (told : Option Told) → making.last w.written (good_two two).members ≡ told → or_else told (good_two two).fault ≡ fault → MayBe (good_two two)
+          → (rest : List (Member Y)) × ((good_two two).members ≡ w.wrote.seen ++ rest) → (w.wrote.ended ≡ true → (good_two two).members ≡ w.wrote.seen) → MeetsHere
+      at_last told is last may begins ends =
+          let begun = first_whole fault one came stops.serves Begins w.wrote.given_begin in
+          let same = free (good_one one) (good_two two) known_now begun every (in_order two) begins.0 begins.1 ends in
+          let here : HereAs making (good_two two) w.written w.bytes = (w.wrote.settles known_now).whatever (items_in (good_two two)) (good_two two).fault (in_order two) may in
+          let met = meets_all making (good_one one) (good_two two) w.written w.bytes here every in
+          subst (λ (g : Good Y). MeetsAs making (good_one one) g w.bytes fault) (sym same) (
+            met.0,
+            met.1 ∙ ap (λ f. option_or f (last_of making (good_one one) (good_two two))) whole_first.1
+                ∙ ap (λ (xs : List X). or_else (making.last xs (good_two two).members) (good_two two).fault) every ∙ ap (λ t. or_else t (good_two two).fault) is ∙ last,
+          )
+
+      meets_rest : MeetsHere
+      meets_rest =
+          elim stops.rest [
+            | inl end ↦
+                let says = second_whole fault two came_second end.2 (λ good. (good.members ≡ stops.past_second) × (good.fault ≡ None)) end.1 in
+                let sees = second_whole fault two came_second end.2 SeesTwo second_sees in
+                at_last None (ap (making.last w.written) says.0 ∙ end.3) (says.1 ∙ sym end.0) (second_whole fault two came_second end.2 MayBe second_may) sees.0 (λ e. (sees.1 e).0)
+            | inr others ↦ elim others [
+              | inl told ↦
+                  let says = second_wrong stops.past_second told.0 two (subst (λ f. CameTwo f two) told.1 came_second) told.2 in
+                  at_last None (ap (making.last w.written) says.0 ∙ told.3) (says.1 ∙ sym told.1) says.2 says.3 says.4
+              | inr told ↦
+                  let last = told.2 in
+                  let sees = second_whole fault two came_second last.serves SeesTwo second_sees in
+                  at_last (Some told.0) (second_whole fault two came_second last.serves (λ good. making.last w.written good.members ≡ Some told.0) last.told) (sym told.1)
+                  (second_whole fault two came_second last.serves MayBe second_may) sees.0 (λ e. (sees.1 e).0)
+            ]
+          ]
+
+    meets : InputsEnd making pair out w.written w.wrote.given w.wrote.ended first second fault → MeetsHere
+    meets (inl stops) = meets_first stops.0 stops.1 stops.2
+    meets (inr (inl stops)) = meets_second stops.0 stops.1 stops.2
+    meets (inr (inr (inl stops))) = meets_rest stops
+    meets (inr (inr (inr stops))) = meets_limit stops.0 stops.1 stops.2
+
+    reported : (before : List ℕ) → out.put ≡ Some before → InputsEnd making pair out w.written w.wrote.given w.wrote.ended first second fault → PutsLines out w.bytes grown
+        → IsReported (met_report (met_by making (good_one one) (good_two two))) before fault grown
+    reported before put end puts = let met = meets end in (sym met.1, puts before put ∙ ap (λ l. Some (before ++ l)) (sym met.0))
+
+  -- what was written begins the report on the whole texts
+  front_of : (first second : Handed) → Holds pair.a_left one_before first → Holds pair.b_left two_before second
+      → (more : List ℕ) × ((met_by making (good_one first) (good_two second)).lines ≡ w.bytes ++ more)
+  front_of first_handed second_handed holds others =
+      let one = holds.text in
+      let two = others.text in
+      let e = holds.known in
+      let f = others.known in
+      let sees = at_whole pair.b_left pair.b_failed pair.b_end second_format Second two_before pair.second begins_second second two_after ended_second two f SeesTwo second_sees in
+      let begun = at_whole pair.a_left pair.a_failed pair.a_end first_format First one_before pair.first begins first one_after ended one e Begins w.wrote.given_begin in
+      let may = limited_may (good_one (whole_text one)) (good_two (whole_text two)) (known_by two f) begun sees in
+      let rest = at_whole pair.a_left pair.a_failed pair.a_end first_format First one_before pair.first begins first one_after ended one e (λ good. (rest : List X) × (items_in good ≡ w.written ++ rest)) w.wrote.first_begins in
+      rw (holds.is, others.is) (meets_front making (good_one (whole_text one)) (limit (whole_text one) (whole_text two)) w.written w.bytes (here_by (whole_text one) (whole_text two) (known_by two f) may) rest.0 rest.1)
+
+  first_named : (past : List (Member X)) (other : Told) → FirstFails making pair out past first other → TellsInput pair.a_left pair.a_failed making.first_kinds First one_before one_after other
+  first_named past other fails =
+      tells_fault pair.a_left pair.a_failed pair.a_end first_format First one_before pair.first begins first one_after ended making.first_kinds past other w.wrote.first_bytes fails
+
+  second_named : (past : List (Member Y)) (other : Told) → SecondFails making pair out w.wrote.ended past second other → TellsInput pair.b_left pair.b_failed making.second_kinds Second two_before two_after other
+  second_named past other fails =
+      tells_fault pair.b_left pair.b_failed pair.b_end second_format Second two_before pair.second begins_second second two_after ended_second making.second_kinds past other w.wrote.second_bytes fails.cause
+
+  abbrev Because : Type 0
+  Because = Why making pair out w.written w.bytes w.wrote.given w.wrote.ended first second fault grown
+
+  abbrev TellsBoth : Told → Type 0
+  TellsBoth told = TellsInput pair.a_left pair.a_failed making.first_kinds First one_before one_after told ⊎ TellsInput pair.b_left pair.b_failed making.second_kinds Second two_before two_after told
+
+  -- what the inputs tell
+  tells_by : (told : Told) → fault ≡ Some told → InputsEnd making pair out w.written w.wrote.given w.wrote.ended first second fault → TellsBoth told
+  tells_by told e (inl stops) = subst TellsBoth (some_is stops.0 told (sym stops.1 ∙ e)) (inl (first_named stops.2.past stops.0 stops.2.cause))
+  tells_by told e (inr (inl stops)) = subst TellsBoth (some_is stops.0 told (sym stops.1 ∙ e)) (inr (second_named stops.2.past stops.0 stops.2.fails))
+  tells_by told e (inr (inr (inr stops))) =
+      subst TellsBoth (some_is stops.0 told (sym stops.1 ∙ e)) (inr (inl (record { line = stops.2.m.line; kind = stops.2.kind; of_kind = stops.2.of_kind; is = stops.2.is })))
+  tells_by told e (inr (inr (inl stops))) =
+      elim stops.rest [
+        | inl end ↦ absurd (let apart : None ≡ Some told = sym end.0 ∙ e in cc)
+        | inr others ↦ elim others [
+          | inl other ↦ subst TellsBoth (some_is other.0 told (sym other.1 ∙ e)) (inr (second_named stops.past_second other.0 other.2))
+          | inr other ↦ subst TellsBoth (some_is other.0 told (sym other.1 ∙ e)) (inr (inl (record { line = other.2.line; kind = other.2.kind; of_kind = other.2.of_kind; is = other.2.is })))
+        ]
+      ]
+
+  inputs_no_write : InputsEnd making pair out w.written w.wrote.given w.wrote.ended first second fault → fault ≡ Some write_failed → ⊥
+  inputs_no_write end e =
+      elim (tells_by write_failed e end) [
+        | inl tells ↦ tells_no_write pair.a_left pair.a_failed making.first_kinds First one_before one_after tells
+        | inr tells ↦ tells_no_write pair.b_left pair.b_failed making.second_kinds Second two_before two_after tells
+      ]
+
+  named_by : (told : Told) → fault ≡ Some told → Because → TellsBoth told ⊎ TellsDevice grown.sink_has_failed told
+  named_by told e (inl (end, puts, works)) = inl (tells_by told e end)
+  named_by told e (inr (inl ran)) = inr (inr (some_is told no_memory (sym e ∙ ran.0)))
+  named_by told e (inr (inr cut)) = inr (inl (some_is told write_failed (sym e ∙ cut.0), cut.1.sink_failed))
+
+  served_by : fault ≡ None → Because
+      → ((pair.a_failed one_after ≡ pair.a_failed one_before) × (pair.b_failed two_after ≡ pair.b_failed two_before)) × (grown.sink_has_failed ≡ out.sink_has_failed)
+  served_by e (inl ((inl stops), puts, works)) = absurd (let apart : None ≡ Some stops.0 = sym e ∙ stops.1 in cc)
+  served_by e (inl ((inr (inl stops)), puts, works)) = absurd (let apart : None ≡ Some stops.0 = sym e ∙ stops.1 in cc)
+  served_by e (inl ((inr (inr (inr stops))), puts, works)) = absurd (let apart : None ≡ Some stops.0 = sym e ∙ stops.1 in cc)
+  served_by e (inl ((inr (inr (inl stops))), puts, works)) =
+      elim stops.rest [
+        | inl end ↦ (
+          (ap pair.a_failed (sym ended) ∙ stops.serves.served ∙ ap pair.a_failed begins.source, ap pair.b_failed (sym ended_second) ∙ end.2.served ∙ ap pair.b_failed begins_second.source),
+          works.sink_served,
+        )
+        | inr others ↦ elim others [
+          | inl other ↦ absurd (let apart : None ≡ Some other.0 = sym e ∙ other.1 in cc)
+          | inr other ↦ absurd (let apart : None ≡ Some other.0 = sym e ∙ other.1 in cc)
+        ]
+      ]
+  served_by e (inr (inl ran)) = absurd (let apart : None ≡ Some no_memory = sym e ∙ ran.0 in cc)
+  served_by e (inr (inr cut)) = absurd (let apart : None ≡ Some write_failed = sym e ∙ cut.0 in cc)
+
+  whole_by : (one two : Handed) (before : List ℕ) → CameOne fault one → CameTwo fault two → out.put ≡ Some before
+      → fault ≢ Some write_failed → fault ≢ Some no_memory → Because → IsReported (met_report (met_by making (good_one one) (good_two two))) before fault grown
+  whole_by one two before came came_second put write memory (inl (end, puts, works)) = reported one two came came_second before put end puts
+  whole_by one two before came came_second put write memory (inr (inl ran)) = absurd (memory ran.0)
+  whole_by one two before came came_second put write memory (inr (inr cut)) = absurd (write cut.0)
+
+  cut_by : fault ≡ Some write_failed → (before : List ℕ) → out.put ≡ Some before → Because → IsFrontOf grown.took (Some (before ++ w.bytes)) []
+  cut_by is before put (inl (end, puts, works)) = absurd (inputs_no_write end is)
+  cut_by is before put (inr (inl ran)) = absurd (memory_no_write (some_is no_memory write_failed (sym ran.0 ∙ is)))
+  cut_by is before put (inr (inr cut)) = cut.1.front before put
+
+  kept_by : fault ≢ Some write_failed → Because → PutsFront out w.bytes grown
+  kept_by other (inl (end, puts, works)) = puts_front out w.bytes grown puts
+  kept_by other (inr (inl ran)) = puts_front out w.bytes grown ran.1
+  kept_by other (inr (inr cut)) = absurd (other cut.0)
+
+  module _ (settles : Handed → List TextLine → List ℕ) (reaches : Handed → List TextLine → ℕ) where
+    abbrev pub NearBoth : Type 0
+    NearBoth = (one two before taken : List ℕ) → pair.a_left one_before ≡ Some one → pair.b_left two_before ≡ Some two → out.put ≡ Some before → out.took ≡ Some taken
+        → ReadsNoFurther (λ n. IsWithin (pair.a_end one_after) one n → HandsUpTo pair.b_left (reaches (whole_text two) (take n (text_lines one)) + block_size) two_before two_after)
+        (settles (whole_text two)) one (pair.a_left one_after) before grown.took (grown.has_failed ≡ true) (IsFaultButWrite fault) grown.put
+
+    abbrev behaviour : Behaviour
+    behaviour = record {
+      report = λ one two. met_report (met_by making (good_one one) (good_two (or_empty two)));
+      settles = λ two. settles (or_empty two);
+      reaches = λ two. reaches (or_empty two);
+      FirstKinds = making.first_kinds;
+      SecondKinds = making.second_kinds;
+    }
+
+    -- the report on how the inputs meet, by how far they were read
+    pub writes_both : NearBoth → WritesBy pair.a_left pair.a_failed pair.a_end pair.b_left pair.b_failed behaviour one_before (Some two_before) out fault one_after (Some two_after) grown
+    writes_both near = record {
+      whole = λ one two before reads others put write memory. whole_by one (or_empty two) before (inl reads) (inl (read_if pair.b_left pair.b_failed two_before two_after two others)) put write memory w.why;
+      told = λ one two before holds others put is.
+          whole_by one (or_empty two) before (inr (is_whole pair.a_left pair.a_failed one_before one_after fault one holds is))
+          (inr (is_whole pair.b_left pair.b_failed two_before two_after fault (or_empty two) (held_if pair.b_left two_before two others) is)) put is.no_write is.no_growth w.why;
+      cut = λ is one two before holds others put.
+          let more = front_of one (or_empty two) holds (held_if pair.b_left two_before two others) in
+          (w.bytes, more.0, more.1, cut_by is before put w.why);
+      kept = λ other one two before holds others put.
+          let more = front_of one (or_empty two) holds (held_if pair.b_left two_before two others) in
+          let part = kept_by other w.why in
+          (part.front, part.rest ++ more.0, more.1 ∙ ap (λ l. l ++ more.0) part.parts ∙ append_assoc part.front part.rest more.0, part.puts before put);
+      grows = w.wrote.grows;
+      served = λ e. served_by e w.why;
+      near = λ one two before taken holds others put took.
+          let held = held_if pair.b_left two_before two others in
+          rw (holds.is, held.is) (near holds.text held.text before taken holds.known held.known put took);
+      named = λ told e. named_by told e w.why;
+    }

@@ -1,0 +1,200 @@
+-- Lemmas on how far two inputs were read beside what was written.
+use Rattle.std.proofs.Common.{◌≡◌, ℕ, zero, suc, ◌+◌, ◌-◌, ◌<◌, ◌≤◌, Bool, true, false, not, List, [], ◌∷◌, ◌++◌, take, drop, Option, None, Some, Result, Ok, Err, refl, sym, ap, ◌∙◌, subst, arith, flat_map, inl, inr}
+use Rattle.std.specs.Prelude.{◌⊎◌, ◌&&◌, ◌||◌, All, IfSome, IsSome, if◌then◌else◌, length, option_map}
+use Rattle.std.specs.Io.KnownBytes.{Consumes}
+use Rattle.std.specs.List.{list_all, list_any}
+use Rattle.std.proofs.lemmas.Bool.{false≢true}
+use Rattle.std.proofs.lemmas.List.{map-append, take-append-drop}
+use Rattle.std.proofs.lemmas.List.Elements.{All-head, All-tail}
+use Rattle.bt_lines.specs.model.Handed.{Handed, whole_text}
+use Rattle.bt_lines.specs.model.Fault.{Told}
+use Rattle.bt_lines.specs.model.Lines.{AreNumbered, TextLine, bytes_in, text_lines}
+use Rattle.bt_lines.specs.calls.Output.{Output, block_size}
+use Rattle.bt_lines.specs.calls.Reader.{lines_left, source_of}
+use Rattle.bt_lines.specs.declared.fault.Input.{Input}
+use Rattle.bt_lines.specs.declared.fault.Input.TheVariants.{First, Second}
+use Rattle.bt_lines.specs.declared.fault.Kind.{Kind}
+use Rattle.bt_lines.proofs.lemmas.reader.lines.TextLemmas.{bytes_in-append, lines_are_numbered}
+use Rattle.bt_bed.specs.model.feature.Feature.{Feature}
+use Rattle.bt_bed.specs.model.input.Good.{Format, Good, Member, good, good_from, good_handed, good_with, items_in}
+use Rattle.bt_bed.specs.model.input.GoodLines.{AreAscending, IsBeyond}
+use Rattle.bt_bed.specs.calls.Reading.{MemberReader, good_coming}
+use Rattle.bt_bed.proofs.lemmas.read.good.GoodLemmas.{ascend_from, first_from}
+use Rattle.bt_tool.specs.model.report.SweepReport.{bytes_up_to}
+use Rattle.bt_tool.specs.calls.run.Telling.{IsFaultButWrite, IsWithin, ReadsNoFurther}
+use Rattle.bt_tool.specs.inside.feed.Feeding.{TookButBlock, member_items}
+use Rattle.bt_tool.specs.model.report.Inputs.{HandsUpTo}
+use Rattle.bt_tool.specs.inside.pair.Pair.{Making, MayCome, Pair}
+use Rattle.bt_tool.specs.inside.pair.PairEnds.{AsksFor, Finishes, HasNoMore, StaysNear}
+use Rattle.bt_tool.proofs.lemmas.running.members.CameMembers.{BeginsAt, at_whole, good_whole, handed_to, is_known, some_of}
+use Rattle.bt_tool.proofs.lemmas.running.pair.PairMet.{may_come}
+
+module _ {A State : Type 0} (format : Format A State) (input : Input) where
+  front_with : (bound number : ℕ) (state : State) (said : Result (Option A) Kind) (whole taken : State → Good A) (past rest : List (Member A))
+      → ((now : State) (past rest : List (Member A)) → (whole now).members ≡ past ++ rest → All (λ m. m.line ≤ bound) past → (extra : List (Member A)) × ((taken now).members ≡ past ++ extra))
+      → (good_with format input number state said whole).members ≡ past ++ rest → All (λ m. m.line ≤ bound) past
+      → (extra : List (Member A)) × ((good_with format input number state said taken).members ≡ past ++ extra)
+  front_with bound number state said whole taken [] rest h e up = ((good_with format input number state said taken).members, refl)
+  front_with bound number state (Err kind) whole taken (m ∷ ms) rest h e up = cc
+  front_with bound number state (Ok None) whole taken (m ∷ ms) rest h e up = h state (m ∷ ms) rest e up
+  front_with bound number state (Ok (Some item)) whole taken (m ∷ ms) rest h e up =
+      let now = format.after state item in
+      let first : Member A = record { line = number; item = item } in
+      let same : first ≡ m = cc in
+      let others : (whole now).members ≡ ms ++ rest = cc in
+      let found = h now ms rest others (All-tail (λ (m : Member A). m.line ≤ bound) m ms up) in
+      (found.0, ap (λ l. first ∷ l) found.1 ∙ ap (λ (x : Member A). x ∷ ms ++ found.0) same)
+
+  -- members on the first lines are among those that are good of these lines
+  pub front_from : (more bound number : ℕ) (state : State) (lines : List TextLine) (past rest : List (Member A)) → suc bound ≡ number + more → AreNumbered number lines
+      → (good_from format input state lines).members ≡ past ++ rest → All (λ m. m.line ≤ bound) past
+      → (extra : List (Member A)) × ((good_from format input state (take more lines)).members ≡ past ++ extra)
+  unfolding good_from
+  front_from zero bound number state lines [] rest size n e up = ([], refl)
+  front_from zero bound number state lines (m ∷ ms) rest size n e up =
+      let asc : AreAscending number (m ∷ ms ++ rest) = subst (AreAscending number) e (ascend_from format input number state lines n) in
+      let low : m.line ≤ bound = All-head (λ (m : Member A). m.line ≤ bound) m ms up in
+      let high = asc.0 in
+      absurd (omega arith)
+  front_from (suc more) bound number state [] past rest size n e up = (rest, e)
+  front_from (suc more) bound number state (line ∷ lines) past rest size n e up =
+      front_with bound line.number state (format.says state line) (λ now. good_from format input now lines) (λ now. good_from format input now (take more lines)) past rest
+      (λ now past rest e up. front_from more bound (suc number) now lines past rest (omega arith) n.1 e up) e up
+
+-- the bytes of fewer lines
+pub take_less : (less more : ℕ) (lines : List TextLine) → less ≤ more → bytes_in (take less lines) ≤ bytes_in (take more lines)
+take_less zero more lines h = omega arith
+take_less (suc less) zero lines h = absurd (omega arith)
+take_less (suc less) (suc more) [] h = omega arith
+take_less (suc less) (suc more) (x ∷ xs) h =
+    omega (arith, bytes_in-append (x ∷ []) (take less xs), bytes_in-append (x ∷ []) (take more xs), take_less less more xs (omega arith))
+
+pub take_whole : (count : ℕ) (lines : List TextLine) → bytes_in (take count lines) ≤ bytes_in lines
+take_whole count lines = omega (arith, bytes_in-append (take count lines) (drop count lines), ap bytes_in (take-append-drop count lines))
+
+open_by : (b any all : Bool) → (not b || any) ≡ true → (any ≡ true → all ≡ false) → (b && all) ≡ false
+open_by true any all e h = h e
+open_by false any all e h = refl
+
+pub not_all : {X : Type 0} (test : X → Bool) (xs : List X) → list_any (λ x. not (test x)) xs ≡ true → list_all test xs ≡ false
+not_all test [] e = absurd (false≢true e)
+not_all test (x ∷ xs) e = open_by (test x) (list_any (λ x. not (test x)) xs) (list_all test xs) e (not_all test xs)
+
+pub skip_by : {A : Type 0} (b : Bool) (m : A) (o : Option A) → b ≡ false → (if b then Some m else o) ≡ o
+skip_by true m o e = absurd (false≢true (sym e))
+skip_by false m o e = refl
+
+pub least_by : (b : Bool) (m : Member Feature) (o : Option (Member Feature)) (lines : List TextLine) (count : ℕ) → count < m.line → bytes_in (take (suc count) lines) ≤ bytes_up_to lines o
+    → bytes_in (take (suc count) lines) ≤ bytes_up_to lines (if b then Some m else o)
+least_by true m o lines count low h = take_less (suc count) m.line lines (omega arith)
+least_by false m o lines count low h = h
+
+-- members of the first need the lines after those that were taken for the first of them
+abbrev pub AreNeeded : {X Y : Type 0} → Making X Y → Type 0
+AreNeeded {X} {Y} making =
+    (given extra : List X) (past rest : List (Member Y)) (lines : List TextLine) (count : ℕ) → making.Asks given (member_items past) → All (λ m. count < m.line) rest
+    → bytes_in (take (suc count) lines) ≤ making.reaches (given ++ extra) (past ++ rest) lines
+
+module _ {A B X Y U V : Type 0} (making : Making X Y) (pair : Pair A B X Y U V) (out : Output)
+    (first_format : Format X U) (second_format : Format Y V) (in_order : (two : Handed) → making.InOrder (items_in (good_handed second_format Second two))) (needed : AreNeeded making)
+    (one_before : A) (two_before : B) (begins : BeginsAt pair.a_left first_format First one_before pair.first) (begins_second : BeginsAt pair.b_left second_format Second two_before pair.second)
+    (first : MemberReader A X U) (second : MemberReader B Y V) (one_after : A) (two_after : B) (ended : source_of first.below ≡ one_after) (ended_second : source_of second.below ≡ two_after)
+    (fault : Option Told) (grown : Output) (w : Finishes making pair out fault first second grown) where
+  abbrev near : StaysNear making pair out first second grown
+  near = w.near
+
+  abbrev count : ℕ
+  count = near.first_near.to.count
+
+  abbrev pub items_on : List TextLine → List X
+  items_on lines = items_in (good first_format First lines)
+
+  abbrev pub settles : Handed → List TextLine → List ℕ
+  settles two lines = flat_map (λ x. making.bytes x (items_in (good_handed second_format Second two))) (items_on lines)
+
+  abbrev pub reaches : Handed → List TextLine → ℕ
+  reaches two lines = making.reaches (items_on lines) (good_handed second_format Second two).members (text_lines two.text)
+
+  module _ (one two : List ℕ) (e : pair.a_left one_before ≡ Some one) (f : pair.b_left two_before ≡ Some two) where
+    abbrev good_one : Good X
+    good_one = good first_format First (text_lines one)
+
+    abbrev good_two : Good Y
+    good_two = good_handed second_format Second (whole_text two)
+
+    known : IsSome (good_coming pair.b_left pair.second)
+    known = is_known pair.b_left pair.b_failed pair.b_end second_format Second two_before pair.second begins_second second two_after ended_second two f
+
+    of_one : (P : Good X → Type 0) → IfSome (good_coming pair.a_left pair.first) P → P good_one
+    of_one P h = subst P (good_whole first_format First one) (at_whole pair.a_left pair.a_failed pair.a_end first_format First one_before pair.first begins first one_after ended one e P h)
+
+    of_two : (P : Good Y → Type 0) → IfSome (good_coming pair.b_left pair.second) P → P good_two
+    of_two P h = at_whole pair.b_left pair.b_failed pair.b_end second_format Second two_before pair.second begins_second second two_after ended_second two f P h
+
+    -- the members on the first lines
+    on_lines : items_on (take count (text_lines one)) ≡ near.written
+    on_lines =
+        let b = of_one (λ good. (rest : List (Member X)) × (good.members ≡ near.past ++ rest) × IsBeyond count (record { members = rest; fault = good.fault })) near.first_near.to.behind in
+        ap items_in (first_from first_format First count count 1 first_format.begin (text_lines one) near.past b.0 good_one.fault (omega arith) (lines_are_numbered 1 one) b.1 refl near.first_near.low b.2) ∙ near.items
+
+    -- those that were given are on them and the next
+    given_on : (extra : List (Member X)) × (items_on (take (suc count) (text_lines one)) ≡ member_items near.given_first ++ member_items extra)
+    given_on =
+        let b = of_one (λ good. (rest : List (Member X)) × (good.members ≡ near.given_first ++ rest)) near.first_near.begins in
+        let found = front_from first_format First (suc count) (suc count) 1 first_format.begin (text_lines one) near.given_first b.0 (omega arith) (lines_are_numbered 1 one) b.1 near.first_near.high in
+        (found.0, ap member_items found.1 ∙ map-append (λ m. m.item) near.given_first found.0)
+
+    -- their lines were written
+    settled : settles (whole_text two) (take count (text_lines one)) ≡ near.bytes
+    settled =
+        let may = of_two (λ good. MayCome (member_items near.wrote.seen) near.wrote.ended (items_in good) good.fault)
+        (may_come (good_coming pair.b_left pair.second) near.wrote.seen near.wrote.ended near.wrote.second_begins near.wrote.second_all) in
+        ap (flat_map (λ x. making.bytes x (items_in good_two))) on_lines
+        ∙ ((near.wrote.settles known).whatever (items_in good_two) good_two.fault (in_order (whole_text two)) may).1
+
+    -- the second input was read as far as they need
+    beside_by : AsksFor making pair out near.given_first second → HandsUpTo pair.b_left (reaches (whole_text two) (take (suc count) (text_lines one)) + block_size) two_before two_after
+    beside_by asks =
+        let read = asks.near known in
+        let handed = handed_to pair.b_left pair.b_failed pair.b_end second_format Second two_before pair.second begins_second second two_after ended_second read.count two f read.near near.wrote.second_bytes in
+        let b = of_two (λ good. (rest : List (Member Y)) × (good.members ≡ asks.past ++ rest) × IsBeyond read.count (record { members = rest; fault = good.fault })) read.behind in
+        let given = member_items near.given_first ++ member_items given_on.0 in
+        let is : making.reaches given (asks.past ++ b.0) (text_lines two) ≡ reaches (whole_text two) (take (suc count) (text_lines one)) =
+        ap (λ (ms : List (Member Y)). making.reaches given ms (text_lines two)) (sym b.1) ∙ ap (λ (xs : List X). making.reaches xs good_two.members (text_lines two)) (sym given_on.1) in
+        let least : bytes_in (take (suc read.count) (text_lines two)) ≤ reaches (whole_text two) (take (suc count) (text_lines one)) =
+        rw (← is) (needed (member_items near.given_first) (member_items given_on.0) asks.past b.0 (text_lines two) read.count asks.reached b.2.members) in
+        record { handed = handed.0; consumed = handed.1; read = omega (arith, handed.2, least) }
+
+    -- the end of the first input wasn't reported, or not all of its lines were consumed
+    no_end : HasNoMore pair first count → IsWithin (pair.a_end one_after) one (suc count) → ⊥
+    no_end all (inl open_end) = absurd (false≢true (sym open_end ∙ ap pair.a_end (sym ended) ∙ all.0))
+    no_end all (inr within) =
+        let lines : lines_left pair.a_left pair.first.below ≡ Some (text_lines one) = begins.lines ∙ ap (option_map text_lines) e in
+        let few = some_of (lines_left pair.a_left pair.first.below) (text_lines one) (λ lines. length lines ≤ count) lines all.1 in
+        absurd (omega (arith, within, few))
+
+    beside : HasNoMore pair first count ⊎ AsksFor making pair out near.given_first second → IsWithin (pair.a_end one_after) one (suc count)
+        → HandsUpTo pair.b_left (reaches (whole_text two) (take (suc count) (text_lines one)) + block_size) two_before two_after
+    beside (inl all) within = absurd (no_end all within)
+    beside (inr asks) within = beside_by asks
+
+  -- how far both inputs were read
+  pub near_both : (one two before taken : List ℕ) → pair.a_left one_before ≡ Some one → pair.b_left two_before ≡ Some two → out.put ≡ Some before → out.took ≡ Some taken
+      → ReadsNoFurther (λ n. IsWithin (pair.a_end one_after) one n → HandsUpTo pair.b_left (reaches (whole_text two) (take n (text_lines one)) + block_size) two_before two_after)
+      (settles (whole_text two)) one (pair.a_left one_after) before grown.took (grown.has_failed ≡ true) (IsFaultButWrite fault) grown.put
+  near_both one two before taken e f put took =
+      let handed = handed_to pair.a_left pair.a_failed pair.a_end first_format First one_before pair.first begins first one_after ended count one e near.first_near.to.near near.wrote.first_bytes in
+      let less : suc count - 1 ≡ count = omega arith in
+      let same : near.bytes ≡ settles (whole_text two) (take count (text_lines one)) = sym (settled one two e f) in
+      let lines : TookButBlock out (settles (whole_text two) (take count (text_lines one))) grown = subst (λ l. TookButBlock out l grown) same near.took in
+      record {
+        n = suc count;
+        some = omega arith;
+        handed = handed.0;
+        consumed = subst (λ o. Consumes o (pair.a_left one_after) handed.0) e handed.1;
+        read = handed.2;
+        settled = rw less (lines.took before taken put took);
+        kept = rw less (elim lines.put [ inl failed ↦ inl failed | inr kept ↦ inr (kept before put) ]);
+        exact = rw less (λ stops. w.exact stops before put ∙ ap (λ l. Some (before ++ l)) same);
+        beside = beside one two e f near.beside;
+      }

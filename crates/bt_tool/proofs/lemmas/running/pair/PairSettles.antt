@@ -1,0 +1,87 @@
+-- Lemmas on what some members of a second input settle.
+use Rattle.std.proofs.Common.{◌≡◌, ℕ, Bool, true, false, ◌&&◌, ◌||◌, List, [], ◌∷◌, ◌++◌, Option, None, Some, refl, sym, ap, ◌∙◌, subst, append-nil, append_assoc, flat_map, option_to_list}
+use Rattle.std.specs.Prelude.{IsSome, is_none, option_map}
+use Rattle.std.specs.List.{list_all}
+use Rattle.std.proofs.lemmas.Bool.{false≢true, and_from, or_left, or_right}
+use Rattle.std.proofs.lemmas.Grind.{flat_map-append}
+use Rattle.std.proofs.lemmas.List.Folds.{list_all-append}
+use Rattle.bt_bed.specs.model.input.Good.{Member}
+use Rattle.bt_bed.specs.calls.Reading.{GivesMember, MemberReader, ahead_in}
+use Rattle.bt_lines.specs.model.Fault.{Told}
+use Rattle.bt_tool.specs.inside.pair.Pair.{Making, MayCome, Settles}
+
+-- one more member is decided and has these bytes
+one_more : {X : Type 0} (test : X → Bool) (write : X → List ℕ) (written : List X) (a : X) (bytes more : List ℕ) → (list_all test written ≡ true) × (flat_map write written ≡ bytes)
+    → test a ≡ true → write a ≡ more → (list_all test (written ++ a ∷ []) ≡ true) × (flat_map write (written ++ a ∷ []) ≡ bytes ++ more)
+one_more test write written a bytes more was here is = (
+  list_all-append test written (a ∷ []) ∙ and_from (list_all test written) (test a && true) was.0 (and_from (test a) true here refl),
+  flat_map-append write written (a ∷ []) ∙ ap (λ l. l ++ flat_map write (a ∷ [])) was.1 ∙ ap (λ l. bytes ++ l) (append-nil (write a) ∙ is),
+)
+
+module _ {X Y : Type 0} (making : Making X Y) where
+  pub settles_nothing : (seen : List Y) (ended : Bool) → Settles making [] [] seen ended
+  settles_nothing seen ended = record { whatever = λ second fault ordered may. (refl, refl) }
+
+  -- one more member of the second input is seen
+  pub settles_seen : (written : List X) (bytes : List ℕ) (seen more : List Y) → Settles making written bytes seen false → Settles making written bytes (seen ++ more) false
+  settles_seen written bytes seen more s = record {
+    whatever = λ second fault ordered may. s.whatever second fault ordered
+        (record { begins = (more ++ may.begins.0, may.begins.1 ∙ append_assoc seen more may.begins.0); all = λ e. absurd (false≢true e) });
+  }
+
+  -- none comes after those seen
+  pub settles_close : (written : List X) (bytes : List ℕ) (seen : List Y) → Settles making written bytes seen false → Settles making written bytes seen true
+  settles_close written bytes seen s = record {
+    whatever = λ second fault ordered may. s.whatever second fault ordered (record { begins = may.begins; all = λ e. absurd (false≢true e) });
+  }
+
+  -- one more member of the first is decided by those seen, and its bytes stay whatever follows them in order
+  pub settles_with : (written : List X) (bytes : List ℕ) (seen : List Y) (ended : Bool) (a : X) (more : List ℕ) → Settles making written bytes seen ended
+      → ((rest : List Y) → making.InOrder (seen ++ rest) → (making.decided a (seen ++ rest) ≡ true) × (making.bytes a (seen ++ rest) ≡ more))
+      → Settles making (written ++ a ∷ []) (bytes ++ more) seen ended
+  settles_with written bytes seen ended a more s stays = record {
+    whatever = λ second fault ordered may.
+        let here = stays may.begins.0 (subst making.InOrder may.begins.1 ordered) in
+        one_more (λ x. is_none fault || making.decided x second) (λ x. making.bytes x second) written a bytes more (s.whatever second fault ordered may)
+        (or_right (is_none fault) (making.decided a second) (ap (making.decided a) may.begins.1 ∙ here.0))
+        (ap (making.bytes a) may.begins.1 ∙ here.1);
+  }
+
+  -- more members of the first are decided and have these bytes, whatever the second still has
+  pub settles_list : (written newly : List X) (bytes more : List ℕ) (seen : List Y) (ended : Bool) → Settles making written bytes seen ended
+      → ((second : List Y) (fault : Option Told) → making.InOrder second → MayCome seen ended second fault
+      → (list_all (λ x. is_none fault || making.decided x second) newly ≡ true) × (flat_map (λ x. making.bytes x second) newly ≡ more))
+      → Settles making (written ++ newly) (bytes ++ more) seen ended
+  settles_list written newly bytes more seen ended s now = record {
+    whatever = λ second fault ordered may.
+        let was = s.whatever second fault ordered may in
+        let here = now second fault ordered may in (
+          list_all-append (λ x. is_none fault || making.decided x second) written newly
+              ∙ and_from (list_all (λ x. is_none fault || making.decided x second) written) (list_all (λ x. is_none fault || making.decided x second) newly) was.0 here.0,
+          flat_map-append (λ x. making.bytes x second) written newly ∙ ap (λ l. l ++ flat_map (λ x. making.bytes x second) newly) was.1 ∙ ap (λ l. bytes ++ l) here.1,
+        );
+  }
+
+  -- the second input has ended
+  pub settles_end : (written : List X) (bytes : List ℕ) (taken : List Y) (ended : Bool) (a : X) → Settles making written bytes taken ended
+      → Settles making (written ++ a ∷ []) (bytes ++ making.bytes a taken) taken true
+  settles_end written bytes taken ended a s = record {
+    whatever = λ second fault ordered may.
+        let all = may.all refl in
+        one_more (λ x. is_none fault || making.decided x second) (λ x. making.bytes x second) written a bytes (making.bytes a taken)
+        (s.whatever second fault ordered (record { begins = may.begins; all = λ e. all }))
+        (or_left (is_none fault) (making.decided a second) (ap is_none all.1))
+        (ap (making.bytes a) all.0);
+  }
+
+  -- the member ahead is seen
+  pub seen_by : {S State : Type 0} (left : S → Option (List ℕ)) (failed : S → Bool) (now new : MemberReader S Y State) (m : Member Y) (o : Option (Member Y)) → ahead_in now ≡ o → GivesMember left failed now m new
+      → (written : List X) (bytes : List ℕ) (taken : List Y) → Settles making written bytes (taken ++ option_to_list (option_map (λ m. m.item) o)) false
+      → Settles making written bytes (taken ++ m.item ∷ []) false
+  seen_by left failed now new m None e gives written bytes taken s =
+      settles_seen written bytes taken (m.item ∷ []) (subst (λ (l : List Y). Settles making written bytes l false) (append-nil taken) s)
+  seen_by {S} {State} left failed now new m (Some x) e gives written bytes taken s =
+      let same : new ≡ now = gives.again (subst IsSome (sym e) refl) in
+      let is : Some x ≡ Some m = sym e ∙ ap (λ (r : MemberReader S Y State). ahead_in r) (sym same) ∙ gives.ahead in
+      let eq : x ≡ m = cc in
+      subst (λ (y : Member Y). Settles making written bytes (taken ++ y.item ∷ []) false) eq s

@@ -1,0 +1,562 @@
+-- Lemmas on how a run over two readers of members stops.
+use Rattle.std.proofs.Common.{◌≡◌, ℕ, suc, ◌+◌, ◌≤◌, Bool, true, false, List, [], ◌∷◌, ◌++◌, Option, None, Some, Err, refl, sym, ap, ◌∙◌, subst, append-nil, append_assoc, option_to_list, inl, inr, drop, length}
+use Rattle.std.specs.Prelude.{◌⊎◌, All, IfSome, IsSome, is_some}
+use Rattle.std.proofs.lemmas.Bool.{false≢true}
+use Rattle.std.proofs.lemmas.List.{map-append}
+use Rattle.bt_lines.proofs.lemmas.writer.OutputLemmas.{grows_both}
+use Rattle.bt_lines.proofs.lemmas.writer.PuttingLemmas.{grown_none, grown_works}
+use Rattle.bt_lines.specs.model.Fault.{Told, no_memory, read_failed}
+use Rattle.bt_lines.specs.model.Lines.{TextLine, bytes_in}
+use Rattle.bt_lines.specs.calls.Output.{Output, Grows, block_size}
+use Rattle.bt_lines.specs.calls.Putting.{FailsToAdd, Grown}
+use Rattle.bt_lines.specs.calls.Reader.{Hands, lines_given, lines_left, source_of}
+use Rattle.bt_lines.specs.declared.fault.Input.{Input}
+use Rattle.bt_lines.specs.declared.fault.Input.TheVariants.{Second}
+use Rattle.bt_lines.specs.declared.fault.Kind.{Kind}
+use Rattle.bt_bed.specs.model.input.Good.{Good, Member, items_in}
+use Rattle.bt_bed.specs.model.feature.LineKind.{fault_at_line}
+use Rattle.bt_bed.specs.calls.Reading.{MemberReader, ahead_in, first_from, good_coming}
+use Rattle.bt_tool.specs.inside.feed.Feeding.{ComeFirst, CutsLines, GoesOn, PutsLines, member_items}
+use Rattle.bt_tool.specs.inside.pair.Pair.{Making, Pair, Serves, Settles, item_ahead}
+use Rattle.bt_tool.specs.inside.pair.PairComes.{Comes, Stage, TakesFurther, given}
+use Rattle.bt_tool.specs.inside.pair.PairEnds.{AsksFor, Finishes, IsKnown, LastTold, SecondFails, StaysNear, Why, Wrote}
+use Rattle.bt_tool.specs.inside.feed.Passed.{AreAll, IsOver, IsReadFor, IsReadTo, IsStopped, Passes, StopsAfter}
+use Rattle.bt_tool.proofs.lemmas.running.feed.ComeLemmas.{begins_with, up_to}
+use Rattle.bt_tool.proofs.lemmas.running.feed.FeedLemmas.{goes_failed, goes_same, took_later, took_lines, works_both}
+use Rattle.bt_tool.proofs.lemmas.running.members.MemberLemmas.{passes_all, passes_end, passes_stop, read_at_stop, read_here}
+use Rattle.bt_tool.proofs.lemmas.running.pair.PairSettles.{settles_end}
+use Rattle.bt_tool.proofs.lemmas.running.pair.PairTurns.{all_written, first_waits, grown_puts, none_pushed, read_same, seen_alone, settles_ended}
+use Rattle.bt_tool.proofs.lemmas.running.members.SeenLemmas.{cuts_more, if_known, items_begin, items_first, seen_items}
+
+begins_more : {A : Type 0} (old : Good A) (now : Option (Good A)) (past : List (Member A)) (m : Member A) → ComeFirst (Some old) past now → IfSome now (λ good. (rest : List (Member A)) × (good.members ≡ m ∷ rest))
+    → (rest : List (Member A)) × (old.members ≡ (past ++ m ∷ []) ++ rest)
+begins_more old None past m come first = absurd come
+begins_more old (Some now) past m come first = (first.0, come.0 ∙ ap (λ l. past ++ l) first.1 ∙ sym (append_assoc past (m ∷ []) first.0))
+
+-- the members that were consumed and the one ahead come first
+seen_begins : {S A State : Type 0} (left : S → Option (List ℕ)) (old : Option (Good A)) (now : MemberReader S A State) (past : List (Member A)) (o : Option (Member A)) → ahead_in now ≡ o
+    → ComeFirst old past (good_coming left now)
+    → (IsSome old → (m : Member A) → ahead_in now ≡ Some m → IfSome (good_coming left now) (λ good. (rest : List (Member A)) × (good.members ≡ m ∷ rest)))
+    → IfSome old (λ good. (rest : List (Member A)) × (good.members ≡ (past ++ option_to_list o) ++ rest))
+seen_begins left None now past o e come first = tt
+seen_begins {S} {A} {State} left (Some good) now past None e come first =
+    subst (λ (l : List (Member A)). (rest : List (Member A)) × (good.members ≡ l ++ rest)) (sym (append-nil past)) (begins_with (Some good) (good_coming left now) past come)
+seen_begins left (Some good) now past (Some m) e come first = begins_more good (good_coming left now) past m come (first refl m e)
+
+-- if nothing is buffered, the members seen are on the lines given
+seen_low : {S A State : Type 0} (past : List (Member A)) (now : MemberReader S A State) (count : ℕ) → ahead_in now ≡ None → All (λ m. m.line ≤ count) past → All (λ m. m.line ≤ count) (past ++ option_to_list (ahead_in now))
+seen_low {S} {A} {State} past now count none low = subst (λ (l : List (Member A)). All (λ m. m.line ≤ count) l) (sym (ap (λ (o : Option (Member A)). past ++ option_to_list o) none ∙ append-nil past)) low
+
+-- nothing more was taken
+takes_none : {S A State : Type 0} (left : S → Option (List ℕ)) (failed end : S → Bool) (old : MemberReader S A State) (past : List (Member A)) (now : MemberReader S A State) → Passes left failed end old past now → TakesFurther left failed end old past [] now now
+takes_none {S} {A} {State} left failed end old past now p = record {
+  passes = subst (λ (l : List (Member A)). Passes left failed end old l now) (sym (append-nil past)) p;
+  last = λ before m e. absurd (none_pushed before m e);
+  source = refl;
+  told = λ told. told;
+}
+
+module _ {A B X Y U V : Type 0} (making : Making X Y) (pair : Pair A B X Y U V) (out : Output) where
+  abbrev Ends : Option Told → MemberReader A X U → MemberReader B Y V → Output → Type 0
+  Ends = Finishes making pair out
+
+  abbrev Near : MemberReader A X U → MemberReader B Y V → Output → Type 0
+  Near = StaysNear making pair out
+
+  abbrev BeginsWith : List X → Type 0
+  BeginsWith written = IfSome (good_coming pair.a_left pair.first) (λ good. (rest : List X) × (items_in good ≡ written ++ rest))
+
+  abbrev HandsFirst : MemberReader A X U → Type 0
+  HandsFirst first = (bytes : List ℕ) × Hands pair.a_left pair.first.below bytes first.below
+
+  abbrev HandsSecond : MemberReader B Y V → Type 0
+  HandsSecond second = (bytes : List ℕ) × Hands pair.b_left pair.second.below bytes second.below
+
+  -- the good members of the first input begin with some items
+  begins_items : (past : List (Member X)) (written rest : List X) → member_items past ≡ written ++ rest → IfSome (good_coming pair.a_left pair.first) (λ good. (rest : List (Member X)) × (good.members ≡ past ++ rest)) → BeginsWith written
+  begins_items past written rest e begins = items_first (good_coming pair.a_left pair.first) written rest (items_begin (good_coming pair.a_left pair.first) past written rest e begins)
+
+  -- what was written, by the second reader where it is, and what was read of it later
+  wrote_by : (past : List (Member Y)) (now new : MemberReader B Y V) → Passes pair.b_left pair.b_failed pair.b_end pair.second past now
+      → (IsSome new.fault → All (λ m. m.line ≤ lines_given new.below) (past ++ option_to_list (ahead_in now)))
+      → HandsSecond new → (first : MemberReader A X U) → HandsFirst first → (written : List X) (bytes : List ℕ) (ended : Bool) (grown : Output)
+      → (IsKnown pair → Settles making written bytes (member_items past ++ option_to_list (item_ahead now)) ended)
+      → BeginsWith written → (ended ≡ true → AreAll pair.b_left pair.b_failed pair.b_end pair.second past × (ahead_in now ≡ None)) → Grows out.took grown.took
+      → (given : List X) → BeginsWith given → (IsKnown pair → making.Fits given past)
+      → Wrote making pair out written bytes first new grown
+  wrote_by past now new p low handed first first_bytes written bytes ended grown settles begins all grows given given_begin fits = record {
+    seen = past ++ option_to_list (ahead_in now);
+    ended = ended;
+    settles = λ known. subst (λ (l : List Y). Settles making written bytes l ended) (sym (seen_items past (ahead_in now))) (settles known);
+    first_begins = begins;
+    second_begins = seen_begins pair.b_left (good_coming pair.b_left pair.second) now past (ahead_in now) refl p.come p.ahead;
+    low = low;
+    second_all = λ e.
+        let whole = all e in
+        subst (AreAll pair.b_left pair.b_failed pair.b_end pair.second) (sym (ap (λ (o : Option (Member Y)). past ++ option_to_list o) whole.1 ∙ append-nil past)) whole.0;
+    given = given;
+    taken = past;
+    ahead = ahead_in now;
+    sees = refl;
+    none_ahead = λ e. (all e).1;
+    given_begin = given_begin;
+    fits = fits;
+    first_bytes = first_bytes;
+    second_bytes = handed;
+    grows = grows;
+  }
+
+  none_low : {P : Type 0} (new : MemberReader B Y V) → new.fault ≡ None → IsSome new.fault → P
+  none_low new none some = absurd (false≢true (ap is_some (sym none) ∙ some))
+
+  module _ (stage : Stage X Y) (past_first : List (Member X)) (past_second : List (Member Y)) (first : MemberReader A X U) (second : MemberReader B Y V) (grown : Output) (s : Comes making pair out stage past_first past_second first second grown) where
+    reached_items : (given_first : List (Member X)) → given stage ≡ member_items given_first → making.Asks (given stage) stage.taken → making.Asks (member_items given_first) (member_items past_second)
+    reached_items given_first e asks = subst (λ (l : List X). making.Asks l (member_items past_second)) e (subst (λ (l : List Y). making.Asks (given stage) l) s.all_taken asks)
+
+    -- of the second input was taken what the first needs
+    pub asks_now : making.Asks (given stage) stage.taken → AsksFor making pair out past_first second
+    asks_now asks = record {
+      past = past_second;
+      reached = reached_items past_first s.all_given asks;
+      near = λ known. (read_here pair.b_left pair.b_failed pair.b_end pair.second past_second second s.second_passes).to;
+    }
+
+    read_to_same : (past : List (Member Y)) (second_now : MemberReader B Y V) → source_of second_now.below ≡ source_of second.below → IsReadTo pair.b_left pair.b_failed pair.b_end pair.second past second
+        → IsReadTo pair.b_left pair.b_failed pair.b_end pair.second past second_now
+    read_to_same past second_now same read = record {
+      count = read.count;
+      near = subst (λ (b : B). IfSome (lines_left pair.b_left pair.second.below) (λ lines. IfSome (pair.b_left b) (λ rest. bytes_in (drop (suc read.count) lines) ≤ length rest + block_size))) (sym same) read.near;
+      behind = read.behind;
+    }
+
+    asks_same : (past : List (Member X)) (second_now : MemberReader B Y V) → source_of second_now.below ≡ source_of second.below → AsksFor making pair out past second → AsksFor making pair out past second_now
+    asks_same past second_now same asks = record { past = asks.past; reached = asks.reached; near = λ known. read_to_same asks.past second_now same (asks.near known) }
+
+    -- it still is after more members were taken of both
+    pub asks_then : making.Asks (given stage) stage.taken → ((more : List X) → making.Asks (given stage) stage.taken → making.Asks (given stage ++ more) stage.taken)
+        → (more_first : List (Member X)) (more_second : List (Member Y)) (second_now : MemberReader B Y V) → TakesFurther pair.b_left pair.b_failed pair.b_end pair.second past_second more_second second second_now
+        → AsksFor making pair out (past_first ++ more_first) second_now
+    asks_then asks wider more_first more_second second_now takes = record {
+      past = past_second;
+      reached =
+          subst (λ (l : List X). making.Asks l (member_items past_second)) (ap (λ l. l ++ member_items more_first) s.all_given ∙ sym (map-append (λ m. m.item) past_first more_first))
+          (subst (λ (l : List Y). making.Asks (given stage ++ member_items more_first) l) s.all_taken (wider (member_items more_first) asks));
+      near = λ known. read_to_same past_second second_now takes.source (read_here pair.b_left pair.b_failed pair.b_end pair.second past_second second s.second_passes).to;
+    }
+
+    second_serves : Serves pair.b_failed pair.second second
+    second_serves = record { served = s.second_passes.served; within = s.second_passes.kept.within s.second_passes.clear }
+
+    first_serves : Serves pair.a_failed pair.first first
+    first_serves = record { served = s.first_passes.served; within = s.first_passes.kept.within s.first_passes.clear }
+
+    settled_now : IsKnown pair → Settles making stage.written s.bytes (member_items past_second ++ option_to_list (item_ahead second)) stage.second_ended
+    settled_now known = subst (λ (l : List Y). Settles making stage.written s.bytes (l ++ option_to_list (item_ahead second)) stage.second_ended) s.all_taken (s.settles known)
+
+    came_first : IfSome (good_coming pair.a_left pair.first) (λ good. (rest : List (Member X)) × (good.members ≡ past_first ++ rest))
+    came_first = begins_with (good_coming pair.a_left pair.first) (good_coming pair.a_left first) past_first s.first_passes.come
+
+    begins_now : BeginsWith stage.written
+    begins_now = begins_items past_first stage.written (option_to_list stage.waiting) (sym s.all_given) came_first
+
+    -- the good members of the first input begin with those that were given
+    given_now : BeginsWith (given stage)
+    given_now = begins_items past_first (given stage) [] (sym s.all_given ∙ sym (append-nil (given stage))) came_first
+
+    none_buffered : second.buffered ≡ [] → ahead_in second ≡ None
+    none_buffered none = ap (λ (l : List Y). first_from (suc (lines_given second.below)) l) none
+
+    ended_now : stage.second_ended ≡ true → AreAll pair.b_left pair.b_failed pair.b_end pair.second past_second × (ahead_in second ≡ None)
+    ended_now e = let all = s.second_all e in (all.0, none_buffered all.1)
+
+    module _ (asks : stage.first_ended ≡ false → AsksFor making pair out past_first second) (fits : IsKnown pair → making.Fits (given stage) past_second) where
+      -- the bytes so far, and what was read of the inputs later
+      wrote_later : (first_now : MemberReader A X U) → HandsFirst first_now → (second_now : MemberReader B Y V)
+          → (IsSome second_now.fault → All (λ m. m.line ≤ lines_given second_now.below) (past_second ++ option_to_list (ahead_in second))) → HandsSecond second_now
+          → Wrote making pair out stage.written s.bytes first_now second_now grown
+      wrote_later first_now handed second_now low handed_second =
+          wrote_by past_second second second_now s.second_passes low handed_second first_now handed stage.written s.bytes stage.second_ended grown settled_now begins_now ended_now s.grows (given stage) given_now fits
+
+      wrote_now : Wrote making pair out stage.written s.bytes first second grown
+      wrote_now = wrote_later first s.first_passes.bytes second (none_low second s.second_passes.going) s.second_passes.bytes
+
+      -- the sink took all but a block of the bytes so far
+      near_by : (first_now : MemberReader A X U) (second_now : MemberReader B Y V) (now : Output) → Wrote making pair out stage.written s.bytes first_now second_now grown → GoesOn grown now
+          → source_of first_now.below ≡ source_of first.below → ((stage.first_ended ≡ true) ⊎ AsksFor making pair out past_first second_now) → Near first_now second_now now
+      unfolding read_same
+      near_by first_now second_now now wrote more same beside = record {
+        at = grown;
+        written = stage.written;
+        bytes = s.bytes;
+        wrote = wrote;
+        took = took_later out grown now s.bytes s.grows more (took_lines out grown s.bytes s.puts s.block);
+        past = s.near_first.0;
+        given_first = past_first;
+        items = s.near_first.1;
+        first_near = read_same pair.a_left pair.a_failed pair.a_end pair.first s.near_first.0 past_first past_first first first_now same refl s.near_first.2;
+        beside = elim beside [ inl ended ↦ inl (let all = s.near_first.3 ended in (ap pair.a_end same ∙ all.0, all.1)) | inr asks ↦ inr asks ];
+      }
+
+      beside_if : (b : Bool) → stage.first_ended ≡ b → (second_now : MemberReader B Y V) → source_of second_now.below ≡ source_of second.below → (stage.first_ended ≡ true) ⊎ AsksFor making pair out past_first second_now
+      beside_if true e second_now same = inl e
+      beside_if false e second_now same = inr (asks_same past_first second_now same (asks e))
+
+      beside_now : (stage.first_ended ≡ true) ⊎ AsksFor making pair out past_first second
+      beside_now = beside_if stage.first_ended refl second refl
+
+      no_more : GoesOn grown grown
+      no_more = goes_same grown
+
+      near_now : Near first second grown
+      near_now = near_by first second grown wrote_now no_more refl beside_now
+
+      -- more members of both were taken, then the first input stopped: all members of it were written
+      module _ (going : stage.first_ended ≡ false) (more_first : List (Member X)) (more_second : List (Member Y)) (second_now : MemberReader B Y V)
+          (takes_second : TakesFurther pair.b_left pair.b_failed pair.b_end pair.second past_second more_second second second_now) (ended : stage.second_ended ≡ true → (more_second ≡ []) × (second_now.buffered ≡ [])) (more : List ℕ)
+          (settles : IsKnown pair → Settles making (given stage ++ member_items more_first) (s.bytes ++ more) ((stage.taken ++ member_items more_second) ++ option_to_list (item_ahead second_now)) stage.second_ended)
+          (fits_now : IsKnown pair → making.Fits (given stage ++ member_items more_first) (past_second ++ more_second)) (asks_first : AsksFor making pair out (past_first ++ more_first) second_now)
+          (fault : Told) (first_now : MemberReader A X U) (stops : StopsAfter pair.a_left pair.a_failed pair.a_end pair.first making.first_kinds (past_first ++ more_first) fault first_now)
+          (read : IsReadFor pair.a_left pair.a_failed pair.a_end pair.first (past_first ++ more_first) (past_first ++ more_first) first_now)
+          (now : Output) (adds : Grown grown more now) where
+        abbrev written : List X
+        written = given stage ++ member_items more_first
+
+        all_written_now : written ≡ member_items (past_first ++ more_first)
+        all_written_now = ap (λ l. l ++ member_items more_first) s.all_given ∙ sym (map-append (λ m. m.item) past_first more_first)
+
+        taken_now : stage.taken ++ member_items more_second ≡ member_items (past_second ++ more_second)
+        taken_now = ap (λ l. l ++ member_items more_second) s.all_taken ∙ sym (map-append (λ m. m.item) past_second more_second)
+
+        serves_now : Serves pair.b_failed pair.second second_now
+        serves_now = record { served = takes_second.passes.served; within = takes_second.passes.kept.within takes_second.passes.clear }
+
+        puts_now : PutsLines out (s.bytes ++ more) now
+        puts_now = grown_puts out grown now s.bytes more s.puts adds
+
+        grows_now : Grows out.took now.took
+        grows_now = grows_both out.took grown.took now.took s.grows adds.grows
+
+        wrote_first : Wrote making pair out written (s.bytes ++ more) first_now second_now now
+        wrote_first =
+            wrote_by (past_second ++ more_second) second_now second_now takes_second.passes (none_low second_now takes_second.passes.going) takes_second.passes.bytes first_now stops.bytes written (s.bytes ++ more) stage.second_ended now
+            (λ known. subst (λ (l : List Y). Settles making written (s.bytes ++ more) (l ++ option_to_list (item_ahead second_now)) stage.second_ended) taken_now (settles known))
+            (begins_items (past_first ++ more_first) written [] (sym all_written_now ∙ sym (append-nil written)) read.begins)
+            (λ e. let none = ended e in (
+              subst (AreAll pair.b_left pair.b_failed pair.b_end pair.second) (sym (append-nil past_second) ∙ ap (λ (l : List (Member Y)). past_second ++ l) (sym none.0)) (s.second_all e).0,
+              ap (λ (l : List Y). first_from (suc (lines_given second_now.below)) l) none.1,
+            ))
+            grows_now written (begins_items (past_first ++ more_first) written [] (sym all_written_now ∙ sym (append-nil written)) read.begins) fits_now
+
+        stops_why : Why making pair out written (s.bytes ++ more) written stage.second_ended first_now second_now (Some fault) now
+        stops_why =
+            let works = works_both out grown now s.works (grown_works grown now more adds) in
+            elim stops.cause [
+              | inl wrong ↦ inl (inl (fault, refl, record { past = past_first ++ more_first; all = all_written_now; all_given = all_written_now; cause = inl wrong; serves = serves_now }), puts_now, works)
+              | inr other ↦ elim other [
+                | inl unread ↦ inl (inl (fault, refl, record { past = past_first ++ more_first; all = all_written_now; all_given = all_written_now; cause = inr unread; serves = serves_now }), puts_now, works)
+                | inr ran ↦ inr (inl (ap Some ran.is, puts_now))
+              ]
+            ]
+
+        pub first_fails : Ends (Some fault) first_now second_now now
+        unfolding wrote_first wrote_by
+        first_fails = record {
+          written = written;
+          bytes = s.bytes ++ more;
+          wrote = wrote_first;
+          why = stops_why;
+          near = record {
+            at = now;
+            written = written;
+            bytes = s.bytes ++ more;
+            wrote = wrote_first;
+            took = took_lines out now (s.bytes ++ more) puts_now (adds.block s.block);
+            past = past_first ++ more_first;
+            given_first = past_first ++ more_first;
+            items = sym all_written_now;
+            first_near = read;
+            beside = inr asks_first;
+          };
+          exact = λ stops. puts_now;
+        }
+
+      -- the first input couldn't give a member
+      pub stops_first : ((state : U) (line : TextLine) (kind : Kind) → pair.first.format.says state line ≡ Err kind → making.first_kinds kind)
+          → stage.waiting ≡ None → stage.first_ended ≡ false → (fault : Told) (first_now : MemberReader A X U) → IsStopped pair.a_left pair.a_failed pair.a_end first fault first_now
+          → Ends (Some fault) first_now second grown
+      stops_first wrong none going fault first_now stopped =
+          let same : past_first ≡ past_first ++ [] = sym (append-nil past_first) in
+          let stops = passes_stop pair.a_left pair.a_failed pair.a_end pair.first past_first first s.first_passes making.first_kinds wrong first_now fault stopped in
+          let read = read_at_stop pair.a_left pair.a_failed pair.a_end pair.first past_first first s.first_passes first_now fault stopped in
+          let alone : given stage ++ [] ≡ stage.written = append-nil (given stage) ∙ ap (λ (o : Option X). stage.written ++ option_to_list o) none ∙ append-nil stage.written in
+          let bytes : s.bytes ++ [] ≡ s.bytes = append-nil s.bytes in
+          let taken : stage.taken ++ [] ≡ stage.taken = append-nil stage.taken in
+          first_fails going [] [] second (takes_none pair.b_left pair.b_failed pair.b_end pair.second past_second second s.second_passes) (λ e. (refl, (s.second_all e).1)) []
+          (λ known. rw (alone, bytes, taken) (s.settles known))
+          (λ known. subst (λ (l : List X). making.Fits l (past_second ++ [])) (sym (append-nil (given stage))) (subst (λ (l : List (Member Y)). making.Fits (given stage) l) (sym (append-nil past_second)) (fits known)))
+          (subst (λ (l : List (Member X)). AsksFor making pair out l second) same (asks going)) fault first_now
+          (subst (λ (l : List (Member X)). StopsAfter pair.a_left pair.a_failed pair.a_end pair.first making.first_kinds l fault first_now) same stops)
+          (subst (λ (l : List (Member X)). IsReadFor pair.a_left pair.a_failed pair.a_end pair.first l l first_now) same read) grown (grown_none grown)
+
+      -- memory ran out
+      pub lacks_memory : (fault : Told) → fault ≡ no_memory → Ends (Some fault) first second grown
+      unfolding near_by near_now
+      lacks_memory fault is = record {
+        written = stage.written;
+        bytes = s.bytes;
+        wrote = wrote_now;
+        why = inr (inl (ap Some is, s.puts));
+        near = near_now;
+        exact = λ stops. s.puts;
+      }
+
+      -- more members of both were taken, and some lines that are settled then weren't all written
+      pub fails_to_write : (more_first : List (Member X)) (more_second : List (Member Y)) (first_now : MemberReader A X U) (second_now : MemberReader B Y V)
+          → TakesFurther pair.a_left pair.a_failed pair.a_end pair.first past_first more_first first first_now
+          → TakesFurther pair.b_left pair.b_failed pair.b_end pair.second past_second more_second second second_now
+          → (written rest : List X) → written ++ rest ≡ given stage ++ member_items more_first
+          → (IsKnown pair → making.Fits (given stage ++ member_items more_first) (past_second ++ more_second))
+          → (stage.second_ended ≡ true → (more_second ≡ []) × (second_now.buffered ≡ []))
+          → (puts more : List ℕ) → (IsKnown pair → Settles making written (s.bytes ++ (puts ++ more)) ((stage.taken ++ member_items more_second) ++ option_to_list (item_ahead second_now)) stage.second_ended)
+          → (through now : Output) (fault : Told) → Grown grown puts through → FailsToAdd through more fault now → Ends (Some fault) first_now second_now now
+      fails_to_write more_first more_second first_now second_now takes takes_second written rest parts fits_now ended puts more settles through now fault adds fails =
+          let all : given stage ++ member_items more_first ≡ member_items (past_first ++ more_first) = ap (λ l. l ++ member_items more_first) s.all_given ∙ sym (map-append (λ m. m.item) past_first more_first) in
+          let taken : stage.taken ++ member_items more_second ≡ member_items (past_second ++ more_second) = ap (λ l. l ++ member_items more_second) s.all_taken ∙ sym (map-append (λ m. m.item) past_second more_second) in
+          let begun = begins_with (good_coming pair.a_left pair.first) (good_coming pair.a_left first_now) (past_first ++ more_first) takes.passes.come in
+          let grows = grows_both out.took through.took now.took (grows_both out.took grown.took through.took s.grows adds.grows) fails.puts.grows in
+          record {
+            written = written;
+            bytes = s.bytes ++ (puts ++ more);
+            wrote = wrote_by (past_second ++ more_second) second_now second_now takes_second.passes (none_low second_now takes_second.passes.going) takes_second.passes.bytes first_now takes.passes.bytes written (s.bytes ++ (puts ++ more)) stage.second_ended now
+                (λ known. subst (λ (l : List Y). Settles making written (s.bytes ++ (puts ++ more)) (l ++ option_to_list (item_ahead second_now)) stage.second_ended) taken (settles known))
+                (begins_items (past_first ++ more_first) written rest (sym all ∙ sym parts) begun)
+                (λ e. let none = ended e in (
+                  subst (AreAll pair.b_left pair.b_failed pair.b_end pair.second) (sym (append-nil past_second) ∙ ap (λ (l : List (Member Y)). past_second ++ l) (sym none.0)) (s.second_all e).0,
+                  ap (λ (l : List Y). first_from (suc (lines_given second_now.below)) l) none.1,
+                ))
+                grows (given stage ++ member_items more_first)
+                (begins_items (past_first ++ more_first) (given stage ++ member_items more_first) [] (sym all ∙ sym (append-nil (given stage ++ member_items more_first))) begun) fits_now;
+            why = inr (inr (
+              ap Some fails.puts.is,
+              subst (λ (l : List ℕ). CutsLines out l now) (append_assoc s.bytes puts more) (cuts_more out through now (s.bytes ++ puts) more fault (grown_puts out grown through s.bytes puts s.puts adds) fails),
+            ));
+            near = near_by first_now second_now now (wrote_later first_now takes.passes.bytes second_now (none_low second_now takes_second.passes.going) takes_second.passes.bytes)
+                (goes_failed grown now (grows_both grown.took through.took now.took adds.grows fails.puts.grows) fails.puts.failed) takes.source (beside_if stage.first_ended refl second_now takes_second.source);
+            exact = λ stops. absurd (stops.1 (ap Some fails.puts.is));
+          }
+
+      -- the same of the member that waits
+      pub fails_waiting : (a : X) → stage.waiting ≡ Some a → (more : List ℕ) → (IsKnown pair → Settles making (stage.written ++ a ∷ []) (s.bytes ++ more) (stage.taken ++ option_to_list (item_ahead second)) stage.second_ended)
+          → (fault : Told) (now : Output) → FailsToAdd grown more fault now → Ends (Some fault) first second now
+      fails_waiting a waits more settles fault now fails =
+          fails_to_write [] [] first second (takes_none pair.a_left pair.a_failed pair.a_end pair.first past_first first s.first_passes) (takes_none pair.b_left pair.b_failed pair.b_end pair.second past_second second s.second_passes)
+          (stage.written ++ a ∷ []) [] (ap (λ l. l ++ []) (ap (λ (o : Option X). stage.written ++ option_to_list o) (sym waits)))
+          (λ known. subst (λ (l : List X). making.Fits l (past_second ++ [])) (sym (append-nil (given stage))) (subst (λ (l : List (Member Y)). making.Fits (given stage) l) (sym (append-nil past_second)) (fits known)))
+          (λ e. (refl, (s.second_all e).1)) [] more
+          (λ known. subst (λ (l : List Y). Settles making (stage.written ++ a ∷ []) (s.bytes ++ more) (l ++ option_to_list (item_ahead second)) stage.second_ended) (sym (append-nil stage.taken)) (settles known))
+          grown now fault (grown_none grown) fails
+
+      -- while one of the first waits
+      module _ (a : X) (waits : stage.waiting ≡ Some a) where
+        begins_before : IfSome (good_coming pair.a_left pair.first) (λ good. (rest : List X) × (items_in good ≡ stage.written ++ a ∷ rest))
+        begins_before =
+            items_begin (good_coming pair.a_left pair.first) past_first stage.written (a ∷ []) (sym s.all_given ∙ ap (λ (o : Option X). stage.written ++ option_to_list o) waits) came_first
+
+        with_waiting : given stage ≡ stage.written ++ a ∷ []
+        with_waiting = ap (λ (o : Option X). stage.written ++ option_to_list o) waits
+
+        goes_first : stage.first_ended ≡ false
+        goes_first = first_waits making pair out stage past_first past_second first second grown s a waits
+
+        -- with the member ahead of the second too many would be held for the one that waits
+        pub passes_limit : (m : Member Y) → ahead_in second ≡ Some m
+            → (kind : Kind) → making.second_kinds kind → (fault : Told) → fault ≡ fault_at_line Second m.line kind → making.decided a (member_items (past_second ++ m ∷ [])) ≡ false
+            → (IsKnown pair → (later : List X) (more : List (Member Y)) (other : Option Told)
+            → making.limited (stage.written ++ a ∷ later) (record { members = (past_second ++ m ∷ []) ++ more; fault = other }) ≡ record { members = past_second ++ m ∷ []; fault = Some fault })
+            → Ends (Some fault) first second grown
+        unfolding near_by near_now
+        passes_limit m ahead kind of_kind fault is undecided cuts = record {
+          written = stage.written;
+          bytes = s.bytes;
+          wrote = wrote_now;
+          why = inl (
+            inr (inr (inr (
+              fault,
+              refl,
+              record {
+                past = past_second;
+                m = m;
+                waiting = a;
+                begins = begins_before;
+                comes = subst (λ (o : Option (Member Y)). IfSome (good_coming pair.b_left pair.second) (λ good. (rest : List (Member Y)) × (good.members ≡ (past_second ++ option_to_list o) ++ rest))) ahead
+                    (seen_begins pair.b_left (good_coming pair.b_left pair.second) second past_second (ahead_in second) refl s.second_passes.come s.second_passes.ahead);
+                undecided = undecided;
+                cuts = cuts;
+                kind = kind;
+                is = is;
+                of_kind = of_kind;
+                serves = first_serves;
+                serves_second = second_serves;
+              },
+            ))),
+            s.puts,
+            s.works,
+          );
+          near = near_now;
+          exact = λ stops. s.puts;
+        }
+
+        -- the second input couldn't give a member
+        module _ (wrong : (state : V) (line : TextLine) (kind : Kind) → pair.second.format.says state line ≡ Err kind → making.second_kinds kind)
+            (reached : making.Asks (given stage) stage.taken) (goes : stage.second_ended ≡ false) (opens : IsKnown pair → second.buffered ≡ [] → making.decided a stage.taken ≡ false)
+            (fault : Told) (second_now : MemberReader B Y V) (stopped : IsStopped pair.b_left pair.b_failed pair.b_end second fault second_now) where
+          low_stopped : IsSome second_now.fault → All (λ m. m.line ≤ lines_given second_now.below) (past_second ++ option_to_list (ahead_in second))
+          low_stopped some = seen_low past_second second (lines_given second_now.below) (none_buffered stopped.answers.was_none) (up_to (lines_given second.below) (lines_given second_now.below) past_second stopped.answers.rises s.second_passes.behind)
+
+          near_stopped : HandsSecond second_now → Near first second_now grown
+          near_stopped handed = near_by first second_now grown (wrote_later first s.first_passes.bytes second_now low_stopped handed) no_more refl (inr (record {
+            past = past_second;
+            reached = reached_items past_first s.all_given reached;
+            near = λ known. (read_at_stop pair.b_left pair.b_failed pair.b_end pair.second past_second second s.second_passes second_now fault stopped).to;
+          }))
+
+          second_why : SecondFails making pair out stage.second_ended past_second second_now fault → Why making pair out stage.written s.bytes (given stage) stage.second_ended first second_now (Some fault) grown
+          second_why fails =
+              inl (
+                inr (inl (
+                  fault,
+                  refl,
+                  record {
+                    past = past_second;
+                    waiting = a;
+                    begins = begins_before;
+                    undecided = if_known (good_coming pair.b_left pair.second) (making.decided a (member_items past_second) ≡ false) (λ known. ap (making.decided a) (sym s.all_taken) ∙ opens known stopped.answers.was_none);
+                    fails = fails;
+                    fits = λ known. subst (λ (l : List X). making.Fits l past_second) with_waiting (fits known);
+                    serves = first_serves;
+                  },
+                )),
+                s.puts,
+                s.works,
+              )
+
+          second_stops : StopsAfter pair.b_left pair.b_failed pair.b_end pair.second making.second_kinds past_second fault second_now → Why making pair out stage.written s.bytes (given stage) stage.second_ended first second_now (Some fault) grown
+          second_stops stops =
+              elim stops.cause [
+                | inl wrong ↦ second_why (record { cause = inl wrong; before_end = λ e. absurd (false≢true (sym goes ∙ e)) })
+                | inr other ↦ elim other [
+                  | inl unread ↦ second_why (record { cause = inr unread; before_end = λ e. absurd (false≢true (sym goes ∙ e)) })
+                  | inr ran ↦ inr (inl (ap Some ran.is, s.puts))
+                ]
+              ]
+
+          pub stops_second : Ends (Some fault) first second_now grown
+          unfolding wrote_later wrote_by near_stopped near_by
+          stops_second =
+              let stops = passes_stop pair.b_left pair.b_failed pair.b_end pair.second past_second second s.second_passes making.second_kinds wrong second_now fault stopped in
+              record {
+                written = stage.written;
+                bytes = s.bytes;
+                wrote = wrote_later first s.first_passes.bytes second_now low_stopped stops.bytes;
+                why = second_stops stops;
+                near = near_stopped stops.bytes;
+                exact = λ stops. s.puts;
+              }
+
+        -- at its end the waiting member wasn't written
+        pub fails_at_end : making.Asks (given stage) stage.taken → stage.second_ended ≡ false
+            → (fault : Told) (second_now : MemberReader B Y V) (now : Output) → IsOver pair.b_left pair.b_failed pair.b_end second second_now
+            → FailsToAdd grown (making.bytes a stage.taken) fault now → Ends (Some fault) first second_now now
+        fails_at_end reached goes fault second_now now over fails =
+            let p = passes_end pair.b_left pair.b_failed pair.b_end pair.second past_second second s.second_passes second_now over in
+            let more = making.bytes a stage.taken in
+            let seen : member_items past_second ++ option_to_list (item_ahead second_now) ≡ stage.taken = seen_alone (member_items past_second) second_now over.ends.none_buffered ∙ sym s.all_taken in
+            record {
+              written = stage.written ++ a ∷ [];
+              bytes = s.bytes ++ more;
+              wrote = wrote_by past_second second_now second_now p (none_low second_now p.going) p.bytes first s.first_passes.bytes (stage.written ++ a ∷ []) (s.bytes ++ more) true now
+                  (λ known. rw seen (settles_end making stage.written s.bytes stage.taken false a (settles_ended making pair out stage past_first past_second first second grown s goes second_now over known)))
+                  (begins_items past_first (stage.written ++ a ∷ []) [] (sym s.all_given ∙ with_waiting ∙ sym (append-nil (stage.written ++ a ∷ []))) came_first)
+                  (λ e. (passes_all pair.b_left pair.b_failed pair.b_end pair.second past_second second s.second_passes second_now over, ap (λ (l : List Y). first_from (suc (lines_given second_now.below)) l) over.ends.none_buffered))
+                  (grows_both out.took grown.took now.took s.grows fails.puts.grows) (given stage) given_now fits;
+              why = inr (inr (ap Some fails.puts.is, cuts_more out grown now s.bytes more fault s.puts fails));
+              near = near_by first second_now now (wrote_later first s.first_passes.bytes second_now (none_low second_now p.going) p.bytes) (goes_failed grown now fails.puts.grows fails.puts.failed) refl (inr (record {
+                past = past_second;
+                reached = reached_items past_first s.all_given reached;
+                near = λ known. (read_here pair.b_left pair.b_failed pair.b_end pair.second past_second second_now p).to;
+              }));
+              exact = λ stops. absurd (stops.1 (ap Some fails.puts.is));
+            }
+
+      -- if all of the first input is written
+      module _ (done : stage.first_ended ≡ true) where
+        module _ (second_now : MemberReader B Y V) (low : IsSome second_now.fault → All (λ m. m.line ≤ lines_given second_now.below) (past_second ++ option_to_list (ahead_in second))) (handed : HandsSecond second_now) where
+          near_rest : Near first second_now grown
+          near_rest = near_by first second_now grown (wrote_later first s.first_passes.bytes second_now low handed) no_more refl (inl done)
+
+          -- the second was read on
+          pub ends_rest : (past : List (Member Y)) (fault : Option Told)
+              → ((fault ≡ None) × AreAll pair.b_left pair.b_failed pair.b_end pair.second past × Serves pair.b_failed pair.second second_now × (making.last stage.written past ≡ None))
+              ⊎ (((other : Told) × (fault ≡ Some other) × SecondFails making pair out stage.second_ended past second_now other × (making.last stage.written past ≡ None))
+              ⊎ ((other : Told) × (fault ≡ Some other) × LastTold making pair out stage.written second_now other))
+              → Ends fault first second_now grown
+          unfolding wrote_later wrote_by near_rest near_by
+          ends_rest past fault rest =
+              let whole = s.first_all done in
+              record {
+                written = stage.written;
+                bytes = s.bytes;
+                wrote = wrote_later first s.first_passes.bytes second_now low handed;
+                why = inl (
+                  inr (inr (inl (record {
+                    past = past_first;
+                    past_second = past;
+                    all = all_written making pair out stage past_first past_second first second grown s whole.1;
+                    whole = whole.0;
+                    serves = first_serves;
+                    rest = rest;
+                  }))),
+                  s.puts,
+                  s.works,
+                );
+                near = near_rest;
+                exact = λ stops. s.puts;
+              }
+
+          runs_out : (fault : Told) → fault ≡ no_memory → Ends (Some fault) first second_now grown
+          unfolding near_rest near_by
+          runs_out fault is = record {
+            written = stage.written;
+            bytes = s.bytes;
+            wrote = wrote_later first s.first_passes.bytes second_now low handed;
+            why = inr (inl (ap Some is, s.puts));
+            near = near_rest;
+            exact = λ stops. s.puts;
+          }
+
+        -- both inputs have ended
+        pub ends_all : stage.second_ended ≡ true → making.last stage.written past_second ≡ None → Ends None first second grown
+        ends_all done_second none = ends_rest second (none_low second s.second_passes.going) s.second_passes.bytes past_second None (inl (refl, (s.second_all done_second).0, second_serves, none))
+
+        -- the rest of the second input stopped
+        pub stops_rest : (second_now : MemberReader B Y V) → (IsSome second_now.fault → All (λ m. m.line ≤ lines_given second_now.below) (past_second ++ option_to_list (ahead_in second))) → (past : List (Member Y)) (fault : Told)
+            → StopsAfter pair.b_left pair.b_failed pair.b_end pair.second making.second_kinds past fault second_now
+            → (stage.second_ended ≡ true → (input : Input) (line : ℕ) → fault ≡ read_failed input line → ⊥) → making.last stage.written past ≡ None → Ends (Some fault) first second_now grown
+        stops_rest second_now low past fault stops before_end none =
+            elim stops.cause [
+              | inl wrong ↦ ends_rest second_now low stops.bytes past (Some fault) (inr (inl (fault, refl, record { cause = inl wrong; before_end = before_end }, none)))
+              | inr other ↦ elim other [
+                | inl unread ↦ ends_rest second_now low stops.bytes past (Some fault) (inr (inl (fault, refl, record { cause = inr unread; before_end = before_end }, none)))
+                | inr ran ↦ runs_out second_now low stops.bytes fault ran.is
+              ]
+            ]
+
+        -- after the last member of the first the second couldn't give one
+        pub stops_behind : ((state : V) (line : TextLine) (kind : Kind) → pair.second.format.says state line ≡ Err kind → making.second_kinds kind)
+            → stage.second_ended ≡ false → making.last stage.written past_second ≡ None
+            → (fault : Told) (second_now : MemberReader B Y V) → IsStopped pair.b_left pair.b_failed pair.b_end second fault second_now → Ends (Some fault) first second_now grown
+        stops_behind wrong goes none fault second_now stopped =
+            stops_rest second_now
+            (λ some. seen_low past_second second (lines_given second_now.below) (none_buffered stopped.answers.was_none) (up_to (lines_given second.below) (lines_given second_now.below) past_second stopped.answers.rises s.second_passes.behind))
+            past_second fault
+            (passes_stop pair.b_left pair.b_failed pair.b_end pair.second past_second second s.second_passes making.second_kinds wrong second_now fault stopped) (λ e. absurd (false≢true (sym goes ∙ e))) none

@@ -1,0 +1,382 @@
+-- Lemmas on how a run over two readers of members goes on: as members are buffered and taken, and at the ends.
+use Rattle.std.proofs.Common.{◌≡◌, ℕ, suc, Bool, true, false, List, [], ◌∷◌, ◌++◌, ◌≤◌, length, Option, None, Some, refl, sym, ap, ◌∙◌, subst, append-nil, append_assoc, option_to_list, drop, ◌+◌, inl, inr}
+use Rattle.std.specs.Prelude.{◌⊎◌, All, IfSome, option_map}
+use Rattle.std.proofs.KnownBytes.{Appends-nil}
+use Rattle.std.proofs.lemmas.Bool.{false≢true}
+use Rattle.std.proofs.lemmas.List.{map-append}
+use Rattle.bt_lines.proofs.lemmas.writer.PuttingLemmas.{grown_works}
+use Rattle.bt_lines.proofs.lemmas.writer.OutputLemmas.{grows_both}
+use Rattle.bt_lines.specs.model.Lines.{bytes_in}
+use Rattle.bt_lines.specs.calls.Reader.{lines_given, lines_left, source_of}
+use Rattle.bt_lines.specs.calls.Output.{Output, Grows, HoldsBlock, block_size}
+use Rattle.bt_lines.specs.calls.Putting.{Grown, WorksAsBefore}
+use Rattle.bt_bed.specs.model.input.Good.{Member}
+use Rattle.bt_bed.specs.calls.Reading.{MemberReader, first_from, good_coming, members_from}
+use Rattle.bt_tool.specs.inside.feed.Feeding.{PutsLines, member_items}
+use Rattle.bt_tool.specs.inside.pair.Pair.{Making, Pair, Settles, item_ahead}
+use Rattle.bt_tool.specs.inside.pair.PairComes.{Comes, Follows, Stage, TakesFurther, given}
+use Rattle.bt_tool.specs.inside.pair.PairEnds.{HasNoMore, IsKnown}
+use Rattle.bt_tool.specs.inside.feed.Passed.{AreAll, HasTaken, IsFilled, IsOver, IsReadFor, Passes}
+use Rattle.bt_tool.proofs.lemmas.running.feed.FeedLemmas.{text_grows, works_both}
+use Rattle.bt_tool.proofs.lemmas.running.members.MemberLemmas.{ended_after_all, passes_all, passes_end, passes_fill, passes_take, read_before, read_here}
+use Rattle.bt_tool.proofs.lemmas.running.pair.PairSettles.{seen_by, settles_close, settles_end, settles_nothing}
+
+-- the output grew by bytes
+pub grown_puts : (out old new : Output) (bytes more : List ℕ) → PutsLines out bytes old → Grown old more new → PutsLines out (bytes ++ more) new
+grown_puts out old new bytes more puts grown before e = text_grows old.put new.put before bytes more (bytes ++ more) refl grown.appends (puts before e)
+
+pub none_pushed : {A : Type 0} (front : List A) (x : A) → [] ≡ front ++ x ∷ [] → ⊥
+none_pushed [] x e = cc
+none_pushed (y ∷ front) x e = cc
+
+-- lists that end with one more element each
+pub push_front : {A : Type 0} (a b : List A) (x y : A) → a ++ x ∷ [] ≡ b ++ y ∷ [] → a ≡ b
+push_front [] [] x y e = refl
+push_front [] (z ∷ b) x y e = absurd (none_pushed b y (let rest : [] ≡ b ++ y ∷ [] = cc in rest))
+push_front (z ∷ a) [] x y e = absurd (none_pushed a x (let rest : [] ≡ a ++ x ∷ [] = cc in rest))
+push_front (z ∷ a) (w ∷ b) x y e =
+    let heads : z ≡ w = cc in
+    let rest : a ++ x ∷ [] ≡ b ++ y ∷ [] = cc in
+    let same : a ≡ b = push_front a b x y rest in
+    cc
+
+-- the items of members that are on lines one after another
+pub items_from : {A : Type 0} (line : ℕ) (items : List A) → member_items (members_from line items) ≡ items
+items_from line [] = refl
+items_from line (x ∷ items) = ap (λ l. x ∷ l) (items_from (suc line) items)
+
+from_push : {A : Type 0} (line : ℕ) (items : List A) (x : A) → (m : Member A) × (members_from line (items ++ x ∷ []) ≡ members_from line items ++ m ∷ [])
+from_push line [] x = (record { line = line; item = x }, refl)
+from_push line (y ∷ items) x = let rest = from_push (suc line) items x in (rest.0, ap (λ l. record { line = line; item = y } ∷ l) rest.1)
+
+-- a reader of members took some
+module _ {S A State : Type 0} (left : S → Option (List ℕ)) (failed end : S → Bool) (old : MemberReader S A State) (past : List (Member A)) (now : MemberReader S A State) (p : Passes left failed end old past now) where
+  abbrev n : ℕ
+  n = suc (lines_given now.below)
+
+  read_last : (taken xs : List A) (a : A) → taken ≡ xs ++ a ∷ [] → (new : MemberReader S A State) → HasTaken left failed end now taken new
+      → IsReadFor left failed end old (past ++ members_from n xs) (past ++ members_from n taken) new
+  read_last taken xs a e new has =
+      subst (λ (l : List A). IsReadFor left failed end old (past ++ members_from n xs) (past ++ members_from n l) new) (sym e)
+      (read_before left failed end old past now p xs a new (subst (λ (l : List A). HasTaken left failed end now l new) e has))
+
+  pub takes_further : (taken : List A) (new : MemberReader S A State) → HasTaken left failed end now taken new → TakesFurther left failed end old past (members_from n taken) now new
+  takes_further taken new has = record {
+    passes = passes_take left failed end old past now p taken new has;
+    last = λ before m e.
+        let xs = member_items before in
+        let parts : taken ≡ xs ++ m.item ∷ [] = sym (items_from n taken) ∙ ap member_items e ∙ map-append (λ m. m.item) before (m ∷ []) in
+        let push = from_push n xs m.item in
+        let fronts : before ++ m ∷ [] ≡ members_from n xs ++ push.0 ∷ [] = sym e ∙ ap (members_from n) parts ∙ push.1 in
+        subst (λ (l : List (Member A)). IsReadFor left failed end old (past ++ l) (past ++ members_from n taken) new) (sym (push_front before (members_from n xs) m push.0 fronts))
+        (read_last taken xs m.item parts new has);
+    source = has.takes.source;
+    told = has.takes.hands.told_stays;
+  }
+
+-- a list is empty, or has a last element
+pub last_of : {A : Type 0} (xs : List A) → (xs ≡ []) ⊎ ((front : List A) × (x : A) × (xs ≡ front ++ x ∷ []))
+last_of [] = inl refl
+last_of {A} (x ∷ xs) =
+    elim (last_of xs) [
+      | inl none ↦ inr ([], x, ap (λ (l : List A). x ∷ l) none)
+      | inr some ↦ inr (x ∷ some.0, some.1, ap (λ (l : List A). x ∷ l) some.2)
+    ]
+
+pub cancel_front : {A : Type 0} (front a b : List A) → front ++ a ≡ front ++ b → a ≡ b
+cancel_front [] a b e = e
+cancel_front (x ∷ front) a b e = cancel_front front a b (let rest : front ++ a ≡ front ++ b = cc in rest)
+
+-- at most one waits
+few_waited : {A : Type 0} (newly : List A) (x : A) (o : Option A) → newly ++ x ∷ [] ≡ option_to_list o → newly ≡ []
+few_waited newly x None e = absurd (none_pushed newly x (sym e))
+few_waited newly x (Some y) e = push_front newly [] x y e
+
+none_new : {A : Type 0} (newly : List A) (o : Option A) → newly ++ option_to_list o ≡ [] → (newly ≡ []) × (o ≡ None)
+none_new [] None e = (refl, refl)
+none_new [] (Some x) e = cc
+none_new (y ∷ newly) o e = cc
+
+-- the same reads, by a reader of the same source
+unfoldable pub read_same : {S A State : Type 0} (left : S → Option (List ℕ)) (failed end : S → Bool) (old : MemberReader S A State) (past given more : List (Member A)) (now new : MemberReader S A State) → source_of new.below ≡ source_of now.below → given ≡ more
+    → IsReadFor left failed end old past given now → IsReadFor left failed end old past more new
+read_same {S} {A} {State} left failed end old past given more now new same e read = record {
+  to = record {
+    count = read.to.count;
+    near = subst (λ (s : S). IfSome (lines_left left old.below) (λ lines. IfSome (left s) (λ rest. bytes_in (drop (suc read.to.count) lines) ≤ length rest + block_size))) (sym same) read.to.near;
+    behind = read.to.behind;
+  };
+  low = read.low;
+  high = subst (λ (l : List (Member A)). All (λ m. m.line ≤ suc read.to.count) l) e read.high;
+  begins = subst (λ (l : List (Member A)). IfSome (good_coming left old) (λ good. (rest : List (Member A)) × (good.members ≡ l ++ rest))) e read.begins;
+}
+
+-- if nothing is buffered, nothing is ahead
+pub seen_alone : {S A State : Type 0} (taken : List A) (now : MemberReader S A State) → now.buffered ≡ [] → taken ++ option_to_list (item_ahead now) ≡ taken
+seen_alone {S} {A} {State} taken now none =
+    ap (λ (l : List A). taken ++ option_to_list (option_map (λ m. m.item) (first_from (suc (lines_given now.below)) l))) none ∙ append-nil taken
+
+module _ {A B X Y U V : Type 0} (making : Making X Y) (pair : Pair A B X Y U V) (out : Output) where
+  abbrev pub first_stage : Stage X Y
+  first_stage = record { written = []; waiting = None; taken = []; first_ended = false; second_ended = false }
+
+  -- nothing was given yet
+  pub comes_start : Passes pair.a_left pair.a_failed pair.a_end pair.first [] pair.first → Passes pair.b_left pair.b_failed pair.b_end pair.second [] pair.second
+      → HoldsBlock out.took out.put → Comes making pair out first_stage [] [] pair.first pair.second out
+  comes_start passes passes_second block = record {
+    first_passes = passes;
+    second_passes = passes_second;
+    all_given = refl;
+    all_taken = refl;
+    bytes = [];
+    settles = λ known. settles_nothing making ([] ++ option_to_list (item_ahead pair.second)) false;
+    first_all = λ e. absurd (false≢true e);
+    second_all = λ e. absurd (false≢true e);
+    puts = λ before e. e ∙ ap Some (sym (append-nil before));
+    works = record { served = refl; sink_served = refl; put = ([], Appends-nil out.put); block = λ h. h };
+    block = block;
+    grows = ([], Appends-nil out.took);
+    near_first = ([], refl, read_here pair.a_left pair.a_failed pair.a_end pair.first [] pair.first passes, λ e. absurd (false≢true e));
+  }
+
+  module _ (stage : Stage X Y) (past_first : List (Member X)) (past_second : List (Member Y)) (first : MemberReader A X U) (second : MemberReader B Y V) (grown : Output) (s : Comes making pair out stage past_first past_second first second grown) where
+    -- if none waits, all are written
+    pub all_written : stage.waiting ≡ None → stage.written ≡ member_items past_first
+    all_written none = sym (append-nil stage.written) ∙ ap (λ (o : Option X). stage.written ++ option_to_list o) (sym none) ∙ s.all_given
+
+    -- a member of the first input is buffered
+    pub fills_first : stage.waiting ≡ None → stage.first_ended ≡ false → (first_now : MemberReader A X U) → IsFilled pair.a_left pair.a_failed pair.a_end first first_now
+        → Comes making pair out stage past_first past_second first_now second grown
+    fills_first none going first_now filled =
+        let p = passes_fill pair.a_left pair.a_failed pair.a_end pair.first past_first first s.first_passes first_now filled in
+        record {
+          first_passes = p;
+          second_passes = s.second_passes;
+          all_given = s.all_given;
+          all_taken = s.all_taken;
+          bytes = s.bytes;
+          settles = s.settles;
+          first_all = λ e. absurd (false≢true (sym going ∙ e));
+          second_all = s.second_all;
+          puts = s.puts;
+          works = s.works;
+          block = s.block;
+          grows = s.grows;
+          near_first = (past_first, sym (all_written none), read_here pair.a_left pair.a_failed pair.a_end pair.first past_first first_now p, λ e. absurd (false≢true (sym going ∙ e)));
+        }
+
+    -- a member of the second is
+    pub fills_second : stage.second_ended ≡ false → (second_now : MemberReader B Y V) → IsFilled pair.b_left pair.b_failed pair.b_end second second_now
+        → Comes making pair out stage past_first past_second first second_now grown
+    fills_second going second_now filled = record {
+      first_passes = s.first_passes;
+      second_passes = passes_fill pair.b_left pair.b_failed pair.b_end pair.second past_second second s.second_passes second_now filled;
+      all_given = s.all_given;
+      all_taken = s.all_taken;
+      bytes = s.bytes;
+      settles = λ known.
+          rw going (subst (λ (o : Option (Member Y)). Settles making stage.written s.bytes (stage.taken ++ option_to_list (option_map (λ m. m.item) o)) false) (sym filled.gives.ahead)
+          (seen_by making pair.b_left pair.b_failed second second_now filled.m _ refl filled.gives stage.written s.bytes stage.taken
+          (subst (λ (b : Bool). Settles making stage.written s.bytes (stage.taken ++ option_to_list (item_ahead second)) b) going (s.settles known))));
+      first_all = s.first_all;
+      second_all = λ e. absurd (false≢true (sym going ∙ e));
+      puts = s.puts;
+      works = s.works;
+      block = s.block;
+      grows = s.grows;
+      near_first = s.near_first;
+    }
+
+    -- more members of both were taken, after their ends none, and these bytes were put for those that are written now
+    module _ (more_first : List (Member X)) (more_second : List (Member Y)) (first_now : MemberReader A X U) (second_now : MemberReader B Y V)
+        (takes : TakesFurther pair.a_left pair.a_failed pair.a_end pair.first past_first more_first first first_now)
+        (takes_second : TakesFurther pair.b_left pair.b_failed pair.b_end pair.second past_second more_second second second_now)
+        (ended : stage.first_ended ≡ true → (more_first ≡ []) × (first_now.buffered ≡ [])) (ended_second : stage.second_ended ≡ true → (more_second ≡ []) × (second_now.buffered ≡ []))
+        (newly : List X) (new : Stage X Y) (follows : Follows stage (member_items more_first) newly (member_items more_second) new) where
+      all_now : given new ≡ member_items (past_first ++ more_first)
+      all_now = follows.given_is ∙ ap (λ l. l ++ member_items more_first) s.all_given ∙ sym (map-append (λ m. m.item) past_first more_first)
+
+      none_more : {T : Type 0} (past more : List T) → more ≡ [] → past ≡ past ++ more
+      none_more {T} past more e = sym (append-nil past) ∙ ap (λ (l : List T). past ++ l) (sym e)
+
+      -- what waited before, and what is given now
+      parts : option_to_list stage.waiting ++ member_items more_first ≡ newly ++ option_to_list new.waiting
+      parts =
+          cancel_front stage.written (option_to_list stage.waiting ++ member_items more_first) (newly ++ option_to_list new.waiting)
+          (sym (append_assoc stage.written (option_to_list stage.waiting) (member_items more_first)) ∙ sym follows.given_is ∙ ap (λ l. l ++ option_to_list new.waiting) follows.written_is
+          ∙ append_assoc stage.written newly (option_to_list new.waiting))
+
+      unless_more : more_first ≡ [] → option_to_list stage.waiting ≡ newly ++ option_to_list new.waiting
+      unless_more e = sym (append-nil (option_to_list stage.waiting)) ∙ ap (λ (l : List (Member X)). option_to_list stage.waiting ++ member_items l) (sym e) ∙ parts
+
+      none_then : stage.first_ended ≡ true → (newly ≡ []) × (new.waiting ≡ None)
+      none_then e = none_new newly new.waiting (sym (unless_more (ended e).0) ∙ ap (λ (o : Option X). option_to_list o) (s.first_all e).1)
+
+      same_written : newly ≡ [] → stage.written ≡ new.written
+      same_written e = none_more stage.written newly e ∙ sym follows.written_is
+
+      abbrev Near : Type 0
+      Near =
+          (past : List (Member X)) × (member_items past ≡ new.written)
+          × (read : IsReadFor pair.a_left pair.a_failed pair.a_end pair.first past (past_first ++ more_first) first_now)
+          × (new.first_ended ≡ true → HasNoMore pair first_now read.to.count)
+
+      -- no more was given of the first
+      near_same : more_first ≡ [] → newly ≡ [] → Near
+      unfolding read_same
+      near_same none unwritten =
+          let was = s.near_first in (
+            was.0,
+            was.1 ∙ same_written unwritten,
+            read_same pair.a_left pair.a_failed pair.a_end pair.first was.0 past_first (past_first ++ more_first) first first_now takes.source (none_more past_first more_first none) was.2,
+            λ e. let all = was.3 (sym follows.first_is ∙ e) in (ap pair.a_end takes.source ∙ all.0, all.1),
+          )
+
+      near_waiting : (x : X) → new.waiting ≡ Some x → stage.first_ended ≡ false → Near
+      near_waiting x waits going =
+          elim (last_of more_first) [
+            | inl none ↦ near_same none (few_waited newly x stage.waiting (ap (λ (o : Option X). newly ++ option_to_list o) (sym waits) ∙ sym (unless_more none)))
+            | inr some ↦ (
+              past_first ++ some.0,
+              push_front (member_items (past_first ++ some.0)) new.written some.1.item x
+                  (sym (map-append (λ m. m.item) (past_first ++ some.0) (some.1 ∷ [])) ∙ ap member_items (append_assoc past_first some.0 (some.1 ∷ []) ∙ ap (λ (l : List (Member X)). past_first ++ l) (sym some.2))
+                  ∙ sym all_now ∙ ap (λ (o : Option X). new.written ++ option_to_list o) waits),
+              takes.last some.0 some.1 some.2,
+              λ e. absurd (false≢true (sym going ∙ sym follows.first_is ∙ e)),
+            )
+          ]
+
+      near_by : (w : Option X) → new.waiting ≡ w → (b : Bool) → stage.first_ended ≡ b → Near
+      near_by w e true done = near_same (ended done).0 (none_then done).0
+      near_by (Some x) e false going = near_waiting x e going
+      near_by None e false going = (
+        past_first ++ more_first,
+        sym all_now ∙ ap (λ (o : Option X). new.written ++ option_to_list o) e ∙ append-nil new.written,
+        read_here pair.a_left pair.a_failed pair.a_end pair.first (past_first ++ more_first) first_now takes.passes,
+        λ e. absurd (false≢true (sym going ∙ sym follows.first_is ∙ e)),
+      )
+
+      pub goes_on : (more : List ℕ) (now : Output) → (IsKnown pair → Settles making new.written (s.bytes ++ more) (new.taken ++ option_to_list (item_ahead second_now)) new.second_ended)
+          → Grown grown more now → Comes making pair out new (past_first ++ more_first) (past_second ++ more_second) first_now second_now now
+      goes_on more now settles adds = record {
+        first_passes = takes.passes;
+        second_passes = takes_second.passes;
+        all_given = all_now;
+        all_taken = follows.taken_is ∙ ap (λ l. l ++ member_items more_second) s.all_taken ∙ sym (map-append (λ m. m.item) past_second more_second);
+        bytes = s.bytes ++ more;
+        settles = settles;
+        first_all = λ e.
+            let was = sym follows.first_is ∙ e in
+            let all = s.first_all was in (
+              subst (AreAll pair.a_left pair.a_failed pair.a_end pair.first) (none_more past_first more_first (ended was).0) all.0,
+              (none_then was).1,
+              (ended was).1,
+              takes.told all.3,
+            );
+        second_all = λ e.
+            let was = sym follows.second_is ∙ e in
+            let all = s.second_all was in (
+              subst (AreAll pair.b_left pair.b_failed pair.b_end pair.second) (none_more past_second more_second (ended_second was).0) all.0,
+              (ended_second was).1,
+              takes_second.told all.2,
+            );
+        puts = grown_puts out grown now s.bytes more s.puts adds;
+        works = works_both out grown now s.works (grown_works grown now more adds);
+        block = adds.block s.block;
+        grows = grows_both out.took grown.took now.took s.grows adds.grows;
+        near_first = near_by new.waiting refl stage.first_ended refl;
+      }
+
+    -- the first input has ended
+    module _ (none : stage.waiting ≡ None) (going : stage.first_ended ≡ false) (first_now : MemberReader A X U) (over : IsOver pair.a_left pair.a_failed pair.a_end first first_now) where
+      ended_passes : Passes pair.a_left pair.a_failed pair.a_end pair.first past_first first_now
+      ended_passes = passes_end pair.a_left pair.a_failed pair.a_end pair.first past_first first s.first_passes first_now over
+
+      no_more_first : HasNoMore pair first_now (read_here pair.a_left pair.a_failed pair.a_end pair.first past_first first_now ended_passes).to.count
+      unfolding read_here
+      no_more_first = (
+        (ended_passes.kept.end over.ends.told).0,
+        ended_after_all pair.a_left pair.a_failed pair.a_end pair.first past_first first s.first_passes first_now over,
+      )
+
+      pub ends_first : Comes making pair out (record stage { first_ended = true }) past_first past_second first_now second grown
+      ends_first = record {
+        first_passes = ended_passes;
+        second_passes = s.second_passes;
+        all_given = s.all_given;
+        all_taken = s.all_taken;
+        bytes = s.bytes;
+        settles = s.settles;
+        first_all = λ e. (passes_all pair.a_left pair.a_failed pair.a_end pair.first past_first first s.first_passes first_now over, none, over.ends.none_buffered, over.ends.told);
+        second_all = s.second_all;
+        puts = s.puts;
+        works = s.works;
+        block = s.block;
+        grows = s.grows;
+        near_first = (past_first, sym (all_written none), read_here pair.a_left pair.a_failed pair.a_end pair.first past_first first_now ended_passes, λ e. no_more_first);
+      }
+
+    -- once the second input has ended, the bytes of a member of the first are those against what was taken
+    pub settles_at_end : stage.second_ended ≡ true → (a : X) → IsKnown pair
+        → Settles making (stage.written ++ a ∷ []) (s.bytes ++ making.bytes a stage.taken) (stage.taken ++ option_to_list (item_ahead second)) stage.second_ended
+    settles_at_end e a known =
+        let seen = seen_alone stage.taken second (s.second_all e).1 in
+        rw e (rw seen (settles_end making stage.written s.bytes stage.taken stage.second_ended a (subst (λ (l : List Y). Settles making stage.written s.bytes l stage.second_ended) seen (s.settles known))))
+
+    -- if a member waits, the first input hasn't ended
+    waits_by : (a : X) → stage.waiting ≡ Some a → (b : Bool) → stage.first_ended ≡ b → b ≡ false
+    waits_by a waits true e = absurd (let apart : Some a ≡ None = sym waits ∙ (s.first_all e).1 in cc)
+    waits_by a waits false e = refl
+
+    pub first_waits : (a : X) → stage.waiting ≡ Some a → stage.first_ended ≡ false
+    first_waits a waits = waits_by a waits stage.first_ended refl
+
+    -- if the second input ends now
+    module _ (goes : stage.second_ended ≡ false) (second_now : MemberReader B Y V) (over : IsOver pair.b_left pair.b_failed pair.b_end second second_now) where
+      -- those written are settled by what was taken
+      pub settles_ended : IsKnown pair → Settles making stage.written s.bytes stage.taken false
+      settles_ended known =
+          subst (λ (l : List Y). Settles making stage.written s.bytes l false) (seen_alone stage.taken second over.ends.was_none)
+          (subst (λ (b : Bool). Settles making stage.written s.bytes (stage.taken ++ option_to_list (item_ahead second)) b) goes (s.settles known))
+
+      -- its end was given
+      ends_by : (now : Output) (bytes : List ℕ) → (IsKnown pair → Settles making (given stage) bytes stage.taken true) → PutsLines out bytes now → WorksAsBefore out now → HoldsBlock now.took now.put → Grows out.took now.took
+          → ((past : List (Member X)) × (member_items past ≡ given stage)
+          × (read : IsReadFor pair.a_left pair.a_failed pair.a_end pair.first past past_first first) × (stage.first_ended ≡ true → HasNoMore pair first read.to.count))
+          → Comes making pair out (record stage { written = given stage; waiting = None; second_ended = true }) past_first past_second first second_now now
+      ends_by now bytes settles puts works block grows near = record {
+        first_passes = s.first_passes;
+        second_passes = passes_end pair.b_left pair.b_failed pair.b_end pair.second past_second second s.second_passes second_now over;
+        all_given = append-nil (given stage) ∙ s.all_given;
+        all_taken = s.all_taken;
+        bytes = bytes;
+        settles = λ known. subst (λ (l : List Y). Settles making (given stage) bytes l true) (sym (seen_alone stage.taken second_now over.ends.none_buffered)) (settles known);
+        first_all = λ e. let was = s.first_all e in (was.0, refl, was.2, was.3);
+        second_all = λ e. (passes_all pair.b_left pair.b_failed pair.b_end pair.second past_second second s.second_passes second_now over, over.ends.none_buffered, over.ends.told);
+        puts = puts;
+        works = works;
+        block = block;
+        grows = grows;
+        near_first = near;
+      }
+
+      -- the waiting member was written
+      pub ends_waiting : (a : X) → stage.waiting ≡ Some a → (now : Output) → Grown grown (making.bytes a stage.taken) now
+          → Comes making pair out (record stage { written = given stage; waiting = None; second_ended = true }) past_first past_second first second_now now
+      ends_waiting a waits now adds =
+          let more = making.bytes a stage.taken in
+          let with_waiting : given stage ≡ stage.written ++ a ∷ [] = ap (λ (o : Option X). stage.written ++ option_to_list o) waits in
+          ends_by now (s.bytes ++ more)
+          (λ known. subst (λ (w : List X). Settles making w (s.bytes ++ more) stage.taken true) (sym with_waiting) (settles_end making stage.written s.bytes stage.taken false a (settles_ended known)))
+          (grown_puts out grown now s.bytes more s.puts adds) (works_both out grown now s.works (grown_works grown now more adds)) (adds.block s.block)
+          (grows_both out.took grown.took now.took s.grows adds.grows)
+          (past_first, sym s.all_given, read_here pair.a_left pair.a_failed pair.a_end pair.first past_first first s.first_passes, λ e. absurd (false≢true (sym (first_waits a waits) ∙ e)))
+
+      -- or none waited
+      pub ends_alone : stage.waiting ≡ None → Comes making pair out (record stage { written = given stage; waiting = None; second_ended = true }) past_first past_second first second_now grown
+      ends_alone none =
+          let all : stage.written ≡ given stage = sym (append-nil stage.written) ∙ ap (λ (o : Option X). stage.written ++ option_to_list o) (sym none) in
+          let near = s.near_first in
+          ends_by grown s.bytes
+          (λ known. subst (λ (w : List X). Settles making w s.bytes stage.taken true) all (settles_close making stage.written s.bytes stage.taken (settles_ended known)))
+          s.puts s.works s.block s.grows (near.0, near.1 ∙ all, near.2, near.3)

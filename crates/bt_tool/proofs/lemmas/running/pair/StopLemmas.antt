@@ -1,0 +1,215 @@
+-- How far a reader of members has come when it stops at a fault.
+use Rattle.std.proofs.Common.{◌≡◌, ℕ, suc, ◌+◌, ◌-◌, ◌<◌, ◌≤◌, Bool, List, [], ◌∷◌, length, drop, Option, Some, None, Result, Ok, Err, refl, sym, ap, ◌∙◌, subst, arith}
+use Rattle.std.specs.Prelude.{◌⊎◌, All, IfSome, option_map}
+use Rattle.std.proofs.Common.{inl, inr}
+use Rattle.std.proofs.lemmas.List.Elements.{All-cons, All-head, All-nil}
+use Rattle.bt_lines.specs.model.Fault.{Told, no_memory}
+use Rattle.bt_lines.specs.model.Lines.{AreNumbered, TextLine, bytes_in, lines_from}
+use Rattle.bt_lines.specs.calls.Output.{block_size}
+use Rattle.bt_lines.specs.calls.Reader.{IsKept, held, input_of, lines_given, lines_left, source_of, fault_kept as line_fault}
+use Rattle.bt_lines.specs.declared.fault.Input.{Input}
+use Rattle.bt_lines.specs.declared.fault.Kind.{Kind}
+use Rattle.bt_lines.specs.declared.fault.Place.{Place}
+use Rattle.bt_lines.specs.declared.reader.line_reader.LineReader.{LineReader}
+use Rattle.bt_lines.proofs.lemmas.reader.lines.ReaderLemmas.{sound_near}
+use Rattle.bt_lines.proofs.lemmas.reader.lines.TextLemmas.{lines_are_numbered}
+use Rattle.bt_bed.specs.model.input.Good.{Format, Good, Member, ends_with, good_from, good_with}
+use Rattle.bt_bed.specs.model.input.GoodLines.{AreAscending, IsBeyond, IsFaultBeyond}
+use Rattle.bt_bed.specs.model.feature.LineKind.{fault_at_line}
+use Rattle.bt_bed.specs.calls.Reading.{AnswersFault, Cause, LastUnkept, LineIsWrong, LinesPass, MemberReader, SaidNothing, good_behind, good_coming}
+use Rattle.bt_bed.proofs.lemmas.read.good.GoodLemmas.{ascend_from, beyond_from}
+
+-- The first `count` lines have none of the members still to come and no fault. Of known bytes those
+-- after one more line are left, except at most a block.
+pub record StopsBehind {S A State : Type 0} (left : S → Option (List ℕ)) (old : MemberReader S A State) (count : ℕ) (new : LineReader S) : Type 0 where
+  pub passed : IfSome (good_coming left old) (IsBeyond count)
+  pub from : lines_given old.below ≤ count
+  pub near : IfSome (lines_left left old.below) (λ lines. IfSome (left (source_of new)) (λ rest.
+      bytes_in (drop (suc count - lines_given old.below) lines) ≤ length rest + block_size))
+
+-- a fault of a line, if there is one, lies after the first `count` lines
+abbrev FaultBeyond : ℕ → Option Told → Type 0
+FaultBeyond count fault = IfSome fault (IsFaultBeyond count)
+
+placed_less : (less more : ℕ) (place : Option Place) → less ≤ more → IfSome place (λ p. more < p.line)
+    → IfSome place (λ p. less < p.line)
+placed_less less more None h f = tt
+placed_less less more (Some place) h f = omega arith
+
+fault_less : (less more : ℕ) (fault : Option Told) → less ≤ more → FaultBeyond more fault → FaultBeyond less fault
+fault_less less more None h f = tt
+fault_less less more (Some fault) h f = placed_less less more fault.place h f
+
+module _ {A State : Type 0} (format : Format A State) (input : Input) where
+  fault_with : (count line : ℕ) (state : State) (said : Result (Option A) Kind) (rest : State → Good A)
+      → count < line → ((now : State) → FaultBeyond count (rest now).fault)
+      → FaultBeyond count (good_with format input line state said rest).fault
+  fault_with count line state (Err kind) rest h f = h
+  fault_with count line state (Ok None) rest h f = f state
+  fault_with count line state (Ok (Some item)) rest h f = f (format.after state item)
+
+  fault_from : (count number : ℕ) (state : State) (lines : List TextLine) → AreNumbered number lines → count < number
+      → FaultBeyond count (good_from format input state lines).fault
+  unfolding good_from
+  fault_from count number state [] n h = tt
+  fault_from count number state (line ∷ lines) n h =
+      fault_with count line.number state (format.says state line) (λ now. good_from format input now lines) (omega (arith, n.0))
+      (λ now. fault_from count (suc number) now lines n.1 (omega arith))
+
+  last_with : (line : ℕ) (state : State) (said : Result (Option A) Kind) (rest : State → Good A)
+      → ((now : State) → All (λ m. FaultBeyond m.line (rest now).fault) (rest now).members)
+      → ((now : State) → FaultBeyond line (rest now).fault)
+      → All (λ m. FaultBeyond m.line (good_with format input line state said rest).fault) (good_with format input line state said rest).members
+  last_with line state (Err kind) rest h f = All-nil (λ (m : Member A). FaultBeyond m.line (good_with format input line state (Err kind) rest).fault)
+  last_with line state (Ok None) rest h f = h state
+  last_with line state (Ok (Some item)) rest h f =
+      let now = format.after state item in
+      All-cons (λ (m : Member A). FaultBeyond m.line (rest now).fault) (record { line = line; item = item }) (rest now).members (f now) (h now)
+
+  -- the fault lies after every member
+  fault_comes_last : (number : ℕ) (state : State) (lines : List TextLine) → AreNumbered number lines
+      → All (λ m. FaultBeyond m.line (good_from format input state lines).fault) (good_from format input state lines).members
+  unfolding good_from
+  fault_comes_last number state [] n = All-nil (λ (m : Member A). FaultBeyond m.line None)
+  fault_comes_last number state (line ∷ lines) n =
+      last_with line.number state (format.says state line) (λ now. good_from format input now lines)
+      (λ now. fault_comes_last (suc number) now lines n.1)
+      (λ now. fault_from line.number (suc number) now lines n.1 (omega (arith, n.0)))
+
+  ascending_beyond : (line from : ℕ) (members : List (Member A)) → line < from → AreAscending from members
+      → All (λ m. line < m.line) members
+  ascending_beyond line from [] h a = All-nil (λ (m : Member A). line < m.line)
+  ascending_beyond line from (m ∷ ms) h a =
+      All-cons (λ (m : Member A). line < m.line) m ms (omega (arith, a.0)) (ascending_beyond line (suc m.line) ms (omega (arith, a.0)) a.1)
+
+  -- a first member, what comes after it and the fault lie after the lines before its own
+  beyond_first : (state : State) (number : ℕ) (lines : List TextLine) (rest : List (Member A)) (m : Member A) (count : ℕ) → AreNumbered number lines
+      → (good_from format input state lines).members ≡ m ∷ rest → suc count ≡ m.line → IsBeyond count (good_from format input state lines)
+  beyond_first state number lines rest m count n e at =
+      let good = good_from format input state lines in
+      let ascend : AreAscending number (m ∷ rest) = subst (AreAscending number) e (ascend_from format input number state lines n) in
+      let last : All (λ m. FaultBeyond m.line good.fault) (m ∷ rest) = subst (All (λ m. FaultBeyond m.line good.fault)) e (fault_comes_last number state lines n) in
+      record {
+        members = subst (All (λ m. count < m.line)) (sym e)
+            (All-cons (λ (m : Member A). count < m.line) m rest (omega arith) (ascending_beyond count (suc m.line) rest (omega arith) ascend.1));
+        fault = fault_less count m.line good.fault (omega arith) (All-head (λ (m : Member A). FaultBeyond m.line good.fault) m rest last);
+      }
+
+-- what lies after more lines lies after fewer
+pub beyond_less : {A : Type 0} (less more : ℕ) (good : Good A) → less ≤ more → IsBeyond more good → IsBeyond less good
+beyond_less {A} less more good h b = record {
+  members = λ k d i. let far = b.members k d i in omega arith;
+  fault = fault_less less more good.fault h b.fault;
+}
+
+-- what is good of the lines that are left, for a reader without a fault
+pub coming_is : {S A State : Type 0} (left : S → Option (List ℕ)) (reader : MemberReader S A State) → reader.fault ≡ None
+    → good_coming left reader ≡ option_map (good_from reader.format (input_of reader.below) reader.state) (lines_left left reader.below)
+unfolding good_coming
+coming_is left reader going = ap (λ f. option_map (good_behind reader.format (input_of reader.below) f reader.state) (lines_left left reader.below)) going
+
+beyond_known : {A State : Type 0} (format : Format A State) (input : Input) (state : State) (given : ℕ) (bytes : Option (List ℕ)) (good : Option (Good A))
+    → good ≡ option_map (good_from format input state) (option_map (lines_from (suc given)) bytes) → IfSome good (IsBeyond given)
+beyond_known format input state given None None e = tt
+beyond_known format input state given None (Some good) e = cc
+beyond_known format input state given (Some bytes) None e = tt
+beyond_known format input state given (Some bytes) (Some good) e =
+    let is : good ≡ good_from format input state (lines_from (suc given) bytes) = cc in
+    subst (IsBeyond given) (sym is) (beyond_from format input given state (lines_from (suc given) bytes) (lines_are_numbered (suc given) bytes))
+
+-- what is still to come lies after the lines given
+pub beyond_now : {S A State : Type 0} (left : S → Option (List ℕ)) (reader : MemberReader S A State) → reader.fault ≡ None
+    → IfSome (good_coming left reader) (IsBeyond (lines_given reader.below))
+beyond_now left reader going = beyond_known reader.format (input_of reader.below) reader.state (lines_given reader.below) _ (good_coming left reader) (coming_is left reader going)
+
+-- a member on this line comes first
+abbrev FirstOn : {A : Type 0} → ℕ → Good A → Type 0
+FirstOn {A} line good = (m : Member A) × (rest : List (Member A)) × (good.members ≡ m ∷ rest) × (m.line ≡ line)
+
+first_item : {A : Type 0} (line : ℕ) (good : Option (Good A))
+    → IfSome good (λ good. (item : A) × (rest : List (Member A)) × (good.members ≡ record { line = line; item = item } ∷ rest)) → IfSome good (FirstOn line)
+first_item line None f = tt
+first_item line (Some good) f = (record { line = line; item = f.0 }, f.1, f.2, refl)
+
+first_beyond : {A State : Type 0} (format : Format A State) (input : Input) (state : State) (number : ℕ) (bytes : Option (List ℕ)) (good : Option (Good A)) (count line : ℕ)
+    → good ≡ option_map (good_from format input state) (option_map (lines_from number) bytes)
+    → IfSome good (FirstOn line) → suc count ≡ line → IfSome good (IsBeyond count)
+first_beyond format input state number None None count line e f at = tt
+first_beyond format input state number None (Some good) count line e f at = cc
+first_beyond format input state number (Some bytes) None count line e f at = tt
+first_beyond format input state number (Some bytes) (Some good) count line e f at =
+    let is : good ≡ good_from format input state (lines_from number bytes) = cc in
+    subst (IsBeyond count) (sym is)
+    (beyond_first format input state number (lines_from number bytes) f.1 f.0 count (lines_are_numbered number bytes) (sym (ap (λ g. g.members) is) ∙ f.2) (at ∙ sym f.3))
+
+-- of the lines after those given, if the last call gave one, at most a block was taken
+near_passed : (start now : Option (List TextLine)) (rest : Option (List ℕ)) (passed more : ℕ) → more ≡ passed
+    → IfSome start (λ lines. now ≡ Some (drop passed lines))
+    → IfSome now (λ lines. IfSome rest (λ rest. bytes_in lines ≤ length rest + block_size))
+    → IfSome start (λ lines. IfSome rest (λ rest. bytes_in (drop more lines) ≤ length rest + block_size))
+near_passed None now rest passed more e p n = tt
+near_passed (Some start) None rest passed more e p n = cc
+near_passed (Some start) (Some now) None passed more e p n = tt
+near_passed (Some start) (Some now) (Some rest) passed more e p n =
+    let is : now ≡ drop passed start = cc in
+    omega (arith, ap bytes_in (is ∙ ap (λ n. drop n start) (sym e)), n)
+
+beyond_end : {A : Type 0} (count : ℕ) (fault : Option Told) (good : Option (Good A)) → FaultBeyond count fault → IfSome good (λ good. good ≡ ends_with fault) → IfSome good (IsBeyond count)
+beyond_end count fault None h e = tt
+beyond_end {A} count fault (Some good) h e = subst (IsBeyond count) (sym e) (record { members = All-nil (λ (m : Member A). count < m.line); fault = h })
+
+module _ {S A State : Type 0} (left : S → Option (List ℕ)) (failed end : S → Bool) (old : MemberReader S A State) (going : old.fault ≡ None) (kept : IsKept left end old.below) where
+  -- before a line that is the last one given
+  before_line : (new : LineReader S) → (count : ℕ) → suc count ≡ lines_given new → lines_given old.below ≤ count → IfSome (good_coming left old) (IsBeyond count)
+      → LinesPass left old.below new → IsKept left end new → line_fault new ≡ None → length (held new) ≤ block_size
+      → StopsBehind left old count new
+  before_line new count at from passed lines next clear near = record {
+    passed = passed;
+    from = from;
+    near = near_passed (lines_left left old.below) (lines_left left new) (left (source_of new)) (lines_given new - lines_given old.below) (suc count - lines_given old.below) (omega (arith, at)) lines
+        (sound_near left end new (record { end = next.end; within = next.within; near = λ none. near }) clear);
+  }
+
+  -- at a line that wasn't given
+  stops_unread : (new : MemberReader S A State) (fault : Told) → AnswersFault left failed end old fault new → IfSome (good_coming left old) (IsBeyond (lines_given new.below))
+      → (count : ℕ) × StopsBehind left old count new.below
+  stops_unread new fault answers passed = (lines_given new.below, record { passed = passed; from = answers.rises; near = answers.near going kept })
+
+  -- at a line that was given and is at fault
+  stops_wrong : (new : MemberReader S A State) (fault : Told) → AnswersFault left failed end old fault new → IsKept left end new.below → LineIsWrong left failed old fault new
+      → (count : ℕ) × StopsBehind left old count new.below
+  stops_wrong new fault answers next wrong =
+      let count = lines_given new.below - 1 in
+      let rises = wrong.rises in
+      let behind : count < lines_given new.below = omega arith in (
+        count,
+        before_line new.below count (omega arith) (omega arith)
+            (beyond_end count (Some (fault_at_line (input_of old.below) (lines_given new.below) wrong.kind)) (good_coming left old) behind
+            (subst (λ f. IfSome (good_coming left old) (λ good. good ≡ ends_with (Some f))) wrong.place wrong.none_left))
+            (answers.lines wrong.going) next wrong.going wrong.near,
+      )
+
+  stops_out : (new : MemberReader S A State) (fault : Told) → AnswersFault left failed end old fault new → IsKept left end new.below
+      → ((line_fault new.below ≡ Some no_memory) × SaidNothing left old new) ⊎ LastUnkept left old new
+      → (count : ℕ) × StopsBehind left old count new.below
+  stops_out new fault answers next (inl unread) = stops_unread new fault answers unread.1
+  stops_out new fault answers next (inr unkept) =
+      let count = lines_given new.below - 1 in
+      let rises = unkept.rises in (
+        count,
+        before_line new.below count (omega arith) (omega arith)
+            (first_beyond old.format (input_of old.below) old.state (suc (lines_given old.below)) _ (good_coming left old) count (lines_given new.below) (coming_is left old going)
+            (first_item (lines_given new.below) (good_coming left old) unkept.first) (omega arith))
+            (answers.lines unkept.going) next unkept.going unkept.near,
+      )
+
+  stops_by : (new : MemberReader S A State) (fault : Told) → AnswersFault left failed end old fault new → IsKept left end new.below
+      → Cause left failed end old fault new → (count : ℕ) × StopsBehind left old count new.below
+  stops_by new fault answers next (inl wrong) = stops_wrong new fault answers next wrong
+  stops_by new fault answers next (inr (inl unread)) = stops_unread new fault answers unread.passed
+  stops_by new fault answers next (inr (inr ran)) = stops_out new fault answers next ran.checked
+
+  -- at a fault
+  pub stops_faulty : (new : MemberReader S A State) (fault : Told) → AnswersFault left failed end old fault new → IsKept left end new.below
+      → (count : ℕ) × StopsBehind left old count new.below
+  stops_faulty new fault answers next = stops_by new fault answers next (answers.first going)

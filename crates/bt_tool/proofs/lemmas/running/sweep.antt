@@ -1,0 +1,8 @@
+-- Lemmas on running, sweep.
+pub mod AdvanceLemmas
+pub mod SubtractLemmas
+pub mod SweepFacts
+pub mod SweepLimits
+pub mod SweepRounds
+pub mod SweepSettles
+pub mod SweptLemmas

@@ -1,0 +1,531 @@
+-- Lemmas on a sweep over two readers: how far it comes in a round, and how it stops.
+use Rattle.std.proofs.Common.{◌≡◌, ℕ, suc, Bool, true, false, List, [], ◌∷◌, ◌++◌, Option, None, Some, Result, Ok, Err, refl, sym, ap, ◌∙◌, subst, append-nil, append_assoc, option_to_list, inl, inr, filter, length, bytes_eq, ltb, ◌<◌}
+use Rattle.std.specs.Prelude.{IsTrue, is_some, option_map}
+use Rattle.std.specs.List.{list_all}
+use Rattle.std.proofs.lemmas.Bool.{false≢true, and_from, and_parts, lt-ltb}
+use Rattle.std.proofs.lemmas.List.{map-append}
+use Rattle.std.proofs.lemmas.List.Folds.{list_all-append}
+use Rattle.bt_lines.specs.model.Fault.{Told, no_memory}
+use Rattle.bt_lines.specs.model.Lines.{TextLine}
+use Rattle.bt_lines.specs.calls.Names.{told}
+use Rattle.bt_lines.specs.calls.Output.{Output}
+use Rattle.bt_lines.proofs.lemmas.writer.PuttingLemmas.{grown_none}
+use Rattle.bt_lines.specs.calls.Putting.{FailsToAdd, Grown}
+use Rattle.bt_lines.specs.calls.Reader.{lines_given}
+use Rattle.bt_lines.specs.declared.fault.Fault.{Fault}
+use Rattle.bt_lines.specs.declared.fault.Input.TheVariants.{Second}
+use Rattle.bt_lines.specs.declared.fault.Kind.{Kind}
+use Rattle.bt_lines.specs.declared.fault.Kind.TheVariants.{TooManyHeld}
+use Rattle.bt_bed.specs.model.feature.Feature.{Feature, intervals_of}
+use Rattle.bt_bed.specs.model.input.Good.{Format, Member}
+use Rattle.bt_bed.specs.model.input.GoodBed.{bed_format}
+use Rattle.bt_bed.specs.model.feature.LineKind.{IsBedKind, fault_at_line}
+use Rattle.bt_bed.specs.model.order.Locus.{ArePlaced, Locus}
+use Rattle.bt_bed.specs.model.order.Order.{Order, IsTotal}
+use Rattle.bt_bed.specs.calls.Reading.{AreSaid, MemberReader, ahead_in, first_from, members_from, state_behind}
+use Rattle.bt_bed.specs.calls.Records.{FillsRecords, below, order_in, view_of}
+use Rattle.bt_bed.specs.model.order.Sorting.{sorting_of}
+use Rattle.bt_bed.specs.declared.order.ChromOrder.{Ghosts}
+use Rattle.bt_bed.specs.declared.read.records.Records.{Records}
+use Rattle.bt_bed.proofs.lemmas.parse.NameLemmas.{name_eq}
+use Rattle.bt_bed.proofs.lemmas.read.batch.NeighbourLemmas.{wrong_of_bed}
+use Rattle.bt_sweep.specs.calls.Advancing.{PutsEach, Settles as SettlesEach, stage_after}
+use Rattle.bt_sweep.specs.model.Deciding.{decided}
+use Rattle.bt_sweep.specs.model.IntersectLines.{intersect, lines_for}
+use Rattle.bt_sweep.specs.inside.Joining.{AreDecided, TakenEach}
+use Rattle.bt_sweep.specs.model.Limit.{held_for, is_held}
+use Rattle.bt_sweep.specs.calls.Standing.{Stage, StandsAt, given, leaves_some, phase_of, with_a_ended, with_b_ended}
+use Rattle.bt_sweep.specs.calls.Steps.{has_room}
+use Rattle.bt_sweep.specs.calls.SweepState.{Sweeping, is_over as is_done, want_in, want_of}
+use Rattle.bt_sweep.specs.declared.hits.hit_rule.HitRule.{HitRule}
+use Rattle.bt_sweep.specs.declared.sweep.phase.Phase.{Phase}
+use Rattle.bt_sweep.specs.declared.sweep.phase.Phase.TheVariants.{Both, First, Over}
+use Rattle.bt_sweep.specs.declared.output.shape.Shape.{Shape}
+use Rattle.bt_sweep.specs.declared.sweep.want.Want.TheVariants.{A as WantA, B as WantB, Nothing}
+use Rattle.bt_sweep.proofs.lemmas.laws.DecidingLemmas.{none_before, placed_back}
+use Rattle.bt_sweep.proofs.lemmas.sweep.KeepLemmas.{undecided_beside}
+use Rattle.bt_sweep.proofs.lemmas.laws.PlacedLemmas.{front_placed}
+use Rattle.bt_tool.specs.inside.feed.Feeding.{member_items}
+use Rattle.bt_tool.specs.inside.pair.Pair.{Making, Pair, Settles, item_ahead}
+use Rattle.bt_tool.specs.inside.pair.PairComes.{Comes, TakesFurther}
+use Rattle.bt_tool.specs.inside.pair.PairEnds.{AsksFor, IsKnown}
+use Rattle.bt_tool.specs.inside.pair.SweepLoop.{AreWithin, FinishesBoth, ReadsRest, SweepEnds, Sweeps, records_pair, stage_of, sweep_making}
+use Rattle.bt_tool.specs.inside.pair.SweepSteps.{FailsAmong, GivesBoth, TakesBoth}
+use Rattle.bt_tool.specs.inside.feed.Passed.{Passes, StopsAfter}
+use Rattle.bt_tool.proofs.lemmas.running.sweep.AdvanceLemmas.{ahead_placed}
+use Rattle.bt_tool.proofs.lemmas.running.pair.PairSettles.{settles_seen}
+use Rattle.bt_tool.proofs.lemmas.running.pair.PairStops as stop
+use Rattle.bt_tool.proofs.lemmas.running.pair.PairTurns as turned
+use Rattle.bt_tool.proofs.lemmas.running.sweep.SweepFacts.{leaves_more}
+use Rattle.bt_tool.proofs.lemmas.running.sweep.SweepLimits.{cuts_at, some_limit, within_given}
+use Rattle.bt_tool.proofs.lemmas.running.members.PassedLemmas.{is_filled, is_over, is_stopped, said_in_order}
+use Rattle.bt_tool.proofs.lemmas.running.sweep.SweepSettles.{fits_each, open_last, settles_newly}
+
+-- ---- what is wanted tells what waits
+
+none_by : (w : Option Feature) (done : Bool) → want_of (is_some w) done ≡ WantA → w ≡ None
+none_by None done wants = refl
+none_by (Some a) done wants = absurd (let apart : WantB ≡ WantA = wants in cc)
+
+going_by : (w : Option Feature) (done : Bool) → want_of (is_some w) done ≡ WantA → done ≡ false
+going_by (Some a) done e = absurd (let apart : WantB ≡ WantA = e in cc)
+going_by None true e = absurd (let apart : Nothing ≡ WantA = e in cc)
+going_by None false e = refl
+
+some_by : (w : Option Feature) (done : Bool) → want_of (is_some w) done ≡ WantB → (a : Feature) × (w ≡ Some a)
+some_by None true wants = absurd (let apart : Nothing ≡ WantB = wants in cc)
+some_by None false wants = absurd (let apart : WantA ≡ WantB = wants in cc)
+some_by (Some a) done wants = (a, refl)
+
+done_by : (w : Option Feature) (done : Bool) → want_of (is_some w) done ≡ Nothing → done ≡ true
+done_by (Some a) done e = absurd (let apart : WantB ≡ Nothing = e in cc)
+done_by None true e = refl
+done_by None false e = absurd (let apart : WantA ≡ Nothing = e in cc)
+
+pub over_is : (a b : Bool) → is_done (phase_of a b) ≡ a
+over_is true b = refl
+over_is false true = refl
+over_is false false = refl
+
+first_is : (a b : Bool) → phase_of a b ≡ First → b ≡ true
+first_is true b e = absurd (let apart : Over ≡ First = e in cc)
+first_is false true e = refl
+first_is false false e = absurd (let apart : Both ≡ First = e in cc)
+
+says_bed : (order : Order) (format : Format Feature (Option Locus)) → format ≡ bed_format (sorting_of order) → (state : Option Locus) (line : TextLine) (kind : Kind) → format.says state line ≡ Err kind → IsBedKind order kind
+says_bed order format is state line kind e = wrong_of_bed order state line.text kind (ap (λ (f : Format Feature (Option Locus)). f.says state line) (sym is) ∙ e)
+
+-- a fault of some kinds is one of wider kinds
+stops_wider : {S A State : Type 0} (left : S → Option (List ℕ)) (failed end : S → Bool) (old : MemberReader S A State) (Narrow Wide : Kind → Type 0) → ((kind : Kind) → Narrow kind → Wide kind)
+    → (past : List (Member A)) (fault : Told) (new : MemberReader S A State) → StopsAfter left failed end old Narrow past fault new → StopsAfter left failed end old Wide past fault new
+stops_wider left failed end old Narrow Wide wider past fault new stops = record {
+  bytes = stops.bytes;
+  cause = elim stops.cause [
+    | inl wrong ↦ inl (record { whole = wrong.whole; line = wrong.line; kind = wrong.kind; is = wrong.is; of_kind = wider wrong.kind wrong.of_kind; served = wrong.served; within = wrong.within })
+    | inr others ↦ inr others
+  ];
+}
+
+item_any : (m n : ℕ) (xs : List Feature) → option_map (λ (m : Member Feature). m.item) (first_from m xs) ≡ option_map (λ m. m.item) (first_from n xs)
+item_any m n [] = refl
+item_any m n (x ∷ xs) = refl
+
+-- the first of the same records
+item_same : (m n : ℕ) (xs ys : List Feature) → xs ≡ ys → option_map (λ (m : Member Feature). m.item) (first_from m xs) ≡ option_map (λ m. m.item) (first_from n ys)
+item_same m n xs ys e = item_any m n xs ∙ ap (λ (l : List Feature). option_map (λ (m : Member Feature). m.item) (first_from n l)) e
+
+-- what settles all settles the last
+last_settled : (order : Order) (phase : Phase) (newly : List Feature) (last : Feature) (bs : List Feature) → SettlesEach order phase (newly ++ last ∷ []) bs → SettlesEach order phase (last ∷ []) bs
+last_settled order phase newly last bs (inl first) = inl first
+last_settled order phase newly last bs (inr all) =
+    inr (and_parts (list_all (λ x. decided order x bs) newly) (list_all (λ x. decided order x bs) (last ∷ [])) (sym (list_all-append (λ x. decided order x bs) newly (last ∷ [])) ∙ all)).1
+
+module _ {A B O : Type 0} {g : Ghosts O} (a_left : A → Option (List ℕ)) (a_failed a_end : A → Bool) (ReadsA : A → Option ℕ → A → Type 0) (b_left : B → Option (List ℕ)) (b_failed b_end : B → Bool) (ReadsB : B → Option ℕ → B → Type 0)
+    (shape : Shape) (rule : HitRule) (limit : Option ℕ) (old_first : Records A O g) (old_second : Records B O g) (out : Output) (total : IsTotal (order_in old_first)) (same_order : order_in old_second ≡ order_in old_first)
+    (is_bed : (view_of old_first).format ≡ bed_format (sorting_of (order_in old_first))) (is_bed_second : (view_of old_second).format ≡ bed_format (sorting_of (order_in old_second))) where
+  abbrev order : Order
+  order = order_in old_first
+
+  abbrev making : Making Feature Feature
+  making = sweep_making order shape rule limit
+
+  abbrev pair : Pair A B Feature Feature (Option Locus) (Option Locus)
+  pair = records_pair a_left a_failed a_end b_left b_failed b_end old_first old_second
+
+  abbrev Going : Records A O g → Records B O g → Sweeping → Output → Type 0
+  Going = Sweeps a_left a_failed a_end b_left b_failed b_end order shape rule limit old_first old_second out
+
+  abbrev Ends : Option Told → Records A O g → Records B O g → Output → Type 0
+  Ends = SweepEnds a_left a_failed a_end b_left b_failed b_end order shape rule limit old_first old_second out
+
+  wrong : (state : Option Locus) (line : TextLine) (kind : Kind) → (view_of old_first).format.says state line ≡ Err kind → IsBedKind order kind
+  wrong = says_bed order (view_of old_first).format is_bed
+
+  wrong_bed : (state : Option Locus) (line : TextLine) (kind : Kind) → (view_of old_second).format.says state line ≡ Err kind → IsBedKind order kind
+  wrong_bed state line kind e = subst (λ (o : Order). IsBedKind o kind) same_order (says_bed (order_in old_second) (view_of old_second).format is_bed_second state line kind e)
+
+  wrong_second : (state : Option Locus) (line : TextLine) (kind : Kind) → (view_of old_second).format.says state line ≡ Err kind → making.second_kinds kind
+  wrong_second state line kind e = inl (wrong_bed state line kind e)
+
+  -- what was passed of either is in order
+  first_placed : (view_of old_first).state ≡ None → (past : List (Member Feature)) (now : MemberReader A Feature (Option Locus)) → Passes a_left a_failed a_end (view_of old_first) past now → ArePlaced order (intervals_of (member_items past))
+  first_placed none past now p =
+      (said_in_order order (member_items past) total
+      (subst (λ (f : Format Feature (Option Locus)). AreSaid f None (member_items past)) is_bed (subst (λ (s : Option Locus). AreSaid (view_of old_first).format s (member_items past)) none p.said))).0
+
+  second_placed : (view_of old_second).state ≡ None → (past : List (Member Feature)) (now : MemberReader B Feature (Option Locus)) → Passes b_left b_failed b_end (view_of old_second) past now → ArePlaced order (intervals_of (member_items past))
+  second_placed none past now p =
+      (said_in_order order (member_items past) total
+      (subst (λ (f : Format Feature (Option Locus)). AreSaid f None (member_items past)) (is_bed_second ∙ ap (λ (o : Order). bed_format (sorting_of o)) same_order)
+      (subst (λ (s : Option Locus). AreSaid (view_of old_second).format s (member_items past)) none p.said))).0
+
+  -- with the member ahead too many would be held
+  limit_case : (fault : Told) (first_now : Records A O g) (second_now : Records B O g) → order_in second_now ≡ order → (view_of old_second).state ≡ None → (later : Stage) (last : Feature) → later.waiting ≡ Some last → later.b_ended ≡ false
+      → (past_first past_second : List (Member Feature)) (grown : Output)
+      → Comes making pair out (stage_of later) past_first past_second (view_of first_now) (view_of second_now) grown → (later.a_ended ≡ false → AsksFor making pair out past_first (view_of second_now))
+      → (IsKnown pair → AreWithin order limit (given later) past_second) → (m : Member Feature) → ahead_in (view_of second_now) ≡ Some m → m.item.chrom ≡ last.chrom → m.item.start < last.stop → last.start < m.item.stop → order.knows last.chrom ≡ true
+      → has_room limit (length (held_for (Some last) later.taken)) ≡ false → fault ≡ fault_at_line Second m.line TooManyHeld → Ends (Some fault) first_now second_now grown
+  limit_case fault first_now second_now is_order none later last waits going past_first past_second grown comes asks fits m ahead on starts ends known full is =
+      let placed = second_placed none past_second (view_of second_now) comes.second_passes in
+      let state : (view_of second_now).state ≡ state_behind (bed_format (sorting_of order)) None (member_items past_second) =
+      comes.second_passes.state ∙ ap (λ (f : Format Feature (Option Locus)). state_behind f (view_of old_second).state (member_items past_second)) (is_bed_second ∙ ap (λ (o : Order). bed_format (sorting_of o)) same_order)
+      ∙ ap (λ (s : Option Locus). state_behind (bed_format (sorting_of order)) s (member_items past_second)) none in
+      let with_m = ahead_placed second_now order is_order (member_items past_second) m total state ahead placed in
+      let items : member_items (past_second ++ m ∷ []) ≡ member_items past_second ++ m.item ∷ [] = map-append (λ m. m.item) past_second (m ∷ []) in
+      let undecided : decided order last (member_items (past_second ++ m ∷ [])) ≡ false =
+      ap (decided order last) items ∙ none_before order last (member_items past_second) m.item total known with_m (undecided_beside order total last m.item known on starts) in
+      let parts : given later ≡ later.written ++ last ∷ [] = ap (λ (o : Option Feature). later.written ++ option_to_list o) waits in
+      let held : is_held last m.item ≡ true = and_from (bytes_eq last.chrom m.item.chrom) (ltb last.start m.item.stop) (name_eq last.chrom m.item.chrom (sym on)) (lt-ltb last.start m.item.stop ends) in
+      stop.passes_limit making pair out (stage_of later) past_first past_second (view_of first_now) (view_of second_now) grown comes asks fits last waits m ahead TooManyHeld
+      (inr (some_limit limit (length (held_for (Some last) later.taken)) full, refl)) fault is undecided
+      (λ known_now.
+      cuts_at order limit later.written last past_second m fault is (subst (λ (l : List Feature). AreWithin order limit l past_second) parts (fits known_now))
+      (subst (λ (l : List Feature). list_all (λ x. decided order x l) later.written ≡ true) (sym items)
+      (((comes.settles known_now).whatever (member_items past_second ++ m.item ∷ []) (Some no_memory) with_m
+      (record {
+        begins = (
+          [],
+          sym (append-nil (member_items past_second ++ m.item ∷ [])) ∙ ap (λ (l : List Feature). (l ++ m.item ∷ []) ++ []) (sym comes.all_taken)
+              ∙ ap (λ (o : Option (Member Feature)). (later.taken ++ option_to_list (option_map (λ m. m.item) o)) ++ []) (sym ahead),
+        );
+        all = λ e. absurd (false≢true (sym going ∙ e));
+      })).0))
+      undecided held (subst (λ (l : List Feature). has_room limit (length (filter (is_held last) l)) ≡ false) comes.all_taken full))
+
+  module _ (first : Records A O g) (second : Records B O g) (sweep : Sweeping) (grown : Output) (s : Going first second sweep grown) where
+    abbrev stage : Stage
+    stage = s.stage
+
+    placed_given : ArePlaced order (intervals_of (given stage))
+    placed_given = subst (λ (l : List Feature). ArePlaced order (intervals_of l)) (sym s.comes.all_given) (first_placed s.first_begins s.past_first (view_of first) s.comes.first_passes)
+
+    pub placed_taken : ArePlaced order (intervals_of stage.taken)
+    placed_taken = subst (λ (l : List Feature). ArePlaced order (intervals_of l)) (sym s.comes.all_taken) (second_placed s.second_begins s.past_second (view_of second) s.comes.second_passes)
+
+    abbrev asked : making.Asks (given stage) stage.taken
+    asked = s.stands.holds.reached
+
+    asks_here : stage.a_ended ≡ false → AsksFor making pair out s.past_first (view_of second)
+    asks_here going = stop.asks_now making pair out (stage_of stage) s.past_first s.past_second (view_of first) (view_of second) grown s.comes asked
+
+    -- ---- a record of the first input is wanted
+
+    module _ (wants : want_in sweep ≡ WantA) where
+      pub none_waits : stage.waiting ≡ None
+      none_waits = sym s.stands.current_is ∙ none_by sweep.current (is_done sweep.phase) wants
+
+      not_ended : stage.a_ended ≡ false
+      not_ended = sym (over_is stage.a_ended stage.b_ended) ∙ ap is_done (sym s.stands.phase_is) ∙ going_by sweep.current (is_done sweep.phase) wants
+
+      pub fills_first : (first_now : Records A O g) → FillsRecords a_left a_failed a_end ReadsA first (Ok true) first_now → Going first_now second sweep grown
+      fills_first first_now fills = record {
+        past_first = s.past_first;
+        past_second = s.past_second;
+        stage = stage;
+        stands = s.stands;
+        comes = turned.fills_first making pair out (stage_of stage) s.past_first s.past_second (view_of first) (view_of second) grown s.comes none_waits not_ended (view_of first_now) (is_filled a_left a_failed a_end ReadsA first first_now fills);
+        first_order = fills.order ∙ s.first_order;
+        second_order = s.second_order;
+        first_begins = s.first_begins;
+        second_begins = s.second_begins;
+        fits = s.fits;
+      }
+
+      pub ends_first : (first_now : Records A O g) (swept : Sweeping) → FillsRecords a_left a_failed a_end ReadsA first (Ok false) first_now
+          → StandsAt order shape rule limit (with_a_ended stage) swept → Going first_now second swept grown
+      ends_first first_now swept fills stands = record {
+        past_first = s.past_first;
+        past_second = s.past_second;
+        stage = with_a_ended stage;
+        stands = stands;
+        comes = turned.ends_first making pair out (stage_of stage) s.past_first s.past_second (view_of first) (view_of second) grown s.comes none_waits not_ended (view_of first_now) (is_over a_left a_failed a_end ReadsA first first_now fills);
+        first_order = fills.order ∙ s.first_order;
+        second_order = s.second_order;
+        first_begins = s.first_begins;
+        second_begins = s.second_begins;
+        fits = s.fits;
+      }
+
+      pub stops_first : (fault : Fault) (first_now : Records A O g) → FillsRecords a_left a_failed a_end ReadsA first (Err fault) first_now → Ends (Some (told fault)) first_now second grown
+      stops_first fault first_now fills =
+          stop.stops_first making pair out (stage_of stage) s.past_first s.past_second (view_of first) (view_of second) grown s.comes asks_here s.fits wrong none_waits not_ended (told fault) (view_of first_now)
+          (is_stopped a_left a_failed a_end ReadsA first first_now fault fills)
+
+    -- ---- one of the second is
+
+    module _ (wants : want_in sweep ≡ WantB) where
+      pub waiting : (a : Feature) × (stage.waiting ≡ Some a)
+      waiting = let w = some_by sweep.current (is_done sweep.phase) wants in (w.0, sym s.stands.current_is ∙ w.1)
+
+      abbrev a : Feature
+      a = waiting.0
+
+      goes : stage.b_ended ≡ false
+      goes = (s.stands.unended (ap is_some waiting.1)).1
+
+      pub fills_second : (second_now : Records B O g) → FillsRecords b_left b_failed b_end ReadsB second (Ok true) second_now → Going first second_now sweep grown
+      fills_second second_now fills = record {
+        past_first = s.past_first;
+        past_second = s.past_second;
+        stage = stage;
+        stands = s.stands;
+        comes = turned.fills_second making pair out (stage_of stage) s.past_first s.past_second (view_of first) (view_of second) grown s.comes goes (view_of second_now) (is_filled b_left b_failed b_end ReadsB second second_now fills);
+        first_order = s.first_order;
+        second_order = fills.order ∙ s.second_order;
+        first_begins = s.first_begins;
+        second_begins = s.second_begins;
+        fits = s.fits;
+      }
+
+      pub ends_second : (second_now : Records B O g) (swept : Sweeping) (now : Output) → FillsRecords b_left b_failed b_end ReadsB second (Ok false) second_now
+          → StandsAt order shape rule limit (with_b_ended stage) swept → Grown grown (lines_for shape rule a stage.taken) now → Going first second_now swept now
+      ends_second second_now swept now fills stands adds = record {
+        past_first = s.past_first;
+        past_second = s.past_second;
+        stage = with_b_ended stage;
+        stands = stands;
+        comes = turned.ends_waiting making pair out (stage_of stage) s.past_first s.past_second (view_of first) (view_of second) grown s.comes goes (view_of second_now) (is_over b_left b_failed b_end ReadsB second second_now fills) a waiting.1 now adds;
+        first_order = s.first_order;
+        second_order = fills.order ∙ s.second_order;
+        first_begins = s.first_begins;
+        second_begins = s.second_begins;
+        fits = λ known. subst (λ (gs : List Feature). AreWithin order limit gs s.past_second) (sym (append-nil (given stage))) (s.fits known);
+      }
+
+      -- it is undecided where nothing more of the second is buffered
+      opens : IsKnown pair → (view_of second).buffered ≡ [] → decided order a stage.taken ≡ false
+      opens known none =
+          let seen = turned.seen_alone stage.taken (view_of second) none in
+          let all = ((s.comes.settles known).whatever stage.taken (Some no_memory) placed_taken (record { begins = ([], sym (append-nil stage.taken) ∙ ap (λ (l : List Feature). l ++ []) (sym seen)); all = λ e. absurd (false≢true (sym goes ∙ e)) })).0 in
+          let parts : given stage ≡ stage.written ++ a ∷ [] = ap (λ (o : Option Feature). stage.written ++ option_to_list o) waiting.1 in
+          open_last order total stage.taken stage.written a placed_taken (subst (λ (l : List Feature). ArePlaced order (intervals_of l)) parts placed_given) all
+          (subst (λ (l : List Feature). IsTrue (list_all (leaves_some order l) stage.taken)) parts asked)
+
+      pub stops_second : (fault : Fault) (second_now : Records B O g) → FillsRecords b_left b_failed b_end ReadsB second (Err fault) second_now → Ends (Some (told fault)) first second_now grown
+      stops_second fault second_now fills =
+          stop.stops_second making pair out (stage_of stage) s.past_first s.past_second (view_of first) (view_of second) grown s.comes asks_here s.fits a waiting.1 wrong_second asked goes opens (told fault) (view_of second_now)
+          (is_stopped b_left b_failed b_end ReadsB second second_now fault fills)
+
+      pub fails_at_end : (fault : Told) (second_now : Records B O g) (now : Output) → FillsRecords b_left b_failed b_end ReadsB second (Ok false) second_now → FailsToAdd grown (lines_for shape rule a stage.taken) fault now
+          → Ends (Some fault) first second_now now
+      fails_at_end fault second_now now fills fails =
+          stop.fails_at_end making pair out (stage_of stage) s.past_first s.past_second (view_of first) (view_of second) grown s.comes asks_here s.fits a waiting.1 asked goes fault (view_of second_now) now
+          (is_over b_left b_failed b_end ReadsB second second_now fills) fails
+
+    -- ---- what both have buffered was given
+
+    module _ (first_now : Records A O g) (second_now : Records B O g) (fs ss : List Feature) (takes : TakesBoth a_left a_failed a_end ReadsA b_left b_failed b_end ReadsB order first second sweep grown fs ss first_now second_now) where
+      abbrev more_first : List (Member Feature)
+      more_first = members_from (suc (lines_given (below first))) fs
+
+      abbrev more_second : List (Member Feature)
+      more_second = members_from (suc (lines_given (below second))) ss
+
+      further : TakesFurther a_left a_failed a_end (view_of old_first) s.past_first more_first (view_of first) (view_of first_now)
+      further = turned.takes_further a_left a_failed a_end (view_of old_first) s.past_first (view_of first) s.comes.first_passes fs (view_of first_now) takes.first_taken
+
+      further_second : TakesFurther b_left b_failed b_end (view_of old_second) s.past_second more_second (view_of second) (view_of second_now)
+      further_second = turned.takes_further b_left b_failed b_end (view_of old_second) s.past_second (view_of second) s.comes.second_passes ss (view_of second_now) takes.second_taken
+
+      items_first : member_items more_first ≡ fs
+      items_first = turned.items_from (suc (lines_given (below first))) fs
+
+      items_second : member_items more_second ≡ ss
+      items_second = turned.items_from (suc (lines_given (below second))) ss
+
+      given_then : given stage ++ fs ≡ member_items (s.past_first ++ more_first)
+      given_then = ap (λ (l : List Feature). l ++ fs) s.comes.all_given ∙ ap (λ (l : List Feature). member_items s.past_first ++ l) (sym items_first) ∙ sym (map-append (λ m. m.item) s.past_first more_first)
+
+      taken_then : stage.taken ++ ss ≡ member_items (s.past_second ++ more_second)
+      taken_then = ap (λ (l : List Feature). l ++ ss) s.comes.all_taken ∙ ap (λ (l : List Feature). member_items s.past_second ++ l) (sym items_second) ∙ sym (map-append (λ m. m.item) s.past_second more_second)
+
+      pub placed_first : ArePlaced order (intervals_of (given stage ++ fs))
+      placed_first = subst (λ (l : List Feature). ArePlaced order (intervals_of l)) (sym given_then) (first_placed s.first_begins (s.past_first ++ more_first) (view_of first_now) further.passes)
+
+      pub placed_second : ArePlaced order (intervals_of (stage.taken ++ ss))
+      placed_second = subst (λ (l : List Feature). ArePlaced order (intervals_of l)) (sym taken_then) (second_placed s.second_begins (s.past_second ++ more_second) (view_of second_now) further_second.passes)
+
+      no_front : (xs ys : List Feature) → [] ≡ xs ++ ys → (xs ≡ []) × (ys ≡ [])
+      no_front [] ys e = (refl, sym e)
+      no_front (x ∷ xs) ys e = cc
+
+      ended_first : stage.a_ended ≡ true → (more_first ≡ []) × ((view_of first_now).buffered ≡ [])
+      ended_first e =
+          let none = no_front fs (view_of first_now).buffered (sym (s.comes.first_all e).2 ∙ takes.first_taken.takes.buffered) in
+          (ap (members_from (suc (lines_given (below first)))) none.0, none.1)
+
+      none_second : stage.b_ended ≡ true → (ss ≡ []) × ((view_of second_now).buffered ≡ [])
+      none_second e = no_front ss (view_of second_now).buffered (sym (s.comes.second_all e).1 ∙ takes.second_taken.takes.buffered)
+
+      ended_second : stage.b_ended ≡ true → (more_second ≡ []) × ((view_of second_now).buffered ≡ [])
+      ended_second e = let none = none_second e in (ap (members_from (suc (lines_given (below second)))) none.0, none.1)
+
+      not_ended_with : (m : Member Feature) → ahead_in (view_of second_now) ≡ Some m → (b : Bool) → stage.b_ended ≡ b → b ≡ false
+      not_ended_with m ahead true e =
+          absurd (let apart : None ≡ Some m = sym (ap (λ (l : List Feature). first_from (suc (lines_given (below second_now))) l) (none_second e).1) ∙ ahead in cc)
+      not_ended_with m ahead false e = refl
+
+      -- what is seen of the second input grows
+      seen_by : (b : Bool) → stage.b_ended ≡ b → (xs : List Feature) → ss ≡ xs → Settles making stage.written s.comes.bytes (stage.taken ++ option_to_list (item_ahead (view_of second))) b
+          → Settles making stage.written s.comes.bytes ((stage.taken ++ xs) ++ option_to_list (item_ahead (view_of second_now))) b
+      seen_by true e xs is settles =
+          let none = none_second e in
+          let before = turned.seen_alone stage.taken (view_of second) (s.comes.second_all e).1 in
+          let after = turned.seen_alone (stage.taken ++ xs) (view_of second_now) none.1 ∙ ap (λ (l : List Feature). stage.taken ++ l) (sym is ∙ none.0) ∙ append-nil stage.taken in
+          subst (λ (l : List Feature). Settles making stage.written s.comes.bytes l true) (before ∙ sym after) settles
+      seen_by false e [] is settles =
+          let same : (view_of second).buffered ≡ (view_of second_now).buffered = takes.second_taken.takes.buffered ∙ ap (λ (l : List Feature). l ++ (view_of second_now).buffered) is in
+          subst (λ (l : List Feature). Settles making stage.written s.comes.bytes l false)
+          (ap (λ (o : Option Feature). stage.taken ++ option_to_list o) (item_same (suc (lines_given (below second))) (suc (lines_given (below second_now))) (view_of second).buffered (view_of second_now).buffered same)
+          ∙ ap (λ (l : List Feature). l ++ option_to_list (item_ahead (view_of second_now))) (sym (append-nil stage.taken))) settles
+      seen_by false e (x ∷ xs) is settles =
+          let same : (view_of second).buffered ≡ x ∷ (xs ++ (view_of second_now).buffered) = takes.second_taken.takes.buffered ∙ ap (λ (l : List Feature). l ++ (view_of second_now).buffered) is in
+          let ahead : item_ahead (view_of second) ≡ Some x = item_same (suc (lines_given (below second))) 0 (view_of second).buffered (x ∷ (xs ++ (view_of second_now).buffered)) same in
+          let rest = xs ++ option_to_list (item_ahead (view_of second_now)) in
+          subst (λ (l : List Feature). Settles making stage.written s.comes.bytes l false)
+          (append_assoc stage.taken (x ∷ []) rest ∙ sym (append_assoc stage.taken (x ∷ xs) (option_to_list (item_ahead (view_of second_now)))))
+          (settles_seen making stage.written s.comes.bytes (stage.taken ++ x ∷ []) rest
+          (subst (λ (o : Option Feature). Settles making stage.written s.comes.bytes (stage.taken ++ option_to_list o) false) ahead settles))
+
+      settled_seen : IsKnown pair → Settles making stage.written s.comes.bytes ((stage.taken ++ ss) ++ option_to_list (item_ahead (view_of second_now))) stage.b_ended
+      settled_seen known = seen_by stage.b_ended refl ss refl (s.comes.settles known)
+
+      ends_then : sweep.phase ≡ First → (stage.b_ended ≡ true) × (item_ahead (view_of second_now) ≡ None)
+      ends_then first_is_left =
+          let e = first_is stage.a_ended stage.b_ended (sym s.stands.phase_is ∙ first_is_left) in
+          (e, ap (λ (l : List Feature). option_map (λ m. m.item) (first_from (suc (lines_given (below second_now))) l)) (none_second e).1)
+
+      -- so far are the lines of some more settled
+      settled_more : (written newly : List Feature) (bytes : List ℕ) → ArePlaced order (intervals_of newly) → SettlesEach order sweep.phase newly (ss ++ option_to_list (item_ahead (view_of second_now)))
+          → Settles making written bytes ((stage.taken ++ ss) ++ option_to_list (item_ahead (view_of second_now))) stage.b_ended
+          → Settles making (written ++ newly) (bytes ++ intersect shape rule newly (stage.taken ++ ss)) ((stage.taken ++ ss) ++ option_to_list (item_ahead (view_of second_now))) stage.b_ended
+      settled_more written newly bytes placed each settles =
+          settles_newly order total shape rule limit written newly bytes (stage.taken ++ ss) (item_ahead (view_of second_now)) stage.b_ended sweep.phase settles placed ends_then ss stage.taken refl each
+
+      -- the limit lies as far
+      decided_first : IsKnown pair → (b : Feature) (more : List Feature) → ss ≡ b ∷ more → AreDecided order stage.written (stage.taken ++ b ∷ [])
+      decided_first known b more is =
+          let same : (view_of second).buffered ≡ b ∷ (more ++ (view_of second_now).buffered) = takes.second_taken.takes.buffered ∙ ap (λ (l : List Feature). l ++ (view_of second_now).buffered) is in
+          let ahead : item_ahead (view_of second) ≡ Some b = item_same (suc (lines_given (below second))) 0 (view_of second).buffered (b ∷ (more ++ (view_of second_now).buffered)) same in
+          let front = front_placed order (stage.taken ++ b ∷ []) more (subst (λ (l : List Feature). ArePlaced order (intervals_of l)) (ap (λ (l : List Feature). stage.taken ++ l) is ∙ sym (append_assoc stage.taken (b ∷ []) more)) placed_second) in
+          ((s.comes.settles known).whatever (stage.taken ++ b ∷ []) (Some no_memory) front
+          (record { begins = ([], sym (append-nil (stage.taken ++ b ∷ [])) ∙ ap (λ (o : Option Feature). (stage.taken ++ option_to_list o) ++ []) (sym ahead)); all = λ e. absurd (let none : b ∷ more ≡ [] = sym is ∙ (none_second e).0 in cc) })).0
+
+      module _ (newly : List Feature) (w : Option Feature) (are : option_to_list sweep.current ++ fs ≡ newly ++ option_to_list w) where
+        abbrev later : Stage
+        later = stage_after stage newly w ss
+
+        parts : option_to_list stage.waiting ++ fs ≡ newly ++ option_to_list w
+        parts = ap (λ (o : Option Feature). option_to_list o ++ fs) (sym s.stands.current_is) ∙ are
+
+        given_later : given later ≡ given stage ++ fs
+        given_later = append_assoc stage.written newly (option_to_list w) ∙ ap (λ (l : List Feature). stage.written ++ l) (sym parts) ∙ sym (append_assoc stage.written (option_to_list stage.waiting) fs)
+
+        newly_placed : ArePlaced order (intervals_of newly)
+        newly_placed =
+            placed_back order stage.written newly
+            (front_placed order (stage.written ++ newly) (option_to_list w) (subst (λ (l : List Feature). ArePlaced order (intervals_of l)) (sym given_later) placed_first))
+
+        fits_later : TakenEach order limit (option_to_list sweep.current ++ fs) stage.taken ss → IsKnown pair → AreWithin order limit (given later) (s.past_second ++ more_second)
+        fits_later each known =
+            let whole : stage.written ++ (option_to_list stage.waiting ++ fs) ≡ given stage ++ fs = sym (append_assoc stage.written (option_to_list stage.waiting) fs) in
+            subst (λ (l : List Feature). AreWithin order limit l (s.past_second ++ more_second)) (whole ∙ sym given_later)
+            (fits_each order total limit stage.written (option_to_list stage.waiting ++ fs) (subst (λ (l : List Feature). ArePlaced order (intervals_of l)) (sym whole) placed_first) (suc (lines_given (below second))) ss stage.taken s.past_second
+            (sym s.comes.all_taken) placed_second (decided_first known) (subst (λ (o : Option Feature). TakenEach order limit (option_to_list o ++ fs) stage.taken ss) s.stands.current_is each)
+            (subst (λ (l : List Feature). AreWithin order limit l s.past_second) (sym whole) (within_given order limit (given stage) fs s.past_second (s.fits known))))
+
+        -- the lines of some more, which are settled then, weren't all written
+        cuts_later : TakenEach order limit (option_to_list sweep.current ++ fs) stage.taken ss → SettlesEach order sweep.phase newly (ss ++ option_to_list (item_ahead (view_of second_now)))
+            → (fault : Told) (now : Output) → FailsToAdd grown (intersect shape rule newly (stage.taken ++ ss)) fault now → Ends (Some fault) first_now second_now now
+        cuts_later each settles fault now fails =
+            let items : given later ≡ given stage ++ member_items more_first = given_later ∙ ap (λ (l : List Feature). given stage ++ l) (sym items_first) in
+            stop.fails_to_write making pair out (stage_of stage) s.past_first s.past_second (view_of first) (view_of second) grown s.comes asks_here s.fits more_first more_second (view_of first_now) (view_of second_now) further further_second
+            (stage.written ++ newly) (option_to_list w) items
+            (λ known. subst (λ (l : List Feature). AreWithin order limit l (s.past_second ++ more_second)) items (fits_later each known))
+            ended_second [] (intersect shape rule newly (stage.taken ++ ss))
+            (λ known. subst (λ (l : List Feature). Settles making (stage.written ++ newly) (s.comes.bytes ++ intersect shape rule newly (stage.taken ++ ss)) ((stage.taken ++ l) ++ option_to_list (item_ahead (view_of second_now))) stage.b_ended) (sym items_second)
+            (settled_more stage.written newly s.comes.bytes newly_placed settles (settled_seen known)))
+            grown now fault (grown_none grown) fails
+
+        module _ (each : SettlesEach order sweep.phase newly (ss ++ option_to_list (item_ahead (view_of second_now)))) (now : Output) (puts : PutsEach order sweep fs ss newly grown now) where
+          comes_later : Comes making pair out (stage_of later) (s.past_first ++ more_first) (s.past_second ++ more_second) (view_of first_now) (view_of second_now) now
+          comes_later =
+              turned.goes_on making pair out (stage_of stage) s.past_first s.past_second (view_of first) (view_of second) grown s.comes more_first more_second (view_of first_now) (view_of second_now) further further_second ended_first ended_second newly (stage_of later)
+              (record { given_is = given_later ∙ ap (λ (l : List Feature). given stage ++ l) (sym items_first); written_is = refl; taken_is = ap (λ (l : List Feature). stage.taken ++ l) (sym items_second); first_is = refl; second_is = refl })
+              (intersect shape rule newly (stage.taken ++ ss)) now (λ known. settled_more stage.written newly s.comes.bytes newly_placed each (settled_seen known)) (puts shape rule limit stage s.stands placed_first placed_second)
+
+    -- ---- it went on
+
+    pub goes_both : (first_now : Records A O g) (second_now : Records B O g) (swept : Sweeping) (now : Output) → GivesBoth a_left a_failed a_end ReadsA b_left b_failed b_end ReadsB order first second sweep grown first_now second_now swept now
+        → Going first_now second_now swept now
+    goes_both first_now second_now swept now gives =
+        let placed = placed_first first_now second_now gives.firsts gives.seconds gives.takes in
+        let placed_second = placed_second first_now second_now gives.firsts gives.seconds gives.takes in
+        record {
+          past_first = s.past_first ++ members_from (suc (lines_given (below first))) gives.firsts;
+          past_second = s.past_second ++ members_from (suc (lines_given (below second))) gives.seconds;
+          stage = stage_after stage gives.newly swept.current gives.seconds;
+          stands = gives.stands shape rule limit stage s.stands placed placed_second;
+          comes = comes_later first_now second_now gives.firsts gives.seconds gives.takes gives.newly swept.current gives.are gives.settles now gives.puts;
+          first_order = gives.takes.first_order ∙ s.first_order;
+          second_order = gives.takes.second_order ∙ s.second_order;
+          first_begins = s.first_begins;
+          second_begins = s.second_begins;
+          fits = fits_later first_now second_now gives.firsts gives.seconds gives.takes gives.newly swept.current gives.are (gives.each shape rule limit stage s.stands placed placed_second);
+        }
+
+    -- ---- it failed at one of the first
+
+    pub fails_both : (fault : Told) (first_now : Records A O g) (second_now : Records B O g) (now : Output) → FailsAmong a_left a_failed a_end ReadsA b_left b_failed b_end ReadsB order first second sweep grown fault first_now second_now now
+        → Ends (Some fault) first_now second_now now
+    fails_both fault first_now second_now now fails =
+        let fs = fails.firsts in
+        let ss = fails.seconds in
+        let placed = placed_first first_now second_now fs ss fails.takes in
+        let placed_taken = placed_second first_now second_now fs ss fails.takes in
+        let each = fails.each shape rule limit stage s.stands placed placed_taken in
+        let past_first = s.past_first ++ members_from (suc (lines_given (below first))) fs in
+        let past_second = s.past_second ++ members_from (suc (lines_given (below second))) ss in
+        let asks : stage.a_ended ≡ false → AsksFor making pair out past_first (view_of second_now) =
+        λ going. stop.asks_then making pair out (stage_of stage) s.past_first s.past_second (view_of first) (view_of second) grown s.comes asked (λ more asks. leaves_more order (given stage) more stage.taken asks)
+        (members_from (suc (lines_given (below first))) fs) (members_from (suc (lines_given (below second))) ss) (view_of second_now) (further_second first_now second_now fs ss fails.takes) in
+        elim fails.cause [
+          | inl write ↦ cuts_later first_now second_now fs ss fails.takes fails.newly fails.waiting fails.are each fails.settles fault now (write.cuts shape rule limit stage s.stands placed placed_taken)
+          | inr others ↦ elim others [
+            | inl lack ↦
+                let last = lack.last in
+                let are = fails.are ∙ ap (λ (o : Option Feature). fails.newly ++ option_to_list o) lack.waits in
+                let comes = comes_later first_now second_now fs ss fails.takes fails.newly (Some last) are fails.settles now lack.puts in
+                let fits = fits_later first_now second_now fs ss fails.takes fails.newly (Some last) are each in
+                let placed_last = placed_back order (stage.written ++ fails.newly) (last ∷ []) (subst (λ (l : List Feature). ArePlaced order (intervals_of l)) (sym (given_later first_now second_now fs ss fails.takes fails.newly (Some last) are)) placed) in
+                elim (lack.lacks shape rule limit stage s.stands placed placed_taken) [
+                  | inl full ↦
+                      limit_case fault first_now second_now (fails.takes.second_order ∙ s.second_order ∙ same_order) s.second_begins (stage_after stage fails.newly (Some last) ss) last refl
+                      (not_ended_with first_now second_now fs ss fails.takes lack.m lack.ahead stage.b_ended refl) past_first past_second now comes asks fits lack.m lack.ahead lack.chrom lack.starts lack.ends placed_last.0 full.0 full.1
+                  | inr ran ↦ stop.lacks_memory making pair out (stage_of (stage_after stage fails.newly (Some last) ss)) past_first past_second (view_of first_now) (view_of second_now) now comes asks fits fault ran.1
+                ]
+            | inr keep ↦
+                let are = fails.are ∙ ap (λ (o : Option Feature). fails.newly ++ option_to_list o) keep.waits in
+                let comes = comes_later first_now second_now fs ss fails.takes fails.newly (Some keep.last) are fails.settles now keep.puts in
+                let fits = fits_later first_now second_now fs ss fails.takes fails.newly (Some keep.last) are each in
+                stop.lacks_memory making pair out (stage_of (stage_after stage fails.newly (Some keep.last) ss)) past_first past_second (view_of first_now) (view_of second_now) now comes asks fits fault keep.is
+          ]
+        ]
+
+    -- ---- the first input has ended, and the second was read to its end
+
+    module _ (wants : want_in sweep ≡ Nothing) where
+      done : stage.a_ended ≡ true
+      done = sym (over_is stage.a_ended stage.b_ended) ∙ ap is_done (sym s.stands.phase_is) ∙ done_by sweep.current (is_done sweep.phase) wants
+
+      pub finishes_both : {T : Type 0} (result : Result T Fault) (second_now : Records B O g) → ReadsRest b_left b_failed b_end (IsBedKind (order_in second)) (view_of second) result (view_of second_now)
+          → FinishesBoth a_left a_failed a_end b_left b_failed b_end order shape rule limit old_first old_second out result first second_now grown
+      finishes_both {T} (Ok unit) second_now reads =
+          let checks = subst (λ (o : Order). ReadsRest {T = T} b_left b_failed b_end (IsBedKind o) (view_of second) (Ok unit) (view_of second_now)) (s.second_order ∙ same_order) reads (view_of old_second) s.past_second s.comes.second_passes wrong_bed in
+          stop.ends_rest making pair out (stage_of stage) s.past_first s.past_second (view_of first) (view_of second) grown s.comes asks_here s.fits done (view_of second_now) (λ some. absurd (false≢true (ap is_some (sym checks.passes.going) ∙ some))) checks.passes.bytes (s.past_second ++ checks.more) None
+          (inl (refl, checks.all, record { served = checks.passes.served; within = checks.passes.kept.within checks.passes.clear }, refl))
+      finishes_both {T} (Err fault) second_now reads =
+          let checks = subst (λ (o : Order). ReadsRest {T = T} b_left b_failed b_end (IsBedKind o) (view_of second) (Err fault) (view_of second_now)) (s.second_order ∙ same_order) reads (view_of old_second) s.past_second s.comes.second_passes wrong_bed in
+          stop.stops_rest making pair out (stage_of stage) s.past_first s.past_second (view_of first) (view_of second) grown s.comes asks_here s.fits done (view_of second_now) (λ some. checks.low) (s.past_second ++ checks.more) (told fault)
+          (stops_wider b_left b_failed b_end (view_of old_second) (IsBedKind order) making.second_kinds (λ kind of_bed. inl of_bed) (s.past_second ++ checks.more) (told fault) (view_of second_now) checks.stops)
+          (λ e. checks.before_end (s.comes.second_all e).2) refl

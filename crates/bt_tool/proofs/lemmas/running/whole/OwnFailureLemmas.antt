@@ -1,0 +1,253 @@
+-- Lemmas on failed reads that are reported: each is of a read that failed in the run, whatever its source did before.
+use Rattle.std.proofs.Common.{◌≡◌, ℕ, Option, None, Some, Err, Bool, List, ap, sym, subst, ◌∙◌, inl, inr, arith}
+use Rattle.std.specs.Prelude.{◌⊎◌, ◌≢◌, ⊤, MatchResult, Ok, Result}
+use Rattle.std.proofs.lemmas.Bool.{false≢true}
+use Rattle.bt_lines.proofs.lemmas.reader.block.ReadsLemmas.{memory_no_read, some_is, unread_then}
+use Rattle.bt_lines.specs.model.Fault.{Told, no_memory, read_failed, write_failed}
+use Rattle.bt_lines.specs.calls.Device.{ReadsFail, ReadsOn, begun}
+use Rattle.bt_lines.specs.calls.Names.{told}
+use Rattle.bt_lines.specs.calls.Output.{Output}
+use Rattle.bt_lines.specs.calls.Reader.{HasRead, IsUnread, TellsOwnFailure as LineTellsOwnFailure, bytes_taken, fault_kept as line_fault, source_of}
+use Rattle.bt_lines.specs.declared.fault.Fault.{Fault}
+use Rattle.bt_lines.specs.declared.fault.Input.{Input}
+use Rattle.bt_lines.specs.declared.fault.Input.TheVariants.{Genome, First, Second}
+use Rattle.bt_lines.specs.declared.fault.Kind.{Kind}
+use Rattle.bt_lines.specs.declared.fault.Kind.TheVariants.{ReadFailed, TooManyHeld}
+use Rattle.bt_lines.specs.declared.fault.Place.{Place}
+use Rattle.bt_lines.specs.declared.reader.line.Line.{Line}
+use Rattle.bt_lines.specs.declared.reader.line_reader.LineReader.{LineReader}
+use Rattle.bt_bed.specs.model.input.Good.{Format, Member}
+use Rattle.bt_bed.specs.model.feature.LineKind.{IsBedKind, fault_at_line}
+use Rattle.bt_bed.specs.model.order.Order.{Order}
+use Rattle.bt_bed.specs.calls.Reading.{MemberReader, TellsOwnFailure}
+use Rattle.bt_bed.specs.declared.order.genome.Genome.{Genome as GenomeTable}
+use Rattle.bt_tool.specs.calls.run.Chromosomes.{WritesOutput}
+use Rattle.bt_tool.specs.inside.feed.Feeding.{FeedsUpTo}
+use Rattle.bt_tool.specs.inside.feed.Flushing.{Flushes, FlushesAll, FlushFails, StaysFailed}
+use Rattle.bt_tool.specs.inside.pair.Pair.{Making, Pair}
+use Rattle.bt_tool.specs.inside.pair.PairEnds.{Finishes, InputsEnd, Why}
+use Rattle.bt_tool.specs.inside.feed.Passed.{HasFaultBehind, IsKeptBelow, IsOwnFault, KeepsOwnFault}
+use Rattle.bt_tool.specs.model.report.SweepReport.{IsSweptKind}
+use Rattle.bt_tool.specs.calls.run.OwnReads.{AnswersNoRead, IsOwnFailure, ReadsServe, ReadsServeIf, TellsNoRead, TellsOwnReads}
+use Rattle.bt_tool.specs.declared.planning.plan_type.Command.{Command}
+use Rattle.bt_tool.proofs.lemmas.running.members.CameMembers.{BeginsAt}
+use Rattle.bt_tool.proofs.lemmas.running.feed.FaultLemmas.{write_no_read}
+
+-- a failed read is of one input
+pub same_input : (one other : Input) (m n : ℕ) → read_failed one m ≡ read_failed other n → one ≡ other
+same_input one other m n e =
+    let places : Some (record { input = one; line = m }) ≡ Some (record { input = other; line = n }) = ap (λ (f : Told). f.place) e in
+    let same : record { input = one; line = m } ≡ record { input = other; line = n } = cc in
+    ap (λ (p : Place). p.input) same
+
+-- a fault of a kind that no line can have
+never_read : (Kinds : Kind → Type 0) → (Kinds ReadFailed → ⊥) → (input : Input) (line : ℕ) (kind : Kind) → Kinds kind → (other : Input) (at : ℕ) → fault_at_line input line kind ≡ read_failed other at → ⊥
+never_read Kinds never input line kind of_kind other at e = never (subst Kinds (ap (λ (f : Told). f.kind) e) of_kind)
+
+pub bed_no_read : (order : Order) → IsBedKind order ReadFailed → ⊥
+bed_no_read order kind = false≢true kind.0
+
+pub swept_no_read : (order : Order) (limit : Option ℕ) → IsSweptKind order limit ReadFailed → ⊥
+swept_no_read order limit (inl kind) = false≢true kind.0
+swept_no_read order limit (inr held) = let apart : ReadFailed ≡ TooManyHeld = held.1 in cc
+
+-- a reader that keeps no fault
+pub none_kept : {S : Type 0} (IsRead : S → Option ℕ → S → Type 0) (old : LineReader S) (kept : Option Told) (lines : LineReader S) → kept ≡ None → IsOwnFault IsRead old kept lines
+none_kept IsRead old kept lines none input line e = absurd (let apart : None ≡ Some (read_failed input line) = sym none ∙ e in cc)
+
+-- one that keeps the fault that it reported
+pub told_kept : {S : Type 0} (IsRead : S → Option ℕ → S → Type 0) (before kept : Option Told) (old lines : LineReader S) (fault : Fault) → kept ≡ Some (told fault) → before ≡ None
+    → TellsOwnFailure {T = Unit {0}} IsRead before old (Err fault) lines → IsOwnFault IsRead old kept lines
+told_kept IsRead before kept old lines fault is none own input line e = (own none).unread input line (sym is ∙ e)
+
+-- the same of a reader of lines
+pub line_told_kept : {S : Type 0} (IsRead : S → Option ℕ → S → Type 0) (old lines : LineReader S) (fault : Fault) → line_fault lines ≡ Some (told fault) → line_fault old ≡ None
+    → LineTellsOwnFailure {A = Option Line} IsRead old (Err fault) lines → IsOwnFault IsRead old (line_fault lines) lines
+line_told_kept IsRead old lines fault is none own input line e = (own none).unread input line (sym is ∙ e)
+
+-- it is one of the reads since before those that served
+pub own_then : {S : Type 0} (IsRead : S → Option ℕ → S → Type 0) (old now : LineReader S) (kept : Option Told) (lines : LineReader S) → HasRead IsRead old now → IsOwnFault IsRead now kept lines → IsOwnFault IsRead old kept lines
+own_then IsRead old now kept lines so_far own input line e = unread_then IsRead old now lines so_far (own input line e)
+
+-- what its reader of lines keeps
+pub kept_below : {S A State : Type 0} (IsRead : S → Option ℕ → S → Type 0) (old : LineReader S) (reader : MemberReader S A State) (lines : LineReader S) → reader.below ≡ lines → IsKeptBelow reader lines → IsOwnFault IsRead old (line_fault lines) lines
+    → KeepsOwnFault IsRead old reader
+kept_below IsRead old reader lines is below own input line e = subst (IsOwnFault IsRead old (line_fault lines)) (sym is) own input line (below input line e)
+
+-- the reads of a reader are those of its run
+pub own_failure_of : {S : Type 0} (IsRead : S → Option ℕ → S → Type 0) (first last : S) (old new : LineReader S) → source_of old ≡ first → source_of new ≡ last → bytes_taken old ≡ 0 → IsUnread IsRead old new → IsOwnFailure IsRead first last
+own_failure_of IsRead first last old new starts ends fresh (inl fails) = inl (subst (λ s. ReadsFail IsRead s last) starts (subst (λ s. ReadsFail IsRead (source_of old) s) ends fails))
+own_failure_of IsRead first last old new starts ends fresh (inr (read, past)) =
+    inr (record {
+      given = read.given;
+      served = subst (λ s. ReadsOn IsRead s read.given last) starts (subst (λ s. ReadsOn IsRead (source_of old) read.given s) ends read.served);
+      past = omega (arith, past, read.counted, fresh);
+    })
+
+-- what the reads of a reader gave is what those of its run did
+pub served_of : {S : Type 0} (IsRead : S → Option ℕ → S → Type 0) (first last : S) (old new : LineReader S) → source_of old ≡ first → source_of new ≡ last → HasRead IsRead old new → ReadsServe IsRead first last
+served_of IsRead first last old new starts ends read = record {
+  given = read.given;
+  served = subst (λ s. ReadsOn IsRead s read.given last) starts (subst (λ s. ReadsOn IsRead (source_of old) read.given s) ends read.served);
+}
+
+-- a source that wasn't read
+pub serve_same : {S : Type 0} (IsRead : S → Option ℕ → S → Type 0) (source : S) → ReadsServe IsRead source source
+serve_same IsRead source = record { given = 0; served = begun }
+
+pub serve_same_if : {S : Type 0} (IsRead : S → Option ℕ → S → Type 0) (source : Option S) → ReadsServeIf IsRead source source
+serve_same_if IsRead None = tt
+serve_same_if IsRead (Some source) = serve_same IsRead source
+
+-- no failed read is reported
+pub tells_none : (G F S : Type 0) (fault : Option Told) → ((input : Input) (line : ℕ) → fault ≡ Some (read_failed input line) → ⊥) → TellsOwnReads G F S fault
+tells_none G F S fault never = record {
+  genome_file = λ line e. absurd (never Genome line e);
+  first_input = λ line e. absurd (never First line e);
+  second_input = λ line e. absurd (never Second line e);
+}
+
+pub tells_nothing : (G F S : Type 0) (fault : Option Told) → fault ≡ None → TellsOwnReads G F S fault
+tells_nothing G F S fault none = tells_none G F S fault (λ input line e. let apart : None ≡ Some (read_failed input line) = sym none ∙ e in cc)
+
+pub tells_write : (G F S : Type 0) (fault : Told) → fault ≡ write_failed → TellsOwnReads G F S (Some fault)
+tells_write G F S fault is = tells_none G F S (Some fault) (λ input line e. write_no_read input line (sym is ∙ some_is fault (read_failed input line) e))
+
+-- one input of several
+pub tells_first : (S F : Type 0) (fault : Option Told) → TellsOwnReads ⊥ F ⊥ fault → TellsOwnReads ⊥ F S fault
+tells_first S F fault own = record { genome_file = own.genome_file; first_input = own.first_input; second_input = λ line e. absurd (own.second_input line e) }
+
+-- an input at its end, and what it was at first
+module _ {S A State : Type 0} (left : S → Option (List ℕ)) (failed end : S → Bool) (IsRead : S → Option ℕ → S → Type 0) (format : Format A State) (input : Input) (first : S) (old : MemberReader S A State) (begins : BeginsAt left format input first old)
+    (new : MemberReader S A State) (last : S) (ended : source_of new.below ≡ last) (own : KeepsOwnFault IsRead old.below new) where
+  -- a failed read that is reported after some members
+  pub behind_own : (Kinds : Kind → Type 0) → (Kinds ReadFailed → ⊥) → (past : List (Member A)) (fault : Told) → HasFaultBehind left failed end old Kinds past fault new → (other : Input) (line : ℕ) → fault ≡ read_failed other line
+      → (other ≡ input) × IsOwnFailure IsRead first last
+  behind_own Kinds never past fault (inl wrong) other line e = absurd (never_read Kinds never _ wrong.line wrong.kind wrong.of_kind other line (sym wrong.is ∙ e))
+  behind_own Kinds never past fault (inr unread) other line e = (
+    sym (same_input _ other _ line (sym unread.is ∙ e)) ∙ begins.input_is,
+    own_failure_of IsRead first last old.below new.below begins.source ended begins.bytes (own other line (unread.kept ∙ ap Some e)),
+  )
+
+-- the members of the first input were fed to an engine up to a fault
+module _ {S A State : Type 0} (left : S → Option (List ℕ)) (failed end : S → Bool) (IsRead : S → Option ℕ → S → Type 0) (format : Format A State) (first : S) (old : MemberReader S A State) (begins : BeginsAt left format First first old)
+    (new : MemberReader S A State) (last : S) (ended : source_of new.below ≡ last) (own : KeepsOwnFault IsRead old.below new) where
+  pub feeds_own : (settled : List A → List ℕ) (Kinds : Kind → Type 0) → (Kinds ReadFailed → ⊥) → (Sorted : List A → Type 0) (out : Output) (fault : Told) (grown : Output)
+      → FeedsUpTo settled Kinds Sorted left failed end old out fault new grown → TellsOwnReads ⊥ (IsOwnFailure IsRead first last) ⊥ (Some fault)
+  feeds_own settled Kinds never Sorted out fault grown fed =
+      let by : (other : Input) (line : ℕ) → Some fault ≡ Some (read_failed other line) → (other ≡ First) × IsOwnFailure IsRead first last =
+      λ other line e.
+      let is = some_is fault (read_failed other line) e in
+      elim fed.cause [
+        | inl reading ↦ behind_own left failed end IsRead format First first old begins new last ended own Kinds never fed.past fault reading.behind other line is
+        | inr others ↦ elim others [
+          | inl growing ↦ absurd (memory_no_read other line (sym growing.lacks.is ∙ is))
+          | inr writing ↦ absurd (write_no_read other line (sym writing.is ∙ is))
+        ]
+      ]
+      in
+      record {
+        genome_file = λ line e. let apart : Genome ≡ First = (by Genome line e).0 in cc;
+        first_input = λ line e. (by First line e).1;
+        second_input = λ line e. let apart : Second ≡ First = (by Second line e).0 in cc;
+      }
+
+-- a run over two readers ended
+module _ {A B X Y U V : Type 0} (making : Making X Y) (pair : Pair A B X Y U V) (out : Output) (a_read : A → Option ℕ → A → Type 0) (b_read : B → Option ℕ → B → Type 0) (first_format : Format X U) (second_format : Format Y V)
+    (one_before : A) (two_before : B) (begins : BeginsAt pair.a_left first_format First one_before pair.first) (begins_second : BeginsAt pair.b_left second_format Second two_before pair.second)
+    (first : MemberReader A X U) (second : MemberReader B Y V) (one_after : A) (two_after : B) (ended : source_of first.below ≡ one_after) (ended_second : source_of second.below ≡ two_after) (fault : Option Told) (grown : Output)
+    (w : Finishes making pair out fault first second grown) (no_first : making.first_kinds ReadFailed → ⊥) (no_second : making.second_kinds ReadFailed → ⊥) (own : KeepsOwnFault a_read pair.first.below first) (own_second : KeepsOwnFault b_read pair.second.below second) where
+  abbrev OwnFirst : Input → Type 0
+  OwnFirst input = (input ≡ First) × IsOwnFailure a_read one_before one_after
+
+  abbrev OwnSecond : Input → Type 0
+  OwnSecond input = (input ≡ Second) × IsOwnFailure b_read two_before two_after
+
+  of_first : (past : List (Member X)) (other : Told) → HasFaultBehind pair.a_left pair.a_failed pair.a_end pair.first making.first_kinds past other first → (input : Input) (line : ℕ) → other ≡ read_failed input line → OwnFirst input
+  of_first past other behind =
+      behind_own pair.a_left pair.a_failed pair.a_end a_read first_format First one_before pair.first begins first one_after ended own making.first_kinds no_first past other behind
+
+  of_second : (past : List (Member Y)) (other : Told) → HasFaultBehind pair.b_left pair.b_failed pair.b_end pair.second making.second_kinds past other second → (input : Input) (line : ℕ) → other ≡ read_failed input line → OwnSecond input
+  of_second past other behind =
+      behind_own pair.b_left pair.b_failed pair.b_end b_read second_format Second two_before pair.second begins_second second two_after ended_second own_second making.second_kinds no_second past other behind
+
+  -- the inputs reported it
+  by_inputs : InputsEnd making pair out w.written w.wrote.given w.wrote.ended first second fault → (input : Input) (line : ℕ) → fault ≡ Some (read_failed input line) → OwnFirst input ⊎ OwnSecond input
+  by_inputs (inl stops) input line e = inl (of_first stops.2.past stops.0 stops.2.cause input line (some_is stops.0 (read_failed input line) (sym stops.1 ∙ e)))
+  by_inputs (inr (inl stops)) input line e = inr (of_second stops.2.past stops.0 stops.2.fails.cause input line (some_is stops.0 (read_failed input line) (sym stops.1 ∙ e)))
+  by_inputs (inr (inr (inr stops))) input line e =
+      absurd (never_read making.second_kinds no_second Second stops.2.m.line stops.2.kind stops.2.of_kind input line (sym stops.2.is ∙ some_is stops.0 (read_failed input line) (sym stops.1 ∙ e)))
+  by_inputs (inr (inr (inl stops))) input line e =
+      elim stops.rest [
+        | inl end ↦ absurd (let apart : None ≡ Some (read_failed input line) = sym end.0 ∙ e in cc)
+        | inr others ↦ elim others [
+          | inl other ↦ inr (of_second stops.past_second other.0 other.2.cause input line (some_is other.0 (read_failed input line) (sym other.1 ∙ e)))
+          | inr other ↦ absurd (never_read making.second_kinds no_second Second other.2.line other.2.kind other.2.of_kind input line (sym other.2.is ∙ some_is other.0 (read_failed input line) (sym other.1 ∙ e)))
+        ]
+      ]
+
+  by_cause : Why making pair out w.written w.bytes w.wrote.given w.wrote.ended first second fault grown → (input : Input) (line : ℕ) → fault ≡ Some (read_failed input line) → OwnFirst input ⊎ OwnSecond input
+  by_cause (inl (end, puts, works)) input line e = by_inputs end input line e
+  by_cause (inr (inl ran)) input line e = absurd (memory_no_read input line (some_is no_memory (read_failed input line) (sym ran.0 ∙ e)))
+  by_cause (inr (inr cut)) input line e = absurd (write_no_read input line (some_is write_failed (read_failed input line) (sym cut.0 ∙ e)))
+
+  never_genome : OwnFirst Genome ⊎ OwnSecond Genome → ⊥
+  never_genome (inl own) = let apart : Genome ≡ First = own.0 in cc
+  never_genome (inr own) = let apart : Genome ≡ Second = own.0 in cc
+
+  only_first : OwnFirst First ⊎ OwnSecond First → IsOwnFailure a_read one_before one_after
+  only_first (inl own) = own.1
+  only_first (inr own) = absurd (let apart : First ≡ Second = own.0 in cc)
+
+  only_second : OwnFirst Second ⊎ OwnSecond Second → IsOwnFailure b_read two_before two_after
+  only_second (inl own) = absurd (let apart : Second ≡ First = own.0 in cc)
+  only_second (inr own) = own.1
+
+  pub both_own : TellsOwnReads ⊥ (IsOwnFailure a_read one_before one_after) (IsOwnFailure b_read two_before two_after) fault
+  both_own = record {
+    genome_file = λ line e. never_genome (by_cause w.why Genome line e);
+    first_input = λ line e. only_first (by_cause w.why First line e);
+    second_input = λ line e. only_second (by_cause w.why Second line e);
+  }
+
+-- a flush tells no failed read of its own
+flushed_read : (old new : Output) (fault answer : Option Told) → (FlushesAll old fault answer new ⊎ FlushFails old fault answer new) ⊎ StaysFailed old fault answer new → (input : Input) (line : ℕ) → answer ≡ Some (read_failed input line)
+    → fault ≡ Some (read_failed input line)
+flushed_read old new fault answer (inl (inl all)) input line e = sym all.same_fault ∙ e
+flushed_read old new fault answer (inl (inr fails)) input line e = absurd (write_no_read input line (some_is write_failed (read_failed input line) (sym fails.is ∙ e)))
+flushed_read old new fault answer (inr stays) input line e = absurd (write_no_read input line (some_is write_failed (read_failed input line) (sym stays.is ∙ e)))
+
+pub flushed_own : (G F S : Type 0) (old new : Output) (fault answer : Option Told) → Flushes old fault answer new → TellsOwnReads G F S fault → TellsOwnReads G F S answer
+flushed_own G F S old new fault answer flush own = record {
+  genome_file = λ line e. own.genome_file line (flushed_read old new fault answer flush.ends Genome line e);
+  first_input = λ line e. own.first_input line (flushed_read old new fault answer flush.ends First line e);
+  second_input = λ line e. own.second_input line (flushed_read old new fault answer flush.ends Second line e);
+}
+
+-- nor hides it one, unless a write failed
+pub flushed_no_read : (old new : Output) (fault answer : Option Told) → Flushes old fault answer new → answer ≢ Some write_failed → TellsNoRead answer → TellsNoRead fault
+flushed_no_read old new fault answer flush no_write never input line e = elim flush.ends [
+  | inl handed ↦ elim handed [
+    | inl all ↦ never input line (all.same_fault ∙ e)
+    | inr fails ↦ no_write fails.is
+  ]
+  | inr stays ↦ no_write stays.is
+]
+
+-- the genome file was read, or its fault reported, and then the other inputs
+module _ {A B : Type 0} (a_left : A → Option (List ℕ)) (a_failed a_end : A → Bool) (b_left : B → Option (List ℕ)) (b_failed : B → Bool) (command : Command) (first : A) (second : Option B) (out : Output) (fault : Option Told) (first_after : A)
+    (second_after : Option B) (grown : Output) where
+  pub all_own : (G F S : Type 0) (chromosomes : Result (Option GenomeTable) Fault) → MatchResult chromosomes (λ _. ⊤) (λ fault. TellsOwnReads G ⊥ ⊥ (Some (told fault)))
+      → WritesOutput a_left a_failed a_end b_left b_failed command chromosomes first second out fault first_after second_after grown
+      → MatchResult chromosomes (λ _. TellsOwnReads ⊥ F S fault) (λ _. ⊤) → TellsOwnReads G F S fault
+  all_own G F S (Ok table) read written own = record { genome_file = λ line e. absurd (own.genome_file line e); first_input = own.first_input; second_input = own.second_input }
+  all_own G F S (Err wrong) read written own = record {
+    genome_file = λ line e. read.genome_file line (sym written.is ∙ e);
+    first_input = λ line e. absurd (read.first_input line (sym written.is ∙ e));
+    second_input = λ line e. absurd (read.second_input line (sym written.is ∙ e));
+  }
+
+  -- if no failed read is reported, the genome file has none
+  pub genome_no_read : (chromosomes : Result (Option GenomeTable) Fault) → WritesOutput a_left a_failed a_end b_left b_failed command chromosomes first second out fault first_after second_after grown → TellsNoRead fault → AnswersNoRead chromosomes
+  genome_no_read (Ok table) written never = tt
+  genome_no_read (Err wrong) written never = λ input line e. never input line (written.is ∙ e)

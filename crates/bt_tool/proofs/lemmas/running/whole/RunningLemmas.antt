@@ -1,0 +1,351 @@
+-- Lemmas on a run, from its devices to the report on what its inputs hand over.
+use Rattle.std.proofs.Common.{◌≡◌, ℕ, ◌+◌, ◌≤◌, Bool, true, false, List, [], ◌++◌, length, take, Option, None, Some, Ok, Err, refl, sym, ap, ◌∙◌, subst, append-nil, append_assoc, arith, inl, inr, ⊎_elim}
+use Rattle.std.specs.Prelude.{◌⊎◌, ◌≢◌, IfSome, Result, is_some, option_map}
+use Rattle.std.proofs.lemmas.Bool.{false≢true}
+use Rattle.std.proofs.lemmas.List.{append_cancel_left}
+use Rattle.std.specs.Io.KnownBytes.{Consumes, Keeps}
+use Rattle.std.proofs.KnownBytes.{Appends-nil, Consumes-nil}
+use Rattle.bt_lines.proofs.lemmas.reader.block.ReadsLemmas.{some_is}
+use Rattle.bt_tool.proofs.lemmas.running.feed.FeedLemmas.{took_more_than}
+use Rattle.bt_lines.proofs.lemmas.writer.OutputLemmas.{grows_both}
+use Rattle.bt_lines.specs.model.Fault.{Told, write_failed, no_memory}
+use Rattle.bt_lines.specs.model.Handed.{Handed}
+use Rattle.bt_lines.specs.model.Lines.{text_lines}
+use Rattle.bt_lines.specs.calls.Names.{told}
+use Rattle.bt_lines.specs.calls.Output.{Output, IsFrontOf, Grows, block_size}
+use Rattle.bt_lines.specs.declared.fault.Fault.{Fault}
+use Rattle.bt_lines.specs.declared.fault.Input.{Input}
+use Rattle.bt_lines.specs.declared.fault.Input.TheVariants.{First, Second, Genome as FromGenome}
+use Rattle.bt_lines.specs.declared.fault.Kind.{Kind}
+use Rattle.bt_bed.specs.model.order.Genome.{Entry}
+use Rattle.bt_bed.specs.calls.GenomeTable.{entries}
+use Rattle.bt_bed.specs.model.input.Good.{good_from}
+use Rattle.bt_bed.specs.model.feature.LineKind.{is_genome_kind}
+use Rattle.bt_bed.specs.declared.order.genome.Genome.{Genome}
+use Rattle.bt_runs.specs.model.Depth.{settled_depths}
+use Rattle.bt_runs.specs.model.Gaps.{settled_gaps}
+use Rattle.bt_tool.specs.model.usage.Kinds.{IsOneOf}
+use Rattle.bt_tool.specs.calls.run.Chromosomes.{KnowsChromosomes, LacksChromosomes, ReadsChromosomes, StopsAtGenome, WritesOutput}
+use Rattle.bt_tool.specs.calls.run.Telling.{IsFaultButWrite, IsOfInput, IsPutTo, IsWithin, ReadsNoFurther, TellsDevice, TellsInput, TellsInputIf, TellsLine, TellsRead}
+use Rattle.bt_tool.specs.calls.run.Writing.{WritesBy}
+use Rattle.bt_tool.specs.inside.feed.Flushing.{Flushes, FlushesAll, FlushFails, StaysFailed}
+use Rattle.bt_tool.specs.calls.run.Gives.{Runs, TellsOther, is_of_genome, lies_in_genome}
+use Rattle.bt_tool.specs.model.report.Inputs.{HandsUpToIf, Inputs}
+use Rattle.bt_tool.specs.model.report.RecordReport.{Report}
+use Rattle.bt_tool.specs.model.report.Behaviour.{behaviour_of, order_of}
+use Rattle.bt_tool.specs.model.report.Report.{chromosomes_of, reaches_on, report_of, report_on, settles_on}
+use Rattle.bt_tool.specs.declared.planning.plan_type.Command.{Command}
+use Rattle.bt_tool.specs.declared.planning.plan_type.Command.TheVariants.{Merge, Complement, Intersect, Subtract, Coverage, BamToBed, MaskFasta}
+use Rattle.bt_tool.proofs.lemmas.running.feed.WriteLemmas.{merge_settles_none}
+use Rattle.bt_tool.proofs.lemmas.running.feed.WritingLemmas.{hands_none, near_as}
+use Rattle.bt_tool.proofs.lemmas.running.feed.FaultLemmas.{memory_no_write, tells_no_write}
+
+-- known bytes that are kept
+kept_known : (a b : Option (List ℕ)) (x : List ℕ) → a ≡ Some x → Keeps a b → b ≡ Some x
+kept_known None b x e k = cc
+kept_known (Some y) None x e k = absurd k
+kept_known (Some y) (Some z) x e k = ap Some k ∙ e
+
+-- what a sink took is a prefix of the output, if it's a prefix of what was put
+cut_front : (a took : Option (List ℕ)) (before front rest output : List ℕ) → a ≡ Some before → Grows a took → output ≡ front ++ rest → IsFrontOf took (Some (before ++ front)) []
+    → (front : List ℕ) × (rest : List ℕ) × (took ≡ Some (before ++ front)) × (output ≡ front ++ rest)
+cut_front None took before front rest output e g o f = cc
+cut_front (Some x) None before front rest output e g o f = absurd g.1
+cut_front (Some x) (Some y) before front rest output e g o f =
+    let same : x ≡ before = cc in
+    let grown : y ≡ before ++ g.0 = g.1 ∙ ap (λ l. l ++ g.0) same in
+    let joined : before ++ (g.0 ++ f.0) ≡ before ++ front = sym (append_assoc before g.0 f.0) ∙ ap (λ l. l ++ f.0) (sym grown) ∙ f.1 ∙ append-nil (before ++ front) in
+    let parts : g.0 ++ f.0 ≡ front = append_cancel_left before (g.0 ++ f.0) front joined in
+    (g.0, f.0 ++ rest, ap Some grown, o ∙ ap (λ l. l ++ rest) (sym parts) ∙ append_assoc g.0 f.0 rest)
+
+-- a fault from before a flush
+module _ (out mid new : Output) (fault answer : Option Told) where
+  front_by : (before output : List ℕ) → out.took ≡ Some before → Grows out.took mid.took → Grows mid.took new.took
+      → (fault ≢ Some write_failed → (front : List ℕ) × (rest : List ℕ) × (output ≡ front ++ rest) × (mid.put ≡ Some (before ++ front)))
+      → (fault ≡ Some write_failed → (front : List ℕ) × (rest : List ℕ) × (output ≡ front ++ rest) × IsFrontOf mid.took (Some (before ++ front)) [])
+      → (FlushesAll mid fault answer new ⊎ FlushFails mid fault answer new) ⊎ StaysFailed mid fault answer new
+      → (front : List ℕ) × (rest : List ℕ) × (new.took ≡ Some (before ++ front)) × (output ≡ front ++ rest)
+  front_by before output took grows more kept cut (inl (inl all)) =
+      let k = kept all.was in
+      (k.0, k.1, kept_known mid.put new.took (before ++ k.0) k.3 all.taken, k.2)
+  front_by before output took grows more kept cut (inl (inr fails)) =
+      let k = kept fails.was in
+      cut_front out.took new.took before k.0 k.1 output took (grows_both out.took mid.took new.took grows more) k.2 (subst (λ put. IsFrontOf new.took put []) k.3 fails.front)
+  front_by before output took grows more kept cut (inr stays) =
+      let c = cut stays.was in
+      cut_front out.took new.took before c.0 c.1 output took (grows_both out.took mid.took new.took grows more) c.2 (subst (λ (o : Output). IsFrontOf o.took (Some (before ++ c.0)) []) (sym stays.unchanged) c.3)
+
+  whole_by : (told : Option Told) (whole : List ℕ) → (fault ≢ Some write_failed → fault ≢ Some no_memory → (fault ≡ told) × (mid.put ≡ Some whole)) → (fault ≡ Some write_failed → mid.sink_has_failed ≡ true)
+      → new.sink_has_failed ≡ false → answer ≢ Some no_memory → (FlushesAll mid fault answer new ⊎ FlushFails mid fault answer new) ⊎ StaysFailed mid fault answer new
+      → (answer ≡ told) × (new.took ≡ Some whole)
+  whole_by told whole gives writing served memory (inl (inl all)) =
+      let w = gives all.was (λ e. memory (all.same_fault ∙ e)) in
+      (all.same_fault ∙ w.0, kept_known mid.put new.took whole w.1 all.taken)
+  whole_by told whole gives writing served memory (inl (inr fails)) = absurd (false≢true (sym served ∙ fails.sink_failed))
+  whole_by told whole gives writing served memory (inr stays) =
+      absurd (false≢true (sym served ∙ ap (λ (o : Output). o.sink_has_failed) stays.unchanged ∙ writing stays.was))
+
+  told_by : (told : Option Told) (whole : List ℕ) → (IsOfInput fault → (fault ≡ told) × (mid.put ≡ Some whole)) → IsOfInput answer → (FlushesAll mid fault answer new ⊎ FlushFails mid fault answer new) ⊎ StaysFailed mid fault answer new
+      → (answer ≡ told) × (new.took ≡ Some whole)
+  told_by told whole gives is (inl (inl all)) =
+      let of_input : IsOfInput fault = record { no_read = λ i line e. is.no_read i line (all.same_fault ∙ e); no_write = all.was; no_growth = λ e. is.no_growth (all.same_fault ∙ e) } in
+      let w = gives of_input in
+      (all.same_fault ∙ w.0, kept_known mid.put new.took whole w.1 all.taken)
+  told_by told whole gives is (inl (inr fails)) = absurd (is.no_write fails.is)
+  told_by told whole gives is (inr stays) = absurd (is.no_write stays.is)
+
+  -- what was put before the flush was taken with it, unless a write failed
+  pub kept_by : (size : ℕ) → (mid.has_failed ≡ true) ⊎ IsPutTo size mid.put → (FlushesAll mid fault answer new ⊎ FlushFails mid fault answer new) ⊎ StaysFailed mid fault answer new
+      → (answer ≡ Some write_failed) ⊎ IsPutTo size new.took
+  kept_by size kept (inl (inl all)) =
+      elim kept [
+        | inl failed ↦ absurd (false≢true (sym all.was_served ∙ failed))
+        | inr put ↦ inr (put.0, kept_known mid.put new.took put.0 put.1 all.taken, put.2)
+      ]
+  kept_by size kept (inl (inr fails)) = inl fails.is
+  kept_by size kept (inr stays) = inl stays.is
+
+  -- and at a fault nothing else
+  pub exact_by : (bytes : List ℕ) → (IsFaultButWrite fault → mid.put ≡ Some bytes) → IsFaultButWrite answer → (FlushesAll mid fault answer new ⊎ FlushFails mid fault answer new) ⊎ StaysFailed mid fault answer new
+      → new.took ≡ Some bytes
+  exact_by bytes is stops (inl (inl all)) = kept_known mid.put new.took bytes (is (subst IsFaultButWrite all.same_fault stops)) all.taken
+  exact_by bytes is stops (inl (inr fails)) = absurd (stops.1 fails.is)
+  exact_by bytes is stops (inr stays) = absurd (stops.1 stays.is)
+
+  -- without a fault the sink has served in the flush too
+  pub served_by : (FlushesAll mid fault answer new ⊎ FlushFails mid fault answer new) ⊎ StaysFailed mid fault answer new → answer ≡ None → (fault ≡ None) × (new.sink_has_failed ≡ mid.sink_has_failed)
+  served_by (inl (inl all)) none = (sym all.same_fault ∙ none, all.sink_served)
+  served_by (inl (inr fails)) none = absurd (let apart : None ≡ Some write_failed = sym none ∙ fails.is in cc)
+  served_by (inr stays) none = absurd (let apart : None ≡ Some write_failed = sym none ∙ stays.is in cc)
+
+  -- the fault that is reported is the one before the flush, or a failed write
+  pub named_by : {P : Told → Type 0} → ((t : Told) → fault ≡ Some t → P t ⊎ TellsDevice mid.sink_has_failed t)
+      → (FlushesAll mid fault answer new ⊎ FlushFails mid fault answer new) ⊎ StaysFailed mid fault answer new
+      → (t : Told) → answer ≡ Some t → P t ⊎ TellsDevice new.sink_has_failed t
+  named_by named (inl (inl all)) t e =
+      ⊎_elim (λ p. inl p) (λ d. inr (subst (λ b. TellsDevice b t) (sym all.sink_served) d)) (named t (sym all.same_fault ∙ e))
+  named_by named (inl (inr fails)) t e = inr (inl (some_is t write_failed (sym e ∙ fails.is), fails.sink_failed))
+  named_by named (inr stays) t e =
+      ⊎_elim (λ p. inl p) (λ d. inr (subst (λ (o : Output). TellsDevice o.sink_has_failed t) (sym stays.unchanged) d)) (named t (stays.was ∙ sym stays.is ∙ e))
+
+  -- where it lies
+  pub placed_by : (t : Told) → answer ≡ Some t → lies_in_genome t.place ≡ true
+      → (FlushesAll mid fault answer new ⊎ FlushFails mid fault answer new) ⊎ StaysFailed mid fault answer new → fault ≡ Some t
+  placed_by t e lies (inl (inl all)) = sym all.same_fault ∙ e
+  placed_by t e lies (inl (inr fails)) = absurd (false≢true (sym (ap (λ (f : Told). lies_in_genome f.place) (some_is t write_failed (sym e ∙ fails.is))) ∙ lies))
+  placed_by t e lies (inr stays) = stays.was ∙ sym stays.is ∙ e
+
+-- no line settles nothing
+none_settle : (command : Command) (chromosomes : Option (List Entry)) (second : Option Handed) → (behaviour_of command chromosomes).settles second [] ≡ []
+unfolding good_from settled_gaps settled_depths
+none_settle (Merge d strand) chromosomes second = merge_settles_none (order_of chromosomes) d strand
+none_settle (Complement limit) chromosomes second = refl
+none_settle (Intersect shape rule held) chromosomes second = refl
+none_settle (Subtract whole rule held) chromosomes second = refl
+none_settle (Coverage zeros strand) chromosomes second = refl
+none_settle (BamToBed split cigar) chromosomes second = refl
+none_settle (MaskFasta how full) chromosomes second = refl
+
+none_settle_on : (command : Command) (chromosomes : Result (Option (List Entry)) Told) (second : Option Handed) → settles_on command chromosomes second [] ≡ []
+none_settle_on command (Err fault) second = refl
+none_settle_on command (Ok chromosomes) second = none_settle command chromosomes second
+
+taken_all : (took : Option (List ℕ)) (before : List ℕ) → took ≡ Some before → IfSome took (λ taken. length (before ++ []) ≤ length taken + block_size)
+taken_all None before e = tt
+taken_all (Some taken) before e =
+    let same : taken ≡ before = cc in
+    omega (arith, ap length same, ap length (append-nil before))
+
+-- a fault of the first input lies there
+line_elsewhere : (kinds : Kind → Type 0) (input : Input) (t : Told) → is_of_genome input ≡ false → TellsLine kinds input t → lies_in_genome t.place ≡ true → ⊥
+line_elsewhere kinds input t other tells lies = false≢true (sym other ∙ sym (ap (λ (f : Told). lies_in_genome f.place) tells.is) ∙ lies)
+
+read_elsewhere : {A : Type 0} (left : A → Option (List ℕ)) (failed : A → Bool) (input : Input) (before after : A) (t : Told) → is_of_genome input ≡ false → TellsRead left failed input before after t → lies_in_genome t.place ≡ true → ⊥
+read_elsewhere left failed input before after t other tells lies = false≢true (sym other ∙ sym (ap (λ (f : Told). lies_in_genome f.place) tells.is) ∙ lies)
+
+device_elsewhere : (b : Bool) (t : Told) → TellsDevice b t → lies_in_genome t.place ≡ true → ⊥
+device_elsewhere b t (inl write) lies = false≢true (sym (ap (λ (f : Told). lies_in_genome f.place) write.0) ∙ lies)
+device_elsewhere b t (inr memory) lies = false≢true (sym (ap (λ (f : Told). lies_in_genome f.place) memory) ∙ lies)
+
+input_elsewhere : {A : Type 0} (left : A → Option (List ℕ)) (failed : A → Bool) (kinds : Kind → Type 0) (input : Input) (before after : A) (t : Told) → is_of_genome input ≡ false
+    → TellsInput left failed kinds input before after t → lies_in_genome t.place ≡ true → ⊥
+input_elsewhere left failed kinds input before after t other (inl tells) lies = line_elsewhere kinds input t other tells lies
+input_elsewhere left failed kinds input before after t other (inr tells) lies = read_elsewhere left failed input before after t other tells lies
+
+if_elsewhere : {B : Type 0} (left : B → Option (List ℕ)) (failed : B → Bool) (kinds : Kind → Type 0) (input : Input) (before after : Option B) (t : Told) → is_of_genome input ≡ false
+    → TellsInputIf left failed kinds input before after t → lies_in_genome t.place ≡ true → ⊥
+if_elsewhere left failed kinds input None after t other tells lies = absurd tells
+if_elsewhere left failed kinds input (Some before) None t other tells lies = absurd tells
+if_elsewhere left failed kinds input (Some before) (Some after) t other tells lies = input_elsewhere left failed kinds input before after t other tells lies
+
+-- chromosomes that were read aren't at fault
+same_is_some : (table : Option Genome) → is_some (option_map entries table) ≡ is_some table
+same_is_some None = refl
+same_is_some (Some table) = refl
+
+other_chromosomes : (chromosomes : Result (Option (List Entry)) Told) (entries : Option (List Entry)) (wrong : Told) → chromosomes ≡ Ok entries → chromosomes ≡ Err wrong → ⊥
+other_chromosomes chromosomes entries wrong o e = cc
+
+-- a failed write is reported only if the sink failed
+write_by : {P : Type 0} (b : Bool) → (P → ⊥) → P ⊎ TellsDevice b write_failed → b ≡ true
+write_by b other (inl p) = absurd (other p)
+write_by b other (inr (inl write)) = write.1
+write_by b other (inr (inr memory)) = absurd (memory_no_write (sym memory))
+
+write_of_if : {B : Type 0} (left : B → Option (List ℕ)) (failed : B → Bool) (kinds : Kind → Type 0) (input : Input) (before after : Option B) → TellsInputIf left failed kinds input before after write_failed → ⊥
+write_of_if left failed kinds input None after tells = absurd tells
+write_of_if left failed kinds input (Some before) None tells = absurd tells
+write_of_if left failed kinds input (Some before) (Some after) tells = tells_no_write left failed kinds input before after tells
+
+-- an input that wasn't touched was read at most up to its first line
+near_untouched : (Beside : ℕ → Type 0) → ((n : ℕ) → Beside n) → (command : Command) (chromosomes : Result (Option (List Entry)) Told) (second : Option Handed) (text before : List ℕ) (left took more : Option (List ℕ)) → left ≡ Some text → took ≡ Some before → Grows took more
+    → (Failed Stops : Type 0) (later : Option (List ℕ)) → Failed ⊎ IsPutTo (length (before ++ [])) later → (Stops → later ≡ Some (before ++ []))
+    → ReadsNoFurther Beside (settles_on command chromosomes second) text left before more Failed Stops later
+near_untouched Beside has command chromosomes second text before left took more e t g Failed Stops later kept exact = record {
+  n = 1;
+  some = omega arith;
+  handed = [];
+  consumed = subst (λ o. Consumes o left []) e (Consumes-nil left);
+  read = omega arith;
+  beside = has 1;
+  settled = rw (none_settle_on command chromosomes second) (took_more_than took took more before (length (before ++ [])) t ([], Appends-nil took) g (taken_all took before t));
+  kept = rw (none_settle_on command chromosomes second) kept;
+  exact = rw (none_settle_on command chromosomes second) exact;
+}
+
+module _ {G A B K : Type 0} (g_left : G → Option (List ℕ)) (g_failed : G → Bool) (a_left : A → Option (List ℕ)) (a_failed a_end : A → Bool) (b_left : B → Option (List ℕ)) (b_failed : B → Bool) (k_took : K → Option (List ℕ)) (k_failed : K → Bool)
+    (command : Command) (genome genome_after : Option G) (first first_after : A) (second second_after : Option B) (out out_after : K) (begun mid new : Output) (put : begun.put ≡ k_took out) (took : begun.took ≡ k_took out) (served : begun.sink_has_failed ≡ k_failed out)
+    (took_after : k_took out_after ≡ new.took) (failed_after : k_failed out_after ≡ new.sink_has_failed) (fault answer : Option Told) (flushes : Flushes mid fault answer new) where
+  abbrev RunsSo : Type 0
+  RunsSo = Runs g_left g_failed a_left a_failed a_end b_left b_failed k_took k_failed command genome first second out answer genome_after first_after second_after out_after
+
+  abbrev GenomeTells : Told → Type 0
+  GenomeTells t = TellsInputIf g_left g_failed (IsOneOf is_genome_kind) FromGenome genome genome_after t
+
+  abbrev OthersTell : Told → Type 0
+  OthersTell t = TellsOther g_left g_failed a_left a_failed a_end b_left b_failed k_took k_failed command genome first first_after second second_after t
+
+  -- how far the second input was read by the time that this many lines of the first were
+  abbrev Beside : Inputs → ℕ → Type 0
+  Beside inputs n = IsWithin (a_end first_after) inputs.first.text n
+      → HandsUpToIf b_left (reaches_on command (chromosomes_of inputs.genome) inputs.second (take n (text_lines inputs.first.text)) + block_size) second second_after
+
+  -- the chromosomes were read, and the output written by them
+  module _ (table : Option Genome) (knows : KnowsChromosomes g_left g_failed genome genome_after table) (writes : WritesBy a_left a_failed a_end b_left b_failed (behaviour_of command (option_map entries table)) first second begun fault first_after second_after mid) where
+    abbrev chromosomes : Option (List Entry)
+    chromosomes = option_map entries table
+
+    abbrev reported : Inputs → Report
+    reported inputs = (behaviour_of command chromosomes).report inputs.first inputs.second
+
+    abbrev Tells : Told → Type 0
+    Tells t = TellsInput a_left a_failed (behaviour_of command chromosomes).FirstKinds First first first_after t ⊎ TellsInputIf b_left b_failed (behaviour_of command chromosomes).SecondKinds Second second second_after t
+
+    write_of_others : Tells write_failed → ⊥
+    write_of_others (inl tells) = tells_no_write a_left a_failed (behaviour_of command chromosomes).FirstKinds First first first_after tells
+    write_of_others (inr tells) = write_of_if b_left b_failed (behaviour_of command chromosomes).SecondKinds Second second second_after tells
+
+    others_elsewhere : (t : Told) → Tells t ⊎ TellsDevice mid.sink_has_failed t → lies_in_genome t.place ≡ true → ⊥
+    others_elsewhere t (inl (inl tells)) lies = input_elsewhere a_left a_failed (behaviour_of command chromosomes).FirstKinds First first first_after t refl tells lies
+    others_elsewhere t (inl (inr tells)) lies = if_elsewhere b_left b_failed (behaviour_of command chromosomes).SecondKinds Second second second_after t refl tells lies
+    others_elsewhere t (inr tells) lies = device_elsewhere mid.sink_has_failed t tells lies
+
+    sink_failed : fault ≡ Some write_failed → mid.sink_has_failed ≡ true
+    sink_failed e = write_by mid.sink_has_failed write_of_others (writes.named write_failed e)
+
+    of_others : (t : Told) → Tells t ⊎ TellsDevice mid.sink_has_failed t → (GenomeTells t ⊎ OthersTell t) ⊎ TellsDevice mid.sink_has_failed t
+    of_others t (inl tells) = inl (inr (record { chromosomes = chromosomes; named = same_is_some table ∙ knows.named; tells = tells }))
+    of_others t (inr tells) = inr tells
+
+    report_is : (inputs : Inputs) → chromosomes_of inputs.genome ≡ Ok chromosomes → report_of command inputs ≡ reported inputs
+    unfolding report_of
+    report_is inputs e = ap (λ c. report_on command c inputs.first inputs.second) e
+
+    pub runs_written : RunsSo
+    runs_written = record {
+      whole = λ inputs before reads known served memory.
+          let same = report_is inputs (knows.whole inputs.genome reads.genome_file) in
+          let w = whole_by begun mid new fault answer (reported inputs).fault (before ++ (reported inputs).output)
+          (λ write growth. writes.whole inputs.first inputs.second before reads.first_input reads.second_input (put ∙ known) write growth)
+          sink_failed (sym failed_after ∙ served) memory flushes.ends in
+          subst (λ (r : Report). (answer ≡ r.fault) × (k_took out_after ≡ Some (before ++ r.output))) (sym same) (w.0, took_after ∙ w.1);
+      told = λ inputs before holds known is.
+          let same = report_is inputs (knows.told inputs.genome holds.genome_file) in
+          let w = told_by begun mid new fault answer (reported inputs).fault (before ++ (reported inputs).output)
+          (λ of_input. writes.told inputs.first inputs.second before holds.first_input holds.second_input (put ∙ known) of_input) is flushes.ends in
+          subst (λ (r : Report). (answer ≡ r.fault) × (k_took out_after ≡ Some (before ++ r.output))) (sym same) (w.0, took_after ∙ w.1);
+      front = λ inputs before holds known.
+          let same = report_is inputs (knows.told inputs.genome holds.genome_file) in
+          let f = front_by begun mid new fault answer before (reported inputs).output (took ∙ known) writes.grows flushes.grows
+          (λ other. writes.kept other inputs.first inputs.second before holds.first_input holds.second_input (put ∙ known)) (λ is. writes.cut is inputs.first inputs.second before holds.first_input holds.second_input (put ∙ known)) flushes.ends in
+          (f.0, f.1, took_after ∙ f.2, ap (λ (r : Report). r.output) same ∙ f.3);
+      near = λ inputs before holds known.
+          let near = writes.near inputs.first inputs.second before before holds.first_input holds.second_input (put ∙ known) (took ∙ known) in
+          rw (knows.told inputs.genome holds.genome_file, took_after)
+          (near_as _ _ (λ n beside. beside) ((behaviour_of command chromosomes).settles inputs.second) ((behaviour_of command chromosomes).settles inputs.second) (λ lines. refl) inputs.first.text (a_left first_after) before mid.took new.took (mid.has_failed ≡ true)
+          (answer ≡ Some write_failed) (IsFaultButWrite fault) (IsFaultButWrite answer) mid.put new.took (λ size. took_more_than begun.took mid.took new.took before size (took ∙ known) writes.grows flushes.grows) (λ size kept. kept_by begun mid new fault answer size kept flushes.ends)
+          (λ bytes is stops. exact_by begun mid new fault answer bytes is stops flushes.ends) near);
+      served = λ none.
+          let was = served_by begun mid new fault answer flushes.ends none in
+          let devices = writes.served was.0 in
+          ((knows.served, devices.0.1), (devices.0.0, failed_after ∙ was.1 ∙ devices.1 ∙ served));
+      after_genome = λ file holds wrong e. absurd (other_chromosomes (chromosomes_of file) chromosomes wrong (knows.told file holds) e);
+      untouched = λ t e lies. absurd (others_elsewhere t (writes.named t (placed_by begun mid new fault answer t e lies flushes.ends)) lies);
+      named = λ t e.
+          rw failed_after (named_by begun mid new fault answer (λ t e. of_others t (writes.named t e)) flushes.ends t e);
+    }
+
+  -- the genome file is at fault, and nothing else was touched
+  module _ (wrong : Told) (lacks : LacksChromosomes g_left g_failed genome genome_after wrong) (stops : StopsAtGenome first second begun wrong fault first_after second_after mid) where
+    report_wrong : (inputs : Inputs) → chromosomes_of inputs.genome ≡ Err wrong → report_of command inputs ≡ record { output = []; fault = Some wrong }
+    unfolding report_of
+    report_wrong inputs e = ap (λ c. report_on command c inputs.first inputs.second) e
+
+    begun_put : (before : List ℕ) → k_took out ≡ Some before → mid.put ≡ Some (before ++ [])
+    begun_put before known = ap (λ (o : Output). o.put) stops.unchanged ∙ put ∙ known ∙ ap Some (sym (append-nil before))
+
+    mid_grows : Grows begun.took mid.took
+    mid_grows = subst (λ (o : Output). Grows begun.took o.took) (sym stops.unchanged) ([], Appends-nil begun.took)
+
+    no_write : fault ≡ Some write_failed → ⊥
+    no_write e = lacks.no_write (some_is wrong write_failed (sym stops.is ∙ e))
+
+    genome_named : (t : Told) → TellsInputIf g_left g_failed (IsOneOf is_genome_kind) FromGenome genome genome_after wrong ⊎ (wrong ≡ no_memory) → wrong ≡ t
+        → (GenomeTells t ⊎ OthersTell t) ⊎ TellsDevice mid.sink_has_failed t
+    genome_named t (inl tells) e = inl (inl (subst (TellsInputIf g_left g_failed (IsOneOf is_genome_kind) FromGenome genome genome_after) e tells))
+    genome_named t (inr memory) e = inr (inr (sym e ∙ memory))
+
+    pub runs_wrong : RunsSo
+    runs_wrong = record {
+      whole = λ inputs before reads known served memory.
+          let w = whole_by begun mid new fault answer (Some wrong) (before ++ [])
+          (λ write growth. (stops.is, begun_put before known)) (λ e. absurd (no_write e)) (sym failed_after ∙ served) memory flushes.ends in
+          let same = report_wrong inputs (lacks.whole inputs.genome reads.genome_file (λ e. memory (w.0 ∙ ap Some e))) in
+          subst (λ (r : Report). (answer ≡ r.fault) × (k_took out_after ≡ Some (before ++ r.output))) (sym same) (w.0, took_after ∙ w.1);
+      told = λ inputs before holds known is.
+          let w = told_by begun mid new fault answer (Some wrong) (before ++ []) (λ of_input. (stops.is, begun_put before known)) is flushes.ends in
+          let same = report_wrong inputs (lacks.told inputs.genome holds.genome_file (subst IsOfInput w.0 is)) in
+          subst (λ (r : Report). (answer ≡ r.fault) × (k_took out_after ≡ Some (before ++ r.output))) (sym same) (w.0, took_after ∙ w.1);
+      front = λ inputs before holds known.
+          let f = front_by begun mid new fault answer before (report_of command inputs).output (took ∙ known) mid_grows flushes.grows
+          (λ other. ([], (report_of command inputs).output, refl, begun_put before known)) (λ is. absurd (no_write is)) flushes.ends in
+          (f.0, f.1, took_after ∙ f.2, f.3);
+      near = λ inputs before holds known.
+          let text = holds.first_input in
+          rw (text.is, stops.untouched, stops.other_untouched, took_after)
+          (near_untouched _ (λ n within. hands_none b_left second inputs.second _ holds.second_input)
+          command (chromosomes_of inputs.genome) inputs.second text.text before (a_left first) begun.took new.took text.known (took ∙ known) (grows_both begun.took mid.took new.took mid_grows flushes.grows)
+          (answer ≡ Some write_failed) (IsFaultButWrite answer) new.took (kept_by begun mid new fault answer (length (before ++ [])) (inr (before ++ [], begun_put before known, omega arith)) flushes.ends)
+          (λ other. exact_by begun mid new fault answer (before ++ []) (λ was. begun_put before known) other flushes.ends));
+      served = λ none.
+          let was = served_by begun mid new fault answer flushes.ends none in
+          absurd (let apart : None ≡ Some wrong = sym was.0 ∙ stops.is in cc);
+      after_genome = λ file holds wrong e. (stops.untouched, stops.other_untouched);
+      untouched = λ t e lies. (stops.untouched, stops.other_untouched);
+      named = λ t e.
+          rw failed_after (named_by begun mid new fault answer (λ t e. genome_named t lacks.named (some_is wrong t (sym stops.is ∙ e))) flushes.ends t e);
+    }
+
+  pub runs_by : (chromosomes : Result (Option Genome) Fault) → ReadsChromosomes g_left g_failed genome chromosomes genome_after → WritesOutput a_left a_failed a_end b_left b_failed command chromosomes first second begun fault first_after second_after mid → RunsSo
+  runs_by (Ok table) knows writes = runs_written table knows writes
+  runs_by (Err wrong) lacks stops = runs_wrong (told wrong) lacks stops

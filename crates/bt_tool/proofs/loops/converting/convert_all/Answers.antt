@@ -1,0 +1,114 @@
+use Rattle.std.proofs.Common.{◌∙◌, ap, arith, refl, subst, ⊎_elim}
+use Rattle.bt_lines.proofs.lemmas.reader.block.ReadsLemmas.{has_read_then, reads_same}
+use Rattle.bt_lines.specs.calls.LentLine.{line_seen}
+use Rattle.bt_lines.specs.calls.Names.{told}
+use Rattle.bt_lines.specs.declared.fault.Input.{Input}
+use Rattle.bt_lines.specs.calls.Reader.{HasRead}
+use Rattle.bt_bed.proofs.lemmas.order.ResultLemmas.{passed_on}
+use Rattle.bt_seq.specs.calls.BamToBedState.{Converting}
+use Rattle.bt_tool.specs.inside.feed.ConvertSteps.{ConvertsAll, LineRefused, sam_reader}
+use Rattle.bt_tool.specs.calls.run.OwnReads.{AnswersNoRead}
+use Rattle.bt_tool.proofs.lemmas.running.feed.ConvertLemmas.{converts_all, going_line, going_start, refused_no_read, stops_at_line, stops_reading, stops_writing}
+use Rattle.bt_tool.proofs.lemmas.running.whole.OwnFailureLemmas.{line_told_kept, own_then}
+use Rattle.bt_tool.proofs.loops.converting.convert_all.Goals as goal
+
+pub loop-line-init : goal.loop-line-init
+loop-line-init g c = record {
+  going = going_start _ _ _ _ _ c.args.lines.now c.args.out.now.output c.requires.fresh c.requires.block;
+  same = refl;
+  input = c.input-input.ensures;
+  read = reads_same g.S.Source.is_read c.args.lines.now c.args.lines.now refl;
+}
+
+pub returns-in_err-line-clause-converts : goal.returns-in_err-line-clause-converts
+returns-in_err-line-clause-converts g c =
+    let gives = rw c.in_err-line.was at c.next.follows.holds-at-none in
+    let now = c.loop-line.invariant in
+    passed_on (λ r. ConvertsAll g.S.Source.left g.S.Source.has_failed g.S.Source.end_told c.args.converter.now c.args.lines.now c.args.out.now.output r c.next.follows.lender-at-none c.loop-line.out.output) c.from_residual.result c.in_err-line.field-0.0
+    c.from_residual.ensures.1 (
+      sam_reader c.next.follows.lender-at-none,
+      refl,
+      stops_reading _ _ _ _ _ c.args.lines.now c.args.out.now.output c.loop-line.lines c.loop-line.out.output now.going c.next.follows.lender-at-none (told c.in_err-line.field-0.0) gives.answers gives.sound,
+      λ input line e. e,
+    )
+
+pub returns-in_err-line-clause-reads : goal.returns-in_err-line-clause-reads
+returns-in_err-line-clause-reads g c =
+    let gives = rw c.in_err-line.was at c.next.follows.holds-at-none in
+    let now = c.loop-line.invariant in
+    passed_on (λ r. AnswersNoRead r → HasRead g.S.Source.is_read c.args.lines.now c.next.follows.lender-at-none) c.from_residual.result c.in_err-line.field-0.0 c.from_residual.ensures.1
+    (λ never. has_read_then g.S.Source.is_read c.args.lines.now c.loop-line.lines c.next.follows.lender-at-none now.read ((gives.own_failure now.going.fed.passes.going).read never))
+
+pub returns-in_err-line-clause-own_failure : goal.returns-in_err-line-clause-own_failure
+returns-in_err-line-clause-own_failure g c =
+    let gives = rw c.in_err-line.was at c.next.follows.holds-at-none in
+    let now = c.loop-line.invariant in
+    own_then g.S.Source.is_read c.args.lines.now c.loop-line.lines _ _ now.read
+    (line_told_kept g.S.Source.is_read c.loop-line.lines c.next.follows.lender-at-none c.in_err-line.field-0.0 gives.answers.kept now.going.fed.passes.going gives.own_failure)
+
+pub loop-line-smaller : goal.loop-line-smaller
+loop-line-smaller g c =
+    let gives = rw (c.in_ok-line.was, c.in-Some.is) at c.next.follows.holds-at-none in
+    omega (arith, gives.answers.shrinks)
+
+pub loop-line-preserved : goal.loop-line-preserved
+loop-line-preserved g c =
+    let gives = rw (c.in_ok-line.was, c.in-Some.is) at c.next.follows.holds-at-none in
+    let now = c.loop-line.invariant in
+    let first = c.args.converter.now in
+    let written = c.in_ok-convert_line.ensures in
+    record {
+      going = going_line first.split first.with_cigar _ _ _ c.args.lines.now c.args.out.now.output c.loop-line.lines c.loop-line.out.output now.going c.next.follows.lender-at-none (line_seen c.in-Some.line) gives.answers
+          gives.sound c.loop-line.converter c.convert_line.new.converter (ap (λ (m : Converting). m.split) now.same) (ap (λ (m : Converting). m.with_cigar) now.same) c.convert_line.new.out.output written;
+      same = written.unchanged ∙ now.same;
+      input = now.input;
+      read = has_read_then g.S.Source.is_read c.args.lines.now c.loop-line.lines c.next.follows.lender-at-none now.read gives.own_failure;
+    }
+
+pub returns-in_err-convert_line-clause-converts : goal.returns-in_err-convert_line-clause-converts
+returns-in_err-convert_line-clause-converts g c =
+    let gives = rw (c.in_ok-line.was, c.in-Some.is) at c.next.follows.holds-at-none in
+    let now = c.loop-line.invariant in
+    let first = c.args.converter.now in
+    let fault = told c.in_err-convert_line.field-0.0 in
+    let line = line_seen c.in-Some.line in
+    passed_on (λ r. ConvertsAll g.S.Source.left g.S.Source.has_failed g.S.Source.end_told c.args.converter.now c.args.lines.now c.args.out.now.output r c.next.follows.lender-at-none c.convert_line.new.out.output) c.from_residual-in_err-convert_line.result c.in_err-convert_line.field-0.0
+    c.from_residual-in_err-convert_line.ensures.1
+    (⊎_elim
+    (λ refused. (
+      _,
+      refl,
+      stops_at_line first.split first.with_cigar _ _ _ c.args.lines.now c.args.out.now.output c.loop-line.lines c.loop-line.out.output now.going c.next.follows.lender-at-none line gives.answers
+          gives.sound fault c.convert_line.new.out.output (subst (λ (i : Input). LineRefused i line c.loop-line.out.output fault c.convert_line.new.out.output) now.input refused),
+      λ input at e. absurd (refused_no_read _ line _ fault _ refused input at e),
+    ))
+    (λ unwritten. (
+      _,
+      refl,
+      stops_writing first.split first.with_cigar _ _ _ c.args.lines.now c.args.out.now.output c.loop-line.lines c.loop-line.out.output now.going c.next.follows.lender-at-none line gives.answers
+          gives.sound c.loop-line.converter (ap (λ (m : Converting). m.split) now.same) (ap (λ (m : Converting). m.with_cigar) now.same) fault c.convert_line.new.out.output unwritten,
+      λ input at e. e,
+    ))
+    c.in_err-convert_line.ensures)
+
+pub returns-in_err-convert_line-clause-reads : goal.returns-in_err-convert_line-clause-reads
+returns-in_err-convert_line-clause-reads g c = λ never.
+    let gives = rw (c.in_ok-line.was, c.in-Some.is) at c.next.follows.holds-at-none in
+    let now = c.loop-line.invariant in
+    has_read_then g.S.Source.is_read c.args.lines.now c.loop-line.lines c.next.follows.lender-at-none now.read gives.own_failure
+
+pub returns-clause-converts : goal.returns-clause-converts
+returns-clause-converts g c =
+    let gives = rw (c.in_ok-line.was, c.in_default.is) at c.next.follows.holds-at-none in
+    let now = c.loop-line.invariant in (
+      sam_reader c.next.follows.lender-at-none,
+      refl,
+      converts_all _ _ _ _ _ c.args.lines.now c.args.out.now.output c.loop-line.lines c.loop-line.out.output now.going c.next.follows.lender-at-none gives.answers gives.sound,
+      λ input line e. e,
+    )
+
+pub returns-clause-reads : goal.returns-clause-reads
+returns-clause-reads g c = λ never.
+    let gives = rw (c.in_ok-line.was, c.in_default.is) at c.next.follows.holds-at-none in
+    let now = c.loop-line.invariant in
+    has_read_then g.S.Source.is_read c.args.lines.now c.loop-line.lines c.next.follows.lender-at-none now.read gives.own_failure

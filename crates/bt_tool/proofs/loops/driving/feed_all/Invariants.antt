@@ -1,0 +1,14 @@
+use Rattle.bt_lines.specs.calls.Reader.{HasRead}
+use Rattle.bt_bed.specs.calls.Records.{below, room}
+use Rattle.bt_tool.proofs.lemmas.running.feed.FeedLemmas.{Going}
+use Rattle.bt_tool.proofs.loops.driving.feed_all.Given as goal
+
+-- the records so far were taken
+abbrev pub invariant-loop-records : goal.invariant-loop-records
+invariant-loop-records g l =
+    Going g.E.Engine.takes g.E.Engine.stands g.E.Engine.fault g.E.Engine.settled l.initial.engine
+    g.S.Source.left g.S.Source.has_failed g.S.Source.end_told l.initial.records l.initial.out.output l.records l.engine l.out.output
+    × HasRead g.S.Source.is_read (below l.initial.records) (below l.records)
+
+abbrev pub decreases-loop-records : goal.decreases-loop-records
+decreases-loop-records g l = room l.records

@@ -1,0 +1,51 @@
+use Rattle.std.proofs.Common.{sym, ◌∙◌}
+use Rattle.bt_lines.proofs.lemmas.reader.lines.BufferedLemmas.{begins_lines}
+use Rattle.bt_lines.proofs.lemmas.reader.block.ReadsLemmas.{counts_none}
+use Rattle.bt_lines.specs.calls.Reader.{bytes_taken, source_of}
+use Rattle.bt_bed.proofs.lemmas.read.good.TokenLemmas.{token_is}
+use Rattle.bt_bed.specs.calls.Blocks.{count_in, view_of}
+use Rattle.bt_tool.proofs.lemmas.running.members.BlockMembers.{blocks_given, blocks_taken, lent_are, lent_at, none_over}
+use Rattle.bt_tool.proofs.lemmas.running.members.CursorLemmas.{lines_consumed, lines_numbered}
+use Rattle.bt_tool.proofs.lemmas.running.mask.MaskBoth.{gives_both}
+use Rattle.bt_tool.proofs.lemmas.running.members.PassedLemmas.{taken_reads}
+use Rattle.bt_tool.proofs.loops.masking.give_buffered.Goals as goal
+
+pub consume-requires : goal.consume-requires
+consume-requires g c =
+    let gives = c.advance-masked.ensures.gives in
+    (lines_consumed c.args.lines.now c.buffered-texts.result c.advance-masked.new.lines gives.texts c.buffered-texts.ensures.begins gives.passes.left_is gives.passes.all_is gives.passes.given gives.passes.open_is c.consumed-consumed.result c.consumed-consumed.ensures).taken
+
+pub consume-requires-2 : goal.consume-requires-2
+consume-requires-2 g c =
+    let gives = c.advance-masked.ensures.gives in
+    token_is c.args.records.now.sorted c.buffered-beds.result c.advance-masked.new.records gives.taken c.consumed-consumed-2.result c.buffered-beds.ensures.lends gives.given c.consumed-consumed-2.ensures
+
+pub returns-clause-gives : goal.returns-clause-gives
+returns-clause-gives g c = λ run going.
+    let gives = c.advance-masked.ensures.gives in
+    let s = going.1 in
+    let lines = c.args.lines.now in
+    let second = view_of c.args.records.now in
+    let first_lines = c.buffered-texts.result in
+    let last_lines = c.advance-masked.new.lines in
+    let begins = c.buffered-texts.ensures.begins in
+    let parts = sym (begins_lines first_lines _ _ _ begins) ∙ gives.passes.left_is in
+    let numbered = lines_numbered lines first_lines last_lines gives.texts begins gives.passes.left_is gives.passes.all_is gives.passes.given gives.passes.open_is in
+    let are = lines_consumed lines first_lines last_lines gives.texts begins gives.passes.left_is gives.passes.all_is gives.passes.given gives.passes.open_is c.consumed-consumed.result c.consumed-consumed.ensures in
+    let taken = blocks_given c.args.records.now c.buffered-beds.result c.advance-masked.new.records gives.taken c.consumed-consumed-2.result c.buffered-beds.ensures.lends gives.given c.consumed-consumed-2.ensures in
+    let has = blocks_taken g.B.Source.left g.B.Source.has_failed g.B.Source.end_told c.args.records.now c.consume-2.new.self (count_in c.args.records.now c.consumed-consumed-2.result) gives.taken taken c.buffered-beds.ensures.comes c.consume-2.ensures in
+    gives_both g.A.Source.left g.A.Source.has_failed g.A.Source.end_told g.B.Source.left g.B.Source.has_failed g.B.Source.end_told run going.0 lines second c.args.mask.now c.args.out.now.output s
+    first_lines last_lines begins gives.texts parts numbered c.buffered-beds.result c.advance-masked.new.records (lent_are c.args.records.now c.buffered-beds.result c.buffered-beds.ensures.lends) (lent_at c.args.records.now c.buffered-beds.result c.buffered-beds.ensures.lends)
+    gives.taken gives.given c.consume.new.self (none_over lines) c.consumed-consumed.result are c.consume.ensures (view_of c.consume-2.new.self) has
+    c.advance-masked.result c.advance-masked.new.self c.advance-masked.new.out.output (λ next. gives.comes run.how run.full s.stage s.stands next) c.advance-masked.ensures.stops
+
+pub returns-clause-reads_first : goal.returns-clause-reads_first
+returns-clause-reads_first g c =
+    counts_none g.A.Source.is_read (source_of c.args.lines.now) (source_of c.consume.new.self) (bytes_taken c.args.lines.now) (bytes_taken c.consume.new.self) c.consume.ensures.source_is c.consume.ensures.taken_is
+
+pub returns-clause-reads_second : goal.returns-clause-reads_second
+returns-clause-reads_second g c =
+    let gives = c.advance-masked.ensures.gives in
+    let taken = blocks_given c.args.records.now c.buffered-beds.result c.advance-masked.new.records gives.taken c.consumed-consumed-2.result c.buffered-beds.ensures.lends gives.given c.consumed-consumed-2.ensures in
+    let has = blocks_taken g.B.Source.left g.B.Source.has_failed g.B.Source.end_told c.args.records.now c.consume-2.new.self (count_in c.args.records.now c.consumed-consumed-2.result) gives.taken taken c.buffered-beds.ensures.comes c.consume-2.ensures in
+    taken_reads g.B.Source.is_read g.B.Source.left g.B.Source.has_failed g.B.Source.end_told (view_of c.args.records.now) gives.taken (view_of c.consume-2.new.self) has

@@ -1,0 +1,13 @@
+use Rattle.bt_lines.specs.calls.Reader.{HasRead}
+use Rattle.bt_bed.specs.calls.Records.{below, room, view_of}
+use Rattle.bt_tool.specs.inside.pair.SweepLoop.{IsReadOn}
+use Rattle.bt_tool.proofs.loops.sweeping.check_rest.Given as goal
+
+-- the records so far were consumed
+abbrev pub invariant-loop-second : goal.invariant-loop-second
+invariant-loop-second g l =
+    IsReadOn g.B.Source.left g.B.Source.has_failed g.B.Source.end_told (view_of l.initial.second) (view_of l.second)
+    × HasRead g.B.Source.is_read (below l.initial.second) (below l.second)
+
+abbrev pub decreases-loop-second : goal.decreases-loop-second
+decreases-loop-second g l = room l.second

@@ -1,0 +1,28 @@
+use Rattle.std.proofs.Common.{◌≡◌, [], ◌∷◌, ◌++◌, subst, sym}
+use Rattle.bt_bed.specs.calls.Batch.{Passes, left}
+use Rattle.bt_bed.specs.declared.read.batch.Batch.{Batch}
+use Rattle.bt_bed.specs.calls.CursorLaws.{batch_gives_more, batch_gives_none}
+use Rattle.bt_bed.specs.calls.RawRecord.{record_in}
+use Rattle.bt_tool.proofs.lemmas.running.sweep.AdvanceLemmas.{all_taken, batch_taken, room_falls}
+use Rattle.bt_tool.proofs.loops.sweeping.consume_buffered.Goals as goal
+
+pub loop-next-init : goal.loop-next-init
+loop-next-init g c = ([], batch_gives_none c.buffered-seconds.result)
+
+pub loop-next-preserved : goal.loop-next-preserved
+loop-next-preserved g c =
+    let so = c.loop-next.invariant in
+    (so.0 ++ record_in c.in-Some._next ∷ [], batch_gives_more c.buffered-seconds.result c.loop-next.seconds c.next.new.self so.0 (record_in c.in-Some._next ∷ []) so.1 c.in-Some.ensures.some)
+
+pub loop-next-smaller : goal.loop-next-smaller
+loop-next-smaller g c = room_falls c.loop-next.seconds c.next.new.self (record_in c.in-Some._next) c.in-Some.ensures.some
+
+pub consume-requires : goal.consume-requires
+consume-requires g c =
+    let so = c.loop-next.invariant in
+    batch_taken c.args.second.now c.buffered-seconds.result c.buffered-seconds.ensures.lends c.next.new.self so.0 (subst (Passes c.buffered-seconds.result so.0) (sym c.in_default.ensures.unchanged) so.1) c.consumed-consumed.result c.consumed-consumed.ensures
+
+pub returns-clause-takes : goal.returns-clause-takes
+returns-clause-takes g c =
+    let so = c.loop-next.invariant in
+    all_taken c.args.second.now c.buffered-seconds.result c.buffered-seconds.ensures.lends c.next.new.self so.0 (subst (Passes c.buffered-seconds.result so.0) (sym c.in_default.ensures.unchanged) so.1) c.consumed-consumed.result c.consumed-consumed.ensures g.B.Source.left g.B.Source.has_failed g.B.Source.end_told c.buffered-seconds.ensures.comes c.consume.new.self c.consume.ensures (subst (λ (b : Batch). left b ≡ []) (sym c.in_default.ensures.unchanged) c.in_default.ensures.none)

@@ -1,0 +1,13 @@
+use Rattle.std.proofs.Common.{◌≡◌, ◌<◌, ◌^◌, true, take}
+use Rattle.std.specs.Char.{is_ascii_digit}
+use Rattle.std.specs.List.{list_all}
+use Rattle.std.specs.Str.Parse.{digits_value}
+use Rattle.bt_tool.specs.model.usage.Fraction.{nine_decimals}
+use Rattle.bt_tool.proofs.options.fraction.billionths_behind.Given as goal
+
+-- the value so far is that of the digits so far
+abbrev pub invariant-loop-at : goal.invariant-loop-at
+invariant-loop-at l =
+    (l.billionths ≡ digits_value 10 (take l.at (nine_decimals l.decimals)))
+    × (list_all is_ascii_digit (take l.at (nine_decimals l.decimals)) ≡ true)
+    × (l.billionths < 10 ^ l.at)

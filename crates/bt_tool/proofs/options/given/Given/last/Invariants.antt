@@ -1,0 +1,13 @@
+use Rattle.std.proofs.Common.{length, ◌-◌}
+use Rattle.std.specs.Prelude.{option_map}
+use Rattle.bt_tool.proofs.lemmas.options.Reading.{Reads}
+use Rattle.bt_tool.specs.calls.words.ItemLent.{item_lent}
+use Rattle.bt_tool.specs.calls.words.Plan.{words_seen}
+use Rattle.bt_tool.specs.calls.words.TableLent.{table_lent}
+use Rattle.bt_tool.proofs.options.given.Given.last.Given as goal
+
+abbrev pub invariant-loop-at : goal.invariant-loop-at
+invariant-loop-at l = Reads (table_lent l.self.table.now) (words_seen l.self.words.now) l.option l.at (option_map item_lent l.last)
+
+abbrev pub decreases-loop-at : goal.decreases-loop-at
+decreases-loop-at l = length l.self.words.now - l.at

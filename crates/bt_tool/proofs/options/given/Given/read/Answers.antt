@@ -1,0 +1,18 @@
+use Rattle.bt_tool.specs.calls.words.ItemLent.{item_lent}
+use Rattle.bt_tool.specs.calls.words.Plan.{words_seen}
+use Rattle.bt_tool.specs.calls.words.TableLent.{table_lent}
+use Rattle.std.proofs.Common.{◌+◌, subst, sym}
+use Rattle.bt_tool.proofs.lemmas.options.Reading.{HasReadWords, reads-on-item, reads-on-end, words-end}
+use Rattle.bt_tool.proofs.options.given.Given.read.Goals as goal
+
+pub loop-at-preserved : goal.loop-at-preserved
+loop-at-preserved c =
+    let table = table_lent c.args.table.now in
+    let words = words_seen c.args.words.now in
+    let item = item_lent c.in_ok-item_at.field-0 in
+    let next = reads-on-item table words c.loop-at.at item c.in_ok-item_at.ensures.item c.in_ok-item_at.ensures.here c.loop-at.invariant in
+    subst (λ n. HasReadWords table words (c.loop-at.at + n)) (sym c.len.ensures) next
+
+pub invariant_of-result : goal.invariant_of-result
+invariant_of-result c =
+    record { no_fault = reads-on-end (table_lent c.args.table.now) (words_seen c.args.words.now) c.loop-at.at (words-end c.args.words.now c.loop-at.at c.loop-at-test.false) c.loop-at.invariant }

@@ -1,0 +1,3 @@
+-- What calls do, as contracts say it.
+pub mod run
+pub mod words

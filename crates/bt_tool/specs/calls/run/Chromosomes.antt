@@ -1,0 +1,68 @@
+-- What reading the genome file of a run does, if it has one.
+use Rattle.std.specs.Prelude.{◌≡◌, ◌≢◌, ℕ, ◌⊎◌, Bool, List, Option, Some, Ok, Err, Result, is_some}
+use Rattle.std.specs.Prelude.{IfSome, option_map}
+use Rattle.bt_lines.specs.model.Fault.{Told, no_memory, write_failed}
+use Rattle.bt_lines.specs.model.Handed.{Handed}
+use Rattle.bt_lines.specs.calls.Names.{told}
+use Rattle.bt_lines.specs.calls.Output.{Output}
+use Rattle.bt_lines.specs.declared.fault.Fault.{Fault}
+use Rattle.bt_lines.specs.declared.fault.Input.TheVariants.{Genome as FromGenome}
+use Rattle.bt_bed.specs.calls.GenomeTable.{entries, names_of}
+use Rattle.bt_bed.specs.model.feature.LineKind.{is_genome_kind}
+use Rattle.bt_bed.specs.model.order.Rank.{AreDistinct}
+use Rattle.bt_bed.specs.declared.order.genome.Genome.{Genome}
+use Rattle.bt_tool.specs.model.usage.Kinds.{IsOneOf}
+use Rattle.bt_tool.specs.model.report.Behaviour.{behaviour_of}
+use Rattle.bt_tool.specs.calls.run.Telling.{IsOfInput, TellsInputIf}
+use Rattle.bt_tool.specs.model.report.Inputs.{HoldsIf, ReadsIf, ServesIf}
+use Rattle.bt_tool.specs.model.report.Report.{chromosomes_of}
+use Rattle.bt_tool.specs.calls.run.Writing.{WritesBy}
+use Rattle.bt_tool.specs.declared.planning.plan_type.Command.{Command}
+
+module _ {G : Type 0} (left : G → Option (List ℕ)) (failed : G → Bool) where
+  -- the chromosomes were read
+  pub record KnowsChromosomes (before after : Option G) (table : Option Genome) : Type 0 where
+    pub whole : (handed : Option Handed) → ReadsIf left failed before after handed
+        → chromosomes_of handed ≡ Ok (option_map entries table)
+    pub told : (handed : Option Handed) → HoldsIf left before handed
+        → chromosomes_of handed ≡ Ok (option_map entries table)
+    -- there are some exactly if there is a file
+    pub named : is_some table ≡ is_some before
+    pub distinct : IfSome table (λ table. AreDistinct (names_of table))
+    pub served : ServesIf failed before after
+
+  -- the genome file is at fault, or couldn't be read
+  pub record LacksChromosomes (before after : Option G) (fault : Told) : Type 0 where
+    pub whole : (handed : Option Handed) → ReadsIf left failed before after handed
+        → fault ≢ no_memory
+        → chromosomes_of handed ≡ Err fault
+    pub told : (handed : Option Handed) → HoldsIf left before handed → IsOfInput (Some fault)
+        → chromosomes_of handed ≡ Err fault
+    pub named : TellsInputIf left failed (IsOneOf is_genome_kind) FromGenome before after fault
+        ⊎ (fault ≡ no_memory)
+    pub no_write : fault ≢ write_failed
+
+  abbrev pub ReadsChromosomes : Option G → Result (Option Genome) Fault → Option G → Type 0
+  ReadsChromosomes before (Ok table) after = KnowsChromosomes before after table
+  ReadsChromosomes before (Err fault) after = LacksChromosomes before after (told fault)
+
+-- the run ended with the genome file's fault, and nothing else was touched
+pub record StopsAtGenome {A B : Type 0} (first : A) (second : Option B) (out : Output)
+    (genome_fault : Told) (fault : Option Told) (first_after : A) (second_after : Option B)
+    (grown : Output) : Type 0 where
+  pub is : fault ≡ Some genome_fault
+  pub untouched : first_after ≡ first
+  pub other_untouched : second_after ≡ second
+  pub unchanged : grown ≡ out
+
+module _ {A B : Type 0} (a_left : A → Option (List ℕ)) (a_failed a_end : A → Bool)
+    (b_left : B → Option (List ℕ)) (b_failed : B → Bool) where
+  -- the output was written by the chromosomes that were read, or the run ended with their fault
+  abbrev pub WritesOutput : Command → Result (Option Genome) Fault → A → Option B → Output
+      → Option Told → A → Option B → Output → Type 0
+  WritesOutput command (Ok table) first second out fault first_after second_after grown =
+      WritesBy a_left a_failed a_end b_left b_failed
+      (behaviour_of command (option_map entries table)) first second out fault first_after
+      second_after grown
+  WritesOutput command (Err genome_fault) first second out fault first_after second_after grown =
+      StopsAtGenome first second out (told genome_fault) fault first_after second_after grown

@@ -1,0 +1,7 @@
+-- Words of contracts inside of the crate.
+pub mod Coming
+pub mod ConvertSteps
+pub mod Feeding
+pub mod FeedsBuffered
+pub mod Flushing
+pub mod Passed

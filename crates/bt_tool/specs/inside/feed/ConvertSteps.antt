@@ -1,0 +1,65 @@
+-- What a run does with one line of a SAM input, and with all of them.
+use Rattle.std.specs.Prelude.{◌≡◌, ℕ, ◌⊎◌, ⊤, Bool, List, Option, Some, Result, Ok, Err}
+use Rattle.bt_lines.specs.model.Fault.{Told}
+use Rattle.bt_lines.specs.model.Lines.{TextLine}
+use Rattle.bt_lines.specs.calls.Names.{told}
+use Rattle.bt_lines.specs.calls.Output.{Output}
+use Rattle.bt_lines.specs.calls.Putting.{FailsToAdd, Grown}
+use Rattle.bt_lines.specs.declared.fault.Fault.{Fault}
+use Rattle.bt_lines.specs.declared.fault.Input.{Input}
+use Rattle.bt_lines.specs.declared.fault.Kind.{Kind}
+use Rattle.bt_lines.specs.declared.reader.line_reader.LineReader.{LineReader}
+use Rattle.bt_bed.specs.model.feature.LineKind.{fault_at_line}
+use Rattle.bt_bed.specs.calls.Reading.{MemberReader}
+use Rattle.bt_seq.specs.model.Alignment.{Alignment, alignment_of}
+use Rattle.bt_seq.specs.model.BedLines.{bed_lines, lines_if}
+use Rattle.bt_seq.specs.calls.BamToBedState.{Converting}
+use Rattle.bt_seq.specs.model.GoodSam.{sam_format}
+use Rattle.bt_seq.specs.model.SamKind.{is_sam_kind}
+use Rattle.bt_tool.specs.model.usage.Kinds.{IsOneOf}
+use Rattle.bt_tool.specs.model.report.ConvertReport.{alignment_lines}
+use Rattle.bt_tool.specs.inside.feed.Feeding.{FeedsMembers}
+use Rattle.bt_tool.specs.inside.feed.Passed.{IsKeptBelow, lines_read}
+
+-- what the line says was written
+pub record LineWritten (old : Converting) (line : TextLine) (out : Output) (new : Converting)
+    (grown : Output) : Type 0 where
+  pub said : Option Alignment
+  pub says : alignment_of line.text ≡ Ok said
+  pub writes : Grown out (lines_if old.split old.with_cigar said) grown
+  pub unchanged : new ≡ old
+
+-- the line is at fault
+pub record LineRefused (input : Input) (line : TextLine) (out : Output) (fault : Told)
+    (grown : Output) : Type 0 where
+  pub kind : Kind
+  pub says : alignment_of line.text ≡ Err kind
+  pub is : fault ≡ fault_at_line input line.number kind
+  pub unchanged : grown ≡ out
+
+-- the lines of its alignment couldn't be written
+pub record LineUnwritten (old : Converting) (line : TextLine) (out : Output) (fault : Told)
+    (grown : Output) : Type 0 where
+  pub said : Alignment
+  pub says : alignment_of line.text ≡ Ok (Some said)
+  pub fails : FailsToAdd out (bed_lines old.split old.with_cigar said) fault grown
+
+-- what a line of the input does
+abbrev pub ConvertsLine : {T : Type 0} → Input → Converting → TextLine → Output → Result T Fault
+    → Converting → Output → Type 0
+ConvertsLine input old line out (Ok done) new grown = LineWritten old line out new grown
+ConvertsLine input old line out (Err fault) new grown =
+    LineRefused input line out (told fault) grown ⊎ LineUnwritten old line out (told fault) grown
+
+-- a reader of lines as one of the alignments on them
+abbrev pub sam_reader : {S : Type 0} → LineReader S → MemberReader S Alignment ⊤
+sam_reader reader = lines_read sam_format tt reader
+
+-- what writing the alignments of all lines does
+abbrev pub ConvertsAll : {S T : Type 0} → (S → Option (List ℕ)) → (S → Bool) → (S → Bool)
+    → Converting → LineReader S → Output → Result T Fault → LineReader S → Output → Type 0
+ConvertsAll {S} left failed end converting old out answer new grown =
+    (members : MemberReader S Alignment ⊤) × (members.below ≡ new)
+    × FeedsMembers (alignment_lines converting.split converting.with_cigar) (IsOneOf is_sam_kind)
+    (λ past. ⊤) left failed end (λ past. ⊤) (sam_reader old) out answer members grown
+    × IsKeptBelow members new

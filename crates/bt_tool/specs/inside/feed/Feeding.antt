@@ -1,0 +1,152 @@
+-- What feeding an engine with the members of a reader does to the devices.
+use Rattle.std.specs.Prelude.{◌≡◌, ◌≢◌, ℕ, ◌+◌, ◌^◌, ◌<◌, ◌≤◌, ◌⊎◌, Bool, true, List, [], ◌++◌}
+use Rattle.std.specs.Prelude.{length, Option, Some, None, Result, Ok, Err, IfSome}
+use Rattle.bt_lines.specs.model.Fault.{Told, write_failed}
+use Rattle.bt_lines.specs.calls.Names.{told}
+use Rattle.bt_lines.specs.calls.Output.{Output, IsFrontOf, Grows, block_size}
+use Rattle.bt_lines.specs.calls.Putting.{WorksAsBefore}
+use Rattle.bt_lines.specs.calls.Reader.{Hands, IsSound, source_of, bytes_taken}
+use Rattle.bt_lines.specs.calls.Reader.{feeds_taken, lines_given}
+use Rattle.bt_lines.specs.declared.fault.Fault.{Fault}
+use Rattle.bt_lines.specs.declared.fault.Kind.{Kind}
+use Rattle.bt_bed.specs.model.feature.Feature.{Feature, intervals_of}
+use Rattle.bt_bed.specs.model.input.Good.{Member}
+use Rattle.bt_bed.specs.model.feature.Interval.{AreNonEmpty}
+use Rattle.bt_bed.specs.model.feature.LineKind.{IsBedKind}
+use Rattle.bt_bed.specs.model.order.Locus.{ArePlaced}
+use Rattle.bt_bed.specs.model.order.Order.{Order}
+use Rattle.bt_bed.specs.calls.Reading.{MemberReader, good_coming}
+use Rattle.bt_bed.specs.calls.Records.{order_in, view_of}
+use Rattle.bt_bed.specs.declared.order.ChromOrder.{Ghosts}
+use Rattle.bt_bed.specs.declared.read.records.Records.{Records}
+pub use Rattle.bt_tool.specs.inside.feed.Passed.{ComeFirst, member_items}
+use Rattle.bt_tool.specs.inside.feed.Passed.{AreAll, HasFaultBehind, IsReadFor, LacksMemory}
+use Rattle.bt_tool.specs.calls.run.Telling.{IsPutTo}
+
+-- these lines were put after what was put before
+abbrev pub PutsLines : Output → List ℕ → Output → Type 0
+PutsLines old lines new =
+    (before : List ℕ) → old.put ≡ Some before → new.put ≡ Some (before ++ lines)
+
+-- the first of these lines were
+pub record PutsFront (old : Output) (lines : List ℕ) (new : Output) : Type 0 where
+  pub front : List ℕ
+  pub rest : List ℕ
+  pub parts : lines ≡ front ++ rest
+  pub puts : PutsLines old front new
+
+-- the sink took a prefix of what was put before and these lines, and failed
+pub record CutsLines (old : Output) (lines : List ℕ) (new : Output) : Type 0 where
+  pub front : (before : List ℕ) → old.put ≡ Some before
+      → IsFrontOf new.took (Some (before ++ lines)) []
+  pub failed : new.has_failed ≡ true
+  pub sink_failed : new.sink_has_failed ≡ true
+
+-- an output later on: the sink took no less, and unless a write failed no less was put
+pub record GoesOn (old new : Output) : Type 0 where
+  pub took : Grows old.took new.took
+  pub put : (new.has_failed ≡ true) ⊎ Grows old.put new.put
+  pub stays_failed : old.has_failed ≡ true → new.has_failed ≡ true
+
+-- of these bytes, put after what was put before, the sink took all but a block;
+-- and unless a write failed, all of them were put
+pub record TookButBlock (old : Output) (bytes : List ℕ) (new : Output) : Type 0 where
+  pub took : (before taken : List ℕ) → old.put ≡ Some before → old.took ≡ Some taken
+      → IfSome new.took (λ now. length (before ++ bytes) ≤ length now + block_size)
+  pub put : (new.has_failed ≡ true) ⊎ ((before : List ℕ) → old.put ≡ Some before
+      → IsPutTo (length (before ++ bytes)) new.put)
+
+module _ {S A State : Type 0} (left : S → Option (List ℕ)) (end : S → Bool) where
+  -- a reader of members that has given nothing yet
+  pub record IsFresh (reader : MemberReader S A State) : Type 0 where
+    pub none_given : (lines_given reader.below ≡ 0) × (bytes_taken reader.below ≡ 0)
+        × (feeds_taken reader.below ≡ 0)
+    pub none_buffered : reader.buffered ≡ []
+    pub going : reader.fault ≡ None
+    pub sound : IsSound left end reader.below
+
+module _ {S A State : Type 0} (settled : List A → List ℕ) (Kinds : Kind → Type 0)
+    (Sorted : List A → Type 0) (left : S → Option (List ℕ)) (failed end : S → Bool) where
+  -- these members were taken
+  pub record Took (old : MemberReader S A State) (out : Output) (past : List (Member A))
+      (new : MemberReader S A State) (grown : Output) : Type 0 where
+    pub bytes : (bytes : List ℕ) × Hands left old.below bytes new.below
+    -- they are ordered as the input's format requires
+    pub sorted : Sorted (member_items past)
+    pub grows : Grows out.took grown.took
+    -- how far the input was read: what the members of the lines before settle was taken, except at most a
+    -- block
+    pub before : List (Member A)
+    pub read : IsReadFor left failed end old before before new
+    pub kept : TookButBlock out (settled (member_items before)) grown
+
+  -- all members were taken, and the engine is after them
+  pub record FeedsAll (Stands : List A → Type 0) (old : MemberReader S A State) (out : Output)
+      (new : MemberReader S A State) (grown : Output) : Type 0 where
+    pub past : List (Member A)
+    pub took : Took old out past new grown
+    pub whole : AreAll left failed end old past
+    pub stands : Stands (member_items past)
+    pub puts : PutsLines out (settled (member_items past)) grown
+    pub works : WorksAsBefore out grown
+    pub served : failed (source_of new.below) ≡ failed (source_of old.below)
+    pub within : bytes_taken new.below < 2 ^ 63
+
+  -- a line is at fault, or the source failed, or its text is too long
+  pub record StopsReading (old : MemberReader S A State) (out : Output) (past : List (Member A))
+      (fault : Told) (new : MemberReader S A State) (grown : Output) : Type 0 where
+    pub behind : HasFaultBehind left failed end old Kinds past fault new
+    pub puts : PutsLines out (settled (member_items past)) grown
+    pub works : WorksAsBefore out grown
+
+  -- memory ran out
+  pub record StopsGrowing (old : MemberReader S A State) (out : Output) (past : List (Member A))
+      (fault : Told) (new : MemberReader S A State) (grown : Output) : Type 0 where
+    pub lacks : LacksMemory left failed end old fault new
+    pub puts : PutsLines out (settled (member_items past)) grown
+    pub works : WorksAsBefore out grown
+
+  -- the sink failed
+  pub record StopsWriting (old : MemberReader S A State) (out : Output) (past : List (Member A))
+      (fault : Told) (new : MemberReader S A State) (grown : Output) : Type 0 where
+    pub is : fault ≡ write_failed
+    pub cuts : CutsLines out (settled (member_items past)) grown
+    pub served : failed (source_of new.below) ≡ failed (source_of old.below)
+
+  -- why the members weren't all taken
+  abbrev pub StopCause : MemberReader S A State → Output → List (Member A) → Told
+      → MemberReader S A State → Output → Type 0
+  StopCause old out past fault new grown =
+      StopsReading old out past fault new grown
+      ⊎ (StopsGrowing old out past fault new grown ⊎ StopsWriting old out past fault new grown)
+
+  -- the members were taken up to a fault
+  pub record FeedsUpTo (old : MemberReader S A State) (out : Output) (fault : Told)
+      (new : MemberReader S A State) (grown : Output) : Type 0 where
+    pub past : List (Member A)
+    pub took : Took old out past new grown
+    pub begins : IfSome (good_coming left old)
+        (λ good. (rest : List (Member A)) × (good.members ≡ past ++ rest))
+    pub cause : StopCause old out past fault new grown
+    -- unless a write failed, what was put is what the members of the lines before settle
+    pub exact : fault ≢ write_failed → PutsLines out (settled (member_items took.before)) grown
+
+  -- what feeding an engine with all members does
+  abbrev pub FeedsMembers : {T : Type 0} → (List A → Type 0) → MemberReader S A State → Output
+      → Result T Fault → MemberReader S A State → Output → Type 0
+  FeedsMembers Stands old out (Ok done) new grown = FeedsAll Stands old out new grown
+  FeedsMembers Stands old out (Err fault) new grown = FeedsUpTo old out (told fault) new grown
+
+-- records are in the order of their chromosomes, and each has a base
+abbrev pub AreInOrder : Order → List Feature → Type 0
+AreInOrder order records =
+    ArePlaced order (intervals_of records) × AreNonEmpty (intervals_of records)
+
+module _ {S O : Type 0} {g : Ghosts O} (settled : List Feature → List ℕ)
+    (left : S → Option (List ℕ)) (failed end : S → Bool) where
+  -- what feeding an engine with all records does
+  abbrev pub FeedsRecords : {T : Type 0} → (List Feature → Type 0) → Records S O g → Output
+      → Result T Fault → Records S O g → Output → Type 0
+  FeedsRecords Stands old out answer new grown =
+      FeedsMembers settled (IsBedKind (order_in old)) (AreInOrder (order_in old)) left failed end
+      Stands (view_of old) out answer (view_of new) grown

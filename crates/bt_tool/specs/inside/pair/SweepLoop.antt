@@ -1,0 +1,176 @@
+-- How far a sweep over two readers has come, and how it ends.
+use Rattle.std.specs.Prelude.{◌≡◌, ◌⊎◌, ℕ, ◌≤◌, ◌<◌, All, Bool, true, List, ◌++◌, Option, Some, None, Result, Ok, Err}
+use Rattle.std.specs.Prelude.{⊤, [], IsTrue, option_to_list}
+use Rattle.std.specs.List.{list_all}
+use Rattle.bt_lines.specs.model.Fault.{Told, read_failed}
+use Rattle.bt_lines.specs.model.Lines.{TextLine}
+use Rattle.bt_lines.specs.calls.Names.{told}
+use Rattle.bt_lines.specs.calls.Output.{Output}
+use Rattle.bt_lines.specs.calls.Reader.{Hands, end_told, lines_given}
+use Rattle.bt_lines.specs.declared.fault.Fault.{Fault}
+use Rattle.bt_lines.specs.declared.fault.Input.{Input}
+use Rattle.bt_lines.specs.declared.fault.Kind.{Kind}
+use Rattle.bt_bed.specs.model.feature.Feature.{Feature, intervals_of}
+use Rattle.bt_bed.specs.model.input.Good.{Member}
+use Rattle.bt_bed.specs.model.feature.LineKind.{IsBedKind}
+use Rattle.bt_bed.specs.model.order.Locus.{ArePlaced, Locus}
+use Rattle.bt_bed.specs.model.order.Order.{Order}
+use Rattle.bt_bed.specs.calls.Reading.{MemberReader, ahead_in}
+use Rattle.bt_bed.specs.calls.Records.{last_locus, order_in, view_of}
+use Rattle.bt_bed.specs.declared.order.ChromOrder.{Ghosts}
+use Rattle.bt_bed.specs.declared.read.records.Records.{Records}
+use Rattle.bt_sweep.specs.model.Deciding.{decided}
+use Rattle.bt_sweep.specs.model.IntersectLines.{lines_for}
+use Rattle.bt_sweep.specs.model.Limit.{are_too_many, cut_behind, limited}
+use Rattle.bt_sweep.specs.calls.Standing.{Stage, StandsAt, given, leaves_some}
+use Rattle.bt_sweep.specs.calls.SweepState.{Sweeping, want_in}
+use Rattle.bt_sweep.specs.declared.hits.hit_rule.HitRule.{HitRule}
+use Rattle.bt_sweep.specs.declared.output.shape.Shape.{Shape}
+use Rattle.bt_sweep.specs.declared.sweep.want.Want.TheVariants.{Nothing}
+use Rattle.bt_tool.specs.model.report.SweepReport.{IsSweptKind, bytes_up_to, decider}
+use Rattle.bt_tool.specs.inside.pair.Pair.{Making, Pair}
+use Rattle.bt_tool.specs.inside.pair.PairComes.{Comes, Stage as PairStage}
+use Rattle.bt_tool.specs.inside.pair.PairEnds.{Finishes, IsKnown}
+use Rattle.bt_tool.specs.inside.feed.Passed.{AreAll, Passes, StopsAfter}
+
+-- Whatever comes after them of either input, by these records of the first the limit doesn't lie
+-- among these of the second.
+abbrev pub AreWithin : Order → Option ℕ → List Feature → List (Member Feature) → Type 0
+AreWithin order None as_given past = ⊤
+AreWithin order (Some most) as_given past =
+    (later : List Feature) (more : List (Member Feature)) (fault : Option Told)
+    → cut_behind (are_too_many order most (as_given ++ later)) [] (past ++ more) fault
+    ≡ cut_behind (are_too_many order most (as_given ++ later)) past more fault
+
+-- what a sweep makes of a record of the first input by records of the second
+abbrev pub sweep_making : Order → Shape → HitRule → Option ℕ → Making Feature Feature
+sweep_making order shape rule limit = record {
+  decided = decided order;
+  bytes = lines_for shape rule;
+  limited = limited order limit;
+  Fits = AreWithin order limit;
+  last = λ all second. None;
+  reaches = λ as_given members lines. bytes_up_to lines (decider order as_given members);
+  -- each record that was taken leaves one of those given undecided
+  Asks = λ as_given taken. IsTrue (list_all (leaves_some order as_given) taken);
+  InOrder = λ second. ArePlaced order (intervals_of second);
+  first_kinds = IsBedKind order;
+  second_kinds = IsSweptKind order limit;
+}
+
+-- what a stage of a sweep is as one of two readers
+abbrev pub stage_of : Stage → PairStage Feature Feature
+stage_of stage = record {
+  written = stage.written;
+  waiting = stage.waiting;
+  taken = stage.taken;
+  first_ended = stage.a_ended;
+  second_ended = stage.b_ended;
+}
+
+module _ {A B O : Type 0} {g : Ghosts O} (a_left : A → Option (List ℕ)) (a_failed a_end : A → Bool)
+    (b_left : B → Option (List ℕ)) (b_failed b_end : B → Bool)
+    (old_first : Records A O g) (old_second : Records B O g) where
+  abbrev pub records_pair : Pair A B Feature Feature (Option Locus) (Option Locus)
+  records_pair = record {
+    a_left = a_left;
+    a_failed = a_failed;
+    a_end = a_end;
+    b_left = b_left;
+    b_failed = b_failed;
+    b_end = b_end;
+    first = view_of old_first;
+    second = view_of old_second;
+  }
+
+module _ {A B O : Type 0} {g : Ghosts O} (a_left : A → Option (List ℕ)) (a_failed a_end : A → Bool)
+    (b_left : B → Option (List ℕ)) (b_failed b_end : B → Bool)
+    (order : Order) (shape : Shape) (rule : HitRule) (limit : Option ℕ) (old_first : Records A O g)
+    (old_second : Records B O g) (out : Output) where
+  abbrev pub SweepEnds : Option Told → Records A O g → Records B O g → Output → Type 0
+  SweepEnds fault first second grown =
+      Finishes (sweep_making order shape rule limit)
+      (records_pair a_left a_failed a_end b_left b_failed b_end old_first old_second) out fault
+      (view_of first) (view_of second) grown
+
+  -- the records so far were given
+  pub record Sweeps (first : Records A O g) (second : Records B O g) (sweep : Sweeping)
+      (grown : Output) : Type 0 where
+    pub past_first : List (Member Feature)
+    pub past_second : List (Member Feature)
+    pub stage : Stage
+    pub stands : StandsAt order shape rule limit stage sweep
+    pub comes : Comes (sweep_making order shape rule limit)
+        (records_pair a_left a_failed a_end b_left b_failed b_end old_first old_second) out
+        (stage_of stage) past_first past_second (view_of first) (view_of second) grown
+    -- they go by the order from the beginning
+    pub first_order : order_in first ≡ order_in old_first
+    pub second_order : order_in second ≡ order_in old_second
+    pub first_begins : last_locus old_first ≡ None
+    pub second_begins : last_locus old_second ≡ None
+    pub fits : IsKnown (records_pair a_left a_failed a_end b_left b_failed b_end old_first old_second)
+        → AreWithin order limit (given stage) past_second
+
+  -- what giving a sweep all that it needs does
+  abbrev pub SweepsOrStops : {T : Type 0} → Result T Fault → Records A O g → Records B O g
+      → Sweeping → Output → Type 0
+  SweepsOrStops (Ok done) first second sweep grown =
+      Sweeps first second sweep grown × (want_in sweep ≡ Nothing)
+  SweepsOrStops (Err fault) first second sweep grown = SweepEnds (Some (told fault)) first second grown
+
+  -- and what reading the second input to its end then does
+  abbrev pub FinishesBoth : {T : Type 0} → Result T Fault → Records A O g → Records B O g
+      → Output → Type 0
+  FinishesBoth (Ok done) first second grown = SweepEnds None first second grown
+  FinishesBoth (Err fault) first second grown = SweepEnds (Some (told fault)) first second grown
+
+module _ {S A State : Type 0} (left : S → Option (List ℕ)) (failed end : S → Bool)
+    (old : MemberReader S A State) (past : List (Member A)) (before : MemberReader S A State) where
+  -- the rest of the members were consumed
+  pub record ChecksAll (new : MemberReader S A State) : Type 0 where
+    pub more : List (Member A)
+    pub passes : Passes left failed end old (past ++ more) new
+    pub all : AreAll left failed end old (past ++ more)
+
+  -- a fault lies after some of them
+  pub record ChecksUpTo (Kinds : Kind → Type 0) (fault : Told)
+      (new : MemberReader S A State) : Type 0 where
+    pub more : List (Member A)
+    pub stops : StopsAfter left failed end old Kinds (past ++ more) fault new
+    -- those that were consumed and the one ahead are on the lines given
+    pub low : All (λ m. m.line ≤ lines_given new.below) (past ++ option_to_list (ahead_in before))
+    pub before_end : end_told before.below ≡ true → (input : Input) (line : ℕ)
+        → fault ≡ read_failed input line → ⊥
+
+  abbrev pub ChecksRest : {T : Type 0} → (Kind → Type 0) → Result T Fault → MemberReader S A State
+      → Type 0
+  ChecksRest Kinds (Ok done) new = ChecksAll new
+  ChecksRest Kinds (Err fault) new = ChecksUpTo Kinds (told fault) new
+
+  abbrev pub Checks : {T : Type 0} → (Kind → Type 0) → Result T Fault → MemberReader S A State
+      → Type 0
+  Checks Kinds result new =
+      Passes left failed end old past before
+      → ((state : State) (line : TextLine) (kind : Kind) → old.format.says state line ≡ Err kind
+      → Kinds kind)
+      → ChecksRest Kinds result new
+
+-- reading on to the end, from wherever the reader is
+abbrev pub ReadsRest : {S A State T : Type 0} → (S → Option (List ℕ)) → (S → Bool) → (S → Bool)
+    → (Kind → Type 0) → MemberReader S A State → Result T Fault → MemberReader S A State → Type 0
+ReadsRest {S} {A} {State} {T} left failed end Kinds before result new =
+    (old : MemberReader S A State) (past : List (Member A))
+    → Checks left failed end old past before Kinds result new
+
+-- how far it has come
+module _ {S A State : Type 0} (left : S → Option (List ℕ)) (failed end : S → Bool)
+    (before now : MemberReader S A State) where
+  pub record IsReadOn : Type 0 where
+    pub bytes : (bytes : List ℕ) × Hands left before.below bytes now.below
+    pub rises : lines_given before.below ≤ lines_given now.below
+    -- the member that was ahead is consumed, if any is
+    pub moves : (now ≡ before) ⊎ (lines_given before.below < lines_given now.below)
+    pub going : before.fault ≡ None → now.fault ≡ None
+    pub passes : (old : MemberReader S A State) (past : List (Member A))
+        → Passes left failed end old past before
+        → (more : List (Member A)) × Passes left failed end old (past ++ more) now

@@ -1,0 +1,197 @@
+-- What one round of a sweep over two readers does: a record is buffered of the input that is wanted, or
+-- its end is given, and then what both have buffered is given.
+use Rattle.std.specs.Prelude.{◌≡◌, ◌⊎◌, ◌<◌, ℕ, Bool, true, false, List, ◌∷◌, [], ◌++◌, Option, Some, Result, Ok, Err}
+use Rattle.std.specs.Prelude.{None, ⊤, is_some, option_to_list}
+use Rattle.bt_lines.specs.model.Fault.{Told, no_memory}
+use Rattle.bt_lines.specs.calls.Names.{told}
+use Rattle.bt_lines.specs.calls.Output.{Output}
+use Rattle.bt_lines.specs.calls.Putting.{FailsToAdd, Grown}
+use Rattle.bt_lines.specs.declared.fault.Fault.{Fault}
+use Rattle.bt_bed.specs.model.feature.Feature.{Feature, intervals_of}
+use Rattle.bt_bed.specs.model.input.Good.{Member}
+use Rattle.bt_bed.specs.model.order.Locus.{ArePlaced}
+use Rattle.bt_bed.specs.model.order.Order.{Order}
+use Rattle.bt_bed.specs.calls.Reading.{ahead_in}
+use Rattle.bt_bed.specs.calls.Records.{FillsRecords, order_in, view_of}
+use Rattle.bt_bed.specs.declared.order.ChromOrder.{Ghosts}
+use Rattle.bt_bed.specs.declared.read.records.Records.{Records}
+use Rattle.bt_sweep.specs.calls.Advancing.{AtEach, PutsEach, Settles, stage_after}
+use Rattle.bt_sweep.specs.model.IntersectLines.{intersect, lines_for}
+use Rattle.bt_sweep.specs.inside.Joining.{CannotBeHeld, TakenEach}
+use Rattle.bt_sweep.specs.calls.Standing.{Stage, StandsAt, with_a_ended, with_b_ended}
+use Rattle.bt_sweep.specs.calls.SweepState.{Sweeping, want_in}
+use Rattle.bt_sweep.specs.declared.hits.hit_rule.HitRule.{HitRule}
+use Rattle.bt_sweep.specs.declared.sweep.phase.Phase.TheVariants.{Both}
+use Rattle.bt_sweep.specs.declared.output.shape.Shape.{Shape}
+use Rattle.bt_sweep.specs.declared.sweep.want.Want.{Want}
+use Rattle.bt_sweep.specs.declared.sweep.want.Want.TheVariants.{A as WantA, B as WantB, Nothing}
+use Rattle.bt_tool.specs.inside.pair.Pair.{item_ahead}
+use Rattle.bt_tool.specs.inside.feed.Passed.{HasTaken}
+
+module _ {A B O : Type 0} {g : Ghosts O} (a_left : A → Option (List ℕ)) (a_failed a_end : A → Bool)
+    (IsReadFirst : A → Option ℕ → A → Type 0) (b_left : B → Option (List ℕ)) (b_failed b_end : B → Bool)
+    (IsReadSecond : B → Option ℕ → B → Type 0) (order : Order) (first : Records A O g) (second : Records B O g)
+    (sweep : Sweeping) (out : Output) where
+  -- the sweep is given the end of the first input, if it has ended
+  abbrev pub EndsFirst : Bool → Sweeping → Type 0
+  EndsFirst true swept = swept ≡ sweep
+  EndsFirst false swept =
+      (shape : Shape) (rule : HitRule) (limit : Option ℕ) (stage : Stage)
+      → StandsAt order shape rule limit stage sweep
+      → StandsAt order shape rule limit (with_a_ended stage) swept
+
+  -- the same of the second, and the lines of the waiting record are written then
+  abbrev pub EndsSecond : Bool → Sweeping → Output → Type 0
+  EndsSecond true swept grown = (swept ≡ sweep) × (grown ≡ out)
+  EndsSecond false swept grown =
+      (shape : Shape) (rule : HitRule) (limit : Option ℕ) (stage : Stage) (a : Feature)
+      → StandsAt order shape rule limit stage sweep → stage.waiting ≡ Some a
+      → ArePlaced order (intervals_of stage.taken)
+      → StandsAt order shape rule limit (with_b_ended stage) swept
+      × Grown out (lines_for shape rule a stage.taken) grown
+
+  -- a record of the first input is buffered, or it has ended
+  pub record FillsFirst (new : Records A O g) (new_second : Records B O g) (swept : Sweeping)
+      (grown : Output) : Type 0 where
+    pub wants : want_in sweep ≡ WantA
+    pub answer : Bool
+    pub fills : FillsRecords a_left a_failed a_end IsReadFirst first (Ok answer) new
+    pub ends : EndsFirst answer swept
+    pub same_second : new_second ≡ second
+    pub same_output : grown ≡ out
+
+  pub record FillsSecond (new_first : Records A O g) (new : Records B O g) (swept : Sweeping)
+      (grown : Output) : Type 0 where
+    pub wants : want_in sweep ≡ WantB
+    pub answer : Bool
+    pub fills : FillsRecords b_left b_failed b_end IsReadSecond second (Ok answer) new
+    pub ends : EndsSecond answer swept grown
+    pub same_first : new_first ≡ first
+
+  pub record NoneWanted (new_first : Records A O g) (new_second : Records B O g) (swept : Sweeping)
+      (grown : Output) : Type 0 where
+    pub wants : want_in sweep ≡ Nothing
+    pub same_first : new_first ≡ first
+    pub same_second : new_second ≡ second
+    pub same_sweep : swept ≡ sweep
+    pub same_output : grown ≡ out
+
+  -- the input couldn't be read on
+  pub record StopsFirst (fault : Fault) (new : Records A O g) (new_second : Records B O g)
+      (grown : Output) : Type 0 where
+    pub wants : want_in sweep ≡ WantA
+    pub fills : FillsRecords a_left a_failed a_end IsReadFirst first (Err fault) new
+    pub same_second : new_second ≡ second
+    pub same_output : grown ≡ out
+
+  pub record StopsSecond (fault : Fault) (new_first : Records A O g) (new : Records B O g)
+      (grown : Output) : Type 0 where
+    pub wants : want_in sweep ≡ WantB
+    pub fills : FillsRecords b_left b_failed b_end IsReadSecond second (Err fault) new
+    pub same_first : new_first ≡ first
+    pub same_output : grown ≡ out
+
+  -- at the end of the second the lines of the waiting record weren't written
+  pub record FailsAtEnd (fault : Fault) (new_first : Records A O g) (new : Records B O g)
+      (grown : Output) : Type 0 where
+    pub wants : want_in sweep ≡ WantB
+    pub fills : FillsRecords b_left b_failed b_end IsReadSecond second (Ok false) new
+    pub same_first : new_first ≡ first
+    pub fails : (shape : Shape) (rule : HitRule) (limit : Option ℕ) (stage : Stage) (a : Feature)
+        → StandsAt order shape rule limit stage sweep → stage.waiting ≡ Some a
+        → ArePlaced order (intervals_of stage.taken)
+        → FailsToAdd out (lines_for shape rule a stage.taken) (told fault) grown
+
+  -- whether anything is wanted
+  abbrev pub FillsWanted : Result Bool Fault → Records A O g → Records B O g → Sweeping → Output → Type 0
+  FillsWanted (Ok true) new_first new_second swept grown =
+      FillsFirst new_first new_second swept grown ⊎ FillsSecond new_first new_second swept grown
+  FillsWanted (Ok false) new_first new_second swept grown = NoneWanted new_first new_second swept grown
+  FillsWanted (Err fault) new_first new_second swept grown =
+      StopsFirst fault new_first new_second grown
+      ⊎ (StopsSecond fault new_first new_second grown ⊎ FailsAtEnd fault new_first new_second grown)
+
+  -- records of both that were buffered are taken
+  pub record TakesBoth (firsts seconds : List Feature) (new_first : Records A O g)
+      (new_second : Records B O g) : Type 0 where
+    pub first_taken : HasTaken a_left a_failed a_end (view_of first) firsts (view_of new_first)
+    pub second_taken : HasTaken b_left b_failed b_end (view_of second) seconds (view_of new_second)
+    pub first_order : order_in new_first ≡ order_in first
+    pub second_order : order_in new_second ≡ order_in second
+
+  -- what is wanted then isn't buffered
+  abbrev pub NotBuffered : Want → Records A O g → Records B O g → Type 0
+  NotBuffered WantA new_first new_second = (view_of new_first).buffered ≡ []
+  NotBuffered WantB new_first new_second = (view_of new_second).buffered ≡ []
+  NotBuffered Nothing new_first new_second = ⊤
+
+  -- They were given: the lines of those that are decided are written, and one of the first may wait.
+  pub record GivesBoth (new_first : Records A O g) (new_second : Records B O g) (swept : Sweeping)
+      (grown : Output) : Type 0 where
+    pub firsts : List Feature
+    pub seconds : List Feature
+    pub newly : List Feature
+    pub takes : TakesBoth firsts seconds new_first new_second
+    pub are : option_to_list sweep.current ++ firsts ≡ newly ++ option_to_list swept.current
+    pub settles : Settles order sweep.phase newly (seconds ++ option_to_list (item_ahead (view_of new_second)))
+    pub each : AtEach order sweep firsts seconds (λ shape rule limit stage.
+        TakenEach order limit (option_to_list sweep.current ++ firsts) stage.taken seconds)
+    pub stands : AtEach order sweep firsts seconds (λ shape rule limit stage.
+        StandsAt order shape rule limit (stage_after stage newly swept.current seconds) swept)
+    pub puts : PutsEach order sweep firsts seconds newly out grown
+    -- or the record that waited was written
+    pub stops : NotBuffered (want_in swept) new_first new_second
+        ⊎ ((is_some sweep.current ≡ true) × (swept.current ≡ None))
+
+  module _ (firsts seconds newly : List Feature) (waiting : Option Feature) (new_second : Records B O g)
+      (fault : Told) (grown : Output) where
+    -- the lines couldn't all be written
+    pub record FailsToWrite : Type 0 where
+      pub cuts : AtEach order sweep firsts seconds (λ shape rule limit stage.
+          FailsToAdd out (intersect shape rule newly (stage.taken ++ seconds)) fault grown)
+
+    -- they were written; the record ahead of the second has to be held for the one that waits, and can't be
+    pub record FailsToTake : Type 0 where
+      pub last : Feature
+      pub waits : waiting ≡ Some last
+      pub m : Member Feature
+      pub ahead : ahead_in (view_of new_second) ≡ Some m
+      pub chrom : m.item.chrom ≡ last.chrom
+      pub starts : m.item.start < last.stop
+      pub ends : last.start < m.item.stop
+      pub puts : PutsEach order sweep firsts seconds newly out grown
+      pub lacks : AtEach order sweep firsts seconds (λ shape rule limit stage.
+          CannotBeHeld limit last (stage.taken ++ seconds) m.line fault)
+
+    -- they were written; neither input has ended, none waited before, none of the second is buffered, and
+    -- the one that waits can't be kept
+    pub record FailsToKeep : Type 0 where
+      pub last : Feature
+      pub waits : waiting ≡ Some last
+      pub is : fault ≡ no_memory
+      pub none : sweep.current ≡ None
+      pub both : sweep.phase ≡ Both
+      pub ended : (view_of new_second).buffered ≡ []
+      pub puts : PutsEach order sweep firsts seconds newly out grown
+
+  -- it failed once the lines of these records of the first were settled
+  pub record FailsAmong (fault : Told) (new_first : Records A O g) (new_second : Records B O g)
+      (grown : Output) : Type 0 where
+    pub firsts : List Feature
+    pub seconds : List Feature
+    pub newly : List Feature
+    pub waiting : Option Feature
+    pub takes : TakesBoth firsts seconds new_first new_second
+    pub are : option_to_list sweep.current ++ firsts ≡ newly ++ option_to_list waiting
+    pub settles : Settles order sweep.phase newly (seconds ++ option_to_list (item_ahead (view_of new_second)))
+    pub each : AtEach order sweep firsts seconds (λ shape rule limit stage.
+        TakenEach order limit (option_to_list sweep.current ++ firsts) stage.taken seconds)
+    pub cause : FailsToWrite firsts seconds newly waiting new_second fault grown
+        ⊎ (FailsToTake firsts seconds newly waiting new_second fault grown
+        ⊎ FailsToKeep firsts seconds newly waiting new_second fault grown)
+
+  abbrev pub AdvancesBoth : {T : Type 0} → Result T Fault → Records A O g → Records B O g → Sweeping
+      → Output → Type 0
+  AdvancesBoth (Ok done) new_first new_second swept grown = GivesBoth new_first new_second swept grown
+  AdvancesBoth (Err fault) new_first new_second swept grown =
+      FailsAmong (told fault) new_first new_second grown

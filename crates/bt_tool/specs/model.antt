@@ -1,0 +1,3 @@
+-- What one has to believe: the definitions that the report names.
+pub mod report
+pub mod usage

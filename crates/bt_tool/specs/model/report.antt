@@ -1,0 +1,9 @@
+-- What one has to believe: the definitions that the report names.
+pub mod Behaviour
+pub mod ConvertReport
+pub mod Inputs
+pub mod MaskReport
+pub mod RecordReport
+pub mod Report
+pub mod SweepReport
+pub mod Written

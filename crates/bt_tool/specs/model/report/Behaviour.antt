@@ -1,0 +1,121 @@
+-- What a command does with its inputs: the report on what they hand over, what the first lines of
+-- the first input settle and need. Then which faults a line of each can have.
+use Rattle.std.specs.Prelude.{ℕ, Bool, List, [], Option, Some, None, unwrap_or}
+use Rattle.bt_lines.specs.model.Handed.{Handed}
+use Rattle.bt_lines.specs.model.Lines.{TextLine}
+use Rattle.bt_lines.specs.declared.fault.Kind.{Kind}
+use Rattle.bt_bed.specs.model.order.ByteOrder.{byte_order}
+use Rattle.bt_bed.specs.model.feature.Feature.{Feature}
+use Rattle.bt_bed.specs.model.order.Genome.{Entry, genome_names}
+use Rattle.bt_bed.specs.model.input.Good.{Format}
+use Rattle.bt_bed.specs.model.input.GoodBed.{bed_format}
+use Rattle.bt_bed.specs.model.feature.LineKind.{IsBedKind}
+use Rattle.bt_bed.specs.model.order.Order.{Order}
+use Rattle.bt_bed.specs.model.order.Rank.{rank_order}
+use Rattle.bt_bed.specs.model.order.Sorting.{sorting_of}
+use Rattle.bt_seq.specs.model.SamKind.{is_sam_kind}
+use Rattle.bt_seq.specs.declared.mask.mask_how.MaskHow.{MaskHow}
+use Rattle.bt_sweep.specs.declared.hits.hit_rule.HitRule.{HitRule}
+use Rattle.bt_sweep.specs.declared.output.shape.Shape.{Shape}
+use Rattle.bt_tool.specs.model.report.ConvertReport.{bamtobed_report, bamtobed_settles}
+use Rattle.bt_tool.specs.model.report.Inputs.{or_empty}
+use Rattle.bt_tool.specs.model.usage.Kinds.{IsNoKind, IsOneOf}
+use Rattle.bt_tool.specs.model.report.MaskReport.{is_fasta_kind, is_mask_kind, mask_reaches, mask_report}
+use Rattle.bt_tool.specs.model.report.MaskReport.{mask_settles}
+use Rattle.bt_tool.specs.model.report.RecordReport.{Report, members_report, members_settle}
+use Rattle.bt_tool.specs.model.report.SweepReport.{IsSweptKind, intersect_reaches, intersect_report}
+use Rattle.bt_tool.specs.model.report.SweepReport.{intersect_settles}
+use Rattle.bt_tool.specs.model.report.SweepReport.{subtract_reaches, subtract_report, subtract_settles}
+use Rattle.bt_tool.specs.model.report.Written.{Written, complement_written, coverage_written, merge_written}
+use Rattle.bt_tool.specs.declared.planning.plan_type.Command.{Command}
+use Rattle.bt_tool.specs.declared.planning.plan_type.Command.TheVariants.{Merge, Complement, Intersect}
+use Rattle.bt_tool.specs.declared.planning.plan_type.Command.TheVariants.{Subtract, Coverage, BamToBed}
+use Rattle.bt_tool.specs.declared.planning.plan_type.Command.TheVariants.{MaskFasta}
+
+-- what a command does; a second input that it doesn't have isn't read
+pub record Behaviour : Type 1 where
+  -- the report on what the inputs hand over
+  pub report : Handed → Option Handed → Report
+  -- the bytes that the first lines of the first input settle
+  pub settles : Option Handed → List TextLine → List ℕ
+  -- how much of the second input these lines need: its bytes up to the first record that decides
+  -- all members among them
+  pub reaches : Option Handed → List TextLine → ℕ
+  -- the kinds of fault that a line of the first input can have, and one of the second
+  pub FirstKinds : Kind → Type 0
+  pub SecondKinds : Kind → Type 0
+
+-- a command of one input, which writes these lines of its members
+abbrev pub of_members : {A State : Type 0} → (Kind → Type 0) → Written A → Format A State → Behaviour
+of_members Kinds written format = record {
+  report = λ first second. members_report written format first;
+  settles = λ second. members_settle written format;
+  reaches = λ second lines. 0;
+  FirstKinds = Kinds;
+  SecondKinds = IsNoKind;
+}
+
+-- a command of one input of records, in an order of their chromosomes
+abbrev pub of_records : Order → Written Feature → Behaviour
+of_records order written = of_members (IsBedKind order) written (bed_format (sorting_of order))
+
+-- intersect, and what subtract does by the same records
+abbrev pub of_intersect : Order → Shape → HitRule → Option ℕ → Behaviour
+of_intersect order shape rule limit = record {
+  report = λ first second. intersect_report order shape rule limit first (or_empty second);
+  settles = λ second. intersect_settles order shape rule (or_empty second);
+  reaches = λ second. intersect_reaches order (or_empty second);
+  FirstKinds = IsBedKind order;
+  SecondKinds = IsSweptKind order limit;
+}
+
+abbrev pub of_subtract : Order → Bool → HitRule → Option ℕ → Behaviour
+of_subtract order whole rule limit = record {
+  report = λ first second. subtract_report order whole rule limit first (or_empty second);
+  settles = λ second. subtract_settles order whole rule (or_empty second);
+  reaches = λ second. subtract_reaches order (or_empty second);
+  FirstKinds = IsBedKind order;
+  SecondKinds = IsSweptKind order limit;
+}
+
+abbrev pub of_bamtobed : Bool → Bool → Behaviour
+of_bamtobed split cigar = record {
+  report = λ first second. bamtobed_report split cigar first;
+  settles = λ second. bamtobed_settles split cigar;
+  reaches = λ second lines. 0;
+  FirstKinds = IsOneOf is_sam_kind;
+  SecondKinds = IsNoKind;
+}
+
+abbrev pub of_maskfasta : MaskHow → Bool → Behaviour
+of_maskfasta how full = record {
+  report = λ first second. mask_report how full first (or_empty second);
+  settles = λ second. mask_settles how full (or_empty second);
+  reaches = λ second. mask_reaches full (or_empty second);
+  FirstKinds = IsOneOf is_fasta_kind;
+  SecondKinds = IsOneOf is_mask_kind;
+}
+
+-- the order in use: that of the genome file, if there is one, else that of the names' bytes
+abbrev pub order_of : Option (List Entry) → Order
+order_of None = byte_order
+order_of (Some entries) = rank_order (genome_names entries)
+
+-- the chromosomes of the genome file, of a command that has one
+abbrev pub entries_in : Option (List Entry) → List Entry
+entries_in chromosomes = unwrap_or chromosomes []
+
+-- what each command does, by the chromosomes of the genome file, if there is one
+abbrev pub behaviour_of : Command → Option (List Entry) → Behaviour
+behaviour_of (Merge d strand) chromosomes =
+    of_records (order_of chromosomes) (merge_written (order_of chromosomes) d strand)
+behaviour_of (Complement limit) chromosomes =
+    of_records (order_of chromosomes) (complement_written (entries_in chromosomes) limit)
+behaviour_of (Coverage zeros strand) chromosomes =
+    of_records (order_of chromosomes) (coverage_written (entries_in chromosomes) zeros strand)
+behaviour_of (Intersect shape rule held) chromosomes =
+    of_intersect (order_of chromosomes) shape rule held
+behaviour_of (Subtract whole rule held) chromosomes =
+    of_subtract (order_of chromosomes) whole rule held
+behaviour_of (BamToBed split cigar) chromosomes = of_bamtobed split cigar
+behaviour_of (MaskFasta how full) chromosomes = of_maskfasta how full

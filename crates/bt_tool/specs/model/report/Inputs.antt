@@ -1,0 +1,68 @@
+-- What the inputs of a run hand over to it.
+use Rattle.std.specs.Prelude.{◌≡◌, ℕ, ◌-◌, ◌^◌, ◌≤◌, Bool, true, false, ⊤, List, [], length}
+use Rattle.std.specs.Prelude.{nat_le, take, Option, Some, None, unwrap_or}
+use Rattle.std.specs.Io.KnownBytes.{Consumes}
+use Rattle.bt_lines.specs.model.Handed.{Handed, whole_text}
+
+-- what came of each input; one that the plan doesn't have is `None`
+pub record Inputs : Type 0 where
+  pub genome : Option Handed
+  pub first : Handed
+  pub second : Option Handed
+
+-- a missing input is as an empty one
+abbrev pub or_empty : Option Handed → Handed
+or_empty handed = unwrap_or handed (whole_text [])
+
+-- a source handed over at most this many bytes
+pub record HandsUpTo {S : Type 0} (left : S → Option (List ℕ)) (most : ℕ)
+    (before after : S) : Type 0 where
+  pub handed : List ℕ
+  pub consumed : Consumes (left before) (left after) handed
+  pub read : length handed ≤ most
+
+-- the same of an input that may not be there
+abbrev pub HandsUpToIf : {S : Type 0} → (S → Option (List ℕ)) → ℕ → Option S → Option S → Type 0
+HandsUpToIf left most None None = ⊤
+HandsUpToIf left most (Some before) (Some after) = HandsUpTo left most before after
+HandsUpToIf left most _ _ = ⊥
+
+-- an input that may be missing hasn't failed since
+abbrev pub ServesIf : {S : Type 0} → (S → Bool) → Option S → Option S → Type 0
+ServesIf failed None None = ⊤
+ServesIf failed (Some before) (Some after) = failed after ≡ failed before
+ServesIf failed _ _ = ⊥
+
+-- what came of a text, of which these bytes were handed over: all of it, or if a read failed or
+-- 2^63 bytes came, what came before that
+abbrev pub handed_by : Bool → Bool → List ℕ → List ℕ → Handed
+handed_by false false text bytes = whole_text text
+handed_by _ _ text bytes = record { text = take (2 ^ 63 - 1) bytes; is_cut = true }
+
+module _ {S : Type 0} (left : S → Option (List ℕ)) (failed : S → Bool) where
+  -- the source told its bytes and worked before the run, and in it this came of its text
+  pub record Reads (before after : S) (handed : Handed) : Type 0 where
+    pub text : List ℕ
+    pub known : left before ≡ Some text
+    pub worked : failed before ≡ false
+    pub bytes : List ℕ
+    pub consumed : Consumes (left before) (left after) bytes
+    pub is : handed ≡ handed_by (failed after) (nat_le (2 ^ 63) (length bytes)) text bytes
+
+  -- the same of an input that may not be there
+  abbrev pub ReadsIf : Option S → Option S → Option Handed → Type 0
+  ReadsIf None None None = ⊤
+  ReadsIf (Some before) (Some after) (Some handed) = Reads before after handed
+  ReadsIf _ _ _ = ⊥
+
+-- this is the whole text of a source, what it never hands over included
+module _ {S : Type 0} (left : S → Option (List ℕ)) where
+  pub record Holds (source : S) (handed : Handed) : Type 0 where
+    pub text : List ℕ
+    pub known : left source ≡ Some text
+    pub is : handed ≡ whole_text text
+
+  abbrev pub HoldsIf : Option S → Option Handed → Type 0
+  HoldsIf None None = ⊤
+  HoldsIf (Some source) (Some handed) = Holds source handed
+  HoldsIf _ _ = ⊥

@@ -1,0 +1,279 @@
+-- What a list of words means: the plan, or the fault of its usage.
+use Rattle.std.specs.Prelude.{◌≡◌, ℕ, ◌+◌, Bool, List, [], ◌∷◌, ◌++◌, ◌||◌, ◌&&◌, false, true, not}
+use Rattle.std.specs.Prelude.{Option, Some, None, Result, Ok, Err, MatchOption, bytes_eq, codes}
+use Rattle.std.specs.Prelude.{count_by, drop, if◌then◌else◌, is_some, length, nat_lt}
+use Rattle.std.specs.Prelude.{option_and_then, option_map, option_to_list, unwrap_or}
+use Rattle.std.specs.List.{list_any}
+use Rattle.std.specs.Option.{option_map_or, option_or}
+use Rattle.bt_bed.specs.model.feature.Record.{strand_named}
+use Rattle.bt_bed.specs.declared.record.strand.Strand.{Strand}
+use Rattle.bt_lines.specs.model.Number.{value_of as number_of}
+use Rattle.bt_runs.specs.declared.merge.merge_strand.MergeStrand.{MergeStrand}
+use Rattle.bt_runs.specs.declared.merge.merge_strand.MergeStrand.TheVariants.{All, Each, One}
+use Rattle.bt_seq.specs.declared.mask.mask_how.MaskHow.{MaskHow}
+use Rattle.bt_seq.specs.declared.mask.mask_how.MaskHow.TheVariants.{Soft, Hard}
+use Rattle.bt_sweep.specs.declared.hits.hit_rule.HitRule.{HitRule}
+use Rattle.bt_sweep.specs.declared.output.shape.Shape.{Shape}
+use Rattle.bt_sweep.specs.declared.output.shape.Shape.TheVariants.{Cut, OrigA, CutAndB, OrigBoth, Overlap}
+use Rattle.bt_sweep.specs.declared.output.shape.Shape.TheVariants.{Once, Missing, Count}
+use Rattle.bt_tool.specs.declared.planning.plan_type.Command.{Command}
+use Rattle.bt_tool.specs.declared.planning.plan_type.Command.TheVariants.{Merge as MergeWith}
+use Rattle.bt_tool.specs.declared.planning.plan_type.Command.TheVariants.{Complement as ComplementWith}
+use Rattle.bt_tool.specs.declared.planning.plan_type.Command.TheVariants.{Intersect as IntersectWith}
+use Rattle.bt_tool.specs.declared.planning.plan_type.Command.TheVariants.{Subtract as SubtractWith}
+use Rattle.bt_tool.specs.declared.planning.plan_type.Command.TheVariants.{Coverage as CoverageWith}
+use Rattle.bt_tool.specs.declared.planning.plan_type.Command.TheVariants.{BamToBed as BamToBedWith}
+use Rattle.bt_tool.specs.declared.planning.plan_type.Command.TheVariants.{MaskFasta as MaskFastaWith}
+use Rattle.bt_tool.specs.declared.planning.tool.Tool.{Tool}
+use Rattle.bt_tool.specs.declared.planning.tool.Tool.TheVariants.{Merge, Complement, Intersect, Subtract}
+use Rattle.bt_tool.specs.declared.planning.tool.Tool.TheVariants.{Coverage, BamToBed, MaskFasta}
+use Rattle.bt_tool.specs.declared.options.usage.Usage.{Usage}
+use Rattle.bt_tool.specs.model.usage.Character.{character_of}
+use Rattle.bt_tool.specs.model.usage.Fraction.{fraction_of}
+use Rattle.bt_tool.specs.model.usage.Items.{Item, IsLongestDivision, items_of, spelled}
+use Rattle.bt_tool.specs.model.usage.Table.{Word, Table, command_named, table_of, takes}
+use Rattle.bt_tool.specs.model.usage.Usage.{no_command, unknown_option, value_missing, bad_value}
+use Rattle.bt_tool.specs.model.usage.Usage.{required_missing, options_exclusive, input_named_twice}
+
+-- a plan, its names as bytes
+pub record PlanSeen : Type 0 where
+  pub command : Command
+  pub genome : Option Word
+  pub first : Word
+  pub second : Option Word
+  pub output : Option Word
+
+-- the last item of an option
+abbrev pub last_item : Word → List Item → Option Item
+last_item option [] = None
+last_item option (item ∷ later) =
+    option_or (last_item option later) (if bytes_eq item.option option then Some item else None)
+
+abbrev pub is_given : List Item → Word → Bool
+is_given items option = is_some (last_item option items)
+
+-- the value of an option's last item
+abbrev pub value_of : List Item → Word → Option Word
+value_of items option = option_and_then (λ item. item.value) (last_item option items)
+
+-- the value of an option that a command may lack
+abbrev pub value_if_any : List Item → Option Word → Option Word
+value_if_any items option = option_and_then (value_of items) option
+
+-- the fault of the first word that begins no item, at this index among all words
+abbrev pub fault_at : Table → ℕ → List Word → Option Usage
+fault_at table at [] = None
+fault_at table at (option ∷ []) =
+    Some (if is_some (takes table option) then value_missing at else unknown_option at)
+fault_at table at (option ∷ value ∷ rest) =
+    Some (if is_some (takes table option) then bad_value at else unknown_option at)
+
+-- the fault of the first word past these items, of words that begin at this index
+abbrev pub fault_past : Table → ℕ → List Item → List Word → Option Usage
+fault_past table at items words =
+    let read = length (spelled items) in
+    fault_at table (at + read) (drop read words)
+
+-- the same past the items into which the words divide
+unfoldable pub word_fault : Table → ℕ → List Word → Option Usage
+word_fault table at words = fault_past table at (items_of table words) words
+
+-- names of inputs that mean standard input
+abbrev pub is_standard_input : Word → Bool
+is_standard_input name = bytes_eq name (codes "-") || bytes_eq name (codes "stdin")
+
+-- names of outputs that mean standard output
+abbrev pub is_standard_output : Word → Bool
+is_standard_output name = bytes_eq name (codes "-") || bytes_eq name (codes "stdout")
+
+-- the output of this name: none if it is standard output
+abbrev pub output_by : Option Word → Option Word
+output_by None = None
+output_by (Some name) = if is_standard_output name then None else Some name
+
+-- the records that are merged: with -s those of each strand separately, else those of the strand
+-- that is the value of -S, and without one all
+abbrev pub strand_by : Bool → Option Word → MergeStrand
+strand_by true value = Each
+strand_by false None = All
+strand_by false (Some word) = One (strand_named word)
+
+-- the strand whose records are counted, by the value of -strand; without one all are
+abbrev pub counted_strand_by : Option Word → Option Strand
+counted_strand_by value = option_map strand_named value
+
+-- the number that the value of an option denotes, 0 without one
+abbrev pub number_by : Option Word → ℕ
+number_by value = unwrap_or (option_and_then number_of value) 0
+
+-- how many records may be held, by the value of -held; without one that isn't limited
+abbrev pub limit_by : Option Word → Option ℕ
+limit_by value = option_and_then number_of value
+
+-- the fraction that the value of an option denotes, in billionths, 0 without one
+abbrev pub billionths_by : Option Word → ℕ
+billionths_by value = unwrap_or (option_and_then fraction_of value) 0
+
+-- what makes a hit: the fraction of -f, of both records or of the first alone,
+-- and equal strands with -s
+abbrev pub rule_by : List Item → Bool → HitRule
+rule_by items both = record {
+  billionths = billionths_by (value_of items (codes "-f"));
+  both = both;
+  same_strand = is_given items (codes "-s");
+}
+
+-- the shape of what intersect writes, by -wa and -wb alone:
+-- a hit's own part of the record or the record, and what hits it
+abbrev pub hit_shape : Bool → Bool → Shape
+hit_shape false false = Cut
+hit_shape true false = OrigA
+hit_shape false true = CutAndB
+hit_shape true true = OrigBoth
+
+-- the shape of what intersect writes: with -u, -v or -c -wa changes nothing
+abbrev pub shape_by : List Item → Shape
+shape_by items = if is_given items (codes "-u") then Once
+    else (if is_given items (codes "-v") then Missing
+    else (if is_given items (codes "-c") then Count
+    else (if is_given items (codes "-wo") then Overlap
+    else hit_shape (is_given items (codes "-wa")) (is_given items (codes "-wb")))))
+
+-- the character that stands for a masked base, by the value of -mc; without one it is `N`
+abbrev pub mask_by : Option Word → ℕ
+mask_by value = unwrap_or (option_and_then character_of value) 78
+
+-- what stands for a masked base: with -soft its lower case
+abbrev pub mask_how_by : List Item → MaskHow
+mask_how_by items =
+    if is_given items (codes "-soft") then Soft else Hard (mask_by (value_of items (codes "-mc")))
+
+-- the command that the items mean
+abbrev pub command_by : Tool → List Item → Command
+command_by Merge items =
+    MergeWith (number_by (value_of items (codes "-d")))
+    (strand_by (is_given items (codes "-s")) (value_of items (codes "-S")))
+command_by Complement items = ComplementWith (is_given items (codes "-L"))
+command_by Intersect items =
+    IntersectWith (shape_by items) (rule_by items (is_given items (codes "-r")))
+    (limit_by (value_of items (codes "-held")))
+command_by Subtract items =
+    SubtractWith (is_given items (codes "-A")) (rule_by items false)
+    (limit_by (value_of items (codes "-held")))
+command_by Coverage items =
+    CoverageWith (is_given items (codes "-bga"))
+    (counted_strand_by (value_of items (codes "-strand")))
+command_by BamToBed items =
+    BamToBedWith (is_given items (codes "-split")) (is_given items (codes "-cigar"))
+command_by MaskFasta items =
+    MaskFastaWith (mask_how_by items) (is_given items (codes "-fullHeader"))
+
+-- the names of the inputs and of the output, as the items give them
+pub record Named : Type 0 where
+  pub genome : Option Word
+  pub first : Word
+  pub second : Option Word
+  pub output : Option Word
+
+-- the names that the items of a table give, a first input that is not named being `stdin`
+abbrev pub named_by : Table → List Item → Named
+named_by table items = record {
+  genome = value_if_any items table.genome;
+  first = unwrap_or (value_of items table.first) (codes "stdin");
+  second = value_if_any items table.second;
+  output = output_by (value_if_any items table.output);
+}
+
+-- the names of the inputs
+abbrev pub inputs_of : Named → List Word
+inputs_of named = option_to_list named.genome ++ named.first ∷ option_to_list named.second
+
+-- whether none of the options is given, of which one has to be, if there are such
+abbrev pub lacks_one_of : List Word → List Item → Bool
+lacks_one_of [] items = false
+lacks_one_of (option ∷ others) items = not (list_any (is_given items) (option ∷ others))
+
+-- whether an option is missing that has to be given, or that is one of several
+abbrev pub lacks_option : Table → List Item → Bool
+lacks_option table items =
+    list_any (λ option. not (is_given items option)) table.required
+    || lacks_one_of table.one_of items
+
+-- whether two options are given that exclude one another
+abbrev pub has_exclusive : Table → List Item → Bool
+has_exclusive table items =
+    list_any (λ pair. is_given items pair.0 && is_given items pair.1) table.exclusive
+
+-- whether the output has the name of an input, by its text
+abbrev pub overwrites : Named → Bool
+overwrites named =
+    option_map_or (λ output. list_any (bytes_eq output) (inputs_of named)) named.output false
+
+-- whether more than one input is standard input
+abbrev pub reads_twice : Named → Bool
+reads_twice named = nat_lt 1 (count_by is_standard_input (inputs_of named))
+
+-- what the items have or lack together, if anything is wrong with them
+abbrev pub fault_together : Table → List Item → Option Usage
+fault_together table items =
+    if lacks_option table items then Some required_missing
+    else (if has_exclusive table items || overwrites (named_by table items)
+    then Some options_exclusive
+    else (if reads_twice (named_by table items) then Some input_named_twice
+    else None))
+
+-- the plan of a command with these names
+abbrev pub plan_with : Command → Named → PlanSeen
+plan_with command named = record {
+  command = command;
+  genome = named.genome;
+  first = named.first;
+  second = named.second;
+  output = named.output;
+}
+
+-- the plan that the items of a command mean
+abbrev pub plan_of : Tool → List Item → PlanSeen
+plan_of tool items = plan_with (command_by tool items) (named_by (table_of tool) items)
+
+-- the plan of the items, or what they have or lack together
+abbrev pub checked : Tool → List Item → Result PlanSeen Usage
+checked tool items = elim (fault_together (table_of tool) items) [
+  | Some usage ↦ Err usage
+  | None ↦ Ok (plan_of tool items)
+]
+
+-- what the words after a command mean
+abbrev pub asked : Tool → List Word → Result PlanSeen Usage
+asked tool words = elim (word_fault (table_of tool) 1 words) [
+  | Some usage ↦ Err usage
+  | None ↦ checked tool (items_of (table_of tool) words)
+]
+
+-- the command that the first of all words names
+abbrev pub command_of : List Word → Option Tool
+command_of [] = None
+command_of (word ∷ words) = command_named word
+
+-- what all the words mean
+unfoldable pub options : List Word → Result PlanSeen Usage
+options words = elim (command_of words) [
+  | None ↦ Err no_command
+  | Some tool ↦ asked tool (drop 1 words)
+]
+
+-- the result for the words after a command, by the items of their longest division
+pub record AnswersPlan (tool : Tool) (words : List Word) (answer : Result PlanSeen Usage)
+    : Type 0 where
+  pub items : List Item
+  pub division : IsLongestDivision (table_of tool) words items
+  pub at_fault : (usage : Usage) → fault_past (table_of tool) 1 items words ≡ Some usage
+      → answer ≡ Err usage
+  pub all_divided : fault_past (table_of tool) 1 items words ≡ None
+      → answer ≡ checked tool items
+
+-- the result for all the words
+abbrev pub AnswersAll : List Word → Result PlanSeen Usage → Type 0
+AnswersAll words answer =
+    MatchOption (command_of words) (answer ≡ Err no_command)
+    (λ tool. AnswersPlan tool (drop 1 words) answer)

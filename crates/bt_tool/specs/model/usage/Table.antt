@@ -1,0 +1,250 @@
+-- The commands, and for each its options, those that it requires, and what their values name.
+-- The options are those of the tool's page in the bedtools manual; that merge has `-g`, and intersect
+-- and subtract `-held`, is this program's own rule. A later command is a row of `commands` and a table.
+use Rattle.std.specs.Prelude.{ℕ, Bool, false, true, ◌||◌, List, [], ◌∷◌, Option, Some, None}
+use Rattle.std.specs.Prelude.{bytes_eq, codes, find, is_some, length, nat_lt, option_map, IsTrue}
+use Rattle.std.specs.Prelude.{IsSome, IsNone}
+use Rattle.std.specs.List.{list_any}
+use Rattle.std.specs.Option.{option_map_or}
+use Rattle.bt_lines.specs.model.Number.{value_of as number_of}
+use Rattle.bt_tool.specs.model.usage.Character.{character_of}
+use Rattle.bt_tool.specs.model.usage.Fraction.{fraction_of}
+use Rattle.bt_tool.specs.declared.planning.plan_type.Command.{Command}
+use Rattle.bt_tool.specs.declared.planning.plan_type.Command.TheVariants.{Merge as MergeWith}
+use Rattle.bt_tool.specs.declared.planning.plan_type.Command.TheVariants.{Complement as ComplementWith}
+use Rattle.bt_tool.specs.declared.planning.plan_type.Command.TheVariants.{Intersect as IntersectWith}
+use Rattle.bt_tool.specs.declared.planning.plan_type.Command.TheVariants.{Subtract as SubtractWith}
+use Rattle.bt_tool.specs.declared.planning.plan_type.Command.TheVariants.{Coverage as CoverageWith}
+use Rattle.bt_tool.specs.declared.planning.plan_type.Command.TheVariants.{BamToBed as BamToBedWith}
+use Rattle.bt_tool.specs.declared.planning.plan_type.Command.TheVariants.{MaskFasta as MaskFastaWith}
+use Rattle.bt_tool.specs.declared.options.takes.Takes.{Takes}
+use Rattle.bt_tool.specs.declared.options.takes.Takes.TheVariants.{Nothing, FileName, Number, Fraction}
+use Rattle.bt_tool.specs.declared.options.takes.Takes.TheVariants.{Strand, Character}
+use Rattle.bt_tool.specs.declared.planning.tool.Tool.{Tool}
+use Rattle.bt_tool.specs.declared.planning.tool.Tool.TheVariants.{Merge, Complement, Intersect, Subtract}
+use Rattle.bt_tool.specs.declared.planning.tool.Tool.TheVariants.{Coverage, BamToBed, MaskFasta}
+
+-- a word of the command line, as its bytes
+abbrev pub Word : Type 0
+Word = List ℕ
+
+-- Whether an option may have this value, or none. A file name isn't empty, a number is
+-- one of bt_lines, a fraction is at most 1, a strand is `+` or `-`,
+-- and a character is a printable one of ASCII.
+abbrev pub fits : Takes → Option Word → Bool
+fits Nothing None = true
+fits Nothing (Some value) = false
+fits takes None = false
+fits FileName (Some value) = nat_lt 0 (length value)
+fits Number (Some value) = is_some (number_of value)
+fits Fraction (Some value) = is_some (fraction_of value)
+fits Strand (Some value) = bytes_eq value (codes "+") || bytes_eq value (codes "-")
+fits Character (Some value) = is_some (character_of value)
+
+-- an option of a command
+pub record Row : Type 0 where
+  pub option : Word
+  pub takes : Takes
+
+-- what the command line of one command may say
+pub record Table : Type 0 where
+  pub options : List Row
+  -- the options that have to be given
+  pub required : List Word
+  -- the options of which one at least has to be given, if the command has such
+  pub one_of : List Word
+  -- the pairs of options that exclude one another
+  pub exclusive : List (Word × Word)
+  -- the options whose values name the inputs and the output
+  pub genome : Option Word
+  pub first : Word
+  pub second : Option Word
+  pub output : Option Word
+
+-- what the option takes, if the table has it
+abbrev pub takes : Table → Word → Option Takes
+takes table option =
+    option_map (λ row. row.takes) (find (λ row. bytes_eq option row.option) table.options)
+
+-- whether the command requires the option, of which it may have none
+abbrev pub is_required : Table → Option Word → Bool
+is_required table option =
+    option_map_or (λ word. list_any (bytes_eq word) table.required) option false
+
+-- a name is there if its option is required, and never if the command has no such option
+abbrev pub IsNamedBy : {A : Type 0} → Table → Option Word → Option A → Type 0
+IsNamedBy table option name =
+    (IsTrue (is_required table option) → IsSome name) × (IsNone option → IsNone name)
+
+abbrev pub merge_table : Table
+merge_table = record {
+  options = record { option = codes "-i"; takes = FileName }
+      ∷ record { option = codes "-g"; takes = FileName }
+      ∷ record { option = codes "-d"; takes = Number }
+      ∷ record { option = codes "-s"; takes = Nothing }
+      ∷ record { option = codes "-S"; takes = Strand }
+      ∷ [];
+  required = [];
+  one_of = [];
+  exclusive = (codes "-s", codes "-S") ∷ [];
+  genome = Some (codes "-g");
+  first = codes "-i";
+  second = None;
+  output = None;
+}
+
+abbrev pub complement_table : Table
+complement_table = record {
+  options = record { option = codes "-i"; takes = FileName }
+      ∷ record { option = codes "-g"; takes = FileName }
+      ∷ record { option = codes "-L"; takes = Nothing }
+      ∷ [];
+  required = codes "-g" ∷ [];
+  one_of = [];
+  exclusive = [];
+  genome = Some (codes "-g");
+  first = codes "-i";
+  second = None;
+  output = None;
+}
+
+-- Two shapes of output exclude one another, except -wa beside -wb, and beside -u, -v and -c,
+-- where it changes nothing.
+abbrev pub intersect_table : Table
+intersect_table = record {
+  options = record { option = codes "-a"; takes = FileName }
+      ∷ record { option = codes "-b"; takes = FileName }
+      ∷ record { option = codes "-g"; takes = FileName }
+      ∷ record { option = codes "-wa"; takes = Nothing }
+      ∷ record { option = codes "-wb"; takes = Nothing }
+      ∷ record { option = codes "-wo"; takes = Nothing }
+      ∷ record { option = codes "-u"; takes = Nothing }
+      ∷ record { option = codes "-v"; takes = Nothing }
+      ∷ record { option = codes "-c"; takes = Nothing }
+      ∷ record { option = codes "-f"; takes = Fraction }
+      ∷ record { option = codes "-r"; takes = Nothing }
+      ∷ record { option = codes "-s"; takes = Nothing }
+      ∷ record { option = codes "-sorted"; takes = Nothing }
+      ∷ record { option = codes "-held"; takes = Number }
+      ∷ [];
+  required = codes "-a" ∷ codes "-b" ∷ [];
+  one_of = [];
+  exclusive = (codes "-wa", codes "-wo") ∷ (codes "-wb", codes "-wo") ∷ (codes "-wb", codes "-u")
+      ∷ (codes "-wb", codes "-v") ∷ (codes "-wb", codes "-c") ∷ (codes "-wo", codes "-u")
+      ∷ (codes "-wo", codes "-v") ∷ (codes "-wo", codes "-c") ∷ (codes "-u", codes "-v")
+      ∷ (codes "-u", codes "-c") ∷ (codes "-v", codes "-c") ∷ [];
+  genome = Some (codes "-g");
+  first = codes "-a";
+  second = Some (codes "-b");
+  output = None;
+}
+
+-- The fraction of subtract is always that of the first record alone.
+abbrev pub subtract_table : Table
+subtract_table = record {
+  options = record { option = codes "-a"; takes = FileName }
+      ∷ record { option = codes "-b"; takes = FileName }
+      ∷ record { option = codes "-g"; takes = FileName }
+      ∷ record { option = codes "-A"; takes = Nothing }
+      ∷ record { option = codes "-f"; takes = Fraction }
+      ∷ record { option = codes "-s"; takes = Nothing }
+      ∷ record { option = codes "-held"; takes = Number }
+      ∷ [];
+  required = codes "-a" ∷ codes "-b" ∷ [];
+  one_of = [];
+  exclusive = [];
+  genome = Some (codes "-g");
+  first = codes "-a";
+  second = Some (codes "-b");
+  output = None;
+}
+
+-- One of -bg and -bga has to be given, and both together are -bga.
+abbrev pub coverage_table : Table
+coverage_table = record {
+  options = record { option = codes "-i"; takes = FileName }
+      ∷ record { option = codes "-g"; takes = FileName }
+      ∷ record { option = codes "-bg"; takes = Nothing }
+      ∷ record { option = codes "-bga"; takes = Nothing }
+      ∷ record { option = codes "-strand"; takes = Strand }
+      ∷ [];
+  required = codes "-g" ∷ [];
+  one_of = codes "-bg" ∷ codes "-bga" ∷ [];
+  exclusive = [];
+  genome = Some (codes "-g");
+  first = codes "-i";
+  second = None;
+  output = None;
+}
+
+abbrev pub bamtobed_table : Table
+bamtobed_table = record {
+  options = record { option = codes "-i"; takes = FileName }
+      ∷ record { option = codes "-split"; takes = Nothing }
+      ∷ record { option = codes "-cigar"; takes = Nothing }
+      ∷ [];
+  required = [];
+  one_of = [];
+  exclusive = [];
+  genome = None;
+  first = codes "-i";
+  second = None;
+  output = None;
+}
+
+abbrev pub maskfasta_table : Table
+maskfasta_table = record {
+  options = record { option = codes "-fi"; takes = FileName }
+      ∷ record { option = codes "-bed"; takes = FileName }
+      ∷ record { option = codes "-fo"; takes = FileName }
+      ∷ record { option = codes "-soft"; takes = Nothing }
+      ∷ record { option = codes "-mc"; takes = Character }
+      ∷ record { option = codes "-fullHeader"; takes = Nothing }
+      ∷ [];
+  required = codes "-fi" ∷ codes "-bed" ∷ [];
+  one_of = [];
+  exclusive = (codes "-soft", codes "-mc") ∷ [];
+  genome = None;
+  first = codes "-fi";
+  second = Some (codes "-bed");
+  output = Some (codes "-fo");
+}
+
+abbrev pub table_of : Tool → Table
+table_of Merge = merge_table
+table_of Complement = complement_table
+table_of Intersect = intersect_table
+table_of Subtract = subtract_table
+table_of Coverage = coverage_table
+table_of BamToBed = bamtobed_table
+table_of MaskFasta = maskfasta_table
+
+-- the tools by their names
+abbrev pub commands : List (Word × Tool)
+commands =
+    (codes "merge", Merge) ∷ (codes "complement", Complement) ∷ (codes "intersect", Intersect)
+    ∷ (codes "subtract", Subtract) ∷ (codes "genomecov", Coverage) ∷ (codes "bamtobed", BamToBed)
+    ∷ (codes "maskfasta", MaskFasta) ∷ []
+
+abbrev pub command_named : Word → Option Tool
+command_named word = option_map (λ row. row.1) (find (λ row. bytes_eq word row.0) commands)
+
+-- the word that names a tool
+abbrev pub tool_name : Tool → Word
+tool_name Merge = codes "merge"
+tool_name Complement = codes "complement"
+tool_name Intersect = codes "intersect"
+tool_name Subtract = codes "subtract"
+tool_name Coverage = codes "genomecov"
+tool_name BamToBed = codes "bamtobed"
+tool_name MaskFasta = codes "maskfasta"
+
+-- the tool of a command
+abbrev pub tool_of : Command → Tool
+tool_of (MergeWith d strand) = Merge
+tool_of (ComplementWith limit) = Complement
+tool_of (IntersectWith shape rule held) = Intersect
+tool_of (SubtractWith whole rule held) = Subtract
+tool_of (CoverageWith zeros strand) = Coverage
+tool_of (BamToBedWith split cigar) = BamToBed
+tool_of (MaskFastaWith how full) = MaskFasta

@@ -1,0 +1,22 @@
+//! What a user sees, from words and texts, by the definitions that the contracts of `plan`,
+//! `usage_line`, `run` and `Outcome` cite. The function does nothing: it carries a fact on which its callers may rely.
+
+ghost use Rattle.std.specs.Prelude.{List};
+ghost use Rattle.bt_tool.specs.calls.run.Headline.{ShowsReport};
+ghost use Rattle.bt_tool.specs.model.report.Report.{ReportsUsage};
+ghost use Rattle.bt_tool.specs.model.usage.Table.{Word};
+ghost use Rattle.bt_tool.specs.model.usage.Options.{options};
+ghost use Rattle.bt_tool.specs.declared.options.usage.Usage.{Usage};
+ghost use Rattle.std.specs.Prelude.{◌≡◌, Err};
+
+use bt_lines::{Sink, Source};
+
+/// What a run gives, for every list of words and all bytes of the inputs. If the words can't be used, it is the
+/// line and the status 2 of `report`. Else, over devices that work and with memory, it is the bytes, the line and the
+/// status that `report` gives from the words and the whole texts.
+pub fn runs_show_the_report<G: Source, A: Source, B: Source, K: Sink>()
+    ensures usage { (words : List Word) (usage : Usage) → options words ≡ Err usage
+        → ReportsUsage words usage }
+    ensures run { ShowsReport G.left G.has_failed A.left A.has_failed A.end_told B.left B.has_failed
+        K.took K.has_failed }
+{}

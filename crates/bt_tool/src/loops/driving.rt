@@ -1,0 +1,103 @@
+//! Feeding an engine with the records of an input.
+
+ghost use Rattle.std.specs.Prelude.{◌≡◌, [], List, None, option_map};
+ghost use Rattle.bt_lines.specs.calls.Names.{told};
+ghost use Rattle.bt_lines.specs.calls.Output.{HoldsBlock};
+ghost use Rattle.bt_lines.specs.calls.Reader.{HasRead};
+ghost use Rattle.bt_bed.specs.model.feature.Feature.{Feature, intervals_of};
+ghost use Rattle.bt_bed.specs.model.feature.Interval.{AreNonEmpty};
+ghost use Rattle.bt_bed.specs.model.order.Order.{IsTotal};
+ghost use Rattle.bt_bed.specs.model.order.Locus.{ArePlaced};
+ghost use Rattle.bt_bed.specs.model.input.GoodBed.{bed_format};
+ghost use Rattle.bt_bed.specs.calls.Records.{below, last_locus, order_in, view_of};
+ghost use Rattle.bt_bed.specs.model.order.Sorting.{sorting_of};
+ghost use Rattle.bt_runs.specs.calls.Settling.{SettledBegins, SettledStays};
+ghost use Rattle.bt_tool.specs.calls.run.Writing.{WritesRecords};
+ghost use Rattle.bt_tool.specs.inside.feed.Feeding.{FeedsRecords, IsFresh};
+ghost use Rattle.bt_tool.specs.inside.feed.FeedsBuffered.{FeedsBuffered};
+ghost use Rattle.bt_tool.specs.inside.feed.Passed.{KeepsOwnFault};
+ghost use Rattle.bt_tool.specs.calls.run.OwnReads.{AnswersNoRead, IsOwnFailure, ReadsServe, TellsNoRead, TellsOwnReads};
+
+use bt_bed::{ChromOrder, Records};
+use bt_lines::{Fault, Input, LineReader, Out, Sink, Source};
+use bt_runs::Engine;
+use std::alloc::Global;
+
+// Feeds an engine that has taken no record with all records of a reader.
+fn feed_all<S: Source, O: ChromOrder, E: Engine, K: Sink>(
+    records: &mut Records<'_, S, O>,
+    engine: &mut E,
+    out: &mut Out<K>,
+) -> Result<(), Fault>
+    requires fresh { IsFresh S.left S.end_told (view_of records.old) }
+    requires sorted { (view_of records.old).format ≡ bed_format (sorting_of (order_in records.old)) }
+    requires none_last { last_locus records.old ≡ None }
+    requires total { IsTotal (order_in records.old) }
+    requires stands { E.stands engine.old [] engine.old }
+    requires nothing { E.settled engine.old [] ≡ [] }
+    requires takes { (past : List Feature) → ArePlaced (order_in records.old) (intervals_of past)
+        → AreNonEmpty (intervals_of past) → E.takes engine.old past }
+    requires block { HoldsBlock out.old.output.took out.old.output.put }
+    ensures feeds { FeedsRecords (E.settled engine.old) S.left S.has_failed S.end_told
+        (λ past. E.stands engine.old past engine.new) records.old out.old.output result records.new out.new.output }
+    ensures reads { AnswersNoRead result → HasRead S.is_read (below records.old) (below records.new) }
+    ensures own_failure { KeepsOwnFault S.is_read (below records.old) (view_of records.new) }
+{
+    while records.fill()? {
+        feed_buffered(records, engine, out)?;
+    }
+    Ok(())
+}
+
+// Feeds an engine with the records that are buffered. One that it fails at is consumed too.
+fn feed_buffered<S: Source, O: ChromOrder, E: Engine, K: Sink>(
+    records: &mut Records<'_, S, O>,
+    engine: &mut E,
+    out: &mut Out<K>,
+) -> Result<(), Fault>
+    ensures { FeedsBuffered S.left S.has_failed S.end_told E.takes E.stands E.fault E.settled E.quiet
+        records.old engine.old out.old.output result records.new engine.new out.new.output }
+{
+    let mut batch = records.buffered();
+    let fed = engine.feed_batch(&mut batch, out);
+    let consumed = batch.consumed();
+    records.consume(consumed);
+    fed
+}
+
+/// Feeds an engine with all records of an input, in an order of their chromosomes, and lets it finish.
+/// It gives the source back, and the fault that the run ends with, if there is one.
+pub(crate) fn drive<A: Source, O: ChromOrder, E: Engine + Drop, K: Sink>(
+    alloc: Global,
+    order: &O,
+    engine: E,
+    first: A,
+    out: &mut Out<K>,
+) -> (Option<Fault>, A)
+    requires stands { E.stands engine [] engine }
+    requires nothing { E.settled engine [] ≡ [] }
+    requires takes { (past : List Feature) → ArePlaced (O.order order.now) (intervals_of past)
+        → AreNonEmpty (intervals_of past) → E.takes engine past }
+    requires stays { SettledStays (E.settled engine) (E.takes engine) }
+    requires begins { SettledBegins (E.settled engine) (E.whole engine) (E.takes engine) }
+    requires block { HoldsBlock out.old.output.took out.old.output.put }
+    ensures written { WritesRecords A.left A.has_failed
+        (record { whole = E.whole engine; settled = E.settled engine }) (O.order order.now)
+        first out.old.output (option_map told result.0) result.1 out.new.output }
+    ensures reads { TellsNoRead (option_map told result.0) → ReadsServe A.is_read first result.1 }
+    ensures own_failure { TellsOwnReads ⊥ (IsOwnFailure A.is_read first result.1) ⊥
+        (option_map told result.0) }
+{
+    let reader = LineReader::new(alloc, first, Input::First);
+    let mut records = Records::new(alloc, reader, order);
+    let mut engine = engine;
+    let fed = feed_all(&mut records, &mut engine, out);
+    let first = records.into_reader().into_source();
+    if let Err(fault) = fed {
+        return (Some(fault), first);
+    }
+    if let Err(fault) = engine.finish(out) {
+        return (Some(fault), first);
+    }
+    (None, first)
+}

@@ -1,0 +1,6 @@
+//! The four loops that give engines what readers have buffered.
+
+pub(crate) mod converting;
+pub(crate) mod driving;
+pub(crate) mod masking;
+pub(crate) mod sweeping;

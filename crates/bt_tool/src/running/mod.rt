@@ -1,0 +1,336 @@
+//! Running a plan over its devices.
+
+pub(crate) mod flushing;
+pub(crate) mod outcome;
+
+ghost use Rattle.std.specs.Prelude.{IfSome, IsSome, IsTrue, MatchResult, ◌≡◌, ◌≢◌, ◌≤◌, ◌⊎◌, ⊤, true, Some, is_some, option_map};
+ghost use Rattle.bt_lines.specs.model.Number.{max_number};
+ghost use Rattle.bt_lines.specs.model.Fault.{write_failed};
+ghost use Rattle.bt_lines.specs.calls.Names.{told};
+ghost use Rattle.bt_lines.specs.calls.Output.{HoldsBlock};
+ghost use Rattle.bt_bed.specs.calls.GenomeTable.{entries, names_of};
+ghost use Rattle.bt_bed.specs.model.order.Rank.{AreDistinct};
+ghost use Rattle.bt_sweep.specs.model.Subtract.{subtract_shape};
+ghost use Rattle.bt_tool.specs.model.report.Behaviour.{behaviour_of, entries_in, of_intersect, of_maskfasta, order_of};
+ghost use Rattle.bt_tool.specs.calls.run.Chromosomes.{ReadsChromosomes, WritesOutput};
+ghost use Rattle.bt_tool.specs.calls.run.Gives.{Runs};
+ghost use Rattle.bt_tool.specs.calls.words.Limits.{is_within_limits};
+ghost use Rattle.bt_tool.specs.model.usage.Table.{IsNamedBy, table_of, tool_of};
+ghost use Rattle.bt_tool.specs.calls.run.OwnReads.{AnswersNoRead, IsOwnFailure, IsOwnFailureIf, ReadsServe, ReadsServeIf, TellsNoRead, TellsOwnReads};
+ghost use Rattle.bt_tool.specs.calls.run.Writing.{WritesBy, WritesRecords};
+ghost use Rattle.bt_tool.specs.model.report.Written.{complement_written, coverage_written, merge_written};
+
+use crate::loops::converting::convert;
+use crate::loops::driving::drive;
+use crate::loops::masking::mask;
+use crate::loops::sweeping::sweep;
+use crate::planning::plan_type::{Command, Plan};
+use crate::running::flushing::flushed;
+use crate::running::outcome::Outcome;
+use bt_bed::{ByteOrder, Genome, Strand};
+use bt_lines::{Fault, Input, LineReader, Out, Sink, Source};
+use bt_runs::{Complement, Coverage, Merge, MergeStrand};
+use bt_seq::MaskHow;
+use bt_sweep::{HitRule, Shape};
+use std::alloc::Global;
+
+/// How a run ended, and the devices that it was given: `genome` and `second` are `Some` exactly if
+/// they were.
+#[derive(Debug, Drop)]
+pub struct Ended<G, A, B, K> {
+    pub outcome: Outcome,
+    pub genome: Option<G>,
+    pub first: A,
+    pub second: Option<B>,
+    pub out: K,
+}
+
+/// Runs a plan: reads the genome file to its end, if there is one, and then the other inputs once, from their
+/// start, and writes to the sink. Without a genome file the inputs have to come in the order of the bytes
+/// of their chromosomes' names. A fault of the genome file ends the run before any other input is read.
+/// The output is flushed at every ending except after a failed write.
+pub fn run<G: Source, A: Source, B: Source, K: Sink>(
+    alloc: Global,
+    plan: &Plan,
+    genome: Option<G>,
+    first: A,
+    second: Option<B>,
+    out: K,
+) -> Ended<G, A, B, K>
+    requires genome { is_some genome ≡ is_some plan.now.genome }
+    requires second { is_some second ≡ is_some plan.now.second }
+    ensures genome { is_some result.genome ≡ is_some genome }
+    ensures second { is_some result.second ≡ is_some second }
+    ensures flushed { (option_map told result.outcome.fault ≡ Some write_failed)
+        ⊎ (K.is_flushed result.out ≡ true) }
+    ensures report { Runs G.left G.has_failed A.left A.has_failed A.end_told B.left B.has_failed K.took K.has_failed
+        plan.now.command genome first second out (option_map told result.outcome.fault)
+        result.genome result.first result.second result.out }
+    ensures reads { option_map told result.outcome.fault ≢ Some write_failed → TellsNoRead (option_map told result.outcome.fault)
+        → ReadsServeIf G.is_read genome result.genome × ReadsServe A.is_read first result.first
+        × ReadsServeIf B.is_read second result.second }
+    ensures own_failure { TellsOwnReads (IsOwnFailureIf G.is_read genome result.genome)
+        (IsOwnFailure A.is_read first result.first)
+        (IsOwnFailureIf B.is_read second result.second)
+        (option_map told result.outcome.fault) }
+{
+    let mut out = Out::new(out);
+    let (chromosomes, genome) = read_genome(alloc, genome);
+    let (fault, first, second) = write_output(
+        alloc,
+        plan.command,
+        chromosomes,
+        first,
+        second,
+        &mut out,
+    );
+    let fault = flushed(fault, &mut out);
+    Ended {
+        outcome: Outcome { fault },
+        genome,
+        first,
+        second,
+        out: out.into_sink(),
+    }
+}
+
+// Reads the genome file, if there is one, and gives its source back.
+fn read_genome<G: Source>(
+    alloc: Global,
+    genome: Option<G>,
+) -> (Result<Option<Genome>, Fault>, Option<G>)
+    ensures genome { is_some result.1 ≡ is_some genome }
+    ensures named { MatchResult result.0 (λ table. is_some table ≡ is_some genome) (λ _. ⊤) }
+    ensures read { ReadsChromosomes G.left G.has_failed genome result.0 result.1 }
+    ensures reads { AnswersNoRead result.0 → ReadsServeIf G.is_read genome result.1 }
+    ensures own_failure { MatchResult result.0 (λ _. ⊤) (λ fault. TellsOwnReads
+        (IsOwnFailureIf G.is_read genome result.1) ⊥ ⊥ (Some (told fault))) }
+{
+    let Some(genome) = genome else {
+        return (Ok(None), None);
+    };
+    let mut lines = LineReader::new(alloc, genome, Input::Genome);
+    let read = Genome::read(alloc, &mut lines);
+    let genome = Some(lines.into_source());
+    match read {
+        Ok(table) => (Ok(Some(table)), genome),
+        Err(fault) => (Err(fault), genome),
+    }
+}
+
+// Writes the output by the chromosomes of the genome file, if there is one. If they couldn't be read the
+// run ends with that fault, and the other inputs aren't touched.
+fn write_output<A: Source, B: Source, K: Sink>(
+    alloc: Global,
+    command: Command,
+    chromosomes: Result<Option<Genome>, Fault>,
+    first: A,
+    second: Option<B>,
+    out: &mut Out<K>,
+) -> (Option<Fault>, A, Option<B>)
+    requires limits { IsTrue (is_within_limits command) }
+    requires genome { MatchResult chromosomes
+        (λ table. IsNamedBy (table_of (tool_of command)) (table_of (tool_of command)).genome table) (λ _. ⊤) }
+    requires second { IsNamedBy (table_of (tool_of command)) (table_of (tool_of command)).second second }
+    requires distinct { MatchResult chromosomes
+        (λ table. IfSome table (λ table. AreDistinct (names_of table))) (λ _. ⊤) }
+    requires block { HoldsBlock out.old.output.took out.old.output.put }
+    ensures written { WritesOutput A.left A.has_failed A.end_told B.left B.has_failed command chromosomes first second
+        out.old.output (option_map told result.0) result.1 result.2 out.new.output }
+    ensures second { is_some result.2 ≡ is_some second }
+    ensures reads { TellsNoRead (option_map told result.0)
+        → ReadsServe A.is_read first result.1 × ReadsServeIf B.is_read second result.2 }
+    ensures own_failure { MatchResult chromosomes (λ _. TellsOwnReads ⊥
+        (IsOwnFailure A.is_read first result.1)
+        (IsOwnFailureIf B.is_read second result.2) (option_map told result.0)) (λ _. ⊤) }
+{
+    match chromosomes {
+        Ok(table) => write_records(alloc, command, &table, first, second, out),
+        Err(fault) => (Some(fault), first, second),
+    }
+}
+
+// Writes what the inputs make a command write, by the genome file, if there is one. It gives the sources
+// back, and the fault that the run ends with, if there is one.
+fn write_records<A: Source, B: Source, K: Sink>(
+    alloc: Global,
+    command: Command,
+    genome: &Option<Genome>,
+    first: A,
+    second: Option<B>,
+    out: &mut Out<K>,
+) -> (Option<Fault>, A, Option<B>)
+    requires limits { IsTrue (is_within_limits command) }
+    requires genome { IsNamedBy (table_of (tool_of command)) (table_of (tool_of command)).genome genome.now }
+    requires second { IsNamedBy (table_of (tool_of command)) (table_of (tool_of command)).second second }
+    requires distinct { IfSome genome.now (λ table. AreDistinct (names_of table)) }
+    requires block { HoldsBlock out.old.output.took out.old.output.put }
+    ensures written { WritesBy A.left A.has_failed A.end_told B.left B.has_failed
+        (behaviour_of command (option_map entries genome.now))
+        first second out.old.output (option_map told result.0) result.1 result.2 out.new.output }
+    ensures second { is_some result.2 ≡ is_some second }
+    ensures reads { TellsNoRead (option_map told result.0)
+        → ReadsServe A.is_read first result.1 × ReadsServeIf B.is_read second result.2 }
+    ensures own_failure { TellsOwnReads ⊥ (IsOwnFailure A.is_read first result.1)
+        (IsOwnFailureIf B.is_read second result.2) (option_map told result.0) }
+{
+    match command {
+        Command::Merge { d, strand } => {
+            let (fault, first) = merge(alloc, genome, d, strand, first, out);
+            (fault, first, second)
+        }
+        Command::Complement { limit } => {
+            let (fault, first) = complement(alloc, genome, limit, first, out);
+            (fault, first, second)
+        }
+        Command::Coverage { zeros, strand } => {
+            let (fault, first) = cover(alloc, genome, zeros, strand, first, out);
+            (fault, first, second)
+        }
+        Command::Intersect { shape, rule, held } => {
+            sweep_both(alloc, genome, shape, rule, held, first, second, out)
+        }
+        Command::Subtract { whole, rule, held } => {
+            let shape = shape_left(whole);
+            sweep_both(alloc, genome, shape, rule, held, first, second, out)
+        }
+        Command::BamToBed { split, cigar } => {
+            let (fault, first) = convert(alloc, split, cigar, first, out);
+            (fault, first, second)
+        }
+        Command::MaskFasta { how, full } => { mask_both(alloc, how, full, first, second, out) }
+    }
+}
+
+// Merges the records of an input, in the order of the genome file, or of the names' bytes without one.
+fn merge<A: Source, K: Sink>(
+    alloc: Global,
+    genome: &Option<Genome>,
+    d: u64,
+    strand: MergeStrand,
+    first: A,
+    out: &mut Out<K>,
+) -> (Option<Fault>, A)
+    requires limit { d ≤ max_number }
+    requires block { HoldsBlock out.old.output.took out.old.output.put }
+    ensures written { WritesRecords A.left A.has_failed (merge_written (order_of (option_map entries genome.now)) d strand)
+        (order_of (option_map entries genome.now)) first out.old.output (option_map told result.0) result.1 out.new.output }
+    ensures reads { TellsNoRead (option_map told result.0) → ReadsServe A.is_read first result.1 }
+    ensures own_failure { TellsOwnReads ⊥ (IsOwnFailure A.is_read first result.1) ⊥
+        (option_map told result.0) }
+{
+    let engine = Merge::new(alloc, d, strand);
+    match genome {
+        Some(genome) => drive(alloc, genome, engine, first, out),
+        None => drive(alloc, &ByteOrder, engine, first, out),
+    }
+}
+
+// Writes the gaps between the records of an input.
+fn complement<A: Source, K: Sink>(
+    alloc: Global,
+    genome: &Option<Genome>,
+    limit: bool,
+    first: A,
+    out: &mut Out<K>,
+) -> (Option<Fault>, A)
+    requires genome { IsSome genome.now }
+    requires distinct { IfSome genome.now (λ table. AreDistinct (names_of table)) }
+    requires block { HoldsBlock out.old.output.took out.old.output.put }
+    ensures written { WritesRecords A.left A.has_failed
+        (complement_written (entries_in (option_map entries genome.now)) limit)
+        (order_of (option_map entries genome.now)) first out.old.output (option_map told result.0) result.1 out.new.output }
+    ensures reads { TellsNoRead (option_map told result.0) → ReadsServe A.is_read first result.1 }
+    ensures own_failure { TellsOwnReads ⊥ (IsOwnFailure A.is_read first result.1) ⊥
+        (option_map told result.0) }
+{
+    let Some(genome) = genome else { unreachable!() };
+    let engine = Complement::new(genome, limit);
+    drive(alloc, genome, engine, first, out)
+}
+
+// Writes the intervals of equal depth of the records of an input.
+fn cover<A: Source, K: Sink>(
+    alloc: Global,
+    genome: &Option<Genome>,
+    zeros: bool,
+    strand: Option<Strand>,
+    first: A,
+    out: &mut Out<K>,
+) -> (Option<Fault>, A)
+    requires genome { IsSome genome.now }
+    requires distinct { IfSome genome.now (λ table. AreDistinct (names_of table)) }
+    requires block { HoldsBlock out.old.output.took out.old.output.put }
+    ensures written { WritesRecords A.left A.has_failed
+        (coverage_written (entries_in (option_map entries genome.now)) zeros strand)
+        (order_of (option_map entries genome.now)) first out.old.output (option_map told result.0) result.1 out.new.output }
+    ensures reads { TellsNoRead (option_map told result.0) → ReadsServe A.is_read first result.1 }
+    ensures own_failure { TellsOwnReads ⊥ (IsOwnFailure A.is_read first result.1) ⊥
+        (option_map told result.0) }
+{
+    let Some(genome) = genome else { unreachable!() };
+    let engine = Coverage::new(alloc, genome, zeros, strand);
+    drive(alloc, genome, engine, first, out)
+}
+
+// The shape of what is left of a record: its pieces, or all of it.
+fn shape_left(whole: bool) -> Shape
+    ensures { result ≡ subtract_shape whole }
+{
+    if whole { Shape::Whole } else { Shape::Pieces }
+}
+
+// Sweeps the two inputs of intersect, or of subtract in its shapes, both in the order of the genome file,
+// or of the names' bytes without one.
+fn sweep_both<A: Source, B: Source, K: Sink>(
+    alloc: Global,
+    genome: &Option<Genome>,
+    shape: Shape,
+    rule: HitRule,
+    limit: Option<u64>,
+    first: A,
+    second: Option<B>,
+    out: &mut Out<K>,
+) -> (Option<Fault>, A, Option<B>)
+    requires second { IsSome second }
+    requires block { HoldsBlock out.old.output.took out.old.output.put }
+    ensures written { WritesBy A.left A.has_failed A.end_told B.left B.has_failed
+        (of_intersect (order_of (option_map entries genome.now)) shape rule limit)
+        first second out.old.output (option_map told result.0) result.1 result.2 out.new.output }
+    ensures second { is_some result.2 ≡ is_some second }
+    ensures reads { TellsNoRead (option_map told result.0)
+        → ReadsServe A.is_read first result.1 × ReadsServeIf B.is_read second result.2 }
+    ensures own_failure { TellsOwnReads ⊥ (IsOwnFailure A.is_read first result.1)
+        (IsOwnFailureIf B.is_read second result.2) (option_map told result.0) }
+{
+    let Some(second) = second else { unreachable!() };
+    let (fault, first, second) = match genome {
+        Some(genome) => sweep(alloc, genome, shape, rule, limit, first, second, out),
+        None => sweep(alloc, &ByteOrder, shape, rule, limit, first, second, out),
+    };
+    (fault, first, Some(second))
+}
+
+// Masks the lines of the first input by the records of the second.
+fn mask_both<A: Source, B: Source, K: Sink>(
+    alloc: Global,
+    how: MaskHow,
+    full: bool,
+    first: A,
+    second: Option<B>,
+    out: &mut Out<K>,
+) -> (Option<Fault>, A, Option<B>)
+    requires second { IsSome second }
+    requires block { HoldsBlock out.old.output.took out.old.output.put }
+    ensures written { WritesBy A.left A.has_failed A.end_told B.left B.has_failed (of_maskfasta how full)
+        first second out.old.output (option_map told result.0) result.1 result.2 out.new.output }
+    ensures second { is_some result.2 ≡ is_some second }
+    ensures reads { TellsNoRead (option_map told result.0)
+        → ReadsServe A.is_read first result.1 × ReadsServeIf B.is_read second result.2 }
+    ensures own_failure { TellsOwnReads ⊥ (IsOwnFailure A.is_read first result.1)
+        (IsOwnFailureIf B.is_read second result.2) (option_map told result.0) }
+{
+    let Some(second) = second else { unreachable!() };
+    let (fault, first, second) = mask(alloc, how, full, first, second, out);
+    (fault, first, Some(second))
+}

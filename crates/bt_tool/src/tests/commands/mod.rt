@@ -1,0 +1,8 @@
+//! One table a command.
+
+mod bamtobed_tests;
+mod command_tests;
+mod genomecov_tests;
+mod intersect_tests;
+mod maskfasta_tests;
+mod subtract_tests;
