@@ -1,5 +1,5 @@
 #!/usr/bin/env python3
-"""Checks that the wrong bodies of must-fail/ and mutants/ fit the code, and prints a line for each problem.
+"""Checks that the refused edits of must-fail/ and mutants/ fit the code, and prints a line for each problem.
 
 An edit has lines 'file: NAME', and after each of them pairs of lines 'old: TEXT' and 'new: TEXT'. The file exists in the
 edit's crate, each old TEXT occurs in it exactly once, the new TEXT is another, and no two edits of a crate make the same
@@ -54,7 +54,7 @@ def main():
             problems += [f"{path.relative_to(CRATES.parent)}: {problem}" for problem in problems_of(crate, path, seen)]
     for problem in problems:
         print(problem)
-    print(f"{count} wrong bodies, {len(problems)} problems")
+    print(f"{count} refused edits, {len(problems)} problems")
     return 1 if problems or not count else 0
 
 

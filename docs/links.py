@@ -1,13 +1,14 @@
 #!/usr/bin/env python3
 """Checks that each link of the pages leads to a file, and to a heading of it where it names one, that what is said
-to be in a file of definitions is and each such file exists, that the pages that name a version name the same
-one, that PROVED.md says how many files define the report, and that ARCHITECTURE.md lists them.
+to be in a file of definitions is and each such file exists, that the paths in code spans of ARCHITECTURE.md, PROVED.md
+and the crates' pages exist, that the pages that name a version name the same one, that PROVED.md says how many files
+define the report, and that ARCHITECTURE.md lists them.
 
     docs/links.py [--write]
 
 The pages are the Markdown files of this repository. Links to other hosts aren't followed. With --write the list of
-ARCHITECTURE.md and the numbers of PROVED.md are written anew. Ends with 1 if a link leads nowhere, a
-definition is elsewhere, or a number or the list is another.
+ARCHITECTURE.md and the numbers of PROVED.md are written anew. Ends with 1 if a link or a path leads nowhere,
+a definition is elsewhere, or a number or the list is another.
 """
 
 import re
@@ -23,7 +24,11 @@ CODE = re.compile(r"`[^`]*`")
 CITED = re.compile(r"((?:`\w+`(?:, | and ))*`\w+`) (?:in|of) \[\w+\.antt\]\(([^)\s#]+)\)")
 
 # Files of definitions that are named by their crate, as those of a question are in ARCHITECTURE.md.
-FILES = re.compile(r"`(bt_\w+)/specs/([A-Z]\w*`(?:,(?: [a-z ]+)? `[A-Z]\w*`)*)")
+FILES = re.compile(r"(?:`(bt_\w+)/specs/|\[(bt_\w+)/specs/[\w/]+\.antt\]\([^)]*\), `)([A-Z]\w*`(?:,(?: [a-z ]+)? `[A-Z]\w*`)*)")
+
+# Paths in code spans: below a crate that is named, or that has the page, and else below any.
+PATHS = re.compile(r"`(?:(bt_\w+|bedtools)/)?((?:src|specs|proofs|laws)/[\w./]*)`")
+WITH_PATHS = [TOP / "docs" / "ARCHITECTURE.md", TOP / "docs" / "PROVED.md", *sorted(TOP.glob("crates/*/README.md"))]
 
 # Where the version stands: the first match of each is it.
 VERSIONS = {
@@ -94,10 +99,27 @@ def missing():
     """The files of definitions that a page names and that aren't there, each with the page and its line."""
     for page in PAGES:
         for number, line in enumerate(page.read_text(encoding="utf-8").splitlines(), 1):
-            for crate, names in FILES.findall(line):
+            for alone, linked, names in FILES.findall(line):
+                crate = alone or linked
                 for name in re.findall(r"(\w+)`", names):
                     if not any((TOP / "crates" / crate / "specs").rglob(f"{name}.antt")):
                         yield page, number, f"{crate}/specs/{name}"
+
+
+def is_path(crates, path):
+    """Whether one of the crates has a file or a folder at a path, which may lack its `src` or the end of a definition's name."""
+    return any((TOP / "crates" / crate / name).exists() for crate in crates for name in (path, f"src/{path}", f"{path}.antt"))
+
+
+def lost_paths():
+    """The paths in code spans that lead nowhere, each with the page and its line."""
+    every = [folder.name for folder in (TOP / "crates").iterdir()]
+    for page in WITH_PATHS:
+        own = [page.parent.name] if page.name == "README.md" else every
+        for number, line in enumerate(page.read_text(encoding="utf-8").splitlines(), 1):
+            for crate, path in PATHS.findall(line):
+                if not is_path([crate] if crate else own, path):
+                    yield page, number, f"{crate}/{path}".lstrip("/")
 
 
 def versions():
@@ -198,7 +220,7 @@ def main():
     elsewhere = list(misplaced())
     for page, number, name, file in elsewhere:
         print(f"{page.relative_to(TOP)}:{number}: {name} doesn't stand in {file.relative_to(TOP)}")
-    absent = list(missing())
+    absent = [*missing(), *lost_paths()]
     for page, number, name in absent:
         print(f"{page.relative_to(TOP)}:{number}: {name} isn't there")
     outside = list(strays())
