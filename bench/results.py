@@ -183,7 +183,7 @@ def spread(values, text):
 def caption(kept, about=""):
     """How the numbers were measured: what is said first, and then the runs, the machine and the commit."""
     trial = "**A trial on a busy machine, no result.** " if kept["is_trial"] else ""
-    records = about or f"About {kept['records'] / 1e6:g} million records"
+    records = about or f"Up to {kept['records'] / 1e6:g} million records"
     runs = "the least of several runs" if not kept["times"] else "one run" if kept["times"] == 1 else f"the least of {kept['times']} runs"
     note = f" {kept['note']}" if "note" in kept else ""
     others = f"bedtools {kept['bedtools']}, bedops {kept['bedops']}"
@@ -192,7 +192,9 @@ def caption(kept, about=""):
 
 def by_command(kept):
     """The table of README.md: how much less each command takes."""
-    lines = ["| command | times less processor time than bedtools | memory | memory of bedtools |\n|---|---|---|---|\n"]
+    factors = [times_less(row) for row in kept["workloads"] if row["command"] in SHOWN]
+    lines = [f"**{min(factors):.0f} to {max(factors):.0f} times less processor time than bedtools {kept['bedtools']}, by command**\n\n"]
+    lines.append("| command | times less processor time than bedtools | memory | memory of bedtools |\n|---|---|---|---|\n")
     for command in SHOWN:
         rows = [row for row in kept["workloads"] if row["command"] == command]
         ours, theirs = ([row["runs"][program]["kilobytes"] for row in rows] for program in ("dunekettle", "bedtools"))
