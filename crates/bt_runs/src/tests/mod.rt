@@ -3,4 +3,4 @@
 mod batch_tests;
 mod calls_tests;
 mod growth_tests;
-mod testing;
+pub(crate) mod testing;

@@ -452,12 +452,9 @@ const BUFFERED: [Row; 7] = [
     ),
 ];
 
-// The record of the line that was read last, while that is ahead, or none.
-fn ahead<'a>(beds: &'a LineReader<ScriptSource<'_>>, is_ahead: bool) -> Single<'a> {
-    if !is_ahead {
-        return Single::none(b"");
-    }
-    let Some(line) = beds.line() else {
+// The record of the next line that is buffered, or none.
+fn ahead<'a>(beds: &'a LineReader<ScriptSource<'_>>) -> Single<'a> {
+    let Some(line) = beds.buffered().next() else {
         return Single::none(b"");
     };
     match parse_bed(line.text) {
@@ -466,17 +463,17 @@ fn ahead<'a>(beds: &'a LineReader<ScriptSource<'_>>, is_ahead: bool) -> Single<'
     }
 }
 
-// Gives all lines, and a record if one is ahead, and returns true if it still is.
+// Gives all lines, and a record if one is buffered, and returns true if its line is done with.
 fn advance(
     mask: &mut Mask,
     lines: &mut BufferedLines<'_>,
     beds: &LineReader<ScriptSource<'_>>,
-    is_ahead: bool,
     out: &mut Out<ScriptSink>,
 ) -> Result<bool, Fault> {
-    let mut record = ahead(beds, is_ahead);
+    let has_line = !beds.buffered().is_empty();
+    let mut record = ahead(beds);
     mask.advance(lines, &mut record, out)?;
-    Ok(!record.is_empty())
+    Ok(has_line && record.is_empty())
 }
 
 // Gives what is wanted, all lines and a record at a time.
@@ -486,7 +483,6 @@ fn drive_buffered(
     beds: &mut LineReader<ScriptSource<'_>>,
     out: &mut Out<ScriptSink>,
 ) -> Result<(), Fault> {
-    let mut is_ahead = false;
     for _turn in 0..64 {
         match mask.want() {
             MaskWant::Line => {
@@ -495,16 +491,15 @@ fn drive_buffered(
                 }
             }
             MaskWant::Bed => {
-                if !is_ahead {
-                    is_ahead = beds.next()?.is_some();
-                    if !is_ahead {
-                        mask.end_bed(out)?;
-                    }
+                if !beds.fill()? {
+                    mask.end_bed(out)?;
                 }
             }
             MaskWant::Nothing => return Ok(()),
         }
-        is_ahead = advance(mask, lines, beds, is_ahead, out)?;
+        if advance(mask, lines, beds, out)? {
+            let _ = beds.next()?;
+        }
     }
     Ok(())
 }

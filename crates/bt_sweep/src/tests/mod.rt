@@ -1,4 +1,4 @@
 //! Tests of complete sweeps.
 
 mod growth_tests;
-mod worked;
+pub(crate) mod worked;
