@@ -22,7 +22,7 @@ alignments_of inputs = items_in (sam_good First inputs.first)
 
 -- bamtobed without -split: where the alignments that give a line are sorted by chromosome, in the
 -- order of the next command, and by position. Its records lie where the alignments do; a reference
--- may be called `track` or `browser`, and its lines are skipped as headers.
+-- may be called `track` or `browser`, or begin with `#`, and its lines are skipped as headers.
 abbrev pub bamtobed_is_input : Type 0
 bamtobed_is_input =
     (cigar : Bool) (inputs : Inputs) (order : Order) → IsTotal order

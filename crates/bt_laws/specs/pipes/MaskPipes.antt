@@ -1,5 +1,5 @@
 -- What maskfasta writes, as its input again.
-use Rattle.std.specs.Prelude.{◌≡◌, ◌≢◌, ◌<◌, ◌||◌, ℕ, ⊤, Bool, List, map, length, Option}
+use Rattle.std.specs.Prelude.{◌≡◌, ◌≢◌, ◌<◌, ◌≤◌, ◌||◌, ℕ, ⊤, Bool, List, map, length, Option}
 use Rattle.std.specs.Prelude.{None}
 use Rattle.std.specs.List.{AllByRecursion, list_any}
 use Rattle.bt_lines.specs.model.Handed.{whole_text}
@@ -10,7 +10,7 @@ use Rattle.bt_bed.specs.model.input.Good.{items_in}
 use Rattle.bt_bed.specs.model.input.GoodBlocks.{block_good}
 use Rattle.bt_seq.specs.model.Masked.{covers}
 use Rattle.bt_seq.specs.model.Owners.{own_records}
-use Rattle.bt_seq.specs.model.Sequences.{SequenceLine, sequence_good}
+use Rattle.bt_seq.specs.model.Sequences.{SequenceLine, bases_up_to, sequence_good}
 use Rattle.bt_seq.specs.declared.mask.mask_how.MaskHow.{MaskHow}
 use Rattle.bt_seq.specs.declared.mask.mask_how.MaskHow.TheVariants.{Soft, Hard}
 use Rattle.bt_tool.specs.model.report.Inputs.{Inputs, or_empty}
@@ -84,7 +84,8 @@ masked_by_positions =
     (how : MaskHow) (full : Bool) (inputs other : Inputs) (chromosomes : Option (List Entry))
     → RunsWell (MaskFasta how full) inputs chromosomes
     → RunsWell (MaskFasta how full) (with_bed inputs other) chromosomes
-    → AllByRecursion (λ line. (p : ℕ) → is_masked inputs line p ≡ is_masked other line p)
+    → AllByRecursion (λ line. (p : ℕ) → line.before ≤ p → p < bases_up_to line
+    → is_masked inputs line p ≡ is_masked other line p)
     (lines_in full inputs)
     → (report_of (MaskFasta how full) inputs).output
     ≡ (report_of (MaskFasta how full) (with_bed inputs other)).output
@@ -97,8 +98,17 @@ masked_by_both =
     → KeepsLines how → RunsWell (MaskFasta how full) inputs chromosomes
     → RunsWell (MaskFasta how full) (with_bed inputs other) chromosomes
     → RunsWell (MaskFasta how full) (with_bed inputs both) chromosomes
-    → AllByRecursion (λ line. (p : ℕ)
+    → AllByRecursion (λ line. (p : ℕ) → line.before ≤ p → p < bases_up_to line
     → is_masked both line p ≡ (is_masked inputs line p || is_masked other line p))
     (lines_in full inputs)
     → Writes (MaskFasta how full) (with_bed (piped (MaskFasta how full) inputs) other)
     (report_of (MaskFasta how full) (with_bed inputs both)).output
+
+-- what masks the input masks the output: a BED that is without a fault with the one is so with the
+-- other, by any mask
+abbrev pub masked_goes_on : Type 0
+masked_goes_on =
+    (how next : MaskHow) (full : Bool) (inputs other : Inputs) (chromosomes : Option (List Entry))
+    → KeepsLines how → RunsWell (MaskFasta how full) inputs chromosomes
+    → RunsWell (MaskFasta next full) (with_bed inputs other) chromosomes
+    → RunsWell (MaskFasta next full) (with_bed (piped (MaskFasta how full) inputs) other) chromosomes

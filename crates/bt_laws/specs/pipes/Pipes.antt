@@ -15,14 +15,14 @@ use Rattle.bt_runs.specs.declared.merge.merge_strand.MergeStrand.{MergeStrand}
 use Rattle.bt_runs.specs.declared.merge.merge_strand.MergeStrand.TheVariants.{Each}
 use Rattle.bt_sweep.specs.declared.hits.hit_rule.HitRule.{HitRule}
 use Rattle.bt_sweep.specs.declared.output.shape.Shape.{Shape}
-use Rattle.bt_sweep.specs.declared.output.shape.Shape.TheVariants.{Whole}
+use Rattle.bt_sweep.specs.declared.output.shape.Shape.TheVariants.{Pieces, Whole}
 use Rattle.bt_tool.specs.model.report.Behaviour.{order_of}
 use Rattle.bt_tool.specs.model.report.Inputs.{Inputs, or_empty}
 use Rattle.bt_tool.specs.model.report.Report.{chromosomes_of, report_of}
 use Rattle.bt_tool.specs.declared.planning.plan_type.Command.{Command}
 use Rattle.bt_tool.specs.declared.planning.plan_type.Command.TheVariants.{Merge, Complement, Coverage}
 use Rattle.bt_tool.specs.declared.planning.plan_type.Command.TheVariants.{Intersect, Subtract}
-use Rattle.bt_laws.specs.pipes.SweepLines.{begins_with_a, places_written}
+use Rattle.bt_laws.specs.pipes.SweepLines.{begins_with_a, cuts_written, places_written}
 use Rattle.bt_laws.specs.pipes.Taken.{AreApart, AreDisjoint, EachPair, IsInput, four_columns}
 use Rattle.bt_laws.specs.pipes.Taken.{is_no_header, three_columns}
 
@@ -107,8 +107,8 @@ cut_intersect_is_input =
     (chromosomes : Option (List Entry))
     → begins_with_a shape ≡ false → RunsWell (Intersect shape rule held) inputs chromosomes
     → EachPair AreDisjoint (intervals_of (first_records chromosomes inputs))
-    → (records : List Feature)
-    × IsInput (order_of chromosomes) (report_of (Intersect shape rule held) inputs).output records
+    → IsInputAt (order_of chromosomes) (report_of (Intersect shape rule held) inputs).output
+    (cuts_written shape rule (first_records chromosomes inputs) (second_records chromosomes inputs))
 
 -- subtract: where no two records of the first input overlap; nor do its pieces then
 abbrev pub subtract_is_input : Type 0
@@ -116,6 +116,7 @@ subtract_is_input =
     (rule : HitRule) (held : Option ℕ) (inputs : Inputs) (chromosomes : Option (List Entry))
     → RunsWell (Subtract false rule held) inputs chromosomes
     → EachPair AreDisjoint (intervals_of (first_records chromosomes inputs))
-    → (records : List Feature)
-    × IsInput (order_of chromosomes) (report_of (Subtract false rule held) inputs).output records
-    × EachPair AreDisjoint (intervals_of records)
+    → let places = cuts_written Pieces rule (first_records chromosomes inputs)
+    (second_records chromosomes inputs) in
+    IsInputAt (order_of chromosomes) (report_of (Subtract false rule held) inputs).output places
+    × EachPair AreDisjoint places

@@ -3,7 +3,7 @@ use Rattle.std.specs.Prelude.{◌≡◌, ◌-◌, ◌*◌, ℕ, false, List, fil
 use Rattle.bt_bed.specs.model.feature.Feature.{Feature}
 use Rattle.bt_bed.specs.model.order.Genome.{Entry}
 use Rattle.bt_bed.specs.declared.record.strand.Strand.{Strand}
-use Rattle.bt_runs.specs.model.Depth.{DepthInterval, depth_lines, is_counted_by}
+use Rattle.bt_runs.specs.model.Depth.{DepthInterval, coverage, depth_lines, is_counted_by}
 use Rattle.bt_runs.specs.model.Gaps.{length_in}
 use Rattle.bt_tool.specs.model.report.Inputs.{Inputs}
 use Rattle.bt_tool.specs.declared.planning.plan_type.Command.TheVariants.{Coverage}
@@ -24,8 +24,8 @@ abbrev pub depths_sum : Type 0
 depths_sum =
     (strand : Option Strand) (inputs : Inputs) (entries : List Entry)
     → RunsWell (Coverage false strand) inputs (Some entries)
-    → (depths : List DepthInterval)
-    × Writes (Coverage false strand) inputs (depth_lines depths)
+    → let depths = coverage false strand entries (first_records (Some entries) inputs) in
+    Writes (Coverage false strand) inputs (depth_lines depths)
     × (sum_by depth_bases depths
     ≡ sum_by (bases_below entries)
     (filter (λ r. is_counted_by strand r.strand) (first_records (Some entries) inputs)))

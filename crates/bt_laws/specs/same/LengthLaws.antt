@@ -8,6 +8,8 @@ use Rattle.bt_bed.specs.model.feature.Header.{is_header}
 use Rattle.bt_bed.specs.model.feature.Interval.{Interval}
 use Rattle.bt_bed.specs.model.feature.IntervalLine.{interval_lines}
 use Rattle.bt_runs.specs.model.Gaps.{length_in}
+use Rattle.bt_runs.specs.model.RunOrder.{ordered_runs}
+use Rattle.bt_tool.specs.model.report.Behaviour.{order_of}
 use Rattle.bt_runs.specs.declared.merge.merge_strand.MergeStrand.TheVariants.{All}
 use Rattle.bt_tool.specs.model.report.Inputs.{Inputs}
 use Rattle.bt_tool.specs.model.report.Report.{report_of}
@@ -31,8 +33,8 @@ complement_of_complement =
     (inputs : Inputs) (entries : List Entry)
     → RunsWell (Complement false) inputs (Some entries)
     → AllByRecursion (λ entry. is_header entry.name ≡ false) entries
-    → (runs : List Interval)
-    × Writes (Merge 0 All) inputs (interval_lines runs)
+    → let runs = ordered_runs (order_of (Some entries)) 0 All (first_records (Some entries) inputs) in
+    Writes (Merge 0 All) inputs (interval_lines runs)
     × Writes (Complement false) (piped (Complement false) inputs)
     (interval_lines (flat_map (cut_at_length entries) runs))
 

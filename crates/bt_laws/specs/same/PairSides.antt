@@ -10,7 +10,7 @@ use Rattle.bt_sweep.specs.declared.hits.hit_rule.HitRule.{HitRule}
 use Rattle.bt_sweep.specs.declared.output.shape.Shape.TheVariants.{OrigBoth}
 use Rattle.bt_tool.specs.model.report.Inputs.{Inputs, or_empty}
 use Rattle.bt_tool.specs.declared.planning.plan_type.Command.TheVariants.{Intersect}
-use Rattle.bt_laws.specs.pipes.Pipes.{RunsWell}
+use Rattle.bt_laws.specs.pipes.Pipes.{RunsWell, first_records, second_records}
 use Rattle.bt_laws.specs.same.SameLines.{Writes}
 
 -- two records that hit one another
@@ -48,7 +48,9 @@ abbrev pub pairs_have_two_sides : Type 0
 pairs_have_two_sides =
     (rule : HitRule) (held : Option ℕ) (inputs : Inputs) (chromosomes : Option (List Entry))
     → IsEven rule → RunsWell (Intersect OrigBoth rule held) inputs chromosomes
-    → (pairs others : List Pair)
-    × Writes (Intersect OrigBoth rule held) inputs (flat_map pair_line pairs)
-    × Writes (Intersect OrigBoth rule None) (exchanged inputs) (flat_map pair_line others)
-    × IsPermutation (map turned pairs) others
+    → let first = first_records chromosomes inputs in
+    let second = second_records chromosomes inputs in
+    Writes (Intersect OrigBoth rule held) inputs (flat_map pair_line (pairs_of rule first second))
+    × Writes (Intersect OrigBoth rule None) (exchanged inputs)
+    (flat_map pair_line (pairs_of rule second first))
+    × IsPermutation (map turned (pairs_of rule first second)) (pairs_of rule second first)

@@ -50,7 +50,7 @@ pub record AreCounted (rule : HitRule) (held : Option ℕ) (inputs : Inputs) (co
   pub original : Writes (Intersect OrigA rule held) inputs
       (flat_map (λ c. flat_map own_line (replicate c.hits c.at)) counts)
 
--- So -u and -v part the first input. One of these runs without a fault is enough.
+-- So -u and -v part the first input. It is enough that the run of -c is without a fault.
 abbrev pub counts_say_all : Type 0
 counts_say_all =
     (rule : HitRule) (held : Option ℕ) (inputs : Inputs) (chromosomes : Option (List Entry))

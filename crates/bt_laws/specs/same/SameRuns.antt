@@ -7,7 +7,9 @@ use Rattle.bt_bed.specs.model.order.Genome.{Entry}
 use Rattle.bt_bed.specs.model.feature.Interval.{Interval}
 use Rattle.bt_bed.specs.model.feature.IntervalLine.{interval_lines}
 use Rattle.bt_bed.specs.declared.record.strand.Strand.{Strand}
-use Rattle.bt_runs.specs.model.Depth.{DepthInterval, depth_lines}
+use Rattle.bt_runs.specs.model.Depth.{DepthInterval, coverage, depth_lines}
+use Rattle.bt_runs.specs.model.Gaps.{complement}
+use Rattle.bt_tool.specs.model.report.Behaviour.{entries_in}
 use Rattle.bt_runs.specs.declared.merge.merge_strand.MergeStrand.{MergeStrand}
 use Rattle.bt_runs.specs.declared.merge.merge_strand.MergeStrand.TheVariants.{All, Each}
 use Rattle.bt_tool.specs.model.report.Inputs.{Inputs}
@@ -92,14 +94,15 @@ repeated_complement = (limit : Bool) → WritesSame IsRepeated (Complement limit
 abbrev pub without_depth : Interval → DepthInterval
 without_depth r = record { chrom = r.chrom; start = r.start; stop = r.stop; depth = 0 }
 
--- The lines of depth 0 of genomecov -bga are those of complement with a column 0. One of the two
--- runs without a fault is enough.
+-- The lines of depth 0 of genomecov -bga are those of complement with a column 0. It is enough that
+-- the run of -bga is without a fault.
 abbrev pub depth_0_is_complement : Type 0
 depth_0_is_complement =
     (inputs : Inputs) (chromosomes : Option (List Entry))
     → RunsWell (Coverage true None) inputs chromosomes
-    → (depths : List DepthInterval) × (gaps : List Interval)
-    × Writes (Coverage true None) inputs (depth_lines depths)
+    → let depths = coverage true None (entries_in chromosomes) (first_records chromosomes inputs) in
+    let gaps = complement false (entries_in chromosomes) (first_records chromosomes inputs) in
+    Writes (Coverage true None) inputs (depth_lines depths)
     × Writes (Complement false) inputs (interval_lines gaps)
     × (filter (λ r. r.depth == 0) depths ≡ map without_depth gaps)
 
@@ -108,6 +111,6 @@ abbrev pub bg_is_bga_above_0 : Type 0
 bg_is_bga_above_0 =
     (strand : Option Strand) (inputs : Inputs) (chromosomes : Option (List Entry))
     → RunsWell (Coverage true strand) inputs chromosomes
-    → (depths : List DepthInterval)
-    × Writes (Coverage true strand) inputs (depth_lines depths)
+    → let depths = coverage true strand (entries_in chromosomes) (first_records chromosomes inputs) in
+    Writes (Coverage true strand) inputs (depth_lines depths)
     × Writes (Coverage false strand) inputs (depth_lines (filter (λ r. nat_lt 0 r.depth) depths))

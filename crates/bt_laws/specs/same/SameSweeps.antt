@@ -1,5 +1,5 @@
 -- Runs of intersect and subtract that write the same bytes by another second input.
-use Rattle.std.specs.Prelude.{◌≤◌, ℕ, false, List, Option, Some, None}
+use Rattle.std.specs.Prelude.{◌≤◌, ℕ, Bool, false, List, Option, Some, None}
 use Rattle.std.specs.List.{AllByRecursion}
 use Rattle.bt_lines.specs.model.Handed.{whole_text}
 use Rattle.bt_bed.specs.model.feature.Feature.{Feature}
@@ -7,6 +7,7 @@ use Rattle.bt_bed.specs.model.order.Genome.{Entry}
 use Rattle.bt_runs.specs.model.Gaps.{length_in}
 use Rattle.bt_runs.specs.declared.merge.merge_strand.MergeStrand.TheVariants.{All}
 use Rattle.bt_sweep.specs.model.Hits.{any_overlap}
+use Rattle.bt_sweep.specs.declared.hits.hit_rule.HitRule.{HitRule}
 use Rattle.bt_sweep.specs.declared.output.shape.Shape.TheVariants.{Cut, Missing, Once}
 use Rattle.bt_tool.specs.model.report.Inputs.{Inputs, or_empty}
 use Rattle.bt_tool.specs.model.report.Report.{report_of}
@@ -30,21 +31,25 @@ with_second command inputs = record {
   second = Some (whole_text (of_second command inputs));
 }
 
+-- one shared base is enough; -r may be given, and says nothing without -f
+abbrev pub one_base : Bool → HitRule
+one_base both = record { billionths = 0; both = both; same_strand = false }
+
 -- With merge of the second input in its place intersect -u, -v and subtract write the same, without
 -- -f and -s: which bases it has is all that they see of it.
 abbrev pub merged_second_once : Type 0
 merged_second_once =
-    (held : Option ℕ) (inputs : Inputs) (chromosomes : Option (List Entry))
-    → RunsWell (Intersect Once any_overlap held) inputs chromosomes
-    → Writes (Intersect Once any_overlap None) (with_second (Merge 0 All) inputs)
-    (report_of (Intersect Once any_overlap held) inputs).output
+    (both : Bool) (held : Option ℕ) (inputs : Inputs) (chromosomes : Option (List Entry))
+    → RunsWell (Intersect Once (one_base both) held) inputs chromosomes
+    → Writes (Intersect Once (one_base both) None) (with_second (Merge 0 All) inputs)
+    (report_of (Intersect Once (one_base both) held) inputs).output
 
 abbrev pub merged_second_missing : Type 0
 merged_second_missing =
-    (held : Option ℕ) (inputs : Inputs) (chromosomes : Option (List Entry))
-    → RunsWell (Intersect Missing any_overlap held) inputs chromosomes
-    → Writes (Intersect Missing any_overlap None) (with_second (Merge 0 All) inputs)
-    (report_of (Intersect Missing any_overlap held) inputs).output
+    (both : Bool) (held : Option ℕ) (inputs : Inputs) (chromosomes : Option (List Entry))
+    → RunsWell (Intersect Missing (one_base both) held) inputs chromosomes
+    → Writes (Intersect Missing (one_base both) None) (with_second (Merge 0 All) inputs)
+    (report_of (Intersect Missing (one_base both) held) inputs).output
 
 abbrev pub merged_second_subtract : Type 0
 merged_second_subtract =

@@ -2,7 +2,7 @@
 
 ghost use Rattle.bt_laws.specs.same.PairSides.{pairs_have_two_sides};
 
-/// The pairs of intersect -wa -wb don't depend on which input is the first.
+/// The pairs of intersect -wa -wb don't depend on which input is the first, without `-f` or with `-f` and `-r`.
 pub fn pairs_have_two_sides()
     ensures { pairs_have_two_sides }
 {}

@@ -2,7 +2,8 @@
 
 ghost use Rattle.bt_laws.specs.same.PartBases.{intersect_and_subtract_part};
 
-/// What intersect and subtract write part the bases of the first input.
+/// What intersect and subtract write part the bases of the first input, if no two of its records overlap; without `-f`
+/// and `-s`.
 pub fn intersect_and_subtract_part()
     ensures { intersect_and_subtract_part }
 {}

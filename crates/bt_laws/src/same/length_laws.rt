@@ -3,12 +3,12 @@
 
 ghost use Rattle.bt_laws.specs.same.LengthLaws.{complement_of_complement, merge_of_genomecov};
 
-/// Complement of complement is merge, cut at the lengths.
+/// Complement of complement is merge, cut at the lengths, without `-L` and if no chromosome has a header word as its name.
 pub fn gaps_of_the_gaps_are_the_runs()
     ensures { complement_of_complement }
 {}
 
-/// merge of genomecov -bg is merge, where the records lie within the lengths.
+/// merge of genomecov -bg is merge, if the records lie within the lengths; without other options.
 pub fn depths_are_merged()
     ensures { merge_of_genomecov }
 {}

@@ -13,30 +13,30 @@ ghost use Rattle.bt_laws.specs.same.SameRuns.{
   repeated_merge,
 };
 
-/// merge of merge is merge, with the same -d.
+/// merge of merge is merge, with the same `-d` and without `-s`.
 pub fn merge_is_merged()
     ensures { merge_of_merge }
 {}
 
-/// complement of merge is complement.
+/// complement of merge is complement, if merge has no options.
 pub fn merge_leaves_the_gaps()
     ensures { complement_of_merge }
 {}
 
-/// Records of equal chromosome and start may be exchanged.
+/// Records of equal chromosome and start may be exchanged, in merge without `-s`, in complement and in genomecov.
 pub fn equal_starts_may_be_exchanged()
     ensures merge { exchanged_merge }
     ensures complement { exchanged_complement }
     ensures genomecov { exchanged_genomecov }
 {}
 
-/// A record given twice changes nothing in merge and complement.
+/// A record given twice changes nothing in merge without `-s` and in complement.
 pub fn a_record_may_come_twice()
     ensures merge { repeated_merge }
     ensures complement { repeated_complement }
 {}
 
-/// The lines of depth 0 of genomecov -bga are complement's, and -bg has the others.
+/// The lines of depth 0 of genomecov -bga are complement's, without `-strand`, and -bg has the others.
 pub fn depths_leave_the_gaps()
     ensures zero { depth_0_is_complement }
     ensures others { bg_is_bga_above_0 }

@@ -3,14 +3,15 @@
 
 ghost use Rattle.bt_laws.specs.same.SameSweeps.{merged_second_missing, merged_second_once, merged_second_subtract, subtract_by_complement};
 
-/// With merge of the second input in its place intersect -u, -v and subtract write the same.
+/// With merge of the second input instead of it intersect -u, -v and subtract write the same, without `-f` and `-s`.
 pub fn the_second_input_may_be_merged()
     ensures once { merged_second_once }
     ensures missing { merged_second_missing }
     ensures subtract { merged_second_subtract }
 {}
 
-/// subtract is intersect with the complement of the second input, where the first lies within the lengths.
+/// subtract is intersect with the complement of the second input, if the first lies within the lengths; without `-f`
+/// and `-s`.
 pub fn what_is_left_lies_in_the_gaps()
     ensures { subtract_by_complement }
 {}

@@ -8,7 +8,7 @@ use Rattle.std.proofs.lemmas.Grind.{flat_map-append}
 use Rattle.bt_lines.specs.calls.LentLine.{NoLineFeed}
 use Rattle.bt_bed.specs.model.feature.Feature.{Feature, interval_of, intervals_of}
 use Rattle.bt_bed.specs.model.feature.Header.{is_header}
-use Rattle.bt_bed.specs.model.feature.Interval.{Interval, Span}
+use Rattle.bt_bed.specs.model.feature.Interval.{Interval, Span, placed_on}
 use Rattle.bt_bed.specs.model.order.Locus.{ArePlaced, IsPlacedBefore, IsUpTo, locus_of}
 use Rattle.bt_bed.specs.model.order.Order.{Order, IsTotal}
 use Rattle.bt_bed.specs.model.feature.Record.{bed_text, cut_to, is_kept}
@@ -22,7 +22,7 @@ use Rattle.bt_sweep.specs.declared.output.shape.Shape.{Shape}
 use Rattle.bt_sweep.specs.declared.output.shape.Shape.TheVariants.{Count, Cut, CutAndB, Missing, Once, OrigA, OrigBoth, Overlap, Pieces, Whole}
 use Rattle.bt_sweep.proofs.lemmas.laws.PieceLemmas.{are_pieces}
 use Rattle.bt_sweep.proofs.lemmas.laws.RuleLemmas.{hit_overlaps, overlap_parts}
-use Rattle.bt_laws.specs.pipes.SweepLines.{begins_with_a, line_count, places_written}
+use Rattle.bt_laws.specs.pipes.SweepLines.{begins_with_a, cuts_of, cuts_written, line_count, places_written}
 use Rattle.bt_laws.specs.pipes.Taken.{AreDisjoint, EachPair, IsInput, is_no_header}
 use Rattle.bt_laws.proofs.lemmas.back.Clear.{clear_both, clear_tab}
 use Rattle.bt_laws.proofs.lemmas.back.Digits.{clear_number}
@@ -392,6 +392,27 @@ part_within Count rule a is found e h = cc
 part_within Whole rule a is found e h = cc
 
 -- starts that don't fall
+at_columns : {B : Type 0} (f : B → Columns) (g : B → Interval) (bs : List B) → ((b : B) → (f b).at ≡ g b) → map (λ (line : Columns). line.at) (map f bs) ≡ map g bs
+at_columns f g [] h = refl
+at_columns f g (b ∷ bs) h = ap₂ (λ x y. x ∷ y) (h b) (at_columns f g bs h)
+
+cut_places : (shape : Shape) (a : Feature) (found : List Feature) → begins_with_a shape ≡ false → map (λ (line : Columns). line.at) (columns_for shape a found) ≡ cuts_of shape a found
+unfolding columns_for hit_columns piece_columns
+cut_places Cut a found e = at_columns (hit_columns Cut a) (λ b. interval_of (cut a b)) found (λ b. refl)
+cut_places CutAndB a found e = at_columns (hit_columns CutAndB a) (λ b. interval_of (cut a b)) found (λ b. refl)
+cut_places Pieces a found e = at_columns (piece_columns a) (placed_on a.chrom) (pieces a found) (λ p. refl)
+cut_places OrigA a found e = cc
+cut_places OrigBoth a found e = cc
+cut_places Overlap a found e = cc
+cut_places Once a found e = cc
+cut_places Missing a found e = cc
+cut_places Count a found e = cc
+cut_places Whole a found e = cc
+
+pub all_cut_places : (shape : Shape) (rule : HitRule) (first second : List Feature) → begins_with_a shape ≡ false → flat_map (λ a. map (λ (line : Columns). line.at) (columns_for shape a (hits_among rule a second))) first ≡ cuts_written shape rule first second
+all_cut_places shape rule [] second e = refl
+all_cut_places shape rule (a ∷ first) second e = ap₂ (λ x y. x ++ y) (cut_places shape a (hits_among rule a second) e) (all_cut_places shape rule first second e)
+
 abbrev Rise : Feature → Feature → Type 0
 Rise b c = b.start ≤ c.start
 

@@ -180,7 +180,6 @@ complements_twice inputs entries well plain =
     let e = complement_whole false inputs (Some entries) well in
     let gaps = complement false entries records in
     let is = subst (λ text. IsInput order text (filter is_no_header (map three_columns gaps))) (sym e) (gaps_back entries known.0 known.1 false records) in (
-      ordered_runs order 0 All records,
       record { output = merge_whole 0 All inputs (Some entries) merged_well; faultless = merged_well.faultless },
       writes_is (Complement false) (piped (Complement false) inputs) (interval_lines (flat_map (cut_at_length entries) (ordered_runs order 0 All records)))
           (complement_on false (piped (Complement false) inputs) (Some entries) (report_of (Complement false) inputs).output (filter is_no_header (map three_columns gaps)) well.genome refl is

@@ -134,8 +134,6 @@ zero_depths inputs chromosomes well =
     let good = bed_good First (order_of chromosomes) inputs.first in
     let gaps = complement false entries records in
     let other = fault_as (Coverage true None) (Complement false) inputs chromosomes well (told_same (coverage_written entries true None) (complement_written entries false) (items_in good) good.fault) in (
-      coverage true None entries records,
-      gaps,
       record { output = genomecov_whole true None inputs chromosomes well; faultless = well.faultless },
       record { output = complement_whole false inputs chromosomes other; faultless = other.faultless },
       zero_again (coverage true None entries records) ∙ ap (map without_depth) (sym (gaps_depth_0 entries records)),
@@ -147,7 +145,6 @@ deep_depths strand inputs chromosomes well =
     let entries = entries_in chromosomes in
     let good = bed_good First (order_of chromosomes) inputs.first in
     let other = fault_as (Coverage true strand) (Coverage false strand) inputs chromosomes well (told_same (coverage_written entries true strand) (coverage_written entries false strand) (items_in good) good.fault) in (
-      coverage true strand entries records,
       record { output = genomecov_whole true strand inputs chromosomes well; faultless = well.faultless },
       record { output = genomecov_whole false strand inputs chromosomes other ∙ ap depth_lines (deep_coverage strand entries records); faultless = other.faultless },
     )

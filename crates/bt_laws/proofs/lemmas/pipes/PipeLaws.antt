@@ -36,7 +36,7 @@ use Rattle.bt_sweep.specs.model.Subtract.{subtract_shape}
 use Rattle.bt_sweep.specs.model.SweepMeeting.{sweep_rule}
 use Rattle.bt_sweep.specs.declared.hits.hit_rule.HitRule.{HitRule}
 use Rattle.bt_sweep.specs.declared.output.shape.Shape.{Shape}
-use Rattle.bt_sweep.specs.declared.output.shape.Shape.TheVariants.{Whole}
+use Rattle.bt_sweep.specs.declared.output.shape.Shape.TheVariants.{Pieces, Whole}
 use Rattle.bt_sweep.proofs.lemmas.laws.SweepsLemmas.{faultless_all}
 use Rattle.bt_tool.specs.model.report.Behaviour.{behaviour_of, entries_in, order_of}
 use Rattle.bt_tool.specs.model.report.Inputs.{Inputs, or_empty}
@@ -47,13 +47,13 @@ use Rattle.bt_tool.specs.model.report.Written.{Written, complement_written, cove
 use Rattle.bt_tool.specs.declared.planning.plan_type.Command.{Command}
 use Rattle.bt_tool.specs.declared.planning.plan_type.Command.TheVariants.{Complement, Coverage, Intersect, Merge, Subtract}
 use Rattle.bt_laws.specs.pipes.Pipes.{IsInputAt, RunsWell, complement_is_input, cut_intersect_is_input, first_records, genomecov_is_input, intersect_is_input, merge_is_input, second_records, subtract_is_input, whole_subtract_is_input}
-use Rattle.bt_laws.specs.pipes.SweepLines.{begins_with_a, places_written}
+use Rattle.bt_laws.specs.pipes.SweepLines.{begins_with_a, cuts_written, places_written}
 use Rattle.bt_laws.specs.pipes.Taken.{AreApart, AreDisjoint, EachPair, IsInput, four_columns, is_no_header, three_columns}
 use Rattle.bt_laws.proofs.lemmas.back.GapsBack.{coverage_back, depths_disjoint, gaps_back, gaps_pairs}
 use Rattle.bt_laws.proofs.lemmas.parts.report.PartShards.{distinct_in}
 use Rattle.bt_laws.proofs.lemmas.back.RunsBack.{intervals_back, merge_apart, merge_back, runs_back, strands_written}
 use Rattle.bt_laws.proofs.lemmas.back.SaidWell.{IsChrom, genome_chroms, good_are_said}
-use Rattle.bt_laws.proofs.lemmas.back.SweepBack.{cut_back, kept_back, pieces_back}
+use Rattle.bt_laws.proofs.lemmas.back.SweepBack.{all_cut_places, cut_at, kept_back, pieces_back}
 
 -- ---- the order in use
 
@@ -241,10 +241,11 @@ module _ (shape : Shape) (rule : HitRule) (chromosomes : Option (List Entry)) (i
       kept_back (order_of chromosomes) (order_total chromosomes) shape rule firsts seconds (good_are_said First (order_of chromosomes) inputs.first) (good_are_said Second (order_of chromosomes) (or_empty inputs.second))
       (placed_good First (order_of chromosomes) inputs.first (order_total chromosomes)) begins
 
-  cut_input : begins_with_a shape ≡ false → EachPair AreDisjoint (intervals_of firsts) → (records : List Feature) × IsInput (order_of chromosomes) (intersect shape rule firsts seconds) records
+  cut_input : begins_with_a shape ≡ false → EachPair AreDisjoint (intervals_of firsts) → IsInputAt (order_of chromosomes) (intersect shape rule firsts seconds) (cuts_written shape rule firsts seconds)
   cut_input cuts apart =
-      cut_back (order_of chromosomes) (order_total chromosomes) shape rule firsts seconds (good_are_said First (order_of chromosomes) inputs.first) (good_are_said Second (order_of chromosomes) (or_empty inputs.second))
-      (placed_good First (order_of chromosomes) inputs.first (order_total chromosomes)) (placed_good Second (order_of chromosomes) (or_empty inputs.second) (order_total chromosomes)) apart cuts
+      let at = cut_at (order_of chromosomes) (order_total chromosomes) shape rule firsts seconds (good_are_said First (order_of chromosomes) inputs.first) (good_are_said Second (order_of chromosomes) (or_empty inputs.second))
+      (placed_good First (order_of chromosomes) inputs.first (order_total chromosomes)) (placed_good Second (order_of chromosomes) (or_empty inputs.second) (order_total chromosomes)) apart cuts in
+      (at.0, at.1, at.2 ∙ all_cut_places shape rule firsts seconds cuts)
 
 pub intersect_whole : (shape : Shape) (rule : HitRule) (held : Option ℕ) (inputs : Inputs) (chromosomes : Option (List Entry)) → RunsWell (Intersect shape rule held) inputs chromosomes
     → (report_of (Intersect shape rule held) inputs).output ≡ intersect shape rule (first_records chromosomes inputs) (second_records chromosomes inputs)
@@ -270,10 +271,14 @@ whole_subtract_input rule held inputs chromosomes well =
 
 pub cut_intersect_input : cut_intersect_is_input
 cut_intersect_input shape rule held inputs chromosomes cuts well apart =
-    subst (λ text. (records : List Feature) × IsInput (order_of chromosomes) text records) (sym (intersect_whole shape rule held inputs chromosomes well)) (cut_input shape rule chromosomes inputs cuts apart)
+    subst (λ text. IsInputAt (order_of chromosomes) text (cuts_written shape rule (first_records chromosomes inputs) (second_records chromosomes inputs))) (sym (intersect_whole shape rule held inputs chromosomes well)) (cut_input shape rule chromosomes inputs cuts apart)
 
 pub subtract_input : subtract_is_input
 subtract_input rule held inputs chromosomes well apart =
-    subst (λ text. (records : List Feature) × IsInput (order_of chromosomes) text records × EachPair AreDisjoint (intervals_of records)) (sym (subtract_whole false rule held inputs chromosomes well))
-    (pieces_back (order_of chromosomes) (order_total chromosomes) rule (first_records chromosomes inputs) (second_records chromosomes inputs) (good_are_said First (order_of chromosomes) inputs.first) (good_are_said Second (order_of chromosomes) (or_empty inputs.second))
-    (placed_good First (order_of chromosomes) inputs.first (order_total chromosomes)) (placed_good Second (order_of chromosomes) (or_empty inputs.second) (order_total chromosomes)) apart)
+    let places = cuts_written Pieces rule (first_records chromosomes inputs) (second_records chromosomes inputs) in
+    let at = cut_input Pieces rule chromosomes inputs refl apart in
+    let back = pieces_back (order_of chromosomes) (order_total chromosomes) rule (first_records chromosomes inputs) (second_records chromosomes inputs) (good_are_said First (order_of chromosomes) inputs.first) (good_are_said Second (order_of chromosomes) (or_empty inputs.second))
+    (placed_good First (order_of chromosomes) inputs.first (order_total chromosomes)) (placed_good Second (order_of chromosomes) (or_empty inputs.second) (order_total chromosomes)) apart in (
+      subst (λ text. IsInputAt (order_of chromosomes) text places) (sym (subtract_whole false rule held inputs chromosomes well)) at,
+      subst (EachPair AreDisjoint) (ap intervals_of (sym (back.1.records_are First) ∙ at.1.records_are First) ∙ at.2) back.2,
+    )

@@ -232,7 +232,6 @@ unfolding coverage
 sum_depths strand inputs entries well =
     let records = first_records (Some entries) inputs in
     let known = chroms_of inputs.genome entries well.genome in (
-      coverage false strand entries records,
       record { output = genomecov_whole false strand inputs (Some entries) well; faultless = well.faultless },
       entries_sum strand records entries known.1 ∙ features_sum entries (filter (λ r. is_counted_by strand r.strand) records),
     )

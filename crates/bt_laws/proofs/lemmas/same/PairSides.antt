@@ -171,8 +171,6 @@ two_sides rule held inputs chromosomes even well =
     let two = other_second order inputs.first nones.0 in
     let lines : intersect OrigBoth rule (first_records chromosomes (exchanged inputs)) (second_records chromosomes (exchanged inputs)) ≡ flat_map pair_line (pairs_of rule seconds firsts) =
     ap₂ (intersect OrigBoth rule) one.0 two.0 ∙ pair_lines rule seconds firsts in (
-      pairs_of rule firsts seconds,
-      pairs_of rule seconds firsts,
       subst (Writes (Intersect OrigBoth rule held) inputs) (pair_lines rule firsts seconds) (writes_lines OrigBoth rule held inputs chromosomes well),
       sweeps_from (Intersect OrigBoth rule None) (exchanged inputs) chromosomes (flat_map pair_line (pairs_of rule seconds firsts)) well.genome
           (met_none order OrigBoth rule (bed_good First order (or_empty inputs.second)) (bed_good Second order inputs.first) one.1 two.1)

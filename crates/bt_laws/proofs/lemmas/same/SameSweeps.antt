@@ -1,5 +1,5 @@
 -- What intersect and subtract see of the second input, where any common base is a hit.
-use Rattle.std.proofs.Common.{◌≡◌, ◌&&◌, ℕ, suc, ◌-◌, ◌<◌, ◌≤◌, Bool, true, false, cond, List, [], ◌∷◌, map, length, max, min, Option, Some, None, Result, Ok, Err, refl, sym, ap, ap₂, ◌∙◌, subst, inl, inr, arith, ltb}
+use Rattle.std.proofs.Common.{◌≡◌, ◌&&◌, ◌++◌, ℕ, suc, ◌-◌, ◌<◌, ◌≤◌, Bool, true, false, cond, List, [], ◌∷◌, map, length, max, min, Option, Some, None, Result, Ok, Err, refl, sym, ap, ap₂, ◌∙◌, subst, inl, inr, arith, ltb}
 use Rattle.std.specs.Prelude.{bytes_eq, flat_map, if◌then◌else◌}
 use Rattle.std.specs.List.{AllByRecursion, list_all}
 use Rattle.std.specs.Option.{option_or}
@@ -37,7 +37,7 @@ use Rattle.bt_sweep.specs.declared.hits.hit_rule.HitRule.{HitRule}
 use Rattle.bt_sweep.specs.declared.output.shape.Shape.{Shape}
 use Rattle.bt_sweep.specs.declared.output.shape.Shape.TheVariants.{Missing, Once, Pieces}
 use Rattle.bt_sweep.proofs.lemmas.laws.PieceLemmas.{are_pieces, only_pieces}
-use Rattle.bt_sweep.proofs.lemmas.laws.RuleLemmas.{enough_of_nothing}
+use Rattle.bt_sweep.proofs.lemmas.laws.RuleLemmas.{enough_of_nothing, of_nothing}
 use Rattle.bt_tool.specs.model.report.Behaviour.{behaviour_of, order_of}
 use Rattle.bt_tool.specs.model.report.Inputs.{Inputs, or_empty}
 use Rattle.bt_tool.specs.model.report.RecordReport.{Report, report_by}
@@ -48,7 +48,7 @@ use Rattle.bt_tool.specs.declared.planning.plan_type.Command.{Command}
 use Rattle.bt_tool.specs.declared.planning.plan_type.Command.TheVariants.{Intersect, Merge, Subtract}
 use Rattle.bt_laws.specs.pipes.Pipes.{RunsWell, first_records, second_records}
 use Rattle.bt_laws.specs.same.SameLines.{Writes}
-use Rattle.bt_laws.specs.same.SameSweeps.{merged_second_missing, merged_second_once, merged_second_subtract, of_second, with_second}
+use Rattle.bt_laws.specs.same.SameSweeps.{merged_second_missing, merged_second_once, merged_second_subtract, of_second, with_second, one_base}
 use Rattle.bt_laws.specs.pipes.Taken.{IsInput, three_columns}
 use Rattle.bt_laws.proofs.lemmas.pipes.Covers.{SameCover, runs_cover, same_sym}
 use Rattle.bt_laws.proofs.lemmas.parts.text.PartLists.{all_any, all_so, filter_all, flat_map_same}
@@ -59,6 +59,15 @@ use Rattle.bt_laws.proofs.lemmas.back.SaidWell.{IsSaid, good_are_said}
 use Rattle.bt_laws.proofs.lemmas.back.SweepBack.{Hit, all_hits, cut_bounds, same_name}
 
 -- ---- a common base is a hit
+
+one_base_among : (both : Bool) (a : Feature) (bs : List Feature) → hits_among (one_base both) a bs ≡ hits_among any_overlap a bs
+one_base_among both a [] = refl
+one_base_among both a (b ∷ bs) = ap₂ (λ h l. cond h (b ∷ l) l) (of_nothing both false a b) (one_base_among both a bs)
+
+one_base_lines : (both : Bool) (shape : Shape) (first bs : List Feature) → intersect shape (one_base both) first bs ≡ intersect shape any_overlap first bs
+unfolding lines_for
+one_base_lines both shape [] bs = refl
+one_base_lines both shape (a ∷ first) bs = ap₂ (λ x y. x ++ y) (ap (lines_of shape a) (one_base_among both a bs)) (one_base_lines both shape first bs)
 
 any_hits : (a b : Feature) → a.chrom ≡ b.chrom → max a.start b.start < min a.stop b.stop → hits any_overlap a b ≡ true
 unfolding hits strands_agree
@@ -317,17 +326,27 @@ module _ (shape : Shape) (held : Option ℕ) (inputs : Inputs) (chromosomes : Op
       → ((bed_good First (order_of chromosomes) inputs.first).fault ≡ None) × ((bed_good Second (order_of chromosomes) (or_empty inputs.second)).fault ≡ None)
   nones e = met_faultless (order_of chromosomes) shape any_overlap held (bed_good First (order_of chromosomes) inputs.first) (bed_good Second (order_of chromosomes) (or_empty inputs.second)) e
 
-  by_intersect : SeesBases shape → RunsWell (Intersect shape any_overlap held) inputs chromosomes → Writes (Intersect shape any_overlap None) (with_second (Merge 0 All) inputs) (report_of (Intersect shape any_overlap held) inputs).output
-  by_intersect see well =
-      let none = nones (well_there (Intersect shape any_overlap held) inputs chromosomes well) in
-      subst (Writes (Intersect shape any_overlap None) (with_second (Merge 0 All) inputs)) (sym (intersect_whole shape any_overlap held inputs chromosomes well))
-      (intersect_merged inputs chromosomes well.genome none.1 shape see none.0)
+  by_intersect : (both : Bool) → SeesBases shape → RunsWell (Intersect shape (one_base both) held) inputs chromosomes → Writes (Intersect shape (one_base both) None) (with_second (Merge 0 All) inputs) (report_of (Intersect shape (one_base both) held) inputs).output
+  by_intersect both see well =
+      let order = order_of chromosomes in
+      let firsts = first_records chromosomes inputs in
+      let seconds = second_records chromosomes inputs in
+      let none = met_faultless order shape (one_base both) held (bed_good First order inputs.first) (bed_good Second order (or_empty inputs.second)) (well_there (Intersect shape (one_base both) held) inputs chromosomes well) in
+      let merged = intersect_merged inputs chromosomes well.genome none.1 shape see none.0 in
+      let merged_well : RunsWell (Intersect shape any_overlap None) (with_second (Merge 0 All) inputs) chromosomes = record { genome = well.genome; faultless = merged.faultless } in
+      let merged_none = met_faultless order shape any_overlap None (bed_good First order inputs.first) (bed_good Second order (whole_text (of_second (Merge 0 All) inputs))) (well_there (Intersect shape any_overlap None) (with_second (Merge 0 All) inputs) chromosomes merged_well) in
+      subst (Writes (Intersect shape (one_base both) None) (with_second (Merge 0 All) inputs)) (sym (intersect_whole shape (one_base both) held inputs chromosomes well ∙ one_base_lines both shape firsts seconds))
+      (sweeps_from (Intersect shape (one_base both) None) (with_second (Merge 0 All) inputs) chromosomes (intersect shape any_overlap firsts seconds) well.genome
+      (met_none order shape (one_base both) (bed_good First order inputs.first) (bed_good Second order (whole_text (of_second (Merge 0 All) inputs))) merged_none.0 merged_none.1)
+      (λ again. intersect_whole shape (one_base both) None (with_second (Merge 0 All) inputs) chromosomes again
+      ∙ one_base_lines both shape (first_records chromosomes (with_second (Merge 0 All) inputs)) (second_records chromosomes (with_second (Merge 0 All) inputs))
+      ∙ sym (intersect_whole shape any_overlap None (with_second (Merge 0 All) inputs) chromosomes merged_well) ∙ merged.output))
 
 pub once_merged : merged_second_once
-once_merged held inputs chromosomes well = by_intersect Once held inputs chromosomes once_sees well
+once_merged both held inputs chromosomes well = by_intersect Once held inputs chromosomes both once_sees well
 
 pub missing_merged : merged_second_missing
-missing_merged held inputs chromosomes well = by_intersect Missing held inputs chromosomes missing_sees well
+missing_merged both held inputs chromosomes well = by_intersect Missing held inputs chromosomes both missing_sees well
 
 pub subtracts_merged : merged_second_subtract
 subtracts_merged held inputs chromosomes well =
