@@ -1,6 +1,6 @@
 -- How carrying out a plan ends, as standard error and the exit status report it.
 use Rattle.std.specs.Prelude.{◌≡◌, ◌⊎◌, [], Option, Some, option_map, unwrap_or}
-use Rattle.bt_lines.specs.model.Fault.{Told}
+use Rattle.bt_lines.specs.model.Fault.{FaultValue}
 use Rattle.bt_tool.specs.model.usage.Options.{PlanSeen}
 use Rattle.bt_tool.specs.model.report.Report.{fault_text, status_of}
 use Rattle.bt_tool.specs.model.usage.Table.{Word, tool_name, tool_of}
@@ -25,11 +25,11 @@ pub record CannotBegin (plan : PlanSeen) (message : Message) : Type 0 where
   pub reports : ReportsUnopened plan name message
 
 -- a run ended with this fault, or without one: then nothing is said, with status 0
-abbrev pub ReportsRun : PlanSeen → Option Told → Message → Type 0
+abbrev pub ReportsRun : PlanSeen → Option FaultValue → Message → Type 0
 ReportsRun plan fault message =
     Says (unwrap_or (option_map (fault_text plan) fault) []) (status_of fault) message
 
 -- the plan was carried out, or couldn't be
 abbrev pub Ends : PlanSeen → Message → Type 0
 Ends plan message =
-    CannotBegin plan message ⊎ ((fault : Option Told) × ReportsRun plan fault message)
+    CannotBegin plan message ⊎ ((fault : Option FaultValue) × ReportsRun plan fault message)

@@ -23,7 +23,7 @@
 #![tactic(auto)]
 
 ghost use Rattle.std.specs.Prelude.{◌≡◌, Ok, Err, [], is_some, None, Some, option_map, string_bytes, IfOk, IfErr};
-ghost use Rattle.bt_lines.specs.calls.Names.{told};
+ghost use Rattle.bt_lines.specs.calls.Names.{fault_value};
 ghost use Rattle.bt_tool.specs.model.usage.Options.{PlanSeen, options};
 ghost use Rattle.bt_tool.specs.calls.words.Plan.{plan_seen, words_seen};
 ghost use Rattle.bt_tool.specs.model.usage.Table.{Word};
@@ -168,7 +168,7 @@ fn cannot_open(alloc: Global, plan: &Plan, name: &str) -> Message
 
 // How a run ended: its fault, if there is one, is reported.
 fn end_of(alloc: Global, plan: &Plan, outcome: &Outcome) -> Message
-    ensures fault { ReportsRun (plan_seen plan.now) (option_map told outcome.now.fault) result }
+    ensures fault { ReportsRun (plan_seen plan.now) (option_map fault_value outcome.now.fault) result }
     ensures none { outcome.now.fault ≡ None → line_seen result.line ≡ [] × result.status ≡ 0 }
 {
     let line = match outcome.fault_line(alloc, plan) {

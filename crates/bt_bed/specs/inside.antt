@@ -2,6 +2,6 @@
 pub mod Ahead
 pub mod FirstColumns
 pub mod KeptForm
-pub mod NameKey
-pub mod Neighbours
+pub mod PackedName
+pub mod OrderedLookahead
 pub mod RankTotal

@@ -1,8 +1,8 @@
 -- What a reader of records in blocks holds, and what its calls do.
 use Rattle.std.specs.Prelude.{◌≡◌, ℕ, Bool, true, false, List, Option, Some, None, option_map, Result, Ok, Err}
 use Rattle.std.specs.Prelude.{IfSome, take}
-use Rattle.bt_lines.specs.model.Fault.{Told}
-use Rattle.bt_lines.specs.calls.Names.{told}
+use Rattle.bt_lines.specs.model.Fault.{FaultValue}
+use Rattle.bt_lines.specs.calls.Names.{fault_value}
 use Rattle.bt_lines.specs.calls.Reader.{IsKept}
 use Rattle.bt_lines.specs.declared.fault.Fault.{Fault}
 use Rattle.bt_lines.specs.declared.reader.line_reader.LineReader.{LineReader}
@@ -48,7 +48,7 @@ module _ {S : Type 0} where
   line_ahead blocks = line_of_ahead (view_of blocks)
 
   -- the fault that is kept
-  abbrev pub fault_kept : Blocks S → Option Told
+  abbrev pub fault_kept : Blocks S → Option FaultValue
   fault_kept blocks = (view_of blocks).fault
 
   -- what is still to come, the records that are buffered included, if the source's bytes are known
@@ -75,7 +75,7 @@ module _ {S : Type 0} where
   FillAnswers left failed end old (Ok true) new = (r : Feature) × GivesRecord left failed old r new
   FillAnswers left failed end old (Ok false) new = EndsMembers left failed (view_of old) (view_of new)
   FillAnswers left failed end old (Err fault) new = AnswersFault left failed end (view_of old)
-      (told fault) (view_of new)
+      (fault_value fault) (view_of new)
 
   -- a call of `fill`
   pub record FillsBlocks (left : S → Option (List ℕ)) (failed end : S → Bool)
@@ -109,7 +109,7 @@ module _ {S : Type 0} where
       (feature_lent bed) new
   Answers left failed end old (Ok None) new = EndsMembers left failed (view_of old) (view_of new)
   Answers left failed end old (Err fault) new = AnswersFault left failed end (view_of old)
-      (told fault) (view_of new)
+      (fault_value fault) (view_of new)
 
   -- one call of `peek`
   pub record PeeksBlocks (left : S → Option (List ℕ)) (failed end : S → Bool)

@@ -3,9 +3,9 @@ use Rattle.std.specs.Prelude.{◌≡◌, ℕ, ◌-◌, ◌⊎◌, Bool, true, Li
 use Rattle.std.specs.Prelude.{None, Result, Ok, Err, IfSome, Vec, option_map}
 use Rattle.std.specs.Option.{option_to_list}
 use Rattle.std.specs.declared.alloc.Global.{Global}
-use Rattle.bt_lines.specs.model.Fault.{Told, no_memory}
+use Rattle.bt_lines.specs.model.Fault.{FaultValue, no_memory}
 use Rattle.bt_lines.specs.model.Lines.{TextLine}
-use Rattle.bt_lines.specs.calls.Names.{told}
+use Rattle.bt_lines.specs.calls.Names.{fault_value}
 use Rattle.bt_lines.specs.calls.Reader.{Hands, IsNear, IsSound, end_told, source_of, input_of}
 use Rattle.bt_lines.specs.calls.Reader.{lines_given, fault_kept, has_ended, lines_left}
 use Rattle.bt_lines.specs.declared.fault.Fault.{Fault}
@@ -51,21 +51,21 @@ pub record LineAdded (text : List ℕ) (old new : Genome) : Type 0 where
   pub added : entries new ≡ entries old ++ option_to_list entry
 
 -- the line is at fault
-pub record LineRefused (place : Place) (text : List ℕ) (old : Genome) (fault : Told) : Type 0 where
+pub record LineRefused (place : Place) (text : List ℕ) (old : Genome) (fault : FaultValue) : Type 0 where
   pub kind : Kind
   pub says : new_entry (names_of old) (entry_of text) ≡ Err kind
   pub is : fault ≡ fault_at_line place.input place.line kind
 
 -- the line has an entry, for which memory ran out
-pub record LineUnkept (text : List ℕ) (old : Genome) (fault : Told) : Type 0 where
+pub record LineUnkept (text : List ℕ) (old : Genome) (fault : FaultValue) : Type 0 where
   pub entry : Entry
   pub says : new_entry (names_of old) (entry_of text) ≡ Ok (Some entry)
   pub is : fault ≡ no_memory
 
 -- if one of the first lines is at fault, its fault is the one reported
-abbrev pub IsToldFirst : Input → Option (List TextLine) → ℕ → Told → Type 0
+abbrev pub IsToldFirst : Input → Option (List TextLine) → ℕ → FaultValue → Type 0
 IsToldFirst input lines count fault = IfSome lines
-    (λ all. (other : Told) → genome_of input (take count all) ≡ Err other → fault ≡ other)
+    (λ all. (other : FaultValue) → genome_of input (take count all) ≡ Err other → fault ≡ other)
 
 module _ {S : Type 0} where
   -- the whole genome file was read
@@ -83,7 +83,7 @@ module _ {S : Type 0} where
 
   -- a line is at fault: the last one given
   pub record EntryIsWrong (left : S → Option (List ℕ)) (failed : S → Bool) (old new : LineReader S)
-      (fault : Told) : Type 0 where
+      (fault : FaultValue) : Type 0 where
     pub is : IfSome (lines_left left old) (λ lines. genome_of (input_of old) lines ≡ Err fault)
     -- known or not, it is what is wrong with some text after some names
     pub kind : Kind
@@ -97,23 +97,23 @@ module _ {S : Type 0} where
 
   -- a line couldn't be read, and no line before it was at fault
   pub record EntryUnread (left : S → Option (List ℕ)) (failed end : S → Bool)
-      (old new : LineReader S) (fault : Told) : Type 0 where
+      (old new : LineReader S) (fault : FaultValue) : Type 0 where
     pub fails : ReadingFails left failed end old new fault
     pub passed : IfSome (lines_left left old) (λ lines. (entries : List Entry)
         × (genome_of (input_of old) (take (lines_given new - lines_given old) lines) ≡ Ok entries))
 
   -- why the reading stopped
   abbrev pub StopCause : (S → Option (List ℕ)) → (S → Bool) → (S → Bool) → LineReader S
-      → LineReader S → Told → Type 0
+      → LineReader S → FaultValue → Type 0
   StopCause left failed end old new fault =
       EntryIsWrong left failed old new fault
       ⊎ (EntryUnread left failed end old new fault ⊎ MemoryRanOut failed old new fault)
 
   -- the reading stopped at a fault
   pub record ReadingStops (left : S → Option (List ℕ)) (failed end : S → Bool)
-      (old new : LineReader S) (fault : Told) : Type 0 where
+      (old new : LineReader S) (fault : FaultValue) : Type 0 where
     -- a fault that the reader had is returned again, and nothing is read
-    pub again : (before : Told) → fault_kept old ≡ Some before → (fault ≡ before) × (new ≡ old)
+    pub again : (before : FaultValue) → fault_kept old ≡ Some before → (fault ≡ before) × (new ≡ old)
     -- a reader that had none meets the first
     pub first : fault_kept old ≡ None → StopCause left failed end old new fault
     -- the fault of a line given comes before any other
@@ -129,7 +129,7 @@ module _ {S : Type 0} where
       → Result Genome Fault → LineReader S → Type 0
   GenomeAnswers left failed end old (Ok genome) new = ReadsAll left failed old new genome
   GenomeAnswers left failed end old (Err fault) new = ReadingStops left failed end old new
-      (told fault)
+      (fault_value fault)
 
   -- what reading a genome file does
   pub record ReadsGenome (left : S → Option (List ℕ)) (failed end : S → Bool)

@@ -2,9 +2,9 @@
 use Rattle.std.specs.Prelude.{◌≡◌, ℕ, suc, ◌+◌, ◌-◌, ◌^◌, ◌<◌, ◌≤◌, ◌⊎◌, Bool, true, false, List}
 use Rattle.std.specs.Prelude.{[], ◌∷◌, ◌++◌, drop, length, Option, Some, None, option_map, Result, Ok}
 use Rattle.std.specs.Prelude.{Err, IsSome, IfSome, ⊤}
-use Rattle.bt_lines.specs.model.Fault.{Told, read_failed, no_memory}
+use Rattle.bt_lines.specs.model.Fault.{FaultValue, read_failed, no_memory}
 use Rattle.bt_lines.specs.model.Lines.{TextLine}
-use Rattle.bt_lines.specs.calls.Names.{told}
+use Rattle.bt_lines.specs.calls.Names.{fault_value}
 use Rattle.bt_lines.specs.calls.Output.{block_size}
 use Rattle.bt_lines.specs.calls.Reader.{CutsOff, Hands, HasRead, IsKept, IsNear, TellsReads}
 use Rattle.bt_lines.specs.calls.Reader.{end_told, held, input_of, source_of}
@@ -28,10 +28,10 @@ pub record MemberReader (S A State : Type 0) : Type 0 where
   -- the members that are known to come next, on the lines that follow those given
   pub buffered : List A
   -- the fault that is kept
-  pub fault : Option Told
+  pub fault : Option FaultValue
 
 -- what is good after the last member: nothing but the fault, if one is kept
-abbrev pub good_behind : {A State : Type 0} → Format A State → Input → Option Told → State
+abbrev pub good_behind : {A State : Type 0} → Format A State → Input → Option FaultValue → State
     → List TextLine → Good A
 good_behind format input (Some fault) state lines = ends_with (Some fault)
 good_behind format input None state lines = good_from format input state lines
@@ -79,7 +79,7 @@ module _ {S : Type 0} where
 
   -- the source failed, or its text is too long
   pub record ReadingFails (left : S → Option (List ℕ)) (failed end : S → Bool)
-      (old new : LineReader S) (fault : Told) : Type 0 where
+      (old new : LineReader S) (fault : FaultValue) : Type 0 where
     pub is : fault ≡ read_failed (input_of old) (suc (lines_given new))
     pub cause : (failed (source_of new) ≡ true) ⊎ (2 ^ 63 ≤ bytes_taken new)
     -- it comes before the end
@@ -90,14 +90,14 @@ module _ {S : Type 0} where
   -- A failed read is reported for the first time only if a read of this call failed, or if the text is
   -- too long by what its reads gave. What the source did before doesn't matter. Else all reads of the
   -- call succeeded.
-  abbrev pub TellsOwnFailure : {T : Type 0} → (S → Option ℕ → S → Type 0) → Option Told
+  abbrev pub TellsOwnFailure : {T : Type 0} → (S → Option ℕ → S → Type 0) → Option FaultValue
       → LineReader S → Result T Fault → LineReader S → Type 0
   TellsOwnFailure IsRead before old (Ok done) new = HasRead IsRead old new
   TellsOwnFailure IsRead before old (Err fault) new = before ≡ None
-      → TellsReads IsRead old (Some (told fault)) new
+      → TellsReads IsRead old (Some (fault_value fault)) new
 
   -- memory ran out
-  pub record MemoryRanOut (failed : S → Bool) (old new : LineReader S) (fault : Told) : Type 0 where
+  pub record MemoryRanOut (failed : S → Bool) (old new : LineReader S) (fault : FaultValue) : Type 0 where
     pub is : fault ≡ no_memory
     pub served : failed (source_of new) ≡ failed (source_of old)
 
@@ -183,7 +183,7 @@ module _ {S A State : Type 0} where
 
   -- a line is at fault: the last one given
   pub record LineIsWrong (left : S → Option (List ℕ)) (failed : S → Bool)
-      (old : MemberReader S A State) (fault : Told) (new : MemberReader S A State) : Type 0 where
+      (old : MemberReader S A State) (fault : FaultValue) (new : MemberReader S A State) : Type 0 where
     pub none_left : IfSome (good_coming left old) (λ good. good ≡ ends_with (Some fault))
     -- known or not, it is what is wrong with some line after the last member
     pub kind : Kind
@@ -204,7 +204,7 @@ module _ {S A State : Type 0} where
 
   -- a line couldn't be read, and no line before it was at fault or had a member
   pub record LineUnread (left : S → Option (List ℕ)) (failed end : S → Bool)
-      (old : MemberReader S A State) (fault : Told) (new : MemberReader S A State) : Type 0 where
+      (old : MemberReader S A State) (fault : FaultValue) (new : MemberReader S A State) : Type 0 where
     pub fails : ReadingFails left failed end old.below new.below fault
     pub passed : SaidNothing left old new
 
@@ -221,7 +221,7 @@ module _ {S A State : Type 0} where
   -- memory ran out: for a line that couldn't be read, once those before it were checked, or for the
   -- member of the last line given, once it was
   pub record RunsOut (left : S → Option (List ℕ)) (failed : S → Bool)
-      (old : MemberReader S A State) (fault : Told) (new : MemberReader S A State) : Type 0 where
+      (old : MemberReader S A State) (fault : FaultValue) (new : MemberReader S A State) : Type 0 where
     pub is : fault ≡ no_memory
     pub checked : ((line_fault new.below ≡ Some no_memory) × SaidNothing left old new)
         ⊎ LastUnkept left old new
@@ -229,20 +229,20 @@ module _ {S A State : Type 0} where
 
   -- why a fault came
   abbrev pub Cause : (S → Option (List ℕ)) → (S → Bool) → (S → Bool) → MemberReader S A State
-      → Told → MemberReader S A State → Type 0
+      → FaultValue → MemberReader S A State → Type 0
   Cause left failed end old fault new =
       LineIsWrong left failed old fault new ⊎ (LineUnread left failed end old fault new
       ⊎ RunsOut left failed old fault new)
 
   -- a fault was returned
   pub record AnswersFault (left : S → Option (List ℕ)) (failed end : S → Bool)
-      (old : MemberReader S A State) (fault : Told) (new : MemberReader S A State) : Type 0 where
+      (old : MemberReader S A State) (fault : FaultValue) (new : MemberReader S A State) : Type 0 where
     pub kept : new.fault ≡ Some fault
     pub was_none : old.buffered ≡ []
     pub none_buffered : new.buffered ≡ []
     pub state : new.state ≡ old.state
     -- a fault is returned again, and nothing is read
-    pub again : (before : Told) → old.fault ≡ Some before → (fault ≡ before) × (new ≡ old)
+    pub again : (before : FaultValue) → old.fault ≡ Some before → (fault ≡ before) × (new ≡ old)
     pub first : old.fault ≡ None → Cause left failed end old fault new
     pub stays : Stays left old new
     -- the lines that were given aren't left, if the line read last could be read
@@ -264,7 +264,7 @@ module _ {S A State : Type 0} where
   FillAnswers left failed end old (Ok true) new = MakesMember left failed old new
   FillAnswers left failed end old (Ok false) new = EndsMembers left failed old new
   FillAnswers left failed end old (Err fault) new = AnswersFault left failed end old
-      (told fault) new
+      (fault_value fault) new
 
   -- a call of `fill`
   pub record Fills (left : S → Option (List ℕ)) (failed end : S → Bool)

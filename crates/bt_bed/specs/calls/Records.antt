@@ -1,8 +1,8 @@
 -- What a reader of records holds, and what its calls do.
 use Rattle.std.specs.Prelude.{◌≡◌, ℕ, Bool, true, false, IsTrue, List, Option, Some, None, option_map, Result}
 use Rattle.std.specs.Prelude.{Ok, Err, IfSome, take}
-use Rattle.bt_lines.specs.model.Fault.{Told}
-use Rattle.bt_lines.specs.calls.Names.{told}
+use Rattle.bt_lines.specs.model.Fault.{FaultValue}
+use Rattle.bt_lines.specs.calls.Names.{fault_value}
 use Rattle.bt_lines.specs.calls.Reader.{IsKept}
 use Rattle.bt_lines.specs.declared.fault.Fault.{Fault}
 use Rattle.bt_lines.specs.declared.reader.line_reader.LineReader.{LineReader}
@@ -26,12 +26,12 @@ use Rattle.bt_bed.specs.declared.read.records.Records.{Records}
 module _ {S O : Type 0} {g : Ghosts O} where
   -- the order of the chromosomes
   unfoldable pub order_in : Records S O g → Order
-  order_in records = g.order records.sorted.neighbours.rule.order.now
+  order_in records = g.order records.sorted.lookahead.rule.order.now
 
   -- what it holds, as a reader of members
   unfoldable pub view_of : Records S O g → MemberReader S Feature (Option Locus)
   view_of records = view_in
-      (sorting_of (g.order records.sorted.neighbours.rule.order.now)) records.sorted
+      (sorting_of (g.order records.sorted.lookahead.rule.order.now)) records.sorted
 
   -- the reader of lines below
   abbrev pub below : Records S O g → LineReader S
@@ -54,7 +54,7 @@ module _ {S O : Type 0} {g : Ghosts O} where
   line_ahead records = line_of_ahead (view_of records)
 
   -- the fault that is kept
-  abbrev pub fault_kept : Records S O g → Option Told
+  abbrev pub fault_kept : Records S O g → Option FaultValue
   fault_kept records = (view_of records).fault
 
   -- what is still to come, the records that are buffered included, if the source's bytes are known
@@ -82,7 +82,7 @@ module _ {S O : Type 0} {g : Ghosts O} where
   FillAnswers left failed end old (Ok true) new = (r : Feature) × GivesRecord left failed old r new
   FillAnswers left failed end old (Ok false) new = EndsMembers left failed (view_of old) (view_of new)
   FillAnswers left failed end old (Err fault) new = AnswersFault left failed end (view_of old)
-      (told fault) (view_of new)
+      (fault_value fault) (view_of new)
 
   -- a call of `fill`
   pub record FillsRecords (left : S → Option (List ℕ)) (failed end : S → Bool)
@@ -118,7 +118,7 @@ module _ {S O : Type 0} {g : Ghosts O} where
       (feature_lent bed) new
   Answers left failed end old (Ok None) new = EndsMembers left failed (view_of old) (view_of new)
   Answers left failed end old (Err fault) new = AnswersFault left failed end (view_of old)
-      (told fault) (view_of new)
+      (fault_value fault) (view_of new)
 
   -- one call of `peek`
   pub record PeeksRecord (left : S → Option (List ℕ)) (failed end : S → Bool)

@@ -2,9 +2,9 @@
 use Rattle.std.specs.Prelude.{◌≡◌, ℕ, ◌-◌, ◌≤◌, ◌⊎◌, ◌&&◌, not, Bool, true, false, List, [], ◌∷◌, Option, Some, None, Result, Ok, Err, IsTrue, drop, length, option_map, take}
 use Rattle.std.specs.Option.{ForSome}
 use Rattle.bt_lines.specs.calls.Buffered.{BeginsLines}
-use Rattle.bt_lines.specs.model.Fault.{Told}
+use Rattle.bt_lines.specs.model.Fault.{FaultValue}
 use Rattle.bt_lines.specs.model.Lines.{TextLine}
-use Rattle.bt_lines.specs.calls.Names.{told}
+use Rattle.bt_lines.specs.calls.Names.{fault_value}
 use Rattle.bt_lines.specs.calls.Reader.{TakenLines, TakesLines, buffered_bytes, buffered_in as lines_buffered, input_of, is_open, fault_kept as line_fault, lines_given}
 use Rattle.bt_lines.specs.declared.reader.buffered_lines.ConsumedLines.{ConsumedLines}
 use Rattle.bt_lines.specs.declared.fault.Fault.{Fault}
@@ -14,7 +14,7 @@ use Rattle.bt_bed.specs.calls.Batch.{chrom_in, cursor_in, left as left_in, start
 use Rattle.bt_bed.specs.model.feature.Feature.{Feature}
 use Rattle.bt_bed.specs.model.input.Good.{or_else}
 use Rattle.bt_bed.specs.model.input.GoodBed.{bed_format, line_says, locus_at}
-use Rattle.bt_bed.specs.inside.Neighbours.{KeepsLast, LineUnkept, LineWrong, last_in, name_in, start_in}
+use Rattle.bt_bed.specs.inside.OrderedLookahead.{KeepsLast, LineUnkept, LineWrong, last_in, name_in, start_in}
 use Rattle.bt_bed.specs.model.order.Locus.{Locus}
 use Rattle.bt_bed.specs.calls.Reading.{MemberReader}
 use Rattle.bt_bed.specs.calls.Run.{is_some_left, last_start}
@@ -22,12 +22,12 @@ use Rattle.bt_bed.specs.model.order.Sorting.{Sorting, falls_in}
 use Rattle.bt_bed.specs.declared.read.batch.Batch.{Batch}
 use Rattle.bt_bed.specs.declared.read.batch.Consumed.{Consumed}
 use Rattle.bt_bed.specs.declared.read.sorted_reader.SortedReader.{SortedReader}
-use Rattle.bt_bed.specs.declared.read.neighbours.Neighbours.{Neighbours}
+use Rattle.bt_bed.specs.declared.read.lookahead.OrderedLookahead.{OrderedLookahead}
 
 -- the fault of a result, if it is one
-abbrev pub fault_in : {T : Type 0} → Result T Fault → Option Told
+abbrev pub fault_in : {T : Type 0} → Result T Fault → Option FaultValue
 fault_in (Ok done) = None
-fault_in (Err fault) = Some (told fault)
+fault_in (Err fault) = Some (fault_value fault)
 
 -- whether each of these records fits after those before it
 abbrev pub are_in_order : Sorting → Option Locus → List Feature → Bool
@@ -51,29 +51,29 @@ pub record TakesOne {S : Type 0} (left : S → Option (List ℕ)) (end : S → B
 
 module _ {S Q : Type 0} where
   -- a reader of lines and two neighbours, with a fault of their own and records that are buffered, as a reader of records
-  unfoldable pub view_with : Sorting → Option Told → LineReader S → Neighbours Q → List Feature
+  unfoldable pub view_with : Sorting → Option FaultValue → LineReader S → OrderedLookahead Q → List Feature
       → MemberReader S Feature (Option Locus)
-  view_with sorting own reader neighbours records = record {
+  view_with sorting own reader lookahead records = record {
     format = bed_format sorting;
     below = reader;
-    state = last_in neighbours;
+    state = last_in lookahead;
     buffered = records;
     fault = or_else own (line_fault reader);
   }
 
   -- the records that are buffered
   unfoldable pub buffered_in : SortedReader S Q → List Feature
-  buffered_in sorted = ahead_of sorted.is_ahead sorted.reader sorted.neighbours
+  buffered_in sorted = ahead_of sorted.is_ahead sorted.reader sorted.lookahead
 
   abbrev pub view_in : Sorting → SortedReader S Q → MemberReader S Feature (Option Locus)
   view_in sorting sorted = view_with sorting
-      (option_map told sorted.fault) sorted.reader sorted.neighbours (buffered_in sorted)
+      (option_map fault_value sorted.fault) sorted.reader sorted.lookahead (buffered_in sorted)
 
   -- the batch has them
   pub record Lends (sorted : SortedReader S Q) (batch : Batch) : Type 0 where
     pub left_is : left_in batch ≡ buffered_in sorted
-    pub start : start_of batch ≡ start_in sorted.neighbours
-    pub chrom : chrom_in batch ≡ name_in sorted.neighbours
+    pub start : start_of batch ≡ start_in sorted.lookahead
+    pub chrom : chrom_in batch ≡ name_in sorted.lookahead
     pub at : (cursor_in batch).at ≡ 0
     pub given : (cursor_in batch).lines ≡ lines_given sorted.reader
     pub begins : is_some_left (buffered_in sorted) ≡ true
@@ -88,37 +88,37 @@ module _ {S Q : Type 0} where
     pub lines : TakenLines sorted.reader consumed.lines (count_in sorted consumed)
     pub within : count_in sorted consumed ≤ length (buffered_in sorted)
     pub start : consumed.start
-        ≡ last_start (start_in sorted.neighbours) (take (count_in sorted consumed) (buffered_in sorted))
+        ≡ last_start (start_in sorted.lookahead) (take (count_in sorted consumed) (buffered_in sorted))
     pub ahead : consumed.is_ahead ≡ is_some_left (drop (count_in sorted consumed) (buffered_in sorted))
 
   module _ (left : S → Option (List ℕ)) (end : S → Bool) (sorting : Sorting) where
     -- the line says a record, which is buffered now
     pub record FindsRecord (old : SortedReader S Q) (line : TextLine) (new : SortedReader S Q) : Type 0 where
       pub r : Feature
-      pub says : line_says sorting (last_in old.neighbours) line.text ≡ Ok (Some r)
+      pub says : line_says sorting (last_in old.lookahead) line.text ≡ Ok (Some r)
       pub same : new.reader ≡ old.reader
       pub ahead : new.is_ahead ≡ true
       pub more : List Feature
       pub buffered : buffered_in new ≡ r ∷ more
-      pub in_order : are_in_order sorting (last_in old.neighbours) (buffered_in new) ≡ true
+      pub in_order : are_in_order sorting (last_in old.lookahead) (buffered_in new) ≡ true
 
     -- it says nothing
     pub record SkipsLine (old : SortedReader S Q) (line : TextLine) (new : SortedReader S Q) : Type 0 where
-      pub says : line_says sorting (last_in old.neighbours) line.text ≡ Ok None
+      pub says : line_says sorting (last_in old.lookahead) line.text ≡ Ok None
       pub takes : TakesOne left end old.reader new.reader
       pub none : new.is_ahead ≡ false
 
     -- it is at fault, or memory ran out
-    pub record LosesLine (old : SortedReader S Q) (line : TextLine) (fault : Told) (new : SortedReader S Q) : Type 0 where
-      pub cause : LineWrong sorting (record { input = input_of old.reader; line = line.number }) line.text old.neighbours fault
-          ⊎ LineUnkept sorting line.text old.neighbours fault
+    pub record LosesLine (old : SortedReader S Q) (line : TextLine) (fault : FaultValue) (new : SortedReader S Q) : Type 0 where
+      pub cause : LineWrong sorting (record { input = input_of old.reader; line = line.number }) line.text old.lookahead fault
+          ⊎ LineUnkept sorting line.text old.lookahead fault
       pub takes : TakesOne left end old.reader new.reader
       pub none : new.is_ahead ≡ false
 
     abbrev pub TakesAs : SortedReader S Q → TextLine → Result Bool Fault → SortedReader S Q → Type 0
     TakesAs old line (Ok true) new = FindsRecord old line new
     TakesAs old line (Ok false) new = SkipsLine old line new
-    TakesAs old line (Err fault) new = LosesLine old line (told fault) new
+    TakesAs old line (Err fault) new = LosesLine old line (fault_value fault) new
 
     -- what taking the next line does
     pub record TakesFirst (old : SortedReader S Q) (answer : Result Bool Fault) (new : SortedReader S Q) : Type 0 where
@@ -126,4 +126,4 @@ module _ {S Q : Type 0} where
       pub more : List TextLine
       pub first : lines_buffered old.reader ≡ line ∷ more
       pub takes : TakesAs old line answer new
-      pub keeps : KeepsLast old.neighbours new.neighbours
+      pub keeps : KeepsLast old.lookahead new.lookahead

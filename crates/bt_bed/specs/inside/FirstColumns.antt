@@ -8,7 +8,7 @@ use Rattle.bt_lines.specs.model.Lines.{pieces}
 use Rattle.bt_lines.specs.model.Number.{value_of}
 use Rattle.bt_bed.specs.model.feature.Header.{is_header}
 use Rattle.bt_bed.specs.model.feature.Record.{IsName}
-use Rattle.bt_bed.specs.declared.parse.leading.Leading.{Leading}
+use Rattle.bt_bed.specs.declared.parse.parsed_number.ParsedNumber.{ParsedNumber}
 
 -- the first column ends here: it isn't empty, and a tab comes after it
 pub record EndsName (text : List ℕ) (end : ℕ) : Type 0 where
@@ -33,7 +33,7 @@ pub record EndsFirst (text : List ℕ) (end : ℕ) : Type 0 where
   pub column : All (λ byte. (byte == 9) ≡ false) (take end text)
 
 -- the first column denotes the number, and ends here
-pub record Leads (text : List ℕ) (lead : Leading) : Type 0 where
+pub record Leads (text : List ℕ) (lead : ParsedNumber) : Type 0 where
   pub within : lead.end ≤ length text
   pub tab : lead.end < length text → get_or text lead.end 0 ≡ 9
   pub column : All (λ byte. (byte == 9) ≡ false) (take lead.end text)
@@ -41,21 +41,21 @@ pub record Leads (text : List ℕ) (lead : Leading) : Type 0 where
 
 -- the second and the third column denote the start and the end of a feature, if the first column
 -- ends here
-pub record AreBounds (text : List ℕ) (name : ℕ) (start stop : Leading) : Type 0 where
+pub record AreBounds (text : List ℕ) (name : ℕ) (start stop : ParsedNumber) : Type 0 where
   pub first : Leads (drop (name + 1) text) start
   pub inside : start.end < length (drop (name + 1) text)
   pub second : Leads (drop (start.end + 1) (drop (name + 1) text)) stop
   pub below : start.value < stop.value
 
 -- `lead.end` digits come first, at most twelve, and denote the number
-pub record BeginsWith (text : List ℕ) (lead : Leading) : Type 0 where
+pub record BeginsWith (text : List ℕ) (lead : ParsedNumber) : Type 0 where
   pub within : lead.end ≤ length text
   pub short : lead.end ≤ 12
   pub digits : list_all is_ascii_digit (take lead.end text) ≡ true
   pub value : lead.value ≡ digits_value 10 (take lead.end text)
 
 -- the bytes begin with this name, and after it come, each after a tab, the digits of a start and of a greater end
-pub record HasColumns (bytes name : List ℕ) (start stop : Leading) : Type 0 where
+pub record HasColumns (bytes name : List ℕ) (start stop : ParsedNumber) : Type 0 where
   pub named : BeginsWithName bytes name
   pub first : BeginsWith (drop (length name + 1) bytes) start
   pub some_first : 0 < start.end

@@ -1,7 +1,7 @@
 -- The bytes of a text that is kept, inline or in a buffer.
 use Rattle.std.specs.Prelude.{ℕ, List}
-use Rattle.bt_bed.specs.declared.record.kept_text.Form.{Form}
-use Rattle.bt_bed.specs.declared.record.kept_text.Form.TheVariants.{Short, Long}
+use Rattle.bt_bed.specs.declared.record.inline_text.Form.{Form}
+use Rattle.bt_bed.specs.declared.record.inline_text.Form.TheVariants.{Short, Long}
 
 abbrev pub bytes_of : Form → List ℕ
 bytes_of (Short bytes) = bytes

@@ -3,4 +3,4 @@ pub mod Good
 pub mod GoodBed
 pub mod GoodBlocks
 pub mod GoodLines
-pub mod Meeting
+pub mod TwoInputReport

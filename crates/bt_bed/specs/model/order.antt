@@ -5,4 +5,4 @@ pub mod Locus
 pub mod Order
 pub mod Rank
 pub mod Sorting
-pub mod Together
+pub mod Contiguous

@@ -9,7 +9,7 @@ ghost use Rattle.bt_bed.specs.model.input.GoodBlocks.{blocks_know_each_chromosom
 ghost use Rattle.bt_bed.specs.model.order.Locus.{fronts_are_placed, placed_grows};
 ghost use Rattle.bt_bed.specs.model.order.Rank.{ranks_are_total};
 ghost use Rattle.bt_bed.specs.model.order.Sorting.{sorted_by_places};
-ghost use Rattle.bt_bed.specs.model.order.Together.{fronts_stand_together, placed_are_together, together_grows};
+ghost use Rattle.bt_bed.specs.model.order.Contiguous.{fronts_stand_together, placed_are_together, together_grows};
 
 /// Records in order stay so with a next one that isn't below the last, and so do the first of them.
 pub fn order_grows()

@@ -3,7 +3,7 @@
 ghost use Rattle.std.specs.Prelude.{◌≡◌, [], ◌∷◌, ◌++◌, Some, None, Ok, Err, codes};
 ghost use Rattle.bt_bed.specs.model.feature.Bases.{shared_are_common};
 ghost use Rattle.bt_bed.specs.model.input.GoodBed.{first_lines_have_the_first, good_stand_on_lines, wrong_lines_are_of_bed};
-ghost use Rattle.bt_bed.specs.model.input.Meeting.{EarlyLinesBegin};
+ghost use Rattle.bt_bed.specs.model.input.TwoInputReport.{EarlyLinesBegin};
 ghost use Rattle.bt_bed.specs.model.feature.Record.{read_are_rewritten, record_of, said_are_features, written_are_read};
 ghost use Rattle.bt_bed.specs.model.feature.Stretches.{scan_finds_stretches, stretches_are_one};
 

@@ -23,7 +23,7 @@ pub struct Genome {
 impl Genome {
     ghost use Rattle.std.specs.Prelude.{◌≡◌, ◌⊎◌, false, [], ◌∷◌, ◌++◌, length, slice_get, Some, IfErr, OnOk, option_map};
     ghost use Rattle.bt_lines.specs.model.Fault.{no_memory};
-    ghost use Rattle.bt_lines.specs.calls.Names.{told};
+    ghost use Rattle.bt_lines.specs.calls.Names.{fault_value};
     ghost use Rattle.bt_bed.specs.model.order.Genome.{entry_of, new_entry};
     ghost use Rattle.bt_bed.specs.model.order.Rank.{is_among, rank_of};
     ghost use Rattle.bt_bed.specs.calls.GenomeTable.{LineAdded, LineRefused, LineUnkept, ReadsGenome, entries, entry_lent, entry_said, names_of};
@@ -97,7 +97,7 @@ impl Genome {
     fn add_line(&mut self, alloc: Global, place: Place, text: &[u8]) -> Result<(), Fault>
         ensures added { OnOk result (LineAdded text.now self.old self.new) }
         ensures refused { IfErr result (λ fault.
-            LineRefused place text.now self.old (told fault) ⊎ LineUnkept text.now self.old (told fault)) }
+            LineRefused place text.now self.old (fault_value fault) ⊎ LineUnkept text.now self.old (fault_value fault)) }
     {
         match self.new_entry(text) {
             Ok(Some(entry)) => self.push(alloc, entry),
@@ -110,7 +110,7 @@ impl Genome {
     fn push(&mut self, alloc: Global, entry: EntryRef<'_>) -> Result<(), Fault>
         requires { is_among (names_of self.old) entry.name.now ≡ false }
         ensures added { OnOk result (entries self.new ≡ entries self.old ++ entry_lent entry.entry ∷ []) }
-        ensures refused { IfErr result (λ fault. told fault ≡ no_memory) }
+        ensures refused { IfErr result (λ fault. fault_value fault ≡ no_memory) }
     {
         let Ok(name) = Vec::from_slice(alloc, entry.name) else {
             return Err(no_memory());

@@ -2,11 +2,11 @@
 
 ghost use Rattle.std.specs.Prelude.{◌≡◌, ◌+◌, ◌<◌, ◌≤◌, IfSome, Some, IsTrue, drop, get_or, length, take};
 ghost use Rattle.bt_bed.specs.inside.FirstColumns.{BeginsWith, BeginsWithName, HasColumns};
-ghost use Rattle.bt_bed.specs.inside.NameKey.{HasKey};
+ghost use Rattle.bt_bed.specs.inside.PackedName.{HasKey};
 ghost use Rattle.bt_lines.specs.model.Number.{value_of};
 
-use crate::parse::leading::Leading;
-use crate::parse::name_key::{LONGEST_KEYED, NameKey};
+use crate::parse::parsed_number::ParsedNumber;
+use crate::parse::packed_name::{LONGEST_KEYED, PackedName};
 use crate::parse::names::is_same_name;
 use bt_lines::{eight_digits, few_digits};
 use std::simd::prelude::*;
@@ -18,14 +18,14 @@ pub(crate) const LOOKAHEAD: usize = 32;
 // The numbers of the second and third columns, and where these end, each counted from where it begins.
 #[derive(Clone, Copy)]
 pub(crate) struct FirstColumns {
-    pub(crate) start: Leading,
-    pub(crate) stop: Leading,
+    pub(crate) start: ParsedNumber,
+    pub(crate) stop: ParsedNumber,
 }
 
 // The first three columns of these bytes, if the first is this name and the others begin with numbers of at most nine
 // digits, the second one greater. What ends the third column isn't looked at.
 #[inline(always)]
-pub(crate) fn scan_columns(bytes: &[u8], name: &[u8], key: NameKey) -> Option<FirstColumns>
+pub(crate) fn scan_columns(bytes: &[u8], name: &[u8], key: PackedName) -> Option<FirstColumns>
     requires key { HasKey name.now key }
     requires room { length name.now + 32 ≤ length bytes.now }
     ensures { IfSome result (λ columns. HasColumns bytes.now name.now columns.start columns.stop) }
@@ -48,7 +48,7 @@ pub(crate) fn scan_columns(bytes: &[u8], name: &[u8], key: NameKey) -> Option<Fi
 
 // Whether the bytes begin with this name and a tab. Most names have a key, and the length of these is tested once.
 #[inline(always)]
-fn begins_with(bytes: &[u8], name: &[u8], key: NameKey) -> bool
+fn begins_with(bytes: &[u8], name: &[u8], key: PackedName) -> bool
     requires key { HasKey name.now key }
     requires room { length name.now + 32 ≤ length bytes.now }
     ensures { IsTrue result → BeginsWithName bytes.now name.now }
@@ -72,7 +72,7 @@ pub(crate) fn begins_with_long(bytes: &[u8], name: &[u8]) -> bool
 
 // The number of the digits from a place on, of at most nine.
 #[inline(always)]
-fn number_at(bytes: &[u8], at: usize) -> Leading
+fn number_at(bytes: &[u8], at: usize) -> ParsedNumber
     requires { at + 9 ≤ length bytes.now }
     ensures begins { BeginsWith (drop at bytes.now) result }
     ensures short { result.end ≤ 9 }
@@ -94,17 +94,17 @@ fn word_at(bytes: &[u8], at: usize) -> [u8; 8]
 
 // The number of less than eight digits. It stands apart, since most have more.
 #[inline(never)]
-fn number_of_few(bytes: &[u8; 8]) -> Leading
+fn number_of_few(bytes: &[u8; 8]) -> ParsedNumber
     ensures begins { BeginsWith bytes.now result }
     ensures short { result.end ≤ 8 }
 {
     let (value, end) = few_digits(bytes);
-    Leading { value, end }
+    ParsedNumber { value, end }
 }
 
 // The number of eight digits that are read already, and of a ninth, if there is one.
 #[inline(always)]
-fn number_of_eight(bytes: &[u8], at: usize, value: u64) -> Leading
+fn number_of_eight(bytes: &[u8], at: usize, value: u64) -> ParsedNumber
     requires at { at + 9 ≤ length bytes.now }
     requires value { value_of (take 8 (drop at bytes.now)) ≡ Some value }
     ensures begins { BeginsWith (drop at bytes.now) result }
@@ -112,9 +112,9 @@ fn number_of_eight(bytes: &[u8], at: usize, value: u64) -> Leading
 {
     let byte = bytes[at + 8];
     if !byte.is_ascii_digit() {
-        return Leading { value, end: 8 };
+        return ParsedNumber { value, end: 8 };
     }
-    Leading {
+    ParsedNumber {
         value: value * 10 + u64::from(byte - b'0'),
         end: 9,
     }

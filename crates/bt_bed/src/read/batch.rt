@@ -3,13 +3,13 @@
 ghost use Rattle.std.specs.Prelude.{◌≡◌, ◌<◌, ◌≤◌, IsTrue, get_or, length};
 ghost use Rattle.bt_lines.specs.calls.Buffered.{rest_in};
 ghost use Rattle.bt_bed.specs.inside.FirstColumns.{IsRecordName};
-ghost use Rattle.bt_bed.specs.inside.NameKey.{HasKey};
+ghost use Rattle.bt_bed.specs.inside.PackedName.{HasKey};
 ghost use Rattle.bt_bed.specs.calls.Run.{is_on};
 ghost use Rattle.bt_bed.specs.model.feature.Record.{record_of};
 
 use crate::parse::columns::{LOOKAHEAD, begins_with_long, scan_columns};
-use crate::parse::leading::parse_leading;
-use crate::parse::name_key::NameKey;
+use crate::parse::parsed_number::parse_number;
+use crate::parse::packed_name::PackedName;
 use crate::parse::names::is_same_name;
 use crate::parse::parsing::parse_bed;
 use crate::record::raw_record::RawRecord;
@@ -23,7 +23,7 @@ pub struct Batch<'a> {
     // The chromosome.
     name: &'a [u8],
     // By which a line on it is recognized.
-    key: NameKey,
+    key: PackedName,
     // The start of the record before, or 0.
     start: u64,
     ghost named: { 0 < length (rest_in lines) → IsRecordName name.now },
@@ -62,7 +62,7 @@ impl<'a> Batch<'a> {
         Batch {
             lines,
             name,
-            key: NameKey::of(name),
+            key: PackedName::of(name),
             start,
         }
     }
@@ -143,8 +143,8 @@ impl<'a> Batch<'a> {
         if !is_record_on(line.text, self.name) {
             return None;
         }
-        let start = parse_leading(line.text, self.name.len() + 1);
-        let stop = parse_leading(line.text, self.name.len() + start.end + 2);
+        let start = parse_number(line.text, self.name.len() + 1);
+        let stop = parse_number(line.text, self.name.len() + start.end + 2);
         Some(RawRecord {
             text: line.text,
             size: line.size,

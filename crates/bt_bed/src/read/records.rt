@@ -19,8 +19,8 @@ use std::alloc::Global;
 pub struct Records<'o, S, O: ChromOrder> {
     // Always valid: `placed` says that it goes by the order.
     sorted: SortedReader<S, ByOrder<'o, O>>,
-    ghost placed: { IsPlaced (sorting_of (O.order sorted.neighbours.rule.order.now))
-        (view_in (sorting_of (O.order sorted.neighbours.rule.order.now)) sorted) },
+    ghost placed: { IsPlaced (sorting_of (O.order sorted.lookahead.rule.order.now))
+        (view_in (sorting_of (O.order sorted.lookahead.rule.order.now)) sorted) },
 }
 
 #[tactic(auto, unfolding(crate::specs::calls::SortedReader::view_with, crate::specs::calls::Records::view_of, crate::specs::calls::Records::order_in))]

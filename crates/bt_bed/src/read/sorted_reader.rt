@@ -5,7 +5,7 @@ ghost use Rattle.bt_bed.specs.calls.Run.{is_some_left};
 ghost use Rattle.bt_bed.specs.inside.Ahead.{ahead_of};
 
 use crate::read::batch::{Batch, Consumed};
-use crate::read::neighbours::Neighbours;
+use crate::read::lookahead::OrderedLookahead;
 use crate::read::sorted::Sorted;
 use crate::record::bed::BedRef;
 use bt_lines::{Fault, LineReader, Place, Source};
@@ -16,12 +16,12 @@ use std::alloc::Global;
 #[derive(Drop)]
 pub(crate) struct SortedReader<S, Q> {
     reader: LineReader<S>,
-    pub(crate) neighbours: Neighbours<Q>,
+    pub(crate) lookahead: OrderedLookahead<Q>,
     // Whether the reader's next line is known to say a record that fits after the last one.
     is_ahead: bool,
     // `None` until a line is at fault; then it stays.
     fault: Option<Fault>,
-    ghost ahead: { is_ahead ≡ true → is_some_left (ahead_of is_ahead reader neighbours) ≡ true },
+    ghost ahead: { is_ahead ≡ true → is_some_left (ahead_of is_ahead reader lookahead) ≡ true },
     ghost going: { is_ahead ≡ true → fault ≡ None },
 }
 
@@ -31,21 +31,21 @@ impl<S: Source, Q: Sorted + Drop> SortedReader<S, Q> {
     ghost use Rattle.bt_lines.specs.calls.Reader.{buffered_bytes, fault_kept as line_fault, lines_given};
     ghost use Rattle.bt_bed.specs.calls.Bed.{feature_lent};
     ghost use Rattle.bt_bed.specs.model.feature.Feature.{Feature};
-    ghost use Rattle.bt_bed.specs.inside.Neighbours.{IsKnownLast, last_in};
+    ghost use Rattle.bt_bed.specs.inside.OrderedLookahead.{IsKnownLast, last_in};
     ghost use Rattle.bt_bed.specs.calls.Reading.{Fills, Takes, TellsOwnFailure};
     ghost use Rattle.bt_bed.specs.calls.SortedReader.{IsPlaced, IsTaken, Lends, TakesFirst, buffered_in, count_in, fault_in, view_in, view_with};
 
     // No record yet.
     pub(crate) fn new(alloc: Global, reader: LineReader<S>, rule: Q) -> SortedReader<S, Q>
-        ensures rule { result.neighbours.rule ≡ rule }
+        ensures rule { result.lookahead.rule ≡ rule }
         ensures reader { result.reader ≡ reader }
         ensures fault { result.fault ≡ None }
-        ensures last { last_in result.neighbours ≡ None }
+        ensures last { last_in result.lookahead ≡ None }
         ensures none { buffered_in result ≡ [] }
     {
         SortedReader {
             reader,
-            neighbours: Neighbours::new(alloc, rule),
+            lookahead: OrderedLookahead::new(alloc, rule),
             is_ahead: false,
             fault: None,
         }
@@ -54,16 +54,16 @@ impl<S: Source, Q: Sorted + Drop> SortedReader<S, Q> {
     // Makes at least one record buffered, and returns true if there is one: there is none at the end.
     #[inline(always)]
     pub(crate) fn fill(&mut self) -> Result<bool, Fault>
-        requires { IsPlaced (Q.sorting self.old.neighbours.rule)
-            (view_in (Q.sorting self.old.neighbours.rule) self.old) }
-        ensures rule { self.new.neighbours.rule ≡ self.old.neighbours.rule }
+        requires { IsPlaced (Q.sorting self.old.lookahead.rule)
+            (view_in (Q.sorting self.old.lookahead.rule) self.old) }
+        ensures rule { self.new.lookahead.rule ≡ self.old.lookahead.rule }
         ensures fills { Fills S.left S.has_failed S.end_told
-            (view_in (Q.sorting self.old.neighbours.rule) self.old) result
-            (view_in (Q.sorting self.old.neighbours.rule) self.new) }
+            (view_in (Q.sorting self.old.lookahead.rule) self.old) result
+            (view_in (Q.sorting self.old.lookahead.rule) self.new) }
         ensures own_failure { TellsOwnFailure S.is_read
-            (view_in (Q.sorting self.old.neighbours.rule) self.old).fault self.old.reader result self.new.reader }
-        ensures placed { IsPlaced (Q.sorting self.old.neighbours.rule)
-            (view_in (Q.sorting self.old.neighbours.rule) self.new) }
+            (view_in (Q.sorting self.old.lookahead.rule) self.old).fault self.old.reader result self.new.reader }
+        ensures placed { IsPlaced (Q.sorting self.old.lookahead.rule)
+            (view_in (Q.sorting self.old.lookahead.rule) self.new) }
     {
         if self.is_ahead {
             return Ok(true);
@@ -79,11 +79,11 @@ impl<S: Source, Q: Sorted + Drop> SortedReader<S, Q> {
         if !self.is_ahead {
             return Batch::new(
                 lines.none(),
-                self.neighbours.name(),
-                self.neighbours.start(),
+                self.lookahead.name(),
+                self.lookahead.start(),
             );
         }
-        Batch::new(lines, self.neighbours.name(), self.neighbours.start())
+        Batch::new(lines, self.lookahead.name(), self.lookahead.start())
     }
 
     // The first of them.
@@ -99,33 +99,33 @@ impl<S: Source, Q: Sorted + Drop> SortedReader<S, Q> {
     // Takes the records that were consumed of what was given.
     pub(crate) fn consume(&mut self, consumed: Consumed)
         requires taken { IsTaken self.old consumed }
-        requires placed { IsPlaced (Q.sorting self.old.neighbours.rule)
-            (view_in (Q.sorting self.old.neighbours.rule) self.old) }
-        ensures rule { self.new.neighbours.rule ≡ self.old.neighbours.rule }
-        ensures takes { Takes S.left S.end_told (view_in (Q.sorting self.old.neighbours.rule) self.old)
+        requires placed { IsPlaced (Q.sorting self.old.lookahead.rule)
+            (view_in (Q.sorting self.old.lookahead.rule) self.old) }
+        ensures rule { self.new.lookahead.rule ≡ self.old.lookahead.rule }
+        ensures takes { Takes S.left S.end_told (view_in (Q.sorting self.old.lookahead.rule) self.old)
             (take (count_in self.old consumed) (buffered_in self.old))
-            (view_in (Q.sorting self.old.neighbours.rule) self.new) }
-        ensures placed { IsPlaced (Q.sorting self.old.neighbours.rule)
-            (view_in (Q.sorting self.old.neighbours.rule) self.new) }
+            (view_in (Q.sorting self.old.lookahead.rule) self.new) }
+        ensures placed { IsPlaced (Q.sorting self.old.lookahead.rule)
+            (view_in (Q.sorting self.old.lookahead.rule) self.new) }
     {
         if consumed.lines.bytes == 0 {
             return;
         }
         self.reader.consume(consumed.lines);
-        self.neighbours.advance(consumed.start);
+        self.lookahead.advance(consumed.start);
         self.is_ahead = consumed.is_ahead;
     }
 
     // Takes the first of them.
     pub(crate) fn advance(&mut self)
         requires some { (r : Feature) × (more : List Feature) × (buffered_in self.old ≡ r ∷ more) }
-        requires placed { IsPlaced (Q.sorting self.old.neighbours.rule)
-            (view_in (Q.sorting self.old.neighbours.rule) self.old) }
-        ensures rule { self.new.neighbours.rule ≡ self.old.neighbours.rule }
-        ensures takes { Takes S.left S.end_told (view_in (Q.sorting self.old.neighbours.rule) self.old)
-            (take 1 (buffered_in self.old)) (view_in (Q.sorting self.old.neighbours.rule) self.new) }
-        ensures placed { IsPlaced (Q.sorting self.old.neighbours.rule)
-            (view_in (Q.sorting self.old.neighbours.rule) self.new) }
+        requires placed { IsPlaced (Q.sorting self.old.lookahead.rule)
+            (view_in (Q.sorting self.old.lookahead.rule) self.old) }
+        ensures rule { self.new.lookahead.rule ≡ self.old.lookahead.rule }
+        ensures takes { Takes S.left S.end_told (view_in (Q.sorting self.old.lookahead.rule) self.old)
+            (take 1 (buffered_in self.old)) (view_in (Q.sorting self.old.lookahead.rule) self.new) }
+        ensures placed { IsPlaced (Q.sorting self.old.lookahead.rule)
+            (view_in (Q.sorting self.old.lookahead.rule) self.new) }
     {
         let mut batch = self.buffered();
         let _ = batch.next();
@@ -147,7 +147,7 @@ impl<S: Source, Q: Sorted + Drop> SortedReader<S, Q> {
     {
         let SortedReader {
             reader,
-            neighbours: _,
+            lookahead: _,
             is_ahead: _,
             fault: _,
         } = self;
@@ -159,16 +159,16 @@ impl<S: Source, Q: Sorted + Drop> SortedReader<S, Q> {
     #[inline(never)]
     fn read_ahead(&mut self) -> Result<bool, Fault>
         requires none { self.old.is_ahead ≡ false }
-        requires placed { IsPlaced (Q.sorting self.old.neighbours.rule)
-            (view_in (Q.sorting self.old.neighbours.rule) self.old) }
-        ensures rule { self.new.neighbours.rule ≡ self.old.neighbours.rule }
+        requires placed { IsPlaced (Q.sorting self.old.lookahead.rule)
+            (view_in (Q.sorting self.old.lookahead.rule) self.old) }
+        ensures rule { self.new.lookahead.rule ≡ self.old.lookahead.rule }
         ensures fills { Fills S.left S.has_failed S.end_told
-            (view_in (Q.sorting self.old.neighbours.rule) self.old) result
-            (view_in (Q.sorting self.old.neighbours.rule) self.new) }
+            (view_in (Q.sorting self.old.lookahead.rule) self.old) result
+            (view_in (Q.sorting self.old.lookahead.rule) self.new) }
         ensures own_failure { TellsOwnFailure S.is_read
-            (view_in (Q.sorting self.old.neighbours.rule) self.old).fault self.old.reader result self.new.reader }
-        ensures placed { IsPlaced (Q.sorting self.old.neighbours.rule)
-            (view_in (Q.sorting self.old.neighbours.rule) self.new) }
+            (view_in (Q.sorting self.old.lookahead.rule) self.old).fault self.old.reader result self.new.reader }
+        ensures placed { IsPlaced (Q.sorting self.old.lookahead.rule)
+            (view_in (Q.sorting self.old.lookahead.rule) self.new) }
     {
         if let Some(fault) = self.fault {
             return Err(fault);
@@ -186,18 +186,18 @@ impl<S: Source, Q: Sorted + Drop> SortedReader<S, Q> {
     fn read_record(&mut self) -> Result<bool, Fault>
         requires none { self.old.is_ahead ≡ false }
         requires going { self.old.fault ≡ None }
-        requires placed { IsPlaced (Q.sorting self.old.neighbours.rule)
-            (view_in (Q.sorting self.old.neighbours.rule) self.old) }
-        ensures rule { self.new.neighbours.rule ≡ self.old.neighbours.rule }
+        requires placed { IsPlaced (Q.sorting self.old.lookahead.rule)
+            (view_in (Q.sorting self.old.lookahead.rule) self.old) }
+        ensures rule { self.new.lookahead.rule ≡ self.old.lookahead.rule }
         ensures fault { self.new.fault ≡ None }
         ensures none { self.new.is_ahead ≡ true → result ≡ Ok true }
         ensures fills { Fills S.left S.has_failed S.end_told
-            (view_in (Q.sorting self.old.neighbours.rule) self.old) result
-            (view_with (Q.sorting self.old.neighbours.rule) (fault_in result) self.new.reader self.new.neighbours (buffered_in self.new)) }
+            (view_in (Q.sorting self.old.lookahead.rule) self.old) result
+            (view_with (Q.sorting self.old.lookahead.rule) (fault_in result) self.new.reader self.new.lookahead (buffered_in self.new)) }
         ensures own_failure { TellsOwnFailure S.is_read (line_fault self.old.reader) self.old.reader result
             self.new.reader }
-        ensures placed { IsPlaced (Q.sorting self.old.neighbours.rule)
-            (view_with (Q.sorting self.old.neighbours.rule) (fault_in result) self.new.reader self.new.neighbours (buffered_in self.new)) }
+        ensures placed { IsPlaced (Q.sorting self.old.lookahead.rule)
+            (view_with (Q.sorting self.old.lookahead.rule) (fault_in result) self.new.reader self.new.lookahead (buffered_in self.new)) }
     {
         loop {
             match self.reader.fill() {
@@ -217,11 +217,11 @@ impl<S: Source, Q: Sorted + Drop> SortedReader<S, Q> {
         requires none { self.old.is_ahead ≡ false }
         requires going { self.old.fault ≡ None }
         requires some { 0 < length (buffered_bytes self.old.reader) }
-        requires known { IsKnownLast (Q.sorting self.old.neighbours.rule) (last_in self.old.neighbours) }
-        ensures rule { self.new.neighbours.rule ≡ self.old.neighbours.rule }
+        requires known { IsKnownLast (Q.sorting self.old.lookahead.rule) (last_in self.old.lookahead) }
+        ensures rule { self.new.lookahead.rule ≡ self.old.lookahead.rule }
         ensures fault { self.new.fault ≡ None }
         ensures ahead { self.new.is_ahead ≡ true → result ≡ Ok true }
-        ensures takes { TakesFirst S.left S.end_told (Q.sorting self.old.neighbours.rule) self.old result self.new }
+        ensures takes { TakesFirst S.left S.end_told (Q.sorting self.old.lookahead.rule) self.old result self.new }
     {
         let mut lines = self.reader.buffered();
         let Some(line) = lines.next() else {
@@ -232,7 +232,7 @@ impl<S: Source, Q: Sorted + Drop> SortedReader<S, Q> {
             line: line.number,
         };
         let consumed = lines.consumed();
-        match self.neighbours.take_line(place, line.text) {
+        match self.lookahead.take_line(place, line.text) {
             Ok(true) => {
                 self.is_ahead = true;
                 Ok(true)

@@ -2,7 +2,7 @@
 
 pub(crate) mod bed;
 pub(crate) mod kept_strand;
-pub(crate) mod kept_text;
+pub(crate) mod inline_text;
 pub(crate) mod raw_record;
 pub(crate) mod rec;
 pub(crate) mod strand;
@@ -45,7 +45,7 @@ pub trait Record: Copy {
         ensures { IfSome result (λ text. text.now ≡ bed_text (feature self.now)) };
 
     /// True only if its buffered line, with its end, is what is written for it.
-    fn is_canonical(&self) -> bool
+    fn is_canonical_line(&self) -> bool
         ensures { IsTrue result → raw self.now ≡ bed_text (feature self.now) ++ 10 ∷ [] };
 
     /// Its strand.
@@ -79,7 +79,7 @@ impl<'a> Record for BedRef<'a> {
     }
 
     #[inline(always)]
-    fn is_canonical(&self) -> bool {
+    fn is_canonical_line(&self) -> bool {
         false
     }
 
@@ -112,7 +112,7 @@ impl<'a> Record for RawRecord<'a> {
 
     #[inline(always)]
     fn written(&self) -> Option<&[u8]> {
-        if self.is_as_written() {
+        if self.is_canonical() {
             Some(self.text)
         } else {
             None
@@ -120,8 +120,8 @@ impl<'a> Record for RawRecord<'a> {
     }
 
     #[inline(always)]
-    fn is_canonical(&self) -> bool {
-        self.size == self.text.len() + 1 && self.is_as_written()
+    fn is_canonical_line(&self) -> bool {
+        self.size == self.text.len() + 1 && self.is_canonical()
     }
 
     #[inline(always)]

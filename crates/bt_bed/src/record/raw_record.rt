@@ -4,7 +4,7 @@ ghost use Rattle.std.specs.Prelude.{◌≡◌, IsTrue, Ok, Some, false, get_or};
 ghost use Rattle.bt_bed.specs.inside.FirstColumns.{AreBounds, EndsName};
 ghost use Rattle.bt_bed.specs.model.feature.Header.{is_header};
 
-use crate::parse::leading::Leading;
+use crate::parse::parsed_number::ParsedNumber;
 use crate::parse::parsing::behind;
 use crate::record::bed::BedRef;
 use crate::record::kept_strand::kept_strand;
@@ -19,8 +19,8 @@ pub struct RawRecord<'a> {
     // Where the chromosome's name ends.
     pub(crate) name: usize,
     // The numbers of the second and the third column, and where these end, each counted from where it begins.
-    pub(crate) start: Leading,
-    pub(crate) stop: Leading,
+    pub(crate) start: ParsedNumber,
+    pub(crate) stop: ParsedNumber,
     ghost named: { EndsName text.now name },
     ghost bounds: { AreBounds text.now name start stop },
     ghost no_header: { is_header text.now ≡ false },
@@ -57,7 +57,7 @@ impl<'a> RawRecord<'a> {
     /// True only if the record is written as its line: neither its start nor its end begins with a zero. It is false for
     /// a start of `0` too, which is the start of few records.
     #[inline(always)]
-    pub fn is_as_written(&self) -> bool
+    pub fn is_canonical(&self) -> bool
         ensures { IsTrue result → IsAsWritten (text_in self.now) }
     {
         let start = self.name + 1;

@@ -4,7 +4,7 @@ ghost use Rattle.std.specs.Prelude.{◌≡◌, IfOk};
 ghost use Rattle.bt_bed.specs.calls.Bed.{feature_lent};
 
 use crate::record::bed::BedRef;
-use crate::record::kept_text::KeptText;
+use crate::record::inline_text::InlineText;
 use crate::record::strand::Strand;
 use std::alloc::{AllocError, Global};
 use std::marker::Model;
@@ -15,14 +15,14 @@ use std::marker::Model;
 pub struct Rec {
     // The chromosome's name, and after it the columns from the fourth on, each with the tab before it. Bytes that are
     // unspecified may come last.
-    text: KeptText,
+    text: InlineText,
     // How much of the text is the name. The fields below are always those of one feature.
     name_len: usize,
     start: u64,
     stop: u64,
     strand: Strand,
     // How many bytes at the end of the text are unspecified.
-    left_over: u32,
+    stale_len: u32,
 }
 
 impl Model for Rec {
@@ -32,11 +32,11 @@ impl Model for Rec {
 
     ghost Value = { Feature };
 
-    ghost view = { λ r. feature_in (take (length r.text - r.left_over) r.text)
+    ghost view = { λ r. feature_in (take (length r.text - r.stale_len) r.text)
         r.name_len r.start r.stop r.strand };
 
-    ghost invariant = { λ r. (r.left_over ≤ length r.text)
-        × IsFeatureIn (take (length r.text - r.left_over) r.text)
+    ghost invariant = { λ r. (r.stale_len ≤ length r.text)
+        × IsFeatureIn (take (length r.text - r.stale_len) r.text)
         r.name_len r.start r.stop r.strand };
 }
 
@@ -47,7 +47,7 @@ impl Rec {
         ensures { feature_lent result ≡ self.now }
     {
         let text = self.text.as_slice();
-        let len = text.len() - self.left_over as usize;
+        let len = text.len() - self.stale_len as usize;
         let (chrom, rest) = text[..len].split_at(self.name_len);
         BedRef {
             chrom,
@@ -65,14 +65,14 @@ impl BedRef<'_> {
     pub fn to_rec(&self, alloc: Global) -> Result<Rec, AllocError>
         ensures { IfOk result (λ rec. rec ≡ feature_lent self.now) }
     {
-        let (text, left_over) = KeptText::of(alloc, self.chrom, self.rest)?;
+        let (text, stale_len) = InlineText::of(alloc, self.chrom, self.rest)?;
         Ok(Rec {
             text,
             name_len: self.chrom.len(),
             start: self.start,
             stop: self.stop,
             strand: self.strand,
-            left_over,
+            stale_len,
         })
     }
 }

@@ -43,14 +43,14 @@ pub(crate) fn put_ended<K: Sink>(
     Err(write_failed())
 }
 
-// Puts what `put_ended` puts and returns true, if `Out::hold_span` does. Out of line, so that the loops over records
+// Puts what `put_ended` puts and returns true, if `Out::try_put_interval` does. Out of line, so that the loops over records
 // stay small.
 #[inline(never)]
 fn hold_ended<K: Sink>(chrom: &[u8], start: u64, stop: u64, end: u8, out: &mut Out<K>) -> bool
     ensures held { result ≡ true → PutsAll out.old.output (chrom.now ++ span_text start stop end) out.new.output }
     ensures unchanged { result ≡ false → out.new.output ≡ out.old.output }
 {
-    out.hold_span(chrom, start, stop, end)
+    out.try_put_interval(chrom, start, stop, end)
 }
 
 // Puts what `put_ended` puts, by a text that is written beside the output, and returns true if it could. A

@@ -4,7 +4,7 @@ use Rattle.std.specs.Prelude.{◌≡◌, ◌↔◌, ◌⊎◌, ℕ, Bool, true, 
 use Rattle.std.specs.Prelude.{Option, Some, None, Result, Ok, Err}
 use Rattle.std.specs.List.{AllByRecursion}
 use Rattle.std.specs.declared.cmp.Ordering.TheVariants.{Less}
-use Rattle.bt_lines.specs.model.Fault.{Told}
+use Rattle.bt_lines.specs.model.Fault.{FaultValue}
 use Rattle.bt_lines.specs.model.Lines.{text_lines}
 use Rattle.bt_lines.specs.declared.fault.Kind.{Kind}
 use Rattle.bt_bed.specs.model.feature.Feature.{Feature}
@@ -48,7 +48,7 @@ ComeBefore order records others =
     → IsTrue (order.knows s.chrom) → order.compare r.chrom s.chrom ≡ Less) others) records
 
 -- an output, unless there is a fault before it
-abbrev pub unless_fault : Option Told → List ℕ → List ℕ
+abbrev pub unless_fault : Option FaultValue → List ℕ → List ℕ
 unless_fault None output = output
 unless_fault (Some fault) output = []
 

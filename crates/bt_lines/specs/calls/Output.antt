@@ -25,10 +25,10 @@ abbrev pub HoldsBlock : Option (List ℕ) → Option (List ℕ) → Type 0
 HoldsBlock took put = (held : List ℕ) × Appends took put held × (length held ≤ block_size)
 
 -- new is a prefix of the known bytes old, with more bytes after them
-abbrev pub IsFrontOf : Option (List ℕ) → Option (List ℕ) → List ℕ → Type 0
-IsFrontOf None old more = ⊤
-IsFrontOf (Some new) None more = ⊤
-IsFrontOf (Some new) (Some old) more = (rest : List ℕ) × (new ++ rest ≡ old ++ more)
+abbrev pub IsPrefixOf : Option (List ℕ) → Option (List ℕ) → List ℕ → Type 0
+IsPrefixOf None old more = ⊤
+IsPrefixOf (Some new) None more = ⊤
+IsPrefixOf (Some new) (Some old) more = (rest : List ℕ) × (new ++ rest ≡ old ++ more)
 
 -- known bytes stay as they are, and some may have been appended
 abbrev pub Grows : Option (List ℕ) → Option (List ℕ) → Type 0

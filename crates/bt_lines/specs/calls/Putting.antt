@@ -1,9 +1,9 @@
 -- What calls that put bytes do to an output, and how two texts go on to one another there.
 use Rattle.std.specs.Prelude.{◌≡◌, ℕ, true, false, List, [], ◌++◌, Result, Ok, Err}
 use Rattle.std.specs.Io.KnownBytes.{Appends}
-use Rattle.bt_lines.specs.model.Fault.{Told, write_failed}
-use Rattle.bt_lines.specs.calls.Names.{told}
-use Rattle.bt_lines.specs.calls.Output.{Output, HoldsBlock, IsFrontOf, Grows}
+use Rattle.bt_lines.specs.model.Fault.{FaultValue, write_failed}
+use Rattle.bt_lines.specs.calls.Names.{fault_value}
+use Rattle.bt_lines.specs.calls.Output.{Output, HoldsBlock, IsPrefixOf, Grows}
 use Rattle.bt_lines.specs.declared.fault.Fault.{Fault}
 
 -- the output still works: what was put is known if it was,
@@ -24,9 +24,9 @@ pub record PutsAll (old : Output) (bytes : List ℕ) (new : Output) : Type 0 whe
   pub sink_served : new.sink_has_failed ≡ old.sink_has_failed
 
 -- the bytes weren't all put: what the sink took is a prefix of them
-pub record FailsToPut (old : Output) (bytes : List ℕ) (fault : Told) (new : Output) : Type 0 where
+pub record FailsToPut (old : Output) (bytes : List ℕ) (fault : FaultValue) (new : Output) : Type 0 where
   pub is : fault ≡ write_failed
-  pub front : IsFrontOf new.took old.put bytes
+  pub front : IsPrefixOf new.took old.put bytes
   pub grows : Grows old.took new.took
   pub failed : new.has_failed ≡ true
   pub sink_failed : new.sink_has_failed ≡ true
@@ -35,7 +35,7 @@ pub record FailsToPut (old : Output) (bytes : List ℕ) (fault : Told) (new : Ou
 -- what a call that puts these bytes does to an output
 abbrev pub Puts : {A : Type 0} → Output → List ℕ → Result A Fault → Output → Type 0
 Puts old bytes (Ok done) new = PutsAll old bytes new
-Puts old bytes (Err fault) new = FailsToPut old bytes (told fault) new
+Puts old bytes (Err fault) new = FailsToPut old bytes (fault_value fault) new
 
 -- the output grew by these bytes, which are none if it stays as it is
 pub record Grown (old : Output) (bytes : List ℕ) (new : Output) : Type 0 where
@@ -48,14 +48,14 @@ pub record Grown (old : Output) (bytes : List ℕ) (new : Output) : Type 0 where
   pub nothing : bytes ≡ [] → new ≡ old
 
 -- the bytes, of which there are some, weren't all put
-pub record FailsToAdd (old : Output) (bytes : List ℕ) (fault : Told) (new : Output) : Type 0 where
+pub record FailsToAdd (old : Output) (bytes : List ℕ) (fault : FaultValue) (new : Output) : Type 0 where
   pub puts : FailsToPut old bytes fault new
   pub some : bytes ≡ [] → ⊥
 
 -- what a call does to an output that puts these bytes, which may be none
 abbrev pub Adds : {A : Type 0} → Output → List ℕ → Result A Fault → Output → Type 0
 Adds old bytes (Ok done) new = Grown old bytes new
-Adds old bytes (Err fault) new = FailsToAdd old bytes (told fault) new
+Adds old bytes (Err fault) new = FailsToAdd old bytes (fault_value fault) new
 
 module _ (before after : List ℕ) (old new : Output) where
   -- the bytes by which one text goes on to the other were put
@@ -68,4 +68,4 @@ module _ (before after : List ℕ) (old new : Output) where
   pub record CutsRest : Type 0 where
     pub bytes : List ℕ
     pub goes_on : after ≡ before ++ bytes
-    pub front : IsFrontOf new.took old.put bytes
+    pub front : IsPrefixOf new.took old.put bytes

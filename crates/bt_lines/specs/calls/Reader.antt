@@ -10,8 +10,8 @@ use Rattle.bt_lines.specs.calls.Buffered.{buffered_lines}
 use Rattle.bt_lines.specs.calls.Device.{ReadsCounted, ReadsFail}
 use Rattle.bt_lines.specs.model.Lines.{TextLine, lines_from, line_feeds, bytes_in, spelled}
 use Rattle.bt_lines.specs.calls.Output.{block_size}
-use Rattle.bt_lines.specs.model.Fault.{Told, read_failed, no_memory}
-use Rattle.bt_lines.specs.calls.Names.{told}
+use Rattle.bt_lines.specs.model.Fault.{FaultValue, read_failed, no_memory}
+use Rattle.bt_lines.specs.calls.Names.{fault_value}
 use Rattle.bt_lines.specs.calls.LentLine.{line_seen, GivesFirst}
 use Rattle.bt_lines.specs.declared.fault.Input.{Input}
 use Rattle.bt_lines.specs.declared.fault.Fault.{Fault}
@@ -55,7 +55,7 @@ module _ {S : Type 0} where
   unfoldable pub held : LineReader S → List ℕ
   held reader = held_at (open_at reader.state) (complete reader.buffer) (unread reader.buffer)
 
-  unfoldable pub fault_kept : LineReader S → Option Told
+  unfoldable pub fault_kept : LineReader S → Option FaultValue
   fault_kept reader = fault_at reader.state reader.input reader.lines
 
   -- whether it goes on
@@ -158,7 +158,7 @@ module _ {S : Type 0} where
   -- a failed read: the source has failed, or the text is too long (that a read of this call
   -- failed `TellsReads` says)
   pub record FailsToRead (left : S → Option (List ℕ)) (failed : S → Bool) (old : LineReader S)
-      (fault : Told) (new : LineReader S) : Type 0 where
+      (fault : FaultValue) (new : LineReader S) : Type 0 where
     pub is : fault ≡ read_failed (input_of old) (suc (lines_given old))
     pub cause : (failed (source_of new) ≡ true) ⊎ (2 ^ 63 ≤ bytes_taken new)
 
@@ -179,12 +179,12 @@ module _ {S : Type 0} where
 
   -- a fault was returned
   pub record GivesFault (left : S → Option (List ℕ)) (failed : S → Bool) (old : LineReader S)
-      (fault : Told) (new : LineReader S) : Type 0 where
+      (fault : FaultValue) (new : LineReader S) : Type 0 where
     pub kept : fault_kept new ≡ Some fault
     pub bytes : (bytes : List ℕ) × Hands left old bytes new
     pub counted : lines_given new ≡ lines_given old
     -- a fault is returned again, and nothing is read
-    pub again : (before : Told) → fault_kept old ≡ Some before → (fault ≡ before) × (new ≡ old)
+    pub again : (before : FaultValue) → fault_kept old ≡ Some before → (fault ≡ before) × (new ≡ old)
     -- after the end no fault comes
     pub was_going : has_ended old ≡ false
     pub before_end : fault_kept old ≡ None → end_told old ≡ false
@@ -203,7 +203,7 @@ module _ {S : Type 0} where
       → Result (Option Line) Fault → LineReader S → Type 0
   Answers left failed old (Ok (Some line)) new = GivesLine left failed old (line_seen line) new
   Answers left failed old (Ok None) new = GivesEnd left failed old new
-  Answers left failed old (Err fault) new = GivesFault left failed old (told fault) new
+  Answers left failed old (Err fault) new = GivesFault left failed old (fault_value fault) new
 
   -- the reads of the source in between all served, and gave as many bytes as the reader counts
   abbrev pub HasRead : (S → Option ℕ → S → Type 0) → LineReader S → LineReader S → Type 0
@@ -217,7 +217,7 @@ module _ {S : Type 0} where
 
   -- a failed read is reported exactly if one of the reads in between failed or the text is too long
   pub record TellsReads (IsRead : S → Option ℕ → S → Type 0) (old : LineReader S)
-      (fault : Option Told) (new : LineReader S) : Type 0 where
+      (fault : Option FaultValue) (new : LineReader S) : Type 0 where
     pub unread : (input : Input) (line : ℕ) → fault ≡ Some (read_failed input line)
         → IsUnread IsRead old new
     pub read : ((input : Input) (line : ℕ) → fault ≢ Some (read_failed input line))
@@ -230,7 +230,7 @@ module _ {S : Type 0} where
       → Result A Fault → LineReader S → Type 0
   TellsOwnFailure IsRead old (Ok done) new = HasRead IsRead old new
   TellsOwnFailure IsRead old (Err fault) new = fault_kept old ≡ None
-      → TellsReads IsRead old (Some (told fault)) new
+      → TellsReads IsRead old (Some (fault_value fault)) new
 
   -- one call of `next`
   pub record NextLine (left : S → Option (List ℕ)) (failed : S → Bool) (end : S → Bool)
@@ -250,7 +250,7 @@ module _ {S : Type 0} where
   abbrev pub StepAnswers : {A : Type 0} → (S → Option (List ℕ)) → (S → Bool) → LineReader S
       → Result A Fault → LineReader S → Type 0
   StepAnswers left failed old (Ok done) new = StepsTo left failed old (line_at new) new
-  StepAnswers left failed old (Err fault) new = GivesFault left failed old (told fault) new
+  StepAnswers left failed old (Err fault) new = GivesFault left failed old (fault_value fault) new
 
   -- the same call of `next`, with the line held instead of borrowed
   pub record Stepped {A : Type 0} (left : S → Option (List ℕ)) (failed : S → Bool) (end : S → Bool)
@@ -270,9 +270,9 @@ module _ {S : Type 0} where
       (IsRead : S → Option ℕ → S → Type 0) (old new : LineReader S) : Type 0 where
     pub kept : IsSome (fault_kept new)
     -- whatever has this fault as its result
-    pub answers : (fault : Fault) → fault_kept new ≡ Some (told fault)
-        → GivesFault left failed old (told fault) new
-    pub own_failure : (fault : Fault) → fault_kept new ≡ Some (told fault)
+    pub answers : (fault : Fault) → fault_kept new ≡ Some (fault_value fault)
+        → GivesFault left failed old (fault_value fault) new
+    pub own_failure : (fault : Fault) → fault_kept new ≡ Some (fault_value fault)
         → TellsOwnFailure {A = Option Line} IsRead old (Err fault) new
     pub sound : IsSound left end old → IsSound left end new
 
@@ -298,7 +298,7 @@ module _ {S : Type 0} where
       → LineReader S → Type 0
   FillAnswers left failed old (Ok true) new = MakesLine left failed old new
   FillAnswers left failed old (Ok false) new = GivesEnd left failed old new
-  FillAnswers left failed old (Err fault) new = GivesFault left failed old (told fault) new
+  FillAnswers left failed old (Err fault) new = GivesFault left failed old (fault_value fault) new
 
   -- what holds of a reader at all times, except how much it has buffered
   pub record IsKept (left : S → Option (List ℕ)) (told : S → Bool) (reader : LineReader S) : Type 0 where

@@ -1,13 +1,13 @@
 -- How far a reader is.
 use Rattle.std.specs.Prelude.{ℕ, suc, Bool, true, false, List, Option, Some, None, nat_lt, if◌then◌else◌}
-use Rattle.bt_lines.specs.model.Fault.{Told, read_failed, no_memory}
+use Rattle.bt_lines.specs.model.Fault.{FaultValue, read_failed, no_memory}
 use Rattle.bt_lines.specs.declared.fault.Input.{Input}
 use Rattle.bt_lines.specs.declared.reader.line_reader.State.{State}
 use Rattle.bt_lines.specs.declared.reader.line_reader.State.TheVariants.{Reading, LastLine, Ended}
 use Rattle.bt_lines.specs.declared.reader.line_reader.State.TheVariants.{ReadFailed, TooLong, NoMemory}
 
 -- the fault that ended the reading, if one did
-abbrev pub fault_at : State → Input → ℕ → Option Told
+abbrev pub fault_at : State → Input → ℕ → Option FaultValue
 fault_at Reading input number = None
 fault_at LastLine input number = None
 fault_at Ended input number = None

@@ -14,7 +14,7 @@ use Rattle.bt_lines.specs.declared.fault.Input.TheVariants.{Genome, First, Secon
 use Rattle.bt_lines.specs.declared.fault.Place.{Place}
 
 -- what went wrong, and where
-pub record Told : Type 0 where
+pub record FaultValue : Type 0 where
   pub kind : Kind
   pub place : Option Place
 
@@ -65,20 +65,20 @@ place_text names (Some place) =
     name_of names place.input ++ codes ":" ++ decimal place.line ++ codes ": "
 
 -- `bedtools CMD: NAME:LINE: TEXT` and a line feed
-abbrev pub line_of : List ℕ → InputNames → Told → List ℕ
+abbrev pub line_of : List ℕ → InputNames → FaultValue → List ℕ
 line_of command names fault =
     codes "bedtools " ++ command ++ codes ": " ++ place_text names fault.place ++ text_of fault.kind
     ++ codes "\n"
 
 -- the fault of a failed write
-abbrev pub write_failed : Told
+abbrev pub write_failed : FaultValue
 write_failed = record { kind = WriteFailed; place = None }
 
 -- the fault of a refused growth
-abbrev pub no_memory : Told
+abbrev pub no_memory : FaultValue
 no_memory = record { kind = NoMemory; place = None }
 
 -- the fault of a failed read, at a line of an input
-abbrev pub read_failed : Input → ℕ → Told
+abbrev pub read_failed : Input → ℕ → FaultValue
 read_failed input line =
     record { kind = ReadFailed; place = Some (record { input = input; line = line }) }

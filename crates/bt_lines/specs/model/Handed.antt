@@ -1,6 +1,6 @@
 -- What an input handed over: its whole text, or what came of it before a read failed.
 use Rattle.std.specs.Prelude.{ℕ, suc, Bool, false, List, length, Option, Some, None, if◌then◌else◌}
-use Rattle.bt_lines.specs.model.Fault.{Told, read_failed}
+use Rattle.bt_lines.specs.model.Fault.{FaultValue, read_failed}
 use Rattle.bt_lines.specs.model.Lines.{TextLine, text_lines, whole_lines}
 use Rattle.bt_lines.specs.declared.fault.Input.{Input}
 
@@ -20,7 +20,7 @@ lines_handed handed = if handed.is_cut then whole_lines handed.text else text_li
 
 -- the fault after them, if the text was cut off: the failed read,
 -- at the line after the last whole one
-abbrev pub cut_fault : Input → Handed → Option Told
+abbrev pub cut_fault : Input → Handed → Option FaultValue
 cut_fault input handed =
     if handed.is_cut then Some (read_failed input (suc (length (whole_lines handed.text))))
     else None

@@ -2,13 +2,13 @@
 
 ghost use Rattle.std.specs.Prelude.{◌≡◌};
 ghost use Rattle.bt_lines.specs.model.Fault.{no_memory, write_failed};
-ghost use Rattle.bt_lines.specs.calls.Names.{told};
+ghost use Rattle.bt_lines.specs.calls.Names.{fault_value};
 
 use crate::fault::{Fault, Kind};
 
 /// The fault of a refused growth.
 pub fn no_memory() -> Fault
-    ensures { told result ≡ no_memory }
+    ensures { fault_value result ≡ no_memory }
 {
     Fault {
         kind: Kind::NoMemory,
@@ -18,7 +18,7 @@ pub fn no_memory() -> Fault
 
 /// The fault of a failed write.
 pub fn write_failed() -> Fault
-    ensures { told result ≡ write_failed }
+    ensures { fault_value result ≡ write_failed }
 {
     Fault {
         kind: Kind::WriteFailed,

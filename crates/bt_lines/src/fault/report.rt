@@ -2,7 +2,7 @@
 
 ghost use Rattle.std.specs.Prelude.{◌≡◌, ◌++◌, IfOk};
 ghost use Rattle.bt_lines.specs.model.Fault.{line_of, name_of, place_text};
-ghost use Rattle.bt_lines.specs.calls.Names.{names_seen, told};
+ghost use Rattle.bt_lines.specs.calls.Names.{names_seen, fault_value};
 
 use crate::fault::{Fault, Input, Place};
 use itoa::Buffer;
@@ -25,7 +25,7 @@ pub fn fault_line(
     names: &Names,
     fault: &Fault,
 ) -> Result<Vec<u8>, AllocError>
-    ensures { IfOk result (λ line. line.items ≡ line_of command.now (names_seen names.now) (told fault.now)) }
+    ensures { IfOk result (λ line. line.items ≡ line_of command.now (names_seen names.now) (fault_value fault.now)) }
 {
     let mut line = Vec::from_slice(alloc, b"bedtools ")?;
     line.extend_from_slice(command)?;

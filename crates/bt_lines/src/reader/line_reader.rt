@@ -68,7 +68,7 @@ impl<S: Source> LineReader<S> {
     ghost use Rattle.bt_lines.specs.calls.LentLine.{line_seen};
     ghost use Rattle.bt_lines.specs.model.Lines.{text_lines};
     ghost use Rattle.bt_lines.specs.model.Fault.{read_failed};
-    ghost use Rattle.bt_lines.specs.calls.Names.{told};
+    ghost use Rattle.bt_lines.specs.calls.Names.{fault_value};
 
     /// A reader of the source's lines, which stands for this input in faults.
     pub fn new(alloc: Global, source: S, input: Input) -> LineReader<S>
@@ -249,7 +249,7 @@ impl<S: Source> LineReader<S> {
     #[inline(always)]
     fn fault(&self) -> Fault
         requires { IsSome (fault_kept self.now) }
-        ensures { fault_kept self.now ≡ Some (told result) }
+        ensures { fault_kept self.now ≡ Some (fault_value result) }
     {
         match self.state {
             State::ReadFailed | State::TooLong => self.read_failed(),
@@ -327,7 +327,7 @@ impl<S: Source> LineReader<S> {
 
     // The fault of a failed read, at the line after those given.
     fn read_failed(&self) -> Fault
-        ensures { told result ≡ read_failed (input_of self.now) (suc (lines_given self.now)) }
+        ensures { fault_value result ≡ read_failed (input_of self.now) (suc (lines_given self.now)) }
     {
         let place = Place {
             input: self.input,

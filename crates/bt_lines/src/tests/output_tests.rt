@@ -130,7 +130,7 @@ fn held_behind(alloc: Global, before: usize) -> Result<(usize, bool, usize), Fai
     let mut output = Out::new(ScriptSink::new(alloc, BLOCK, None));
     output.put(long_line(alloc, before, b"")?.as_slice())?;
     let room = output.room();
-    let is_held = output.hold_both(b"line", b"\n");
+    let is_held = output.try_put_pair(b"line", b"\n");
     output.flush()?;
     Ok((room, is_held, output.into_sink().taken().len()))
 }
@@ -172,7 +172,7 @@ fn span_behind(
 ) -> Result<(bool, Vec<u8>), Fail> {
     let mut output = Out::new(ScriptSink::new(alloc, BLOCK, None));
     output.put(long_line(alloc, before, b"")?.as_slice())?;
-    let is_held = output.hold_span(name, start, stop, b'\n');
+    let is_held = output.try_put_interval(name, start, stop, b'\n');
     output.flush()?;
     let sink = output.into_sink();
     let mut taken = Vec::new(alloc);
@@ -277,7 +277,7 @@ fn short_spans_are_held_where_there_is_room(rt: HostRuntime) -> Result<(), Fail>
 #[test]
 fn a_span_ends_as_it_is_told_to(rt: HostRuntime) -> Result<(), Fail> {
     let mut output = Out::new(ScriptSink::new(rt.alloc(), BLOCK, None));
-    let is_held = output.hold_span(b"chr1", 5, 9, b'\t');
+    let is_held = output.try_put_interval(b"chr1", 5, 9, b'\t');
     output.flush()?;
     let sink = output.into_sink();
     assert!(rt; is_held && sink.taken() == b"chr1\t5\t9\t".as_slice());
@@ -289,7 +289,7 @@ fn nothing_is_held_behind_a_failure(rt: HostRuntime) -> Result<(), Fail> {
     let mut failed = Out::new(ScriptSink::new(rt.alloc(), BLOCK, Some(0)));
     failed.put(b"line")?;
     let is_told = failed.flush().is_err();
-    let is_held = failed.hold_both(b"line", b"\n") || failed.hold_span(b"chr1", 5, 9, b'\n');
+    let is_held = failed.try_put_pair(b"line", b"\n") || failed.try_put_interval(b"chr1", 5, 9, b'\n');
     assert!(rt; is_told && !is_held);
     Ok(())
 }

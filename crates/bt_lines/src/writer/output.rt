@@ -2,9 +2,9 @@
 
 ghost use Rattle.std.specs.Prelude.{◌≡◌, ◌++◌, ◌+◌, ◌%◌, ℕ, ◌≤◌, ◌<◌, false, true, List, [], length, OnOk, OnErr, IfErr, IsErr, Some, None};
 ghost use Rattle.std.specs.Io.KnownBytes.{Appends, Keeps, append_known};
-ghost use Rattle.bt_lines.specs.calls.Output.{HoldsBlock, IsFrontOf, Grows, block_size};
+ghost use Rattle.bt_lines.specs.calls.Output.{HoldsBlock, IsPrefixOf, Grows, block_size};
 ghost use Rattle.bt_lines.specs.model.Fault.{write_failed};
-ghost use Rattle.bt_lines.specs.calls.Names.{told};
+ghost use Rattle.bt_lines.specs.calls.Names.{fault_value};
 ghost use Rattle.bt_lines.specs.calls.Putting.{PutsAll};
 ghost use Rattle.bt_lines.specs.inside.Span.{span_text};
 
@@ -13,7 +13,7 @@ use crate::fault::Fault;
 use crate::fault::faults::write_failed;
 use crate::reader::read_buffer::BLOCK;
 use crate::writer::copying::is_short;
-use crate::writer::held_back::{HeldBack, SPAN_ROOM};
+use crate::writer::write_buffer::{WriteBuffer, SPAN_ROOM};
 use std::marker::Model;
 
 /// Puts bytes to a sink in order, a block at a time: at most [`BLOCK`] bytes are held back until a
@@ -24,7 +24,7 @@ pub struct Out<K: Sink> {
     // Not written to after it has failed.
     sink: K,
     // What was put and not yet written; lost once the sink has failed.
-    held: HeldBack,
+    held: WriteBuffer,
     // Whether a write or a flush has failed; it stays so.
     has_failed: bool,
 }
@@ -66,7 +66,7 @@ impl<K: Sink> Out<K> {
     {
         Out {
             sink,
-            held: HeldBack::new(),
+            held: WriteBuffer::new(),
             has_failed: false,
         }
     }
@@ -76,13 +76,13 @@ impl<K: Sink> Out<K> {
     pub fn put(&mut self, piece: &[u8]) -> Result<(), Fault>
         ensures put { OnOk result (Appends self.old.output.put self.new.output.put piece.now) }
         ensures block { OnOk result (HoldsBlock self.new.output.took self.new.output.put) }
-        ensures front { OnErr result (IsFrontOf self.new.output.took self.old.output.put piece.now) }
+        ensures front { OnErr result (IsPrefixOf self.new.output.took self.old.output.put piece.now) }
         ensures grows { Grows self.old.output.took self.new.output.took }
 
         ensures served { OnOk result ((self.new.output.has_failed ≡ false)
             × (self.old.output.has_failed ≡ false)
             × (self.new.output.sink_has_failed ≡ self.old.output.sink_has_failed)) }
-        ensures fault { IfErr result (λ fault. told fault ≡ write_failed) }
+        ensures fault { IfErr result (λ fault. fault_value fault ≡ write_failed) }
         ensures cause { OnErr result ((self.new.output.has_failed ≡ true)
             × (self.new.output.sink_has_failed ≡ true)) }
         ensures again { self.old.output.has_failed ≡ true → IsErr result × (self.new.output ≡ self.old.output) }
@@ -102,7 +102,7 @@ impl<K: Sink> Out<K> {
         Ok(())
     }
 
-    /// For how many bytes [`Out::hold_both`] has room, if no write has failed: at most [`BLOCK`].
+    /// For how many bytes [`Out::try_put_pair`] has room, if no write has failed: at most [`BLOCK`].
     pub fn room(&self) -> usize
         ensures { result ≤ block_size }
     {
@@ -112,7 +112,7 @@ impl<K: Sink> Out<K> {
     /// Puts a piece and a short one after it and returns true, if no write has failed and there is room for
     /// both; else nothing changes. It writes nothing to the sink.
     #[inline(always)]
-    pub fn hold_both(&mut self, piece: &[u8], end: &[u8]) -> bool
+    pub fn try_put_pair(&mut self, piece: &[u8], end: &[u8]) -> bool
         ensures held { result ≡ true → PutsAll self.old.output (piece.now ++ end.now) self.new.output }
         ensures untaken { self.new.output.took ≡ self.old.output.took }
         ensures unasked { self.new.sink ≡ self.old.sink }
@@ -125,7 +125,7 @@ impl<K: Sink> Out<K> {
         true
     }
 
-    // Puts two short pieces, as `hold_both` does, and no others: so nothing is called where they are put.
+    // Puts two short pieces, as `try_put_pair` does, and no others: so nothing is called where they are put.
     #[inline(always)]
     pub(crate) fn hold_short(&mut self, piece: &[u8], next: &[u8]) -> bool
         ensures held { result ≡ true → PutsAll self.old.output (piece.now ++ next.now) self.new.output }
@@ -146,7 +146,7 @@ impl<K: Sink> Out<K> {
     /// failed, the name doesn't have 1 to 64 bytes, or there is no room for it and 106 bytes more, it returns false and
     /// nothing changes. It writes nothing to the sink.
     #[inline(always)]
-    pub fn hold_span(&mut self, name: &[u8], start: u64, stop: u64, end: u8) -> bool
+    pub fn try_put_interval(&mut self, name: &[u8], start: u64, stop: u64, end: u8) -> bool
         ensures held { result ≡ true → PutsAll self.old.output (name.now ++ span_text start stop end) self.new.output }
         ensures untaken { self.new.output.took ≡ self.old.output.took }
         ensures unasked { self.new.sink ≡ self.old.sink }
@@ -165,13 +165,13 @@ impl<K: Sink> Out<K> {
         ensures put { OnOk result (Keeps self.old.output.put self.new.output.put) }
         ensures taken { OnOk result (Keeps self.new.output.put self.new.output.took) }
         ensures flushed { OnOk result (self.new.output.sink_is_flushed ≡ true) }
-        ensures front { OnErr result (IsFrontOf self.new.output.took self.old.output.put []) }
+        ensures front { OnErr result (IsPrefixOf self.new.output.took self.old.output.put []) }
         ensures grows { Grows self.old.output.took self.new.output.took }
 
         ensures served { OnOk result ((self.new.output.has_failed ≡ false)
             × (self.old.output.has_failed ≡ false)
             × (self.new.output.sink_has_failed ≡ self.old.output.sink_has_failed)) }
-        ensures fault { IfErr result (λ fault. told fault ≡ write_failed) }
+        ensures fault { IfErr result (λ fault. fault_value fault ≡ write_failed) }
         ensures cause { OnErr result ((self.new.output.has_failed ≡ true)
             × (self.new.output.sink_has_failed ≡ true)) }
         ensures again { self.old.output.has_failed ≡ true → IsErr result × (self.new.output ≡ self.old.output) }
@@ -208,14 +208,14 @@ impl<K: Sink> Out<K> {
 // full blocks, as long as it takes each in full.
 #[cold]
 #[inline(never)]
-fn put_across<K: Sink>(sink: &mut K, held: &mut HeldBack, piece: &[u8]) -> Result<(), DeviceFailed>
+fn put_across<K: Sink>(sink: &mut K, held: &mut WriteBuffer, piece: &[u8]) -> Result<(), DeviceFailed>
     requires fits { length held.old ≤ block_size }
     requires across { block_size < length held.old + length piece.now }
     ensures put { OnOk result (Appends (append_known (K.took sink.old) held.old)
         (append_known (K.took sink.new) held.new) piece.now) }
     ensures block { length held.new ≤ block_size }
     ensures front { OnErr result
-        (IsFrontOf (K.took sink.new) (append_known (K.took sink.old) held.old) piece.now) }
+        (IsPrefixOf (K.took sink.new) (append_known (K.took sink.old) held.old) piece.now) }
     ensures grows { Grows (K.took sink.old) (K.took sink.new) }
     ensures served { OnOk result (K.has_failed sink.new ≡ K.has_failed sink.old) }
     ensures failed { OnErr result (K.has_failed sink.new ≡ true) }
@@ -227,12 +227,12 @@ fn put_across<K: Sink>(sink: &mut K, held: &mut HeldBack, piece: &[u8]) -> Resul
 }
 
 // Hands the full blocks of a piece to the sink, and holds back what is left of it.
-fn put_blocks<K: Sink>(sink: &mut K, held: &mut HeldBack, piece: &[u8]) -> Result<(), DeviceFailed>
+fn put_blocks<K: Sink>(sink: &mut K, held: &mut WriteBuffer, piece: &[u8]) -> Result<(), DeviceFailed>
     requires { held.old ≡ [] }
     ensures put { OnOk result (Appends (K.took sink.old) (append_known (K.took sink.new) held.new) piece.now) }
     ensures rest { OnOk result (length held.new ≡ length piece.now % block_size) }
     ensures block { length held.new ≤ block_size }
-    ensures front { OnErr result (IsFrontOf (K.took sink.new) (K.took sink.old) piece.now) }
+    ensures front { OnErr result (IsPrefixOf (K.took sink.new) (K.took sink.old) piece.now) }
     ensures grows { Grows (K.took sink.old) (K.took sink.new) }
     ensures served { OnOk result (K.has_failed sink.new ≡ K.has_failed sink.old) }
     ensures failed { OnErr result (K.has_failed sink.new ≡ true) }
@@ -244,13 +244,13 @@ fn put_blocks<K: Sink>(sink: &mut K, held: &mut HeldBack, piece: &[u8]) -> Resul
 }
 
 // Hands on the bytes that are held back, and flushes the sink.
-fn send_all<K: Sink>(sink: &mut K, held: &mut HeldBack) -> Result<(), DeviceFailed>
+fn send_all<K: Sink>(sink: &mut K, held: &mut WriteBuffer) -> Result<(), DeviceFailed>
     ensures taken { OnOk result
         (Keeps (append_known (K.took sink.old) held.old) (K.took sink.new)) }
     ensures empty { held.new ≡ [] }
     ensures flushed { OnOk result (K.is_flushed sink.new ≡ true) }
     ensures front { OnErr result
-        (IsFrontOf (K.took sink.new) (append_known (K.took sink.old) held.old) []) }
+        (IsPrefixOf (K.took sink.new) (append_known (K.took sink.old) held.old) []) }
     ensures grows { Grows (K.took sink.old) (K.took sink.new) }
     ensures served { OnOk result (K.has_failed sink.new ≡ K.has_failed sink.old) }
     ensures failed { OnErr result (K.has_failed sink.new ≡ true) }
@@ -260,10 +260,10 @@ fn send_all<K: Sink>(sink: &mut K, held: &mut HeldBack) -> Result<(), DeviceFail
 }
 
 // Hands on the bytes that are held back. If the sink fails they are lost, and never sent again.
-fn send<K: Sink>(sink: &mut K, held: &mut HeldBack) -> Result<(), DeviceFailed>
+fn send<K: Sink>(sink: &mut K, held: &mut WriteBuffer) -> Result<(), DeviceFailed>
     ensures whole { OnOk result (Appends (K.took sink.old) (K.took sink.new) held.old) }
     ensures empty { held.new ≡ [] }
-    ensures front { OnErr result (IsFrontOf (K.took sink.new) (K.took sink.old) held.old) }
+    ensures front { OnErr result (IsPrefixOf (K.took sink.new) (K.took sink.old) held.old) }
     ensures grows { Grows (K.took sink.old) (K.took sink.new) }
     ensures served { OnOk result (K.has_failed sink.new ≡ K.has_failed sink.old) }
     ensures failed { OnErr result (K.has_failed sink.new ≡ true) }
@@ -276,7 +276,7 @@ fn send<K: Sink>(sink: &mut K, held: &mut HeldBack) -> Result<(), DeviceFailed>
 // Hands a whole piece to the sink, by as many writes as it takes.
 fn write_whole<K: Sink>(sink: &mut K, piece: &[u8]) -> Result<(), DeviceFailed>
     ensures whole { OnOk result (Appends (K.took sink.old) (K.took sink.new) piece.now) }
-    ensures front { OnErr result (IsFrontOf (K.took sink.new) (K.took sink.old) piece.now) }
+    ensures front { OnErr result (IsPrefixOf (K.took sink.new) (K.took sink.old) piece.now) }
     ensures grows { Grows (K.took sink.old) (K.took sink.new) }
     ensures served { OnOk result (K.has_failed sink.new ≡ K.has_failed sink.old) }
     ensures failed { OnErr result (K.has_failed sink.new ≡ true) }

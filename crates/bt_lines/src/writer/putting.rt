@@ -25,7 +25,7 @@ pub fn put_column<K: Sink>(column: &[u8], end: &[u8], out: &mut Out<K>) -> Resul
 pub fn put_line<K: Sink>(text: &[u8], end: &[u8], out: &mut Out<K>) -> Result<(), Fault>
     ensures { Puts out.old.output (text.now ++ end.now) result out.new.output }
 {
-    if out.hold_both(text, end) || put_across(text, end, out) {
+    if out.try_put_pair(text, end) || put_across(text, end, out) {
         return Ok(());
     }
     Err(write_failed())

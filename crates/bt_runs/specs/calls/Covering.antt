@@ -1,8 +1,8 @@
 -- A count of depths as its callers see it.
 use Rattle.std.specs.Prelude.{◌≡◌, ℕ, ◌<◌, ◌⊎◌, ⊤, Bool, true, false, List, [], length}
 use Rattle.std.specs.Prelude.{Option, Some, None, Result, Ok, Err, cond, nat_lt}
-use Rattle.bt_lines.specs.model.Fault.{Told, no_memory}
-use Rattle.bt_lines.specs.calls.Names.{told}
+use Rattle.bt_lines.specs.model.Fault.{FaultValue, no_memory}
+use Rattle.bt_lines.specs.calls.Names.{fault_value}
 use Rattle.bt_lines.specs.calls.Output.{Output}
 use Rattle.bt_lines.specs.calls.Putting.{FailsToAdd, Grown}
 use Rattle.bt_lines.specs.declared.fault.Fault.{Fault}
@@ -21,7 +21,7 @@ use Rattle.bt_runs.specs.model.Gaps.{AreTaken, length_in}
 use Rattle.bt_runs.specs.model.Levels.{Begun}
 use Rattle.bt_runs.specs.inside.walk.Walk.{AreReached, Place, entry_at, is_on, places, walk_step}
 use Rattle.bt_runs.specs.declared.coverage.depth_rule.DepthChrom.{DepthChrom}
-use Rattle.bt_runs.specs.declared.coverage.depths.BegunDepth.{BegunDepth}
+use Rattle.bt_runs.specs.declared.coverage.depths.OpenInterval.{OpenInterval}
 use Rattle.bt_runs.specs.declared.engine.failure.Failure.{Failure}
 use Rattle.bt_runs.specs.declared.engine.failure.Failure.TheVariants.{Write, Memory}
 
@@ -131,7 +131,7 @@ IsOnChrom coverage chrom =
     IsOnBy coverage.is_here coverage.entries coverage.current coverage.name coverage.length chrom
 
 -- with the interval that is kept in a local
-abbrev pub with_begun : Option BegunDepth → Option (Place Known) → Option (Place Known)
+abbrev pub with_begun : Option OpenInterval → Option (Place Known) → Option (Place Known)
 with_begun begun None = None
 with_begun begun (Some place) =
     let known : Known = record { to = place.known.to; begun = begun_seen begun; held = place.known.held } in
@@ -163,7 +163,7 @@ module _ (old : Covering) (r : Feature) (out : Output) where
     pub puts : Grown out (depth_lines depth_step.1) grown
 
   -- its lines were written, and it couldn't be kept
-  pub record RunsShort (answer : Told) (grown : Output) : Type 0 where
+  pub record RunsShort (answer : FaultValue) (grown : Output) : Type 0 where
     pub is : answer ≡ no_memory
     pub puts : Grown out (depth_lines depth_step.1) grown
     pub to_keep : HasToKeep old.entries old.strand r
@@ -172,4 +172,4 @@ module _ (old : Covering) (r : Feature) (out : Output) where
   abbrev pub CountsDepths : Result (Unit {0}) Fault → Covering → Output → Type 0
   CountsDepths (Ok done) new grown = CountsRecord new grown
   CountsDepths (Err fault) new grown =
-      FailsToAdd out (depth_lines depth_step.1) (told fault) grown ⊎ RunsShort (told fault) grown
+      FailsToAdd out (depth_lines depth_step.1) (fault_value fault) grown ⊎ RunsShort (fault_value fault) grown

@@ -2,17 +2,17 @@
 -- of records that it has taken.
 use Rattle.std.specs.Prelude.{◌≡◌, ℕ, ◌≤◌, ◌⊎◌, true, List, [], ◌∷◌, ◌++◌}
 use Rattle.std.specs.Prelude.{Option, Some, None, Result, Ok, Err, IsOk, ⊤}
-use Rattle.bt_lines.specs.model.Fault.{Told, no_memory, write_failed}
-use Rattle.bt_lines.specs.calls.Names.{told}
+use Rattle.bt_lines.specs.model.Fault.{FaultValue, no_memory, write_failed}
+use Rattle.bt_lines.specs.calls.Names.{fault_value}
 use Rattle.bt_lines.specs.calls.Output.{Output, Grows}
 use Rattle.bt_lines.specs.calls.Putting.{WorksAsBefore, PutsRest, CutsRest}
 use Rattle.bt_lines.specs.declared.fault.Fault.{Fault}
 use Rattle.bt_bed.specs.model.feature.Feature.{Feature}
 
 -- if memory runs out for the first time, this holds of the engine and the record
-abbrev pub IsWanted : {E A : Type 0} → (E → Feature → Type 0) → (E → Option Told) → E → Feature → Result A Fault → Type 0
+abbrev pub IsWanted : {E A : Type 0} → (E → Feature → Type 0) → (E → Option FaultValue) → E → Feature → Result A Fault → Type 0
 IsWanted wants fault old r (Ok done) = ⊤
-IsWanted wants fault old r (Err answer) = told answer ≡ no_memory → fault old ≡ None → wants old r
+IsWanted wants fault old r (Err answer) = fault_value answer ≡ no_memory → fault old ≡ None → wants old r
 
 -- a record that settles nothing more, with which no more is kept
 pub record IsQuiet (settled : List Feature → List ℕ) (held : List Feature → ℕ)
@@ -37,7 +37,7 @@ module _ {E : Type 0} (MayTake : E → List Feature → Type 0)
   KeepsHeld held count = AtEnd (λ first past. count ≡ held first past)
 
 module _ {E : Type 0} (MayTake : E → List Feature → Type 0)
-    (Stands : E → List Feature → E → Type 0) (fault : E → Option Told)
+    (Stands : E → List Feature → E → Type 0) (fault : E → Option FaultValue)
     (settled : E → List Feature → List ℕ) where
   -- one more record
   module _ (old : E) (r : Feature) (out : Output) where
@@ -54,7 +54,7 @@ module _ {E : Type 0} (MayTake : E → List Feature → Type 0)
       pub works : WorksAsBefore out grown
 
     -- the lines that the record settles couldn't be written: only if the sink failed
-    pub record FailsToWrite (answer : Told) (new : E) (grown : Output) : Type 0 where
+    pub record FailsToWrite (answer : FaultValue) (new : E) (grown : Output) : Type 0 where
       pub is : answer ≡ write_failed
       -- it is the first fault, and is kept
       pub was_going : fault old ≡ None
@@ -65,7 +65,7 @@ module _ {E : Type 0} (MayTake : E → List Feature → Type 0)
       pub sink_failed : grown.sink_has_failed ≡ true
 
     -- what is kept couldn't grow
-    pub record RunsOut (answer : Told) (new : E) (grown : Output) : Type 0 where
+    pub record RunsOut (answer : FaultValue) (new : E) (grown : Output) : Type 0 where
       pub is : answer ≡ no_memory
       -- it is the first fault, and is kept
       pub was_going : fault old ≡ None
@@ -76,21 +76,21 @@ module _ {E : Type 0} (MayTake : E → List Feature → Type 0)
       pub works : WorksAsBefore out grown
 
     -- the first fault is returned again, and nothing happens
-    pub record Repeats (answer : Told) (new : E) (grown : Output) : Type 0 where
+    pub record Repeats (answer : FaultValue) (new : E) (grown : Output) : Type 0 where
       pub is : fault old ≡ Some answer
       pub kind : (answer ≡ write_failed) ⊎ (answer ≡ no_memory)
       pub same : new ≡ old
       pub same_output : grown ≡ out
 
     -- why the record wasn't taken
-    abbrev pub NotTaken : Told → E → Output → Type 0
+    abbrev pub NotTaken : FaultValue → E → Output → Type 0
     NotTaken answer new grown =
         Repeats answer new grown ⊎ (FailsToWrite answer new grown ⊎ RunsOut answer new grown)
 
     -- what the result says
     abbrev pub FeedAnswers : {A : Type 0} → Result A Fault → E → Output → Type 0
     FeedAnswers (Ok done) new grown = TakesRecord new grown
-    FeedAnswers (Err answer) new grown = NotTaken (told answer) new grown
+    FeedAnswers (Err answer) new grown = NotTaken (fault_value answer) new grown
 
     -- what `feed` does
     pub record Feeds {A : Type 0} (Quiet : E → List Feature → Feature → Type 0)
@@ -131,10 +131,10 @@ module _ {E : Type 0} (MayTake : E → List Feature → Type 0)
         pub r : Feature
         pub given : gives before (r ∷ []) passed
         pub fails : Feeds mid r through {A = Unit {0}} Quiet (Err answer) new grown
-        pub memory : told answer ≡ no_memory → wants mid r
+        pub memory : fault_value answer ≡ no_memory → wants mid r
 
       -- the fault that was returned before is returned again, and nothing happens
-      pub record RepeatsBatch (answer : Told) (new : E) (passed : C) (grown : Output) : Type 0 where
+      pub record RepeatsBatch (answer : FaultValue) (new : E) (passed : C) (grown : Output) : Type 0 where
         pub going : (first : E) (past : List Feature) → Stands first past old → fault old ≡ None
         pub is : fault old ≡ Some answer
         pub kind : (answer ≡ write_failed) ⊎ (answer ≡ no_memory)
@@ -146,7 +146,7 @@ module _ {E : Type 0} (MayTake : E → List Feature → Type 0)
       abbrev pub FeedsBatch : {A : Type 0} → Result A Fault → E → C → Output → Type 0
       FeedsBatch (Ok done) new passed grown = TakesGiven new passed grown × has_ended passed
       FeedsBatch (Err answer) new passed grown =
-          RepeatsBatch (told answer) new passed grown ⊎ FailsAtGiven answer new passed grown
+          RepeatsBatch (fault_value answer) new passed grown ⊎ FailsAtGiven answer new passed grown
 
   -- the end of the input
   module _ (whole : E → List Feature → List ℕ) (last : E) (out : Output) where
@@ -158,7 +158,7 @@ module _ {E : Type 0} (MayTake : E → List Feature → Type 0)
       pub works : WorksAsBefore out grown
 
     -- they couldn't be written: only if the sink failed
-    pub record FailsToPutLeft (answer : Told) (grown : Output) : Type 0 where
+    pub record FailsToPutLeft (answer : FaultValue) (grown : Output) : Type 0 where
       pub is : answer ≡ write_failed
       pub was_going : fault last ≡ None
       pub cuts : AtEnd MayTake Stands last (λ first past.
@@ -167,7 +167,7 @@ module _ {E : Type 0} (MayTake : E → List Feature → Type 0)
       pub sink_failed : grown.sink_has_failed ≡ true
 
     -- the fault that was returned before is returned again, and nothing happens
-    pub record RepeatsAtEnd (answer : Told) (grown : Output) : Type 0 where
+    pub record RepeatsAtEnd (answer : FaultValue) (grown : Output) : Type 0 where
       pub is : fault last ≡ Some answer
       pub same_output : grown ≡ out
 
@@ -175,7 +175,7 @@ module _ {E : Type 0} (MayTake : E → List Feature → Type 0)
     abbrev pub FinishAnswers : {A : Type 0} → Result A Fault → Output → Type 0
     FinishAnswers (Ok done) grown = PutsLeft grown
     FinishAnswers (Err answer) grown =
-        RepeatsAtEnd (told answer) grown ⊎ FailsToPutLeft (told answer) grown
+        RepeatsAtEnd (fault_value answer) grown ⊎ FailsToPutLeft (fault_value answer) grown
 
     -- what `finish` does
     pub record Finishes {A : Type 0} (result : Result A Fault) (grown : Output) : Type 0 where

@@ -1,7 +1,7 @@
 -- What a merge holds after the records of the past: with one set of records one open run, and with
 -- each strand separately the runs that wait.
 use Rattle.std.specs.Prelude.{ℕ, List, [], Option, None}
-use Rattle.bt_lines.specs.model.Fault.{Told}
+use Rattle.bt_lines.specs.model.Fault.{FaultValue}
 use Rattle.bt_bed.specs.model.feature.Feature.{Feature}
 use Rattle.bt_bed.specs.model.feature.Interval.{Interval}
 use Rattle.bt_runs.specs.model.MergedRuns.{AreTaken}
@@ -17,13 +17,13 @@ use Rattle.bt_runs.specs.declared.engine.rule.Ruled.{Ruled}
 
 -- a merge as its callers see it: of all counted records together, or of each strand apart
 pub data Merging : Type 0 where
-  Together : Ruled pool.Unstranded → Merging
+  Contiguous : Ruled pool.Unstranded → Merging
   Apart : Ruled strands.Stranding → Merging
 
 -- one that has taken no record
 abbrev pub together_begun : ℕ → MergeStrand → Merging
 together_begun gap strand =
-    Together (record { rule = record { gap = gap; strand = strand; chrom = []; kept = [] }; failure = None })
+    Contiguous (record { rule = record { gap = gap; strand = strand; chrom = []; kept = [] }; failure = None })
 
 abbrev pub merge_begun : ℕ → MergeStrand → Merging
 merge_begun gap Each =
@@ -37,46 +37,46 @@ may_take first past = AreTaken past
 
 -- what the merge has become after the records
 abbrev pub stands_after : Merging → List Feature → Merging → Type 0
-stands_after (Together first) past (Together now) = ruled_stands pool.stands_after first past now
+stands_after (Contiguous first) past (Contiguous now) = ruled_stands pool.stands_after first past now
 stands_after (Apart first) past (Apart now) = ruled_stands strands.stands_after first past now
-stands_after (Together first) past (Apart now) = ⊥
-stands_after (Apart first) past (Together now) = ⊥
+stands_after (Contiguous first) past (Apart now) = ⊥
+stands_after (Apart first) past (Contiguous now) = ⊥
 
 -- a merge with this gap and these strands is after no record
 abbrev pub StandsNew : ℕ → MergeStrand → Merging → Type 0
 StandsNew gap strand merge = stands_after (merge_begun gap strand) [] merge
 
 -- the fault that it returned, if one
-abbrev pub kept_fault : Merging → Option Told
-kept_fault (Together merge) = ruled_fault merge
+abbrev pub kept_fault : Merging → Option FaultValue
+kept_fault (Contiguous merge) = ruled_fault merge
 kept_fault (Apart merge) = ruled_fault merge
 
 -- the lines of the settled runs
 abbrev pub settled_lines : Merging → List Feature → List ℕ
-settled_lines (Together first) past = pool.settled_lines first.rule past
+settled_lines (Contiguous first) past = pool.settled_lines first.rule past
 settled_lines (Apart first) past = strands.settled_lines first.rule past
 
 -- the lines of all runs
 abbrev pub whole_output : Merging → List Feature → List ℕ
-whole_output (Together first) past = pool.whole_output first.rule past
+whole_output (Contiguous first) past = pool.whole_output first.rule past
 whole_output (Apart first) past = strands.whole_output first.rule past
 
 -- how many runs are kept
 abbrev pub held_count : Merging → List Feature → ℕ
-held_count (Together first) past = pool.held_count first.rule past
+held_count (Contiguous first) past = pool.held_count first.rule past
 held_count (Apart first) past = strands.held_count first.rule past
 
 -- a record on the last chromosome that settles no run, with which no more are kept
 abbrev pub is_quiet : Merging → List Feature → Feature → Type 0
-is_quiet (Together first) past r = pool.is_quiet first.rule past r
+is_quiet (Contiguous first) past r = pool.is_quiet first.rule past r
 is_quiet (Apart first) past r = strands.is_quiet first.rule past r
 
 -- the runs that are kept
 abbrev pub kept_places : Merging → List Interval
-kept_places (Together merge) = merge.rule.kept
+kept_places (Contiguous merge) = merge.rule.kept
 kept_places (Apart merge) = places_of merge.rule.kept
 
 -- what needs memory: the name of another chromosome, and with each strand separately a run that has to be opened
 abbrev pub wants_memory : Merging → Feature → Type 0
-wants_memory (Together old) r = pool_step.IsElsewhere old.rule r
+wants_memory (Contiguous old) r = pool_step.IsElsewhere old.rule r
 wants_memory (Apart old) r = strand_step.wants_memory old.rule r

@@ -12,7 +12,7 @@ use Rattle.bt_bed.specs.model.feature.Interval.{Interval, Span, AreNonEmpty, las
 use Rattle.bt_bed.specs.model.order.Locus.{Locus, ArePlaced}
 use Rattle.bt_bed.specs.model.order.Rank.{AreDistinct, rank_order}
 use Rattle.bt_bed.specs.model.feature.Stretches.{IsCovered, AreStretchesOf, stretches_from}
-use Rattle.bt_bed.specs.model.order.Together.{has_records}
+use Rattle.bt_bed.specs.model.order.Contiguous.{has_records}
 use Rattle.bt_runs.specs.model.Merged.{is_covered, end_of}
 
 -- a position of a chromosome of this length that none of the spans covers

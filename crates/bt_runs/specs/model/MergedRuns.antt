@@ -5,7 +5,7 @@ use Rattle.bt_bed.specs.model.feature.Feature.{Feature, intervals_of}
 use Rattle.bt_bed.specs.model.feature.Interval.{Interval, AreNonEmpty, last_of}
 use Rattle.bt_bed.specs.model.order.Locus.{ArePlaced}
 use Rattle.bt_bed.specs.model.order.Rank.{AreDistinct, rank_order}
-use Rattle.bt_bed.specs.model.order.Together.{AreTogether}
+use Rattle.bt_bed.specs.model.order.Contiguous.{AreContiguous}
 use Rattle.bt_runs.specs.model.Counted.{counted}
 use Rattle.bt_runs.specs.model.Merged.{merged, chromosomes}
 use Rattle.bt_runs.specs.declared.merge.merge_strand.MergeStrand.{MergeStrand}
@@ -17,13 +17,13 @@ merged_runs gap strand records =
 
 -- whether the last record closes a run: the run lies on a chromosome before its own, which is
 -- any other one, or ends more than `gap` below its start
-abbrev pub is_passed : ℕ → Interval → Interval → Bool
-is_passed gap last run = not (bytes_eq run.chrom last.chrom) || nat_lt (run.stop + gap) last.start
+abbrev pub is_closed : ℕ → Interval → Interval → Bool
+is_closed gap last run = not (bytes_eq run.chrom last.chrom) || nat_lt (run.stop + gap) last.start
 
 -- the runs that the last record, counted or not, closes
 abbrev pub passed_by : ℕ → List Interval → Option Interval → List Interval
 passed_by gap runs None = []
-passed_by gap runs (Some last) = filter (is_passed gap last) runs
+passed_by gap runs (Some last) = filter (is_closed gap last) runs
 
 -- the runs that are settled after the records
 unfoldable pub settled_runs : ℕ → MergeStrand → List Feature → List Interval
@@ -38,7 +38,7 @@ kept_runs gap strand records =
 -- records that a merge may take: those of one chromosome are contiguous, their starts don't fall,
 -- and each has a base
 pub record AreTaken (records : List Feature) : Type 0 where
-  pub together : AreTogether (intervals_of records)
+  pub together : AreContiguous (intervals_of records)
   pub full : AreNonEmpty (intervals_of records)
 
 -- what is settled begins what is settled later

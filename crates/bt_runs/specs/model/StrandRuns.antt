@@ -7,7 +7,7 @@ use Rattle.bt_bed.specs.model.feature.Feature.{Feature, interval_of, intervals_o
 use Rattle.bt_bed.specs.model.feature.Interval.{Interval, last_of}
 use Rattle.bt_bed.specs.declared.record.strand.Strand.{Strand}
 use Rattle.bt_bed.specs.model.feature.Strands.{is_strand}
-use Rattle.bt_runs.specs.model.MergedRuns.{AreTaken, is_passed, merged_runs}
+use Rattle.bt_runs.specs.model.MergedRuns.{AreTaken, is_closed, merged_runs}
 use Rattle.bt_runs.specs.declared.merge.merge_strand.MergeStrand.TheVariants.{One}
 
 -- a merged run, with the strand of its records
@@ -46,7 +46,7 @@ strand_runs gap records = listed_behind (runs_of_strand gap records) [] records
 -- the first of the listed runs, as long as the last record closes them
 abbrev pub passed_front : ℕ → List StrandRun → Option Interval → List StrandRun
 passed_front gap items None = []
-passed_front gap items (Some last) = take_while (λ item. is_passed gap last item.run) items
+passed_front gap items (Some last) = take_while (λ item. is_closed gap last item.run) items
 
 -- the runs that are settled after the records: a run that is finished isn't settled while one that
 -- is listed before it is open

@@ -56,11 +56,11 @@ impl<'g> Rule for GapRule<'g> {
 
     ghost settled = { settled_lines };
 
-    ghost whole = { whole_output };
+    ghost output = { whole_output };
 
     ghost held = { held_count };
 
-    ghost stands = { stands_after };
+    ghost is_after = { stands_after };
 
     ghost quiet = { is_quiet };
 

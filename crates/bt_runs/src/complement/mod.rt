@@ -4,8 +4,8 @@ pub(crate) mod gap_cursor;
 pub(crate) mod gap_rule;
 
 ghost use Rattle.std.specs.Prelude.{◌≡◌, [], length, true, IfErr, None, Some};
-ghost use Rattle.bt_lines.specs.model.Fault.{Told, write_failed};
-ghost use Rattle.bt_lines.specs.calls.Names.{told};
+ghost use Rattle.bt_lines.specs.model.Fault.{FaultValue, write_failed};
+ghost use Rattle.bt_lines.specs.calls.Names.{fault_value};
 ghost use Rattle.bt_lines.specs.calls.Output.{Grows};
 ghost use Rattle.bt_bed.specs.calls.Bed.{feature_lent};
 ghost use Rattle.bt_bed.specs.calls.GenomeTable.{entries};
@@ -61,9 +61,9 @@ impl<'g> Complement<'g> {
         ensures fault { KeepsFault ruled_fault result self.new }
         ensures prefix { WritesPrefix (ruled_takes may_take) (ruled_stands stands_after) ruled_fault (ruled_text settled_lines) self.old
             (feature_lent bed.now) out.old.output result self.new out.new.output }
-        ensures memory { ruled_fault self.old ≡ None → IfErr result (λ fault. told fault ≡ write_failed) }
+        ensures memory { ruled_fault self.old ≡ None → IfErr result (λ fault. fault_value fault ≡ write_failed) }
         ensures again { AnswersAgain (ruled_fault self.old) result }
-        ensures stays { (before : Told) → ruled_fault self.old ≡ Some before
+        ensures stays { (before : FaultValue) → ruled_fault self.old ≡ Some before
             → (self.new ≡ self.old) × (out.new.output ≡ out.old.output) }
         ensures quiet { TakesQuiet (ruled_takes may_take) (ruled_stands stands_after) ruled_fault (ruled_text settled_lines) self.old
             (feature_lent bed.now) out.old.output (ruled_quiet is_quiet) result out.new.output }
@@ -82,7 +82,7 @@ impl<'g> Complement<'g> {
         ensures prefix { WritesLeftPrefix (ruled_takes may_take) (ruled_stands stands_after) ruled_fault (ruled_text settled_lines)
             (ruled_text whole_output) self.entry out.old.output result out.new.output }
         ensures again { AnswersAgain (ruled_fault self.entry) result }
-        ensures stays { (before : Told) → ruled_fault self.entry ≡ Some before → out.new.output ≡ out.old.output }
+        ensures stays { (before : FaultValue) → ruled_fault self.entry ≡ Some before → out.new.output ≡ out.old.output }
         ensures grows { Grows out.old.output.took out.new.output.took }
         ensures after_failure { out.old.output.has_failed ≡ true → out.new.output ≡ out.old.output }
     {
@@ -103,11 +103,11 @@ impl Engine for Complement<'_> {
 
     ghost settled = { ruled_text settled_lines };
 
-    ghost whole = { ruled_text whole_output };
+    ghost output = { ruled_text whole_output };
 
     ghost held = { ruled_count held_count };
 
-    ghost stands = { ruled_stands stands_after };
+    ghost is_after = { ruled_stands stands_after };
 
     ghost fault = { ruled_fault };
 

@@ -14,7 +14,7 @@ ghost use Rattle.bt_runs.specs.inside.walk.Rule.{EnterAnswers, Taken};
 ghost use Rattle.bt_runs.specs.inside.walk.Walk.{AreReached, begun, entry_at, is_on, left_before, left_of};
 
 use crate::coverage::depth_line::put_depth;
-use crate::coverage::depths::{BegunDepth, DepthPlace, go_on, put_ended};
+use crate::coverage::depths::{OpenInterval, DepthCursor, go_on, put_ended};
 use crate::coverage::open_records::OpenRecords;
 use crate::engine::failure::Failure;
 use crate::engine::rule::Rule;
@@ -31,7 +31,7 @@ pub(crate) struct DepthChrom<'g> {
     name: &'g [u8],
     length: u64,
     // The interval that isn't ended.
-    begun: Option<BegunDepth>,
+    begun: Option<OpenInterval>,
 }
 
 // A coverage of the chromosomes of a genome file, in their order.
@@ -44,7 +44,7 @@ pub(crate) struct DepthRule<'g> {
     // The strand that is counted; `None` if all records are.
     strand: Option<Strand>,
     // `None` before the first record on a chromosome of the genome file.
-    current: Option<DepthPlace>,
+    current: Option<DepthCursor>,
     // Whether the last record lies there; else the genome file doesn't have its chromosome.
     is_here: bool,
     // The name and the length of the chromosome that the last record lies on.
@@ -121,7 +121,7 @@ impl<'g> DepthRule<'g> {
             out,
         )?;
         self.held.clear(0);
-        self.current = Some(DepthPlace { rank, begun: None });
+        self.current = Some(DepthCursor { rank, begun: None });
         self.is_here = true;
         self.name = name;
         self.length = length;
@@ -136,11 +136,11 @@ impl<'g> Rule for DepthRule<'g> {
 
     ghost settled = { settled_lines };
 
-    ghost whole = { whole_output };
+    ghost output = { whole_output };
 
     ghost held = { held_count };
 
-    ghost stands = { stands_after };
+    ghost is_after = { stands_after };
 
     ghost quiet = { is_quiet };
 
@@ -218,7 +218,7 @@ impl<'g> Rule for DepthRule<'g> {
         self.name = on.name;
         self.length = on.length;
         if let Some(reached) = self.current {
-            self.current = Some(DepthPlace {
+            self.current = Some(DepthCursor {
                 rank: reached.rank,
                 begun: on.begun,
             });
@@ -268,11 +268,11 @@ fn count_bounds<K: Sink>(
     length: u64,
     zeros: bool,
     counted: bool,
-    begun: Option<BegunDepth>,
+    begun: Option<OpenInterval>,
     held: &mut OpenRecords,
     bounds: Bounds,
     out: &mut Out<K>,
-) -> Result<Option<BegunDepth>, Failure>
+) -> Result<Option<OpenInterval>, Failure>
     ensures counts { CountAnswers chrom.now (levels_past zeros length (known_seen begun held.old) bounds)
         (known_past zeros counted length (known_seen begun held.old) bounds)
         result held.new out.old.output out.new.output }
@@ -295,11 +295,11 @@ fn settle<K: Sink>(
     chrom: &[u8],
     zeros: bool,
     held: &mut OpenRecords,
-    begun: Option<BegunDepth>,
+    begun: Option<OpenInterval>,
     length: u64,
     start: u64,
     out: &mut Out<K>,
-) -> Result<Option<BegunDepth>, Fault>
+) -> Result<Option<OpenInterval>, Fault>
     requires { held.now.at ≤ start }
     ensures adds { Adds out.old.output (depth_lines (levels_on chrom.now (levels_by zeros length (known_seen begun held.old) start))) result out.new.output }
     ensures known { IfOk result (λ next. known_seen next held.new ≡ settled_known zeros length (known_seen begun held.old) start) }
@@ -330,7 +330,7 @@ fn put_rest<K: Sink>(
     chrom: &[u8],
     zeros: bool,
     held: &mut OpenRecords,
-    begun: Option<BegunDepth>,
+    begun: Option<OpenInterval>,
     length: u64,
     out: &mut Out<K>,
 ) -> Result<(), Fault>
@@ -347,7 +347,7 @@ fn put_left<K: Sink>(
     chrom: &[u8],
     zeros: bool,
     held: &mut OpenRecords,
-    begun: Option<BegunDepth>,
+    begun: Option<OpenInterval>,
     length: u64,
     out: &mut Out<K>,
 ) -> Result<(), Fault>
@@ -362,7 +362,7 @@ fn put_left<K: Sink>(
 fn put_before<K: Sink>(
     genome: &Genome,
     zeros: bool,
-    current: Option<DepthPlace>,
+    current: Option<DepthCursor>,
     held: &mut OpenRecords,
     stop: usize,
     out: &mut Out<K>,
@@ -376,7 +376,7 @@ fn put_before<K: Sink>(
 }
 
 // The rank of the chromosome after the current one, but no more than `stop`.
-fn first_rank(current: Option<DepthPlace>, stop: usize) -> usize
+fn first_rank(current: Option<DepthCursor>, stop: usize) -> usize
     ensures { result ≡ min (begun (seen current (none_open_at 0))) stop }
 {
     match current {
@@ -390,7 +390,7 @@ fn first_rank(current: Option<DepthPlace>, stop: usize) -> usize
 fn put_current<K: Sink>(
     genome: &Genome,
     zeros: bool,
-    current: Option<DepthPlace>,
+    current: Option<DepthCursor>,
     held: &mut OpenRecords,
     out: &mut Out<K>,
 ) -> Result<(), Fault>

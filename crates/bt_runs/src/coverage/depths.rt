@@ -14,7 +14,7 @@ use bt_lines::{Fault, Out, Sink};
 
 // An interval of one depth that isn't ended.
 #[derive(Clone, Copy, Debug)]
-pub(crate) struct BegunDepth {
+pub(crate) struct OpenInterval {
     // Below the position up to which depths are known.
     pub(crate) start: u64,
     // That of each of its positions; 0 only if depth 0 is written.
@@ -24,11 +24,11 @@ pub(crate) struct BegunDepth {
 // The chromosome of a rank, and the interval that isn't ended at the position up to which its depths
 // are known.
 #[derive(Clone, Copy, Debug)]
-pub(crate) struct DepthPlace {
+pub(crate) struct DepthCursor {
     // A rank of the genome file.
     pub(crate) rank: usize,
     // `None` at position 0, past the chromosome's length, and at depth 0 if that isn't written.
-    pub(crate) begun: Option<BegunDepth>,
+    pub(crate) begun: Option<OpenInterval>,
 }
 
 // Goes on to a position on a chromosome, with the open records. It writes the intervals that end before
@@ -38,10 +38,10 @@ pub(crate) fn go_on<K: Sink>(
     chrom: &[u8],
     zeros: bool,
     held: &mut OpenRecords,
-    begun: Option<BegunDepth>,
+    begun: Option<OpenInterval>,
     stop: u64,
     out: &mut Out<K>,
-) -> Result<Option<BegunDepth>, Fault>
+) -> Result<Option<OpenInterval>, Fault>
     ensures adds { Adds out.old.output (depth_lines (levels_on chrom.now (ended_after (depth_of zeros held.old.spans) held.old.at (stop - held.old.at) (begun_seen begun)))) result out.new.output }
     ensures begun { IfOk result (λ next. begun_seen next ≡ begun_after (depth_of zeros held.old.spans) held.old.at (stop - held.old.at) (begun_seen begun)) }
     ensures held { OnOk result (held.old.at ≤ stop → held.new ≡ open_from stop held.old) }
@@ -73,11 +73,11 @@ fn reported(zeros: bool, depth: u64) -> Option<u64>
 // if one does, and gives the one that isn't ended.
 fn put_next<K: Sink>(
     chrom: &[u8],
-    begun: Option<BegunDepth>,
+    begun: Option<OpenInterval>,
     position: u64,
     depth: Option<u64>,
     out: &mut Out<K>,
-) -> Result<Option<BegunDepth>, Fault>
+) -> Result<Option<OpenInterval>, Fault>
     ensures adds { Adds out.old.output (depth_lines (levels_on chrom.now (next_ended position depth (begun_seen begun)))) result out.new.output }
     ensures begun { IfOk result (λ next. begun_seen next ≡ next_begun position depth (begun_seen begun)) }
 {
@@ -89,7 +89,7 @@ fn put_next<K: Sink>(
 }
 
 // Whether the position with this depth goes on with what has begun.
-fn goes_on(begun: Option<BegunDepth>, depth: Option<u64>) -> bool
+fn goes_on(begun: Option<OpenInterval>, depth: Option<u64>) -> bool
     ensures { result ≡ goes_on (begun_seen begun) depth }
 {
     match (begun, depth) {
@@ -100,19 +100,19 @@ fn goes_on(begun: Option<BegunDepth>, depth: Option<u64>) -> bool
 }
 
 // What begins at the position.
-fn begin_at(start: u64, depth: Option<u64>) -> Option<BegunDepth>
+fn begin_at(start: u64, depth: Option<u64>) -> Option<OpenInterval>
     ensures { begun_seen result ≡ begun_at start depth }
 {
     match depth {
         None => None,
-        Some(depth) => Some(BegunDepth { start, depth }),
+        Some(depth) => Some(OpenInterval { start, depth }),
     }
 }
 
 // Writes what has begun, ended at a position.
 pub(crate) fn put_ended<K: Sink>(
     chrom: &[u8],
-    begun: Option<BegunDepth>,
+    begun: Option<OpenInterval>,
     stop: u64,
     out: &mut Out<K>,
 ) -> Result<(), Fault>

@@ -7,7 +7,7 @@ pub(crate) mod open_ends;
 pub(crate) mod open_records;
 
 ghost use Rattle.std.specs.Prelude.{◌≡◌, [], length, true, None, Option, Some};
-ghost use Rattle.bt_lines.specs.model.Fault.{Told};
+ghost use Rattle.bt_lines.specs.model.Fault.{FaultValue};
 ghost use Rattle.bt_lines.specs.calls.Output.{Grows};
 ghost use Rattle.bt_bed.specs.calls.Bed.{feature_lent};
 ghost use Rattle.bt_bed.specs.calls.GenomeTable.{entries};
@@ -74,7 +74,7 @@ impl<'g> Coverage<'g> {
             (feature_lent bed.now) out.old.output result self.new out.new.output }
         ensures memory { IsWanted (ruled_wants wants_memory) ruled_fault self.old (feature_lent bed.now) result }
         ensures again { AnswersAgain (ruled_fault self.old) result }
-        ensures stays { (before : Told) → ruled_fault self.old ≡ Some before
+        ensures stays { (before : FaultValue) → ruled_fault self.old ≡ Some before
             → (self.new ≡ self.old) × (out.new.output ≡ out.old.output) }
         ensures quiet { TakesQuiet (ruled_takes may_take) (ruled_stands stands_after) ruled_fault (ruled_text settled_lines) self.old
             (feature_lent bed.now) out.old.output (ruled_quiet is_quiet) result out.new.output }
@@ -93,7 +93,7 @@ impl<'g> Coverage<'g> {
         ensures prefix { WritesLeftPrefix (ruled_takes may_take) (ruled_stands stands_after) ruled_fault (ruled_text settled_lines) (ruled_text whole_output)
             self.entry out.old.output result out.new.output }
         ensures again { AnswersAgain (ruled_fault self.entry) result }
-        ensures stays { (before : Told) → ruled_fault self.entry ≡ Some before → out.new.output ≡ out.old.output }
+        ensures stays { (before : FaultValue) → ruled_fault self.entry ≡ Some before → out.new.output ≡ out.old.output }
         ensures grows { Grows out.old.output.took out.new.output.took }
         ensures after_failure { out.old.output.has_failed ≡ true → out.new.output ≡ out.old.output }
     {
@@ -114,11 +114,11 @@ impl Engine for Coverage<'_> {
 
     ghost settled = { ruled_text settled_lines };
 
-    ghost whole = { ruled_text whole_output };
+    ghost output = { ruled_text whole_output };
 
     ghost held = { ruled_count held_count };
 
-    ghost stands = { ruled_stands stands_after };
+    ghost is_after = { ruled_stands stands_after };
 
     ghost fault = { ruled_fault };
 

@@ -2,7 +2,7 @@
 
 ghost use Rattle.std.specs.Prelude.{◌≡◌, ◌⊎◌};
 ghost use Rattle.bt_lines.specs.model.Fault.{no_memory, write_failed};
-ghost use Rattle.bt_lines.specs.calls.Names.{told};
+ghost use Rattle.bt_lines.specs.calls.Names.{fault_value};
 ghost use Rattle.bt_runs.specs.calls.Failure.{fault_of};
 
 use bt_lines::{Fault, Kind};
@@ -17,7 +17,7 @@ pub(crate) enum Failure {
 impl Failure {
     // The fault that reports it.
     pub(crate) fn fault(self) -> Fault
-        ensures { told result ≡ fault_of self }
+        ensures { fault_value result ≡ fault_of self }
     {
         let kind = match self {
             Failure::Write => Kind::WriteFailed,
@@ -28,8 +28,8 @@ impl Failure {
 
     // What a fault of a write or of memory reports.
     pub(crate) fn of(fault: &Fault) -> Failure
-        requires { (told fault.now ≡ write_failed) ⊎ (told fault.now ≡ no_memory) }
-        ensures { told fault.now ≡ fault_of result }
+        requires { (fault_value fault.now ≡ write_failed) ⊎ (fault_value fault.now ≡ no_memory) }
+        ensures { fault_value fault.now ≡ fault_of result }
     {
         match fault.kind {
             Kind::WriteFailed => Failure::Write,

@@ -4,7 +4,7 @@ pub(crate) mod failure;
 pub(crate) mod rule;
 
 ghost use Rattle.std.specs.Prelude.{ℕ, List, Option};
-ghost use Rattle.bt_lines.specs.model.Fault.{Told};
+ghost use Rattle.bt_lines.specs.model.Fault.{FaultValue};
 ghost use Rattle.bt_bed.specs.calls.Bed.{feature_lent};
 ghost use Rattle.bt_bed.specs.model.feature.Feature.{Feature};
 ghost use Rattle.bt_runs.specs.calls.Engine.{Feeds, FeedsBatch, Finishes, IsWanted, KeepsHeld};
@@ -23,16 +23,16 @@ pub trait Engine {
     ghost settled: { Self → List Feature → List ℕ };
 
     // The lines of the output, if these are all records.
-    ghost whole: { Self → List Feature → List ℕ };
+    ghost output: { Self → List Feature → List ℕ };
 
     // How many items are kept after the records.
     ghost held: { Self → List Feature → ℕ };
 
     // What an engine that began like this has become once it has taken these records without a fault.
-    ghost stands: { Self → List Feature → Self → Type 0 };
+    ghost is_after: { Self → List Feature → Self → Type 0 };
 
     // The fault that was returned, if one was.
-    ghost fault: { Self → Option Told };
+    ghost fault: { Self → Option FaultValue };
 
     // If this holds of the records and of one more, that one is taken without a fault and the
     // output stays as it is. An engine that can't promise it gives ⊥.

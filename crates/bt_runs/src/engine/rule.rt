@@ -1,8 +1,8 @@
 //! The rules by which engines take records, and the loop that all of them share.
 
 ghost use Rattle.std.specs.Prelude.{◌≡◌, ◌⊎◌, ℕ, List, None, Option, Result, Some, OnOk, option_map};
-ghost use Rattle.bt_lines.specs.model.Fault.{Told, no_memory, write_failed};
-ghost use Rattle.bt_lines.specs.calls.Names.{told};
+ghost use Rattle.bt_lines.specs.model.Fault.{FaultValue, no_memory, write_failed};
+ghost use Rattle.bt_lines.specs.calls.Names.{fault_value};
 ghost use Rattle.bt_lines.specs.calls.Output.{Output};
 ghost use Rattle.bt_lines.specs.declared.fault.Fault.{Fault};
 ghost use Rattle.bt_bed.specs.model.feature.Feature.{Feature};
@@ -26,13 +26,13 @@ pub(crate) trait Rule {
     ghost settled: { Self → List Feature → List ℕ };
 
     // The lines of the output, if these are all records.
-    ghost whole: { Self → List Feature → List ℕ };
+    ghost output: { Self → List Feature → List ℕ };
 
     // How many items are kept after the records.
     ghost held: { Self → List Feature → ℕ };
 
     // What a rule that began like this has become once it has taken these records.
-    ghost stands: { Self → List Feature → Self → Type 0 };
+    ghost is_after: { Self → List Feature → Self → Type 0 };
 
     // If this holds of the records and of one more, that one is taken without a fault and the
     // output stays as it is.
@@ -114,11 +114,11 @@ impl<E: Rule + Drop> Engine for Ruled<E> {
 
     ghost settled = { ruled_text E.settled };
 
-    ghost whole = { ruled_text E.whole };
+    ghost output = { ruled_text E.output };
 
     ghost held = { ruled_count E.held };
 
-    ghost stands = { ruled_stands E.stands };
+    ghost is_after = { ruled_stands E.is_after };
 
     ghost fault = { ruled_fault };
 
@@ -163,7 +163,7 @@ fn follow<E: Rule, C: Cursor, K: Sink>(
     records: &mut C,
     out: &mut Out<K>,
 ) -> Result<(), Fault>
-    ensures { Follows (Taken E.takes E.stands E.settled E.quiet E.wants E.does) C.gives C.has_ended rule.old records.old out.old.output result rule.new records.new
+    ensures { Follows (Taken E.takes E.is_after E.settled E.quiet E.wants E.does) C.gives C.has_ended rule.old records.old out.old.output result rule.new records.new
         out.new.output }
 {
     let mut ahead = *records;

@@ -8,7 +8,7 @@ pub(crate) mod unstranded_merge;
 
 ghost use Rattle.std.specs.Prelude.{◌≡◌, ◌≤◌, length, true, Some};
 ghost use Rattle.bt_lines.specs.calls.Output.{Grows};
-ghost use Rattle.bt_lines.specs.model.Fault.{Told};
+ghost use Rattle.bt_lines.specs.model.Fault.{FaultValue};
 ghost use Rattle.bt_bed.specs.calls.Bed.{feature_lent};
 ghost use Rattle.bt_lines.specs.model.Number.{max_number};
 ghost use Rattle.bt_runs.specs.calls.Calls.{AnswersAgain, IsFaultless, KeepsFault, TakesQuiet, WritesFirst, WritesLeft, WritesLeftPrefix, WritesPrefix, WritesSettled};
@@ -88,7 +88,7 @@ impl Merge {
             (feature_lent bed.now) out.old.output result self.new out.new.output }
         ensures memory { IsWanted wants_memory kept_fault self.old (feature_lent bed.now) result }
         ensures again { AnswersAgain (kept_fault self.old) result }
-        ensures stays { (before : Told) → kept_fault self.old ≡ Some before
+        ensures stays { (before : FaultValue) → kept_fault self.old ≡ Some before
             → (self.new ≡ self.old) × (out.new.output ≡ out.old.output) }
         ensures quiet { TakesQuiet may_take stands_after kept_fault settled_lines self.old
             (feature_lent bed.now) out.old.output is_quiet result out.new.output }
@@ -107,7 +107,7 @@ impl Merge {
         ensures prefix { WritesLeftPrefix may_take stands_after kept_fault settled_lines whole_output
             self out.old.output result out.new.output }
         ensures again { AnswersAgain (kept_fault self) result }
-        ensures stays { (before : Told) → kept_fault self ≡ Some before → out.new.output ≡ out.old.output }
+        ensures stays { (before : FaultValue) → kept_fault self ≡ Some before → out.new.output ≡ out.old.output }
         ensures grows { Grows out.old.output.took out.new.output.took }
         ensures after_failure { out.old.output.has_failed ≡ true → out.new.output ≡ out.old.output }
     {
@@ -128,11 +128,11 @@ impl Engine for Merge {
 
     ghost settled = { settled_lines };
 
-    ghost whole = { whole_output };
+    ghost output = { whole_output };
 
     ghost held = { held_count };
 
-    ghost stands = { stands_after };
+    ghost is_after = { stands_after };
 
     ghost fault = { kept_fault };
 

@@ -152,11 +152,11 @@ impl Rule for PerStrandMerge {
 
     ghost settled = { settled_lines };
 
-    ghost whole = { whole_output };
+    ghost output = { whole_output };
 
     ghost held = { held_count };
 
-    ghost stands = { stands_after };
+    ghost is_after = { stands_after };
 
     ghost quiet = { is_quiet };
 

@@ -1,7 +1,7 @@
 -- A converter of alignments as its callers see it.
 -- It keeps nothing of the alignments that it has taken.
 use Rattle.std.specs.Prelude.{ℕ, Bool, List, Option}
-use Rattle.bt_lines.specs.model.Fault.{Told}
+use Rattle.bt_lines.specs.model.Fault.{FaultValue}
 use Rattle.bt_seq.specs.model.Alignment.{Alignment}
 use Rattle.bt_seq.specs.model.BedLines.{bed_lines}
 
@@ -10,7 +10,7 @@ use Rattle.bt_seq.specs.model.BedLines.{bed_lines}
 pub record Converting : Type 0 where
   pub split : Bool
   pub with_cigar : Bool
-  pub fault : Option Told
+  pub fault : Option FaultValue
 
 -- the lines of an alignment
 abbrev pub bed_lines_by : Converting → Alignment → List ℕ

@@ -2,9 +2,9 @@
 use Rattle.std.specs.Prelude.{◌≡◌, ◌⊎◌, ⊤, ℕ, ◌+◌, ◌*◌, length, Bool, List, [], ◌∷◌, ◌++◌, Option, None, Some, Result, Ok, Err}
 use Rattle.bt_bed.specs.model.feature.Feature.{Feature}
 use Rattle.bt_lines.specs.calls.Buffered.{lines_in}
-use Rattle.bt_lines.specs.model.Fault.{Told}
+use Rattle.bt_lines.specs.model.Fault.{FaultValue}
 use Rattle.bt_lines.specs.model.Lines.{TextLine}
-use Rattle.bt_lines.specs.calls.Names.{told}
+use Rattle.bt_lines.specs.calls.Names.{fault_value}
 use Rattle.bt_lines.specs.calls.Output.{Output}
 use Rattle.bt_lines.specs.calls.Putting.{FailsToAdd, Grown}
 use Rattle.bt_lines.specs.declared.reader.buffered_lines.BufferedLines.{BufferedLines}
@@ -37,7 +37,7 @@ module _ (how : MaskHow) (full : Bool) where
     pub puts : Grown out bytes grown
 
   -- lines that nothing masks weren't all written
-  pub record FailsToCopy (old : MaskStage) (lines : List TextLine) (out : Output) (fault : Told)
+  pub record FailsToCopy (old : MaskStage) (lines : List TextLine) (out : Output) (fault : FaultValue)
       (grown : Output) : Type 0 where
     pub stage : MaskStage
     pub bytes : List ℕ
@@ -46,7 +46,7 @@ module _ (how : MaskHow) (full : Bool) where
     pub fails : FailsToAdd out bytes fault grown
 
   -- the next line failed, or the next lines that nothing masks
-  abbrev pub FailsAtLines : MaskStage → List TextLine → Output → Told → Output → Type 0
+  abbrev pub FailsAtLines : MaskStage → List TextLine → Output → FaultValue → Output → Type 0
   FailsAtLines stage lines out fault grown =
       ((line : TextLine) × (lines ≡ line ∷ [])
       × (RefusesLine how full stage line out fault grown
@@ -54,7 +54,7 @@ module _ (how : MaskHow) (full : Bool) where
       ⊎ FailsToCopy stage lines out fault grown
 
   -- the next record, which is on this line, failed
-  abbrev pub FailsAtRecord : Option SequenceLine → MaskStage → Feature → ℕ → Output → Told → Output
+  abbrev pub FailsAtRecord : Option SequenceLine → MaskStage → Feature → ℕ → Output → FaultValue → Output
       → Type 0
   FailsAtRecord None stage r number out fault grown =
       LacksSequence how full stage r number out fault grown
@@ -63,7 +63,7 @@ module _ (how : MaskHow) (full : Bool) where
       ⊎ FailsToHoldRecord how full stage waiting r out fault grown
 
   -- Lines were given, the last of which failed.
-  pub record FailsBehindLines (old : MaskStage) (lines : List TextLine) (out : Output) (fault : Told)
+  pub record FailsBehindLines (old : MaskStage) (lines : List TextLine) (out : Output) (fault : FaultValue)
       (grown : Output) : Type 0 where
     pub before : List TextLine
     pub failing : List TextLine
@@ -81,7 +81,7 @@ module _ (how : MaskHow) (full : Bool) where
   LinesCome stage lines out (Ok done) new grown =
       (comes : HasCome stage lines [] out new grown) × (comes.stage.ahead ≡ stage.ahead)
   LinesCome stage lines out (Err fault) new grown =
-      (new.want ≡ Nothing) × FailsBehindLines stage lines out (told fault) grown
+      (new.want ≡ Nothing) × FailsBehindLines stage lines out (fault_value fault) grown
 
 -- lines of those that are buffered were given
 pub record GivesLines {A : Type 0} (old : Masking) (lines : BufferedLines) (out : Output)
@@ -112,7 +112,7 @@ module _ {C : Type 0} (gives : C → List Feature → C → Type 0) (line_at : C
   module _ (how : MaskHow) (full : Bool) (old : MaskStage) (lines : List TextLine)
       (taken : List Feature) (out : Output) (from : C) where
     -- what was given last failed: lines, or the record that comes next
-    pub record FailsBehind (fault : Told) (records : C) (grown : Output) : Type 0 where
+    pub record FailsBehind (fault : FaultValue) (records : C) (grown : Output) : Type 0 where
       pub before : List TextLine
       pub failing : List TextLine
       pub parts : lines ≡ before ++ failing
@@ -134,7 +134,7 @@ module _ {C : Type 0} (gives : C → List Feature → C → Type 0) (line_at : C
         (comes : HasCome how full old lines taken out new grown)
         × ComesNext comes.stage.ahead records × ComesAfter old.ahead from taken comes.stage.ahead
     BothCome (Err fault) new records grown =
-        (new.want ≡ Nothing) × FailsBehind (told fault) records grown
+        (new.want ≡ Nothing) × FailsBehind (fault_value fault) records grown
 
   -- lines and records were given, one after another
   pub record GivesBoth {A : Type 0} (old : Masking) (lines : BufferedLines) (records : C)

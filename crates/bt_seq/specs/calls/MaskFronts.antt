@@ -5,8 +5,8 @@ use Rattle.bt_bed.specs.model.feature.Feature.{Feature}
 use Rattle.bt_bed.specs.model.input.Good.{Good, Member, items_in}
 use Rattle.bt_bed.specs.model.input.GoodBlocks.{AreInBlocks}
 use Rattle.bt_bed.specs.model.feature.LineKind.{fault_at_line}
-use Rattle.bt_bed.specs.model.input.Meeting.{Rule, meet, written}
-use Rattle.bt_lines.specs.model.Fault.{Told}
+use Rattle.bt_bed.specs.model.input.TwoInputReport.{Rule, join_report, written}
+use Rattle.bt_lines.specs.model.Fault.{FaultValue}
 use Rattle.bt_lines.specs.declared.fault.Input.TheVariants.{Second}
 use Rattle.bt_lines.specs.declared.fault.Kind.TheVariants.{NoSequence}
 use Rattle.bt_seq.specs.model.Masked.{decided, mask_rule, masked_line, no_sequence}
@@ -35,7 +35,7 @@ masked_lines_are_before = (how : MaskHow) (line : SequenceLine) (taken : List Fe
     → decided line (taken ++ r ∷ []) ≡ true → LineBefore how line taken r
 
 -- what the first records of the second input make of the lines
-abbrev pub early_mask_rule : MaskHow → List Feature → Rule SequenceLine ℕ Told
+abbrev pub early_mask_rule : MaskHow → List Feature → Rule SequenceLine ℕ FaultValue
 early_mask_rule how records = record {
   decided = λ line. decided line records;
   lines = masked_line how records;
@@ -47,20 +47,20 @@ early_mask_rule how records = record {
 abbrev pub masked_are_a_front : Type 0
 masked_are_a_front =
     (how : MaskHow) (names : List (List ℕ)) (first more_first : List SequenceLine)
-    (fault : Option Told)
+    (fault : Option FaultValue)
     (second : Good Feature) (seen more : List Feature) → items_in second ≡ seen ++ more
     → AreInBlocks (seen ++ more)
     → (rest : List ℕ)
-    × ((meet (mask_rule how names second) (first ++ more_first) fault).lines
+    × ((join_report (mask_rule how names second) (first ++ more_first) fault).lines
     ≡ written (early_mask_rule how seen) first ++ rest)
 
 -- if the second input has no fault, all lines are written, masked
 abbrev pub faultless_are_masked : Type 0
 faultless_are_masked =
-    (how : MaskHow) (names : List (List ℕ)) (first : List SequenceLine) (fault : Option Told)
+    (how : MaskHow) (names : List (List ℕ)) (first : List SequenceLine) (fault : Option FaultValue)
     (second : Good Feature)
     → second.fault ≡ None
-    → (meet (mask_rule how names second) first fault).lines
+    → (join_report (mask_rule how names second) first fault).lines
     ≡ flat_map (masked_line how (items_in second)) first
 
 -- if the block of each record belongs to a sequence, none lacks one

@@ -10,7 +10,7 @@ use Rattle.bt_bed.specs.model.feature.Feature.{Feature}
 use Rattle.bt_bed.specs.model.feature.LineKind.{fault_at_line}
 use Rattle.bt_lines.specs.model.Fault.{no_memory}
 use Rattle.bt_lines.specs.model.Lines.{end_bytes}
-use Rattle.bt_lines.specs.calls.Names.{told}
+use Rattle.bt_lines.specs.calls.Names.{fault_value}
 use Rattle.bt_lines.specs.calls.Output.{Output}
 use Rattle.bt_lines.specs.calls.Putting.{FailsToAdd, Grown}
 use Rattle.bt_lines.specs.declared.fault.Fault.{Fault}
@@ -73,8 +73,8 @@ may_grow m text =
 abbrev pub Moves : {A : Type 0} → Masking → ℕ → List ℕ → Result A Fault → Masking → Type 0
 Moves old number text (Ok done) new = (new ≡ moved_to old text) × (is_stray old text ≡ false)
 Moves old number text (Err fault) new =
-    ((told fault ≡ fault_at_line First number TextBeforeHeader) × (is_stray old text ≡ true))
-    ⊎ ((told fault ≡ no_memory) × (is_stray old text ≡ false) × (is_header text ≡ true))
+    ((fault_value fault ≡ fault_at_line First number TextBeforeHeader) × (is_stray old text ≡ true))
+    ⊎ ((fault_value fault ≡ no_memory) × (is_stray old text ≡ false) × (is_header text ≡ true))
 
 -- writing the line that waits
 abbrev pub Writes : {A : Type 0} → Masking → Waiting → Output → Result A Fault → Masking → Output
@@ -82,12 +82,12 @@ abbrev pub Writes : {A : Type 0} → Masking → Waiting → Output → Result A
 Writes old line out (Ok done) new grown =
     (new ≡ record old { waiting = None; want = Line }) × Grown out (line_bytes old line) grown
 Writes old line out (Err fault) new grown =
-    (new.want ≡ Nothing) × FailsToAdd out (line_bytes old line) (told fault) grown
+    (new.want ≡ Nothing) × FailsToAdd out (line_bytes old line) (fault_value fault) grown
 
 -- keeping a line until it is decided
 abbrev pub Keeps : {A : Type 0} → Masking → Waiting → Result A Fault → Masking → Type 0
 Keeps old line (Ok done) new = new ≡ record old { waiting = Some line; want = Bed }
-Keeps old line (Err fault) new = (new.want ≡ Nothing) × (told fault ≡ no_memory)
+Keeps old line (Err fault) new = (new.want ≡ Nothing) × (fault_value fault ≡ no_memory)
 
 -- writing a line when it is given: it is kept only if something is held
 abbrev pub WritesGiven : {A : Type 0} → Masking → Waiting → Output → Result A Fault → Masking
@@ -96,8 +96,8 @@ WritesGiven old line out (Ok done) new grown =
     (new ≡ record old { waiting = None; want = Line }) × Grown out (line_bytes old line) grown
 WritesGiven old line out (Err fault) new grown =
     (new.want ≡ Nothing)
-    × (FailsToAdd out (line_bytes old line) (told fault) grown
-    ⊎ ((told fault ≡ no_memory) × (grown ≡ out) × (nat_lt 0 (length old.window.held) ≡ true)))
+    × (FailsToAdd out (line_bytes old line) (fault_value fault) grown
+    ⊎ ((fault_value fault ≡ no_memory) × (grown ≡ out) × (nat_lt 0 (length old.window.held) ≡ true)))
 
 -- the lines that are written once a line is given: itself if it is written at once,
 -- and else none
@@ -116,11 +116,11 @@ TakesLine old number line out (Ok done) new grown =
     × Grown out (bytes_at_once (moved_to old line.text) line) grown
 TakesLine old number line out (Err fault) new grown =
     (new.want ≡ Nothing)
-    × (((told fault ≡ fault_at_line First number TextBeforeHeader) × (is_stray old line.text ≡ true)
+    × (((fault_value fault ≡ fault_at_line First number TextBeforeHeader) × (is_stray old line.text ≡ true)
     × (grown ≡ out))
     ⊎ ((is_stray old line.text ≡ false)
-    × (FailsToAdd out (bytes_at_once (moved_to old line.text) line) (told fault) grown
-    ⊎ ((told fault ≡ no_memory) × (grown ≡ out)
+    × (FailsToAdd out (bytes_at_once (moved_to old line.text) line) (fault_value fault) grown
+    ⊎ ((fault_value fault ≡ no_memory) × (grown ≡ out)
     × (may_grow (moved_to old line.text) line.text ≡ true)))))
 
 -- Whether the next line, of this text, is known to be written as it is. Then it is no header but comes
@@ -194,8 +194,8 @@ TakesBed old line r out (Ok No) new grown =
     × Grown out (line_bytes old line) grown
 TakesBed old line r out (Err fault) new grown =
     (new.want ≡ Nothing)
-    × (((decides old r ≡ true) × FailsToAdd out (line_bytes old line) (told fault) grown)
-    ⊎ ((decides old r ≡ false) × (holds old r ≡ true) × (told fault ≡ no_memory) × (grown ≡ out)))
+    × (((decides old r ≡ true) × FailsToAdd out (line_bytes old line) (fault_value fault) grown)
+    ⊎ ((decides old r ≡ false) × (holds old r ≡ true) × (fault_value fault ≡ no_memory) × (grown ≡ out)))
 
 -- the block belongs to a sequence
 abbrev pub has_owner : Owner → Type 0
@@ -208,5 +208,5 @@ abbrev pub ChecksBed : {A : Type 0} → Masking → Feature → ℕ → Result A
 ChecksBed old r line (Ok done) new =
     has_owner (owner_of old.matched r.chrom) × (new ≡ with_owner old r.chrom)
 ChecksBed old r line (Err fault) new =
-    (owner_of old.matched r.chrom ≡ Nobody) × (told fault ≡ fault_at_line Second line NoSequence)
+    (owner_of old.matched r.chrom ≡ Nobody) × (fault_value fault ≡ fault_at_line Second line NoSequence)
     × (new.want ≡ Nothing)

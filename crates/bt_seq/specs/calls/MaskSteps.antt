@@ -3,9 +3,9 @@ use Rattle.std.specs.Prelude.{◌≡◌, ◌⊎◌, ◌||◌, ℕ, length, nat_l
 use Rattle.std.specs.Prelude.{[], ◌∷◌, ◌++◌, Some, None, is_some, Result, Ok, Err}
 use Rattle.bt_bed.specs.model.feature.Feature.{Feature}
 use Rattle.bt_bed.specs.model.feature.LineKind.{fault_at_line}
-use Rattle.bt_lines.specs.model.Fault.{Told, no_memory}
+use Rattle.bt_lines.specs.model.Fault.{FaultValue, no_memory}
 use Rattle.bt_lines.specs.model.Lines.{TextLine}
-use Rattle.bt_lines.specs.calls.Names.{told}
+use Rattle.bt_lines.specs.calls.Names.{fault_value}
 use Rattle.bt_lines.specs.calls.Output.{Output}
 use Rattle.bt_lines.specs.calls.Putting.{FailsToAdd, Grown}
 use Rattle.bt_lines.specs.declared.fault.Fault.{Fault}
@@ -55,7 +55,7 @@ module _ (how : MaskHow) (full : Bool) (stage : MaskStage) (line : TextLine) (ou
     pub settled : IsSettled how stage item
 
   -- it is at fault
-  pub record RefusesLine (fault : Told) (grown : Output) : Type 0 where
+  pub record RefusesLine (fault : FaultValue) (grown : Output) : Type 0 where
     pub kind : Kind
     pub says : line_says full (reached stage) line ≡ Err kind
     pub is : fault ≡ fault_at_line First line.number kind
@@ -63,7 +63,7 @@ module _ (how : MaskHow) (full : Bool) (stage : MaskStage) (line : TextLine) (ou
 
   -- it can't be written, only if the sink failed, and a prefix of it was; or there is no memory
   -- for it, which it may need
-  pub record FailsWithLine (fault : Told) (grown : Output) : Type 0 where
+  pub record FailsWithLine (fault : FaultValue) (grown : Output) : Type 0 where
     pub item : SequenceLine
     pub says : line_says full (reached stage) line ≡ Ok (Some item)
     pub fails : FailsToAdd out (bytes_with how stage item) fault grown
@@ -74,7 +74,7 @@ module _ (how : MaskHow) (full : Bool) (stage : MaskStage) (line : TextLine) (ou
   abbrev pub GivesNextLine : {A : Type 0} → Result A Fault → Masking → Output → Type 0
   GivesNextLine (Ok done) new grown = TakesNextLine new grown
   GivesNextLine (Err fault) new grown =
-      (new.want ≡ Nothing) × (RefusesLine (told fault) grown ⊎ FailsWithLine (told fault) grown)
+      (new.want ≡ Nothing) × (RefusesLine (fault_value fault) grown ⊎ FailsWithLine (fault_value fault) grown)
 
 -- one more record, while a line waits
 module _ (how : MaskHow) (full : Bool) (stage : MaskStage) (line : SequenceLine) (r : Feature)
@@ -93,13 +93,13 @@ module _ (how : MaskHow) (full : Bool) (stage : MaskStage) (line : SequenceLine)
     pub settled : LineBefore how line stage.taken r
 
   -- it decides the line, which couldn't be written
-  pub record FailsToWriteLine (fault : Told) (grown : Output) : Type 0 where
+  pub record FailsToWriteLine (fault : FaultValue) (grown : Output) : Type 0 where
     pub decides : decided line (stage.taken ++ r ∷ []) ≡ true
     pub fails : FailsToAdd out (masked_line how stage.taken line) fault grown
     pub settled : LineBefore how line stage.taken r
 
   -- it leaves the line undecided and has to be held, for which there is no memory
-  pub record FailsToHoldRecord (fault : Told) (grown : Output) : Type 0 where
+  pub record FailsToHoldRecord (fault : FaultValue) (grown : Output) : Type 0 where
     pub undecided : decided line (stage.taken ++ r ∷ []) ≡ false
     pub to_hold : held_for line (stage.taken ++ r ∷ []) ≡ held_for line stage.taken ++ r ∷ []
     pub is : fault ≡ no_memory
@@ -110,8 +110,8 @@ module _ (how : MaskHow) (full : Bool) (stage : MaskStage) (line : SequenceLine)
   GivesBed (Ok Yes) new grown = TakesRecord new grown
   GivesBed (Ok No) new grown = WritesLine new grown
   GivesBed (Err fault) new grown =
-      (new.want ≡ Nothing) × (FailsToWriteLine (told fault) grown
-      ⊎ FailsToHoldRecord (told fault) grown)
+      (new.want ≡ Nothing) × (FailsToWriteLine (fault_value fault) grown
+      ⊎ FailsToHoldRecord (fault_value fault) grown)
 
 -- one more record after the last line, which is on this line
 module _ (how : MaskHow) (full : Bool) (stage : MaskStage) (r : Feature) (number : ℕ)
@@ -123,7 +123,7 @@ module _ (how : MaskHow) (full : Bool) (stage : MaskStage) (r : Feature) (number
     pub same_output : grown ≡ out
 
   -- its block belongs to none, which no block before it does
-  pub record LacksSequence (fault : Told) (grown : Output) : Type 0 where
+  pub record LacksSequence (fault : FaultValue) (grown : Output) : Type 0 where
     pub owned_before : is_some (left_after (reached stage).names stage.taken) ≡ true
     pub unowned : left_after (reached stage).names (stage.taken ++ r ∷ []) ≡ None
     pub is : fault ≡ fault_at_line Second number NoSequence
@@ -133,7 +133,7 @@ module _ (how : MaskHow) (full : Bool) (stage : MaskStage) (r : Feature) (number
   abbrev pub ChecksRecord : Result Taken Fault → Masking → Output → Type 0
   ChecksRecord (Ok Yes) new grown = HasSequence new grown
   ChecksRecord (Ok No) new grown = ⊥
-  ChecksRecord (Err fault) new grown = (new.want ≡ Nothing) × LacksSequence (told fault) grown
+  ChecksRecord (Err fault) new grown = (new.want ≡ Nothing) × LacksSequence (fault_value fault) grown
 
 -- what the end of the records does, while a line waits
 abbrev pub EndsRecords : {A : Type 0} → MaskHow → Bool → MaskStage → SequenceLine → Output
@@ -142,7 +142,7 @@ EndsRecords how full stage line out (Ok done) new grown =
     MaskStandsAt how full (with_bed_ended stage) new
     × Grown out (masked_line how stage.taken line) grown
 EndsRecords how full stage line out (Err fault) new grown =
-    (new.want ≡ Nothing) × FailsToAdd out (masked_line how stage.taken line) (told fault) grown
+    (new.want ≡ Nothing) × FailsToAdd out (masked_line how stage.taken line) (fault_value fault) grown
 
 -- what it does after the last line: nothing is written, and nothing more is wanted
 abbrev pub EndsCheck : {A : Type 0} → MaskHow → Bool → MaskStage → Output → Result A Fault → Masking

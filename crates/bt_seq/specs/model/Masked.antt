@@ -6,8 +6,8 @@ use Rattle.bt_bed.specs.model.feature.Feature.{Feature}
 use Rattle.bt_bed.specs.model.input.Good.{Good, Member, items_in, or_else}
 use Rattle.bt_bed.specs.model.input.GoodBlocks.{block_good}
 use Rattle.bt_bed.specs.model.feature.LineKind.{fault_at_line}
-use Rattle.bt_bed.specs.model.input.Meeting.{Met, Rule, meet}
-use Rattle.bt_lines.specs.model.Fault.{Told}
+use Rattle.bt_bed.specs.model.input.TwoInputReport.{Met, Rule, join_report}
+use Rattle.bt_lines.specs.model.Fault.{FaultValue}
 use Rattle.bt_lines.specs.model.Handed.{whole_text}
 use Rattle.bt_lines.specs.model.Lines.{end_bytes}
 use Rattle.bt_lines.specs.declared.fault.Input.TheVariants.{First, Second}
@@ -65,24 +65,24 @@ names_of (line ∷ []) = line.names
 names_of (line ∷ next ∷ lines) = names_of (next ∷ lines)
 
 -- that there is no sequence for these records, reported at the first of them
-abbrev pub told_at_first : List (Member Feature) → Option Told
+abbrev pub told_at_first : List (Member Feature) → Option FaultValue
 told_at_first [] = None
 told_at_first (m ∷ ms) = Some (fault_at_line Second m.line NoSequence)
 
 -- that there is none for a block
-abbrev pub no_sequence_for : Option (Block (Member Feature)) → Option Told
+abbrev pub no_sequence_for : Option (Block (Member Feature)) → Option FaultValue
 no_sequence_for None = None
 no_sequence_for (Some block) = told_at_first block.items
 
 -- the fault of the first block that belongs to no sequence of these names, if there is one
-abbrev pub no_sequence : List (List ℕ) → List (Member Feature) → Option Told
+abbrev pub no_sequence : List (List ℕ) → List (Member Feature) → Option FaultValue
 no_sequence names members =
     no_sequence_for (first_unowned
     (owned_from (Some names) (blocks_by (λ m. m.item.chrom) members)))
 
 -- What the good records of the second input, and its fault, make of the lines of the first. At the
 -- end its first block without a sequence is reported, before its fault.
-abbrev pub mask_rule : MaskHow → List (List ℕ) → Good Feature → Rule SequenceLine ℕ Told
+abbrev pub mask_rule : MaskHow → List (List ℕ) → Good Feature → Rule SequenceLine ℕ FaultValue
 mask_rule how names second = record {
   decided = λ line. is_none second.fault || decided line (items_in second);
   lines = masked_line how (items_in second);
@@ -91,11 +91,11 @@ mask_rule how names second = record {
 }
 
 -- the bytes that maskfasta writes of two inputs, and the fault that it tells
-abbrev pub mask_met : MaskHow → Good SequenceLine → Good Feature → Met ℕ Told
+abbrev pub mask_met : MaskHow → Good SequenceLine → Good Feature → Met ℕ FaultValue
 mask_met how first second =
-    meet (mask_rule how (names_of (items_in first)) second) (items_in first) first.fault
+    join_report (mask_rule how (names_of (items_in first)) second) (items_in first) first.fault
 
 -- the same of two whole texts
-abbrev pub mask_texts : MaskHow → Bool → List ℕ → List ℕ → Met ℕ Told
+abbrev pub mask_texts : MaskHow → Bool → List ℕ → List ℕ → Met ℕ FaultValue
 mask_texts how full fasta bed =
     mask_met how (sequence_good full First (whole_text fasta)) (block_good Second (whole_text bed))

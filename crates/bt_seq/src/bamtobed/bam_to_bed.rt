@@ -1,8 +1,8 @@
 //! The engine of `bedtools bamtobed`.
 
 ghost use Rattle.std.specs.Prelude.{◌≡◌, flat_map, IfErr, IsErr, OnOk, None, Some, true};
-ghost use Rattle.bt_lines.specs.model.Fault.{Told, write_failed};
-ghost use Rattle.bt_lines.specs.calls.Names.{told};
+ghost use Rattle.bt_lines.specs.model.Fault.{FaultValue, write_failed};
+ghost use Rattle.bt_lines.specs.calls.Names.{fault_value};
 ghost use Rattle.bt_lines.specs.calls.Putting.{Adds};
 ghost use Rattle.bt_seq.specs.model.BedLines.{bed_lines};
 ghost use Rattle.bt_seq.specs.calls.BamToBedState.{bed_lines_by};
@@ -61,9 +61,9 @@ impl BamToBed {
             → Adds out.old.output (bed_lines_by self.old (alignment_lent sam.now)) result out.new.output }
         ensures unchanged { OnOk result (self.new ≡ self.old) }
         ensures kept { IfErr result (λ fault.
-            self.new ≡ record self.old { fault = Some (told fault) }) }
-        ensures cause { IfErr result (λ fault. told fault ≡ write_failed) }
-        ensures again { (fault : Told) → self.old.fault ≡ Some fault
+            self.new ≡ record self.old { fault = Some (fault_value fault) }) }
+        ensures cause { IfErr result (λ fault. fault_value fault ≡ write_failed) }
+        ensures again { (fault : FaultValue) → self.old.fault ≡ Some fault
             → IsErr result × (self.new ≡ self.old) × (out.new.output ≡ out.old.output) }
     {
         if self.has_failed {

@@ -78,7 +78,7 @@ fn hold_line<K: Sink>(
         return false;
     }
     let first = write_behind(sam, start, stop, with_cigar, text);
-    out.hold_both(sam.chrom, &text[first..])
+    out.try_put_pair(sam.chrom, &text[first..])
 }
 
 // Whether there is room for name and CIGAR in a line that is written whole.

@@ -2,7 +2,7 @@
 
 ghost use Rattle.std.specs.Prelude.{◌≡◌, ◌<◌, ◌&&◌, None, Some, [], OnOk, IfErr, IsErr, IsOk, cond, false, not, true, is_some, length, nat_eq, nat_le, nat_lt, if◌then◌else◌};
 ghost use Rattle.bt_lines.specs.model.Fault.{no_memory};
-ghost use Rattle.bt_lines.specs.calls.Names.{told};
+ghost use Rattle.bt_lines.specs.calls.Names.{fault_value};
 ghost use Rattle.bt_bed.specs.calls.Bed.{feature_lent};
 ghost use Rattle.bt_bed.specs.model.feature.LineKind.{fault_at_line};
 ghost use Rattle.bt_lines.specs.calls.Buffered.{lines_in};
@@ -311,7 +311,7 @@ impl MaskState {
         ensures held { OnOk result (self.new ≡ record self.old {
           window = with_extent (nat_lt self.old.window.before stop) self.old.window start stop;
         }) }
-        ensures lost { IfErr result (λ fault. (told fault ≡ no_memory) × (self.new.want ≡ MaskWant.Nothing)
+        ensures lost { IfErr result (λ fault. (fault_value fault ≡ no_memory) × (self.new.want ≡ MaskWant.Nothing)
             × (nat_lt self.old.window.before stop ≡ true)) }
     {
         if self.window.hold(start, stop).is_err() {
@@ -398,7 +398,7 @@ impl MaskState {
 
 // The fault of text before the first header.
 fn stray_text(line: u64) -> Fault
-    ensures { told result ≡ fault_at_line Input.First line Kind.TextBeforeHeader }
+    ensures { fault_value result ≡ fault_at_line Input.First line Kind.TextBeforeHeader }
 {
     let input = Input::First;
     at_line(Kind::TextBeforeHeader, Place { input, line })
@@ -406,7 +406,7 @@ fn stray_text(line: u64) -> Fault
 
 // The fault of a record whose block belongs to no sequence.
 fn no_sequence(line: u64) -> Fault
-    ensures { told result ≡ fault_at_line Input.Second line Kind.NoSequence }
+    ensures { fault_value result ≡ fault_at_line Input.Second line Kind.NoSequence }
 {
     let input = Input::Second;
     at_line(Kind::NoSequence, Place { input, line })

@@ -1,8 +1,8 @@
 -- What a sweep does with records of both inputs that come one after another.
 use Rattle.std.specs.Prelude.{◌≡◌, ◌⊎◌, ℕ, ◌<◌, ⊤, Bool, true, false, List, [], ◌∷◌, ◌++◌, Option, Some, None}
 use Rattle.std.specs.Prelude.{IfSome, IsOk, Result, Ok, Err, is_some, option_to_list}
-use Rattle.bt_lines.specs.model.Fault.{Told, no_memory}
-use Rattle.bt_lines.specs.calls.Names.{told}
+use Rattle.bt_lines.specs.model.Fault.{FaultValue, no_memory}
+use Rattle.bt_lines.specs.calls.Names.{fault_value}
 use Rattle.bt_lines.specs.calls.Output.{Output}
 use Rattle.bt_lines.specs.calls.Putting.{FailsToAdd, Grown}
 use Rattle.bt_lines.specs.declared.fault.Fault.{Fault}
@@ -83,7 +83,7 @@ module _ {U V : Type 0} (a_gives : U → List Feature → U → Type 0) (a_ended
   StopsFor B to_a to_b = b_ended to_b
   StopsFor Nothing to_a to_b = ⊤
 
-  module _ (firsts seconds newly : List Feature) (waiting : Option Feature) (to_b : V) (fault : Told)
+  module _ (firsts seconds newly : List Feature) (waiting : Option Feature) (to_b : V) (fault : FaultValue)
       (grown : Output) where
     -- the lines couldn't all be written
     pub record FailsToWrite : Type 0 where
@@ -118,7 +118,7 @@ module _ {U V : Type 0} (a_gives : U → List Feature → U → Type 0) (a_ended
       pub puts : PutsEach order old firsts seconds newly out grown
 
   -- it failed once the lines of these records of the first input were settled
-  pub record FailsAt (fault : Told) (to_a : U) (to_b : V) (grown : Output) : Type 0 where
+  pub record FailsAt (fault : FaultValue) (to_a : U) (to_b : V) (grown : Output) : Type 0 where
     pub firsts : List Feature
     pub seconds : List Feature
     pub newly : List Feature
@@ -141,7 +141,7 @@ module _ {U V : Type 0} (a_gives : U → List Feature → U → Type 0) (a_ended
   abbrev pub Advances : {T : Type 0} → Result T Fault → Sweeping → U → V → Output → Type 0
   Advances (Ok done) new to_a to_b grown =
       AdvancesSo new to_a to_b grown × StopsFor (want_in new) to_a to_b
-  Advances (Err fault) new to_a to_b grown = FailsAt (told fault) to_a to_b grown
+  Advances (Err fault) new to_a to_b grown = FailsAt (fault_value fault) to_a to_b grown
 
   -- the same, but the one that waited before is written, and what comes behind it isn't looked at
   abbrev pub HasWritten : Sweeping → Type 0
@@ -150,7 +150,7 @@ module _ {U V : Type 0} (a_gives : U → List Feature → U → Type 0) (a_ended
   abbrev pub AdvancesOn : {T : Type 0} → Result T Fault → Sweeping → U → V → Output → Type 0
   AdvancesOn (Ok done) new to_a to_b grown =
       AdvancesSo new to_a to_b grown × (StopsFor (want_in new) to_a to_b ⊎ HasWritten new)
-  AdvancesOn (Err fault) new to_a to_b grown = FailsAt (told fault) to_a to_b grown
+  AdvancesOn (Err fault) new to_a to_b grown = FailsAt (fault_value fault) to_a to_b grown
 
 -- a sweep that wants nothing takes nothing, and writes nothing
 abbrev pub IsIdle : {T U V : Type 0} → Sweeping → U → V → Output → Result T Fault → Sweeping → U → V → Output
@@ -175,4 +175,4 @@ module _ {V : Type 0} (b_gives : V → List Feature → V → Type 0) (b_ended :
       AdvancesSo NoneGiven (λ u. ⊤) b_gives b_ended b_line order old tt from_b out new tt to_b grown
       × IsLeft is_left new to_b
   DecidesCurrent (Err fault) new to_b grown =
-      FailsAt NoneGiven (λ u. ⊤) b_gives b_ended b_line order old tt from_b out (told fault) tt to_b grown
+      FailsAt NoneGiven (λ u. ⊤) b_gives b_ended b_line order old tt from_b out (fault_value fault) tt to_b grown

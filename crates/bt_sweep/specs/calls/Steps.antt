@@ -1,8 +1,8 @@
 -- What the calls of a sweep do.
 use Rattle.std.specs.Prelude.{◌≡◌, ◌⊎◌, ℕ, Bool, true, false, cond, List, [], Option}
 use Rattle.std.specs.Prelude.{Some, None, Result, Ok, Err, length, nat_lt}
-use Rattle.bt_lines.specs.model.Fault.{Told, no_memory}
-use Rattle.bt_lines.specs.calls.Names.{told}
+use Rattle.bt_lines.specs.model.Fault.{FaultValue, no_memory}
+use Rattle.bt_lines.specs.calls.Names.{fault_value}
 use Rattle.bt_lines.specs.calls.Output.{Output}
 use Rattle.bt_lines.specs.calls.Putting.{FailsToAdd, Grown}
 use Rattle.bt_lines.specs.declared.fault.Fault.{Fault}
@@ -24,7 +24,7 @@ use Rattle.bt_sweep.specs.declared.sweep.want.Want.TheVariants.{Nothing}
 
 -- Why a call didn't put its lines. They couldn't be written, only if the sink failed, and a
 -- prefix of them was. Or memory ran out before any of them was put.
-abbrev pub Fails : Output → List ℕ → Told → Output → Type 0
+abbrev pub Fails : Output → List ℕ → FaultValue → Output → Type 0
 Fails out lines fault grown =
     FailsToAdd out lines fault grown ⊎ ((fault ≡ no_memory) × (grown ≡ out))
 
@@ -40,7 +40,7 @@ GivesA order shape rule limit stage a out (Ok done) new grown =
     StandsAt order shape rule limit (with_a stage a) new
     × Grown out (lines_with shape rule stage a) grown
 GivesA order shape rule limit stage a out (Err fault) new grown =
-    (want_in new ≡ Nothing) × Fails out (lines_with shape rule stage a) (told fault) grown
+    (want_in new ≡ Nothing) × Fails out (lines_with shape rule stage a) (fault_value fault) grown
 
 -- what the end of the second input does, while a waits
 abbrev pub EndsB : {A : Type 0} → Order → Shape → HitRule → Option ℕ → Stage → Feature → Output
@@ -49,7 +49,7 @@ EndsB order shape rule limit stage a out (Ok done) new grown =
     StandsAt order shape rule limit (with_b_ended stage) new
     × Grown out (lines_for shape rule a stage.taken) grown
 EndsB order shape rule limit stage a out (Err fault) new grown =
-    (want_in new ≡ Nothing) × FailsToAdd out (lines_for shape rule a stage.taken) (told fault) grown
+    (want_in new ≡ Nothing) × FailsToAdd out (lines_for shape rule a stage.taken) (fault_value fault) grown
 
 -- whether one more record may be held beside `count`
 abbrev pub has_room : Option ℕ → ℕ → Bool
@@ -73,12 +73,12 @@ module _ (order : Order) (shape : Shape) (rule : HitRule) (limit : Option ℕ) (
     pub settled : LinesBefore order shape rule a stage.taken b
 
   -- it decides a, whose lines couldn't be written
-  pub record FailsToWriteA (fault : Told) (grown : Output) : Type 0 where
+  pub record FailsToWriteA (fault : FaultValue) (grown : Output) : Type 0 where
     pub decides : decides order a b ≡ true
     pub fails : FailsToAdd out (lines_for shape rule a stage.taken) fault grown
 
   -- it leaves a undecided and has to be held, for which the limit leaves no room
-  pub record PassesLimit (fault : Told) (grown : Output) : Type 0 where
+  pub record PassesLimit (fault : FaultValue) (grown : Output) : Type 0 where
     pub undecided : decides order a b ≡ false
     pub to_hold : is_held a b ≡ true
     pub is_full : has_room limit (length (held_for (Some a) stage.taken)) ≡ false
@@ -87,7 +87,7 @@ module _ (order : Order) (shape : Shape) (rule : HitRule) (limit : Option ℕ) (
 
   -- it leaves a undecided and has to be held, for which the limit leaves room, but there is no
   -- memory
-  pub record FailsToHold (fault : Told) (grown : Output) : Type 0 where
+  pub record FailsToHold (fault : FaultValue) (grown : Output) : Type 0 where
     pub undecided : decides order a b ≡ false
     pub to_hold : is_held a b ≡ true
     pub room : has_room limit (length (held_for (Some a) stage.taken)) ≡ true
@@ -100,8 +100,8 @@ module _ (order : Order) (shape : Shape) (rule : HitRule) (limit : Option ℕ) (
   GivesB (Ok No) new grown = WritesA new grown
   GivesB (Err fault) new grown =
       (want_in new ≡ Nothing)
-      × (FailsToWriteA (told fault) grown
-      ⊎ (PassesLimit (told fault) grown ⊎ FailsToHold (told fault) grown))
+      × (FailsToWriteA (fault_value fault) grown
+      ⊎ (PassesLimit (fault_value fault) grown ⊎ FailsToHold (fault_value fault) grown))
 
 -- a record that leaves the waiting one undecided and hasn't to be held is taken,
 -- and nothing is written

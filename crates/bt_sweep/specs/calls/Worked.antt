@@ -1,12 +1,12 @@
 -- Small inputs, worked by hand: what is written and reported of them.
 use Rattle.std.specs.Prelude.{◌≡◌, ℕ, false, true, [], ◌∷◌, codes, Option, Some, None}
-use Rattle.bt_lines.specs.model.Fault.{Told}
+use Rattle.bt_lines.specs.model.Fault.{FaultValue}
 use Rattle.bt_lines.specs.declared.fault.Input.TheVariants.{Second}
 use Rattle.bt_lines.specs.declared.fault.Kind.TheVariants.{TooManyHeld}
 use Rattle.bt_bed.specs.model.feature.Feature.{Feature}
 use Rattle.bt_bed.specs.model.input.Good.{Good, items_in}
 use Rattle.bt_bed.specs.model.feature.LineKind.{fault_at_line}
-use Rattle.bt_bed.specs.model.input.Meeting.{Met}
+use Rattle.bt_bed.specs.model.input.TwoInputReport.{Met}
 use Rattle.bt_bed.specs.model.order.Order.{Order}
 use Rattle.bt_bed.specs.model.order.Rank.{rank_order}
 use Rattle.bt_bed.specs.declared.record.strand.Strand.TheVariants.{Dot}
@@ -23,13 +23,13 @@ abbrev pub at : ℕ → ℕ → Feature
 at start stop = record { chrom = codes "chr1"; start = start; stop = stop; strand = Dot; rest = [] }
 
 -- two records on two lines, and a fault after them
-abbrev pub two : Feature → Feature → Option Told → Good Feature
+abbrev pub two : Feature → Feature → Option FaultValue → Good Feature
 two first next fault = record {
   members = record { line = 1; item = first } ∷ record { line = 2; item = next } ∷ [];
   fault = fault;
 }
 
-abbrev pub one : Feature → Option Told → Good Feature
+abbrev pub one : Feature → Option FaultValue → Good Feature
 one first fault = record { members = record { line = 1; item = first } ∷ []; fault = fault }
 
 abbrev pub only_chr1 : Order
@@ -38,14 +38,14 @@ only_chr1 = rank_order (codes "chr1" ∷ [])
 -- The second input has a fault after 2 to 4 and 50 to 60. Of 0 to 10 and 100 to 110 it decides the
 -- first, whose lines are written, and then its fault is reported.
 abbrev pub fault_behind_undecided : Type 0
-fault_behind_undecided = (fault : Told)
+fault_behind_undecided = (fault : FaultValue)
     → intersect_met only_chr1 Cut any_overlap (two (at 0 10) (at 100 110) None)
     (two (at 2 4) (at 50 60) (Some fault))
     ≡ record { lines = codes "chr1\t2\t4\n"; fault = Some fault }
 
 -- if both have one and all records of the first are decided, that of the first is reported
 abbrev pub fault_of_first : Type 0
-fault_of_first = (fault other : Told)
+fault_of_first = (fault other : FaultValue)
     → intersect_met only_chr1 Cut any_overlap (one (at 0 10) (Some fault))
     (two (at 2 4) (at 50 60) (Some other))
     ≡ record { lines = codes "chr1\t2\t4\n"; fault = Some fault }
@@ -71,7 +71,7 @@ whole_is_left =
     subtract true any_overlap (at 0 10 ∷ at 20 30 ∷ []) (at 5 20 ∷ []) ≡ codes "chr1\t20\t30\n"
 
 -- three records on three lines, and a fault after them
-abbrev pub three : Feature → Feature → Feature → Option Told → Good Feature
+abbrev pub three : Feature → Feature → Feature → Option FaultValue → Good Feature
 three first next last fault = record {
   members = record { line = 1; item = first } ∷ record { line = 2; item = next }
       ∷ record { line = 3; item = last } ∷ [];
@@ -79,7 +79,7 @@ three first next last fault = record {
 }
 
 -- the meeting of two inputs on chr1, if at most `most` records of the second are held
-abbrev pub met_holding : Shape → ℕ → Good Feature → Good Feature → Met ℕ Told
+abbrev pub met_holding : Shape → ℕ → Good Feature → Good Feature → Met ℕ FaultValue
 met_holding shape most first second =
     intersect_met only_chr1 shape any_overlap first
     (limited only_chr1 (Some most) (items_in first) second)
@@ -120,11 +120,11 @@ none_is_held =
 
 -- a fault after the second of two records, of which one may be held, or two
 abbrev pub limit_before_the_fault : Type 0
-limit_before_the_fault = (fault : Told)
+limit_before_the_fault = (fault : FaultValue)
     → met_holding Cut 1 (one (at 0 100) None) (two (at 10 20) (at 20 30) (Some fault))
     ≡ record { lines = []; fault = Some (fault_at_line Second 2 TooManyHeld) }
 
 abbrev pub fault_within_the_limit : Type 0
-fault_within_the_limit = (fault : Told)
+fault_within_the_limit = (fault : FaultValue)
     → met_holding Cut 2 (one (at 0 100) None) (two (at 10 20) (at 20 30) (Some fault))
     ≡ record { lines = []; fault = Some fault }

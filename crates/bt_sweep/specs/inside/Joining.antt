@@ -2,8 +2,8 @@
 use Rattle.std.specs.Prelude.{◌≡◌, ◌⊎◌, ℕ, ◌<◌, ◌≤◌, ⊤, true, false, All, IfSome, List, [], ◌∷◌, ◌++◌, Option, filter}
 use Rattle.std.specs.Prelude.{None, Some, Result, Ok, Err, length, option_map, option_to_list}
 use Rattle.std.specs.List.{list_all}
-use Rattle.bt_lines.specs.model.Fault.{Told, no_memory}
-use Rattle.bt_lines.specs.calls.Names.{told}
+use Rattle.bt_lines.specs.model.Fault.{FaultValue, no_memory}
+use Rattle.bt_lines.specs.calls.Names.{fault_value}
 use Rattle.bt_lines.specs.model.Number.{max_number}
 use Rattle.bt_lines.specs.calls.Output.{Output}
 use Rattle.bt_lines.specs.calls.Putting.{FailsToAdd, Grown}
@@ -41,7 +41,7 @@ pub record GrownWith (pending : List ℕ) (out : Output) (lines left : List ℕ)
 -- what putting them does, where none of them could be left out
 abbrev pub AddsWith : {T : Type 0} → List ℕ → Output → List ℕ → Result T Fault → List ℕ → Output → Type 0
 AddsWith pending out lines (Ok done) left grown = GrownWith pending out lines left grown
-AddsWith pending out lines (Err fault) left grown = FailsToAdd out (pending ++ lines) (told fault) grown
+AddsWith pending out lines (Err fault) left grown = FailsToAdd out (pending ++ lines) (fault_value fault) grown
 
 -- In such orders, wherever it stands with `first` given last: once these are given and taken.
 abbrev pub BehindFor : (Order → Type 0) → Feature → List Feature → List Feature → Sweeping
@@ -69,7 +69,7 @@ WritesFor For first firsts seconds old newly pending out left grown =
 
 -- they couldn't all be
 abbrev pub CutsFor : (Order → Type 0) → Feature → List Feature → List Feature → Sweeping → List Feature
-    → List ℕ → Output → Told → Output → Type 0
+    → List ℕ → Output → FaultValue → Output → Type 0
 CutsFor For first firsts seconds old newly pending out fault grown =
     BehindFor For first firsts seconds old
     (λ order shape rule limit as_given taken. FailsToAdd out (pending ++ intersect shape rule newly taken) fault grown)
@@ -86,7 +86,7 @@ abbrev pub Writes : Feature → List Feature → List Feature → Sweeping → L
     → List ℕ → Output → Type 0
 Writes = WritesFor IsTotal
 
-abbrev pub Cuts : Feature → List Feature → List Feature → Sweeping → List Feature → List ℕ → Output → Told
+abbrev pub Cuts : Feature → List Feature → List Feature → Sweeping → List Feature → List ℕ → Output → FaultValue
     → Output → Type 0
 Cuts = CutsFor IsTotal
 
@@ -156,7 +156,7 @@ module _ {A : Type 0} (gives : A → List Feature → A → Type 0) (has_ended :
   StopsBehind (Some a) to = (place < a.stop) × (a.stop ≤ max_number)
 
   -- they couldn't all be written
-  pub record CutsOff (fault : Told) (to : A) (grown : Output) : Type 0 where
+  pub record CutsOff (fault : FaultValue) (to : A) (grown : Output) : Type 0 where
     pub firsts : List Feature
     pub newly : List Feature
     pub waiting : Option Feature
@@ -172,7 +172,7 @@ WritesUpTo gives has_ended feature place old first from pending out (Ok waiting)
     WritesSo gives has_ended place old first from pending out (option_map feature waiting) new to left grown
     × StopsBehind gives has_ended place old first from pending out (option_map feature waiting) to
 WritesUpTo gives has_ended feature place old first from pending out (Err fault) new to left grown =
-    CutsOff gives has_ended place old first from pending out (told fault) to grown
+    CutsOff gives has_ended place old first from pending out (fault_value fault) to grown
 
 -- all records that there were are given
 pub record SkipsAll {B : Type 0} (gives : B → List Feature → B → Type 0) (has_ended : B → Type 0)
@@ -183,7 +183,7 @@ pub record SkipsAll {B : Type 0} (gives : B → List Feature → B → Type 0) (
   pub ended : has_ended to
 
 -- a record that has to be held can't be: for want of room, or of memory
-abbrev pub CannotBeHeld : Option ℕ → Feature → List Feature → ℕ → Told → Type 0
+abbrev pub CannotBeHeld : Option ℕ → Feature → List Feature → ℕ → FaultValue → Type 0
 CannotBeHeld limit last taken line fault =
     ((has_room limit (length (held_for (Some last) taken)) ≡ false)
     × (fault ≡ fault_at_line Second line TooManyHeld))
@@ -220,7 +220,7 @@ module _ {A B : Type 0} (a_gives : A → List Feature → A → Type 0) (a_ended
   StopsAt None to_a to_b = a_ended to_a
   StopsAt (Some a) to_a to_b = b_ended to_b
 
-  module _ (firsts seconds newly : List Feature) (waiting : Option Feature) (to_b : B) (fault : Told)
+  module _ (firsts seconds newly : List Feature) (waiting : Option Feature) (to_b : B) (fault : FaultValue)
       (left : List ℕ) (grown : Output) where
     -- the lines couldn't all be written
     pub record CutsLines : Type 0 where
@@ -241,7 +241,7 @@ module _ {A B : Type 0} (a_gives : A → List Feature → A → Type 0) (a_ended
           (λ order shape rule limit as_given taken. CannotBeHeld limit last taken (b_line after) fault)
 
   -- it failed once these lines of the first were settled
-  pub record Breaks (fault : Told) (to_a : A) (to_b : B) (left : List ℕ) (grown : Output) : Type 0 where
+  pub record Breaks (fault : FaultValue) (to_a : A) (to_b : B) (left : List ℕ) (grown : Output) : Type 0 where
     pub firsts : List Feature
     pub seconds : List Feature
     pub newly : List Feature
@@ -271,7 +271,7 @@ Joins a_gives a_ended b_gives b_ended b_line For Settles Leaves feature old firs
     × IfSome (option_map feature waiting) (Leaves j.seconds)
 Joins a_gives a_ended b_gives b_ended b_line For Settles Leaves feature old first from_a from_b pending out
     (Err fault) new to_a to_b left grown =
-    Breaks a_gives a_ended b_gives b_ended b_line For Settles old first from_a from_b pending out (told fault)
+    Breaks a_gives a_ended b_gives b_ended b_line For Settles old first from_a from_b pending out (fault_value fault)
     to_a to_b left grown
 
 -- the record of the second input that was taken last leaves it undecided

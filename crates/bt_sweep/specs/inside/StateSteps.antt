@@ -2,7 +2,7 @@
 use Rattle.std.specs.Prelude.{◌≡◌, ◌⊎◌, ◌<◌, ℕ, Bool, true, false, cond, decimal, List, [], ◌∷◌, ◌++◌}
 use Rattle.std.specs.Prelude.{Some, Result, Ok, Err, filter, length, nat_lt, bytes_eq}
 use Rattle.bt_lines.specs.model.Fault.{no_memory}
-use Rattle.bt_lines.specs.calls.Names.{told}
+use Rattle.bt_lines.specs.calls.Names.{fault_value}
 use Rattle.bt_lines.specs.declared.fault.Fault.{Fault}
 use Rattle.bt_lines.specs.declared.fault.Input.TheVariants.{Second}
 use Rattle.bt_lines.specs.declared.fault.Kind.TheVariants.{TooManyHeld}
@@ -52,8 +52,8 @@ has_room_in sweep = has_room sweep.limit (length sweep.held)
 -- why b, at a line, couldn't be held: no room, or no memory
 abbrev pub CannotHold : Sweeping → ℕ → Fault → Type 0
 CannotHold old line fault =
-    ((has_room_in old ≡ false) × (told fault ≡ fault_at_line Second line TooManyHeld))
-    ⊎ ((has_room_in old ≡ true) × (told fault ≡ no_memory))
+    ((has_room_in old ≡ false) × (fault_value fault ≡ fault_at_line Second line TooManyHeld))
+    ⊎ ((has_room_in old ≡ true) × (fault_value fault ≡ no_memory))
 
 -- taking b, at a line, which leaves a undecided
 abbrev pub Takes : {A : Type 0} → Sweeping → Feature → Feature → ℕ → Result A Fault → Sweeping → Type 0
@@ -65,4 +65,4 @@ Takes old a b line (Err fault) new =
 -- keeping a copy of a, which waits
 abbrev pub KeepsOne : {A : Type 0} → Sweeping → Feature → Result A Fault → Sweeping → Type 0
 KeepsOne old a (Ok done) new = new ≡ record old { current = Some a }
-KeepsOne old a (Err fault) new = (new ≡ stopped old) × (told fault ≡ no_memory)
+KeepsOne old a (Err fault) new = (new ≡ stopped old) × (fault_value fault ≡ no_memory)

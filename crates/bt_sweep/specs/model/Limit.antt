@@ -5,7 +5,7 @@ use Rattle.std.specs.Prelude.{◌≡◌, ℕ, ◌<◌, Bool, false, true, not, �
 use Rattle.std.specs.Prelude.{◌++◌, Option, None, Some, bytes_eq, filter, if◌then◌else◌, length, map}
 use Rattle.std.specs.Prelude.{nat_lt}
 use Rattle.std.specs.List.{find, list_all}
-use Rattle.bt_lines.specs.model.Fault.{Told}
+use Rattle.bt_lines.specs.model.Fault.{FaultValue}
 use Rattle.bt_lines.specs.declared.fault.Input.TheVariants.{Second}
 use Rattle.bt_lines.specs.declared.fault.Kind.TheVariants.{TooManyHeld}
 use Rattle.bt_bed.specs.model.feature.Feature.{Feature}
@@ -41,7 +41,7 @@ are_too_many order most first second =
 -- The members after others, up to the first with which they are too many, where the fault of the
 -- limit lies. If there is none, all of them and their own fault.
 abbrev pub cut_behind : (List Feature → Bool) → List (Member Feature) → List (Member Feature)
-    → Option Told → Good Feature
+    → Option FaultValue → Good Feature
 cut_behind too_many past [] fault = record { members = past; fault = fault }
 cut_behind too_many past (m ∷ more) fault =
     if too_many (map (λ m. m.item) (past ++ m ∷ []))

@@ -1,8 +1,8 @@
 -- What subtract writes (bedtools manual, subtract, option -A).
 use Rattle.std.specs.Prelude.{◌≡◌, ℕ, Bool, true, false, List, [], ◌∷◌, flat_map, Option, None}
-use Rattle.bt_lines.specs.model.Fault.{Told}
+use Rattle.bt_lines.specs.model.Fault.{FaultValue}
 use Rattle.bt_bed.specs.model.feature.Feature.{Feature}
-use Rattle.bt_bed.specs.model.input.Meeting.{meet}
+use Rattle.bt_bed.specs.model.input.TwoInputReport.{join_report}
 use Rattle.bt_bed.specs.model.order.Order.{Order}
 use Rattle.bt_bed.specs.model.feature.Record.{bed_text}
 use Rattle.bt_sweep.specs.model.Hits.{hits_among}
@@ -38,6 +38,6 @@ left_are_lines = (whole : Bool) (rule : HitRule) (a : Feature) (second : List Fe
 abbrev pub subtract_is_met : Type 0
 subtract_is_met =
     (order : Order) (whole : Bool) (rule : HitRule) (first second : List Feature)
-    (fault : Option Told)
-    → (meet (sweep_rule order (subtract_shape whole) rule second None) first fault).lines
+    (fault : Option FaultValue)
+    → (join_report (sweep_rule order (subtract_shape whole) rule second None) first fault).lines
     ≡ subtract whole rule first second

@@ -1,10 +1,10 @@
 -- Intersect as a meeting of two inputs.
 use Rattle.std.specs.Prelude.{◌≡◌, ℕ, ◌||◌, List, ◌++◌, Option, None, is_none}
-use Rattle.bt_lines.specs.model.Fault.{Told}
+use Rattle.bt_lines.specs.model.Fault.{FaultValue}
 use Rattle.bt_bed.specs.model.feature.Feature.{Feature, intervals_of}
 use Rattle.bt_bed.specs.model.input.Good.{Good, items_in}
 use Rattle.bt_bed.specs.model.order.Locus.{ArePlaced}
-use Rattle.bt_bed.specs.model.input.Meeting.{Rule, Met, meet, written}
+use Rattle.bt_bed.specs.model.input.TwoInputReport.{Rule, Met, join_report, written}
 use Rattle.bt_bed.specs.model.order.Order.{Order, IsTotal}
 use Rattle.bt_sweep.specs.model.Deciding.{decided}
 use Rattle.bt_sweep.specs.model.IntersectLines.{intersect, lines_for}
@@ -12,7 +12,7 @@ use Rattle.bt_sweep.specs.declared.hits.hit_rule.HitRule.{HitRule}
 use Rattle.bt_sweep.specs.declared.output.shape.Shape.{Shape}
 
 -- what the good records of the second input, and its fault, make of the records of the first
-abbrev pub sweep_rule : Order → Shape → HitRule → List Feature → Option Told → Rule Feature ℕ Told
+abbrev pub sweep_rule : Order → Shape → HitRule → List Feature → Option FaultValue → Rule Feature ℕ FaultValue
 sweep_rule order shape rule second fault = record {
   decided = λ a. is_none fault || decided order a second;
   lines = λ a. lines_for shape rule a second;
@@ -21,21 +21,21 @@ sweep_rule order shape rule second fault = record {
 }
 
 -- what the first good records of the second input make of them
-abbrev pub early_rule : Order → Shape → HitRule → List Feature → Rule Feature ℕ Told
+abbrev pub early_rule : Order → Shape → HitRule → List Feature → Rule Feature ℕ FaultValue
 early_rule order shape rule second =
     record (sweep_rule order shape rule second None) { decided = λ a. decided order a second }
 
 -- the lines that intersect writes of two inputs, and the fault that it tells
-abbrev pub intersect_met : Order → Shape → HitRule → Good Feature → Good Feature → Met ℕ Told
+abbrev pub intersect_met : Order → Shape → HitRule → Good Feature → Good Feature → Met ℕ FaultValue
 intersect_met order shape rule first second =
-    meet (sweep_rule order shape rule (items_in second) second.fault) (items_in first) first.fault
+    join_report (sweep_rule order shape rule (items_in second) second.fault) (items_in first) first.fault
 
 -- without a fault the lines are those of all pairs
 abbrev pub faultless_are_all : Type 0
 faultless_are_all =
     (order : Order) (shape : Shape) (rule : HitRule) (first second : List Feature)
-    (fault : Option Told)
-    → (meet (sweep_rule order shape rule second None) first fault).lines
+    (fault : Option FaultValue)
+    → (join_report (sweep_rule order shape rule second None) first fault).lines
     ≡ intersect shape rule first second
 
 -- the bytes that are decided by a prefix of each input, and so are written, begin what is written for all of both,
@@ -44,10 +44,10 @@ abbrev pub written_are_a_front : Type 0
 written_are_a_front =
     (order : Order) (shape : Shape) (rule : HitRule)
     (first more_first second more_second : List Feature)
-    (first_fault second_fault : Option Told)
+    (first_fault second_fault : Option FaultValue)
     → IsTotal order → ArePlaced order (intervals_of first)
     → ArePlaced order (intervals_of (second ++ more_second))
     → (rest : List ℕ)
-    × ((meet (sweep_rule order shape rule (second ++ more_second) second_fault)
+    × ((join_report (sweep_rule order shape rule (second ++ more_second) second_fault)
     (first ++ more_first)
     first_fault).lines ≡ written (early_rule order shape rule second) first ++ rest)

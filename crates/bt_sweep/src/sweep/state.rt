@@ -1,7 +1,7 @@
 //! What a sweep keeps, and its steps.
 
 ghost use Rattle.std.specs.Prelude.{◌≡◌, ◌∷◌, ◌++◌, ◌<◌, [], All, IfErr, IfOk, IfSome, IsTrue, None, Some, false, filter, is_some, nat_lt, true, OnOk, OnErr};
-ghost use Rattle.bt_lines.specs.calls.Names.{told};
+ghost use Rattle.bt_lines.specs.calls.Names.{fault_value};
 ghost use Rattle.bt_lines.specs.model.Number.{max_number};
 ghost use Rattle.bt_lines.specs.calls.Putting.{Adds};
 ghost use Rattle.bt_bed.specs.model.feature.LineKind.{fault_at_line};
@@ -298,7 +298,7 @@ impl<H: Held> State<H> {
                     return Ok(());
                 }
                 Unmatched::Itself => {
-                    if a.is_canonical() {
+                    if a.is_canonical_line() {
                         firsts.add_line();
                         return Ok(());
                     }
@@ -490,7 +490,7 @@ pub(crate) fn skip<B: Cursor>(seconds: &mut B)
 
 // The fault of a record that would be held beyond the limit.
 fn too_many_held(line: u64) -> Fault
-    ensures { told result ≡ fault_at_line Input.Second line Kind.TooManyHeld }
+    ensures { fault_value result ≡ fault_at_line Input.Second line Kind.TooManyHeld }
 {
     let input = Input::Second;
     at_line(Kind::TooManyHeld, Place { input, line })

@@ -1,7 +1,7 @@
 -- What calls do, as contracts say it.
 pub mod Chromosomes
-pub mod Gives
+pub mod RunContract
 pub mod Headline
 pub mod OwnReads
-pub mod Telling
+pub mod FaultSource
 pub mod Writing

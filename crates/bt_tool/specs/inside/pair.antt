@@ -2,7 +2,7 @@
 pub mod MaskLoop
 pub mod MaskTurns
 pub mod Pair
-pub mod PairComes
-pub mod PairEnds
+pub mod Progress
+pub mod Endings
 pub mod SweepLoop
 pub mod SweepSteps

@@ -2,7 +2,7 @@
 
 ghost use Rattle.std.specs.Prelude.{◌≡◌, None, option_map};
 ghost use Rattle.bt_lines.specs.calls.LentLine.{line_seen};
-ghost use Rattle.bt_lines.specs.calls.Names.{told};
+ghost use Rattle.bt_lines.specs.calls.Names.{fault_value};
 ghost use Rattle.bt_lines.specs.calls.Output.{HoldsBlock};
 ghost use Rattle.bt_lines.specs.calls.Reader.{HasRead, fault_kept};
 ghost use Rattle.bt_tool.specs.model.report.Behaviour.{of_bamtobed};
@@ -70,10 +70,10 @@ pub(crate) fn convert<A: Source, K: Sink>(
 ) -> (Option<Fault>, A)
     requires { HoldsBlock out.old.output.took out.old.output.put }
     ensures written { WritesAlone A.left A.has_failed (of_bamtobed split cigar)
-        first out.old.output (option_map told result.0) result.1 out.new.output }
-    ensures reads { TellsNoRead (option_map told result.0) → ReadsServe A.is_read first result.1 }
+        first out.old.output (option_map fault_value result.0) result.1 out.new.output }
+    ensures reads { TellsNoRead (option_map fault_value result.0) → ReadsServe A.is_read first result.1 }
     ensures own_failure { TellsOwnReads ⊥ (IsOwnFailure A.is_read first result.1) ⊥
-        (option_map told result.0) }
+        (option_map fault_value result.0) }
 {
     let mut lines = LineReader::new(alloc, first, Input::First);
     let mut converter = BamToBed::new(split, cigar);

@@ -1,7 +1,7 @@
 //! Feeding an engine with the records of an input.
 
 ghost use Rattle.std.specs.Prelude.{◌≡◌, [], List, None, option_map};
-ghost use Rattle.bt_lines.specs.calls.Names.{told};
+ghost use Rattle.bt_lines.specs.calls.Names.{fault_value};
 ghost use Rattle.bt_lines.specs.calls.Output.{HoldsBlock};
 ghost use Rattle.bt_lines.specs.calls.Reader.{HasRead};
 ghost use Rattle.bt_bed.specs.model.feature.Feature.{Feature, intervals_of};
@@ -33,13 +33,13 @@ fn feed_all<S: Source, O: ChromOrder, E: Engine, K: Sink>(
     requires sorted { (view_of records.old).format ≡ bed_format (sorting_of (order_in records.old)) }
     requires none_last { last_locus records.old ≡ None }
     requires total { IsTotal (order_in records.old) }
-    requires stands { E.stands engine.old [] engine.old }
+    requires stands { E.is_after engine.old [] engine.old }
     requires nothing { E.settled engine.old [] ≡ [] }
     requires takes { (past : List Feature) → ArePlaced (order_in records.old) (intervals_of past)
         → AreNonEmpty (intervals_of past) → E.takes engine.old past }
     requires block { HoldsBlock out.old.output.took out.old.output.put }
     ensures feeds { FeedsRecords (E.settled engine.old) S.left S.has_failed S.end_told
-        (λ past. E.stands engine.old past engine.new) records.old out.old.output result records.new out.new.output }
+        (λ past. E.is_after engine.old past engine.new) records.old out.old.output result records.new out.new.output }
     ensures reads { AnswersNoRead result → HasRead S.is_read (below records.old) (below records.new) }
     ensures own_failure { KeepsOwnFault S.is_read (below records.old) (view_of records.new) }
 {
@@ -55,7 +55,7 @@ fn feed_buffered<S: Source, O: ChromOrder, E: Engine, K: Sink>(
     engine: &mut E,
     out: &mut Out<K>,
 ) -> Result<(), Fault>
-    ensures { FeedsBuffered S.left S.has_failed S.end_told E.takes E.stands E.fault E.settled E.quiet
+    ensures { FeedsBuffered S.left S.has_failed S.end_told E.takes E.is_after E.fault E.settled E.quiet
         records.old engine.old out.old.output result records.new engine.new out.new.output }
 {
     let mut batch = records.buffered();
@@ -74,19 +74,19 @@ pub(crate) fn drive<A: Source, O: ChromOrder, E: Engine + Drop, K: Sink>(
     first: A,
     out: &mut Out<K>,
 ) -> (Option<Fault>, A)
-    requires stands { E.stands engine [] engine }
+    requires stands { E.is_after engine [] engine }
     requires nothing { E.settled engine [] ≡ [] }
     requires takes { (past : List Feature) → ArePlaced (O.order order.now) (intervals_of past)
         → AreNonEmpty (intervals_of past) → E.takes engine past }
     requires stays { SettledStays (E.settled engine) (E.takes engine) }
-    requires begins { SettledBegins (E.settled engine) (E.whole engine) (E.takes engine) }
+    requires begins { SettledBegins (E.settled engine) (E.output engine) (E.takes engine) }
     requires block { HoldsBlock out.old.output.took out.old.output.put }
     ensures written { WritesRecords A.left A.has_failed
-        (record { whole = E.whole engine; settled = E.settled engine }) (O.order order.now)
-        first out.old.output (option_map told result.0) result.1 out.new.output }
-    ensures reads { TellsNoRead (option_map told result.0) → ReadsServe A.is_read first result.1 }
+        (record { whole = E.output engine; settled = E.settled engine }) (O.order order.now)
+        first out.old.output (option_map fault_value result.0) result.1 out.new.output }
+    ensures reads { TellsNoRead (option_map fault_value result.0) → ReadsServe A.is_read first result.1 }
     ensures own_failure { TellsOwnReads ⊥ (IsOwnFailure A.is_read first result.1) ⊥
-        (option_map told result.0) }
+        (option_map fault_value result.0) }
 {
     let reader = LineReader::new(alloc, first, Input::First);
     let mut records = Records::new(alloc, reader, order);

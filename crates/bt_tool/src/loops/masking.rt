@@ -1,7 +1,7 @@
 //! The loop over a FASTA input and a BED input: a masking engine is given the lines and the records.
 
 ghost use Rattle.std.specs.Prelude.{◌≡◌, ℕ, List, [], None, Some, option_map};
-ghost use Rattle.bt_lines.specs.calls.Names.{told};
+ghost use Rattle.bt_lines.specs.calls.Names.{fault_value};
 ghost use Rattle.bt_lines.specs.calls.Output.{HoldsBlock};
 ghost use Rattle.bt_lines.specs.calls.Reader.{HasRead, fault_kept as line_fault, input_of};
 ghost use Rattle.bt_bed.specs.calls.Blocks.{below, fault_kept, view_of};
@@ -115,10 +115,10 @@ pub(crate) fn mask<A: Source, B: Source, K: Sink>(
 ) -> (Option<Fault>, A, B)
     requires { HoldsBlock out.old.output.took out.old.output.put }
     ensures written { WritesBy A.left A.has_failed A.end_told B.left B.has_failed (of_maskfasta how full)
-        first (Some second) out.old.output (option_map told result.0) result.1 (Some result.2) out.new.output }
-    ensures reads { TellsNoRead (option_map told result.0) → ReadsServe A.is_read first result.1 × ReadsServe B.is_read second result.2 }
+        first (Some second) out.old.output (option_map fault_value result.0) result.1 (Some result.2) out.new.output }
+    ensures reads { TellsNoRead (option_map fault_value result.0) → ReadsServe A.is_read first result.1 × ReadsServe B.is_read second result.2 }
     ensures own_failure { TellsOwnReads ⊥ (IsOwnFailure A.is_read first result.1)
-        (IsOwnFailure B.is_read second result.2) (option_map told result.0) }
+        (IsOwnFailure B.is_read second result.2) (option_map fault_value result.0) }
 {
     let mut lines = LineReader::new(alloc, first, Input::First);
     let mut records = Blocks::new(alloc, LineReader::new(alloc, second, Input::Second));

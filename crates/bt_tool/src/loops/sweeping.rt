@@ -1,7 +1,7 @@
 //! The loop over two sorted inputs: a sweep is given the records of both.
 
 ghost use Rattle.std.specs.Prelude.{◌≡◌, None, Some, option_map};
-ghost use Rattle.bt_lines.specs.calls.Names.{told};
+ghost use Rattle.bt_lines.specs.calls.Names.{fault_value};
 ghost use Rattle.bt_lines.specs.calls.Output.{HoldsBlock};
 ghost use Rattle.bt_lines.specs.calls.Reader.{HasRead};
 ghost use Rattle.bt_bed.specs.model.input.GoodBed.{bed_format};
@@ -169,10 +169,10 @@ pub(crate) fn sweep<A: Source, B: Source, O: ChromOrder, K: Sink>(
     requires block { HoldsBlock out.old.output.took out.old.output.put }
     ensures written { WritesBy A.left A.has_failed A.end_told B.left B.has_failed
         (of_intersect (O.order order.now) shape rule limit)
-        first (Some second) out.old.output (option_map told result.0) result.1 (Some result.2) out.new.output }
-    ensures reads { TellsNoRead (option_map told result.0) → ReadsServe A.is_read first result.1 × ReadsServe B.is_read second result.2 }
+        first (Some second) out.old.output (option_map fault_value result.0) result.1 (Some result.2) out.new.output }
+    ensures reads { TellsNoRead (option_map fault_value result.0) → ReadsServe A.is_read first result.1 × ReadsServe B.is_read second result.2 }
     ensures own_failure { TellsOwnReads ⊥ (IsOwnFailure A.is_read first result.1)
-        (IsOwnFailure B.is_read second result.2) (option_map told result.0) }
+        (IsOwnFailure B.is_read second result.2) (option_map fault_value result.0) }
 {
     let mut firsts = Records::new(alloc, LineReader::new(alloc, first, Input::First), order);
     let mut seconds = Records::new(alloc, LineReader::new(alloc, second, Input::Second), order);

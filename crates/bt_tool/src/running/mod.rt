@@ -6,14 +6,14 @@ pub(crate) mod outcome;
 ghost use Rattle.std.specs.Prelude.{IfSome, IsSome, IsTrue, MatchResult, ◌≡◌, ◌≢◌, ◌≤◌, ◌⊎◌, ⊤, true, Some, is_some, option_map};
 ghost use Rattle.bt_lines.specs.model.Number.{max_number};
 ghost use Rattle.bt_lines.specs.model.Fault.{write_failed};
-ghost use Rattle.bt_lines.specs.calls.Names.{told};
+ghost use Rattle.bt_lines.specs.calls.Names.{fault_value};
 ghost use Rattle.bt_lines.specs.calls.Output.{HoldsBlock};
 ghost use Rattle.bt_bed.specs.calls.GenomeTable.{entries, names_of};
 ghost use Rattle.bt_bed.specs.model.order.Rank.{AreDistinct};
 ghost use Rattle.bt_sweep.specs.model.Subtract.{subtract_shape};
 ghost use Rattle.bt_tool.specs.model.report.Behaviour.{behaviour_of, entries_in, of_intersect, of_maskfasta, order_of};
 ghost use Rattle.bt_tool.specs.calls.run.Chromosomes.{ReadsChromosomes, WritesOutput};
-ghost use Rattle.bt_tool.specs.calls.run.Gives.{Runs};
+ghost use Rattle.bt_tool.specs.calls.run.RunContract.{Runs};
 ghost use Rattle.bt_tool.specs.calls.words.Limits.{is_within_limits};
 ghost use Rattle.bt_tool.specs.model.usage.Table.{IsNamedBy, table_of, tool_of};
 ghost use Rattle.bt_tool.specs.calls.run.OwnReads.{AnswersNoRead, IsOwnFailure, IsOwnFailureIf, ReadsServe, ReadsServeIf, TellsNoRead, TellsOwnReads};
@@ -61,18 +61,18 @@ pub fn run<G: Source, A: Source, B: Source, K: Sink>(
     requires second { is_some second ≡ is_some plan.now.second }
     ensures genome { is_some result.genome ≡ is_some genome }
     ensures second { is_some result.second ≡ is_some second }
-    ensures flushed { (option_map told result.outcome.fault ≡ Some write_failed)
+    ensures flushed { (option_map fault_value result.outcome.fault ≡ Some write_failed)
         ⊎ (K.is_flushed result.out ≡ true) }
     ensures report { Runs G.left G.has_failed A.left A.has_failed A.end_told B.left B.has_failed K.took K.has_failed
-        plan.now.command genome first second out (option_map told result.outcome.fault)
+        plan.now.command genome first second out (option_map fault_value result.outcome.fault)
         result.genome result.first result.second result.out }
-    ensures reads { option_map told result.outcome.fault ≢ Some write_failed → TellsNoRead (option_map told result.outcome.fault)
+    ensures reads { option_map fault_value result.outcome.fault ≢ Some write_failed → TellsNoRead (option_map fault_value result.outcome.fault)
         → ReadsServeIf G.is_read genome result.genome × ReadsServe A.is_read first result.first
         × ReadsServeIf B.is_read second result.second }
     ensures own_failure { TellsOwnReads (IsOwnFailureIf G.is_read genome result.genome)
         (IsOwnFailure A.is_read first result.first)
         (IsOwnFailureIf B.is_read second result.second)
-        (option_map told result.outcome.fault) }
+        (option_map fault_value result.outcome.fault) }
 {
     let mut out = Out::new(out);
     let (chromosomes, genome) = read_genome(alloc, genome);
@@ -104,7 +104,7 @@ fn read_genome<G: Source>(
     ensures read { ReadsChromosomes G.left G.has_failed genome result.0 result.1 }
     ensures reads { AnswersNoRead result.0 → ReadsServeIf G.is_read genome result.1 }
     ensures own_failure { MatchResult result.0 (λ _. ⊤) (λ fault. TellsOwnReads
-        (IsOwnFailureIf G.is_read genome result.1) ⊥ ⊥ (Some (told fault))) }
+        (IsOwnFailureIf G.is_read genome result.1) ⊥ ⊥ (Some (fault_value fault))) }
 {
     let Some(genome) = genome else {
         return (Ok(None), None);
@@ -136,13 +136,13 @@ fn write_output<A: Source, B: Source, K: Sink>(
         (λ table. IfSome table (λ table. AreDistinct (names_of table))) (λ _. ⊤) }
     requires block { HoldsBlock out.old.output.took out.old.output.put }
     ensures written { WritesOutput A.left A.has_failed A.end_told B.left B.has_failed command chromosomes first second
-        out.old.output (option_map told result.0) result.1 result.2 out.new.output }
+        out.old.output (option_map fault_value result.0) result.1 result.2 out.new.output }
     ensures second { is_some result.2 ≡ is_some second }
-    ensures reads { TellsNoRead (option_map told result.0)
+    ensures reads { TellsNoRead (option_map fault_value result.0)
         → ReadsServe A.is_read first result.1 × ReadsServeIf B.is_read second result.2 }
     ensures own_failure { MatchResult chromosomes (λ _. TellsOwnReads ⊥
         (IsOwnFailure A.is_read first result.1)
-        (IsOwnFailureIf B.is_read second result.2) (option_map told result.0)) (λ _. ⊤) }
+        (IsOwnFailureIf B.is_read second result.2) (option_map fault_value result.0)) (λ _. ⊤) }
 {
     match chromosomes {
         Ok(table) => write_records(alloc, command, &table, first, second, out),
@@ -167,12 +167,12 @@ fn write_records<A: Source, B: Source, K: Sink>(
     requires block { HoldsBlock out.old.output.took out.old.output.put }
     ensures written { WritesBy A.left A.has_failed A.end_told B.left B.has_failed
         (behaviour_of command (option_map entries genome.now))
-        first second out.old.output (option_map told result.0) result.1 result.2 out.new.output }
+        first second out.old.output (option_map fault_value result.0) result.1 result.2 out.new.output }
     ensures second { is_some result.2 ≡ is_some second }
-    ensures reads { TellsNoRead (option_map told result.0)
+    ensures reads { TellsNoRead (option_map fault_value result.0)
         → ReadsServe A.is_read first result.1 × ReadsServeIf B.is_read second result.2 }
     ensures own_failure { TellsOwnReads ⊥ (IsOwnFailure A.is_read first result.1)
-        (IsOwnFailureIf B.is_read second result.2) (option_map told result.0) }
+        (IsOwnFailureIf B.is_read second result.2) (option_map fault_value result.0) }
 {
     match command {
         Command::Merge { d, strand } => {
@@ -214,10 +214,10 @@ fn merge<A: Source, K: Sink>(
     requires limit { d ≤ max_number }
     requires block { HoldsBlock out.old.output.took out.old.output.put }
     ensures written { WritesRecords A.left A.has_failed (merge_written (order_of (option_map entries genome.now)) d strand)
-        (order_of (option_map entries genome.now)) first out.old.output (option_map told result.0) result.1 out.new.output }
-    ensures reads { TellsNoRead (option_map told result.0) → ReadsServe A.is_read first result.1 }
+        (order_of (option_map entries genome.now)) first out.old.output (option_map fault_value result.0) result.1 out.new.output }
+    ensures reads { TellsNoRead (option_map fault_value result.0) → ReadsServe A.is_read first result.1 }
     ensures own_failure { TellsOwnReads ⊥ (IsOwnFailure A.is_read first result.1) ⊥
-        (option_map told result.0) }
+        (option_map fault_value result.0) }
 {
     let engine = Merge::new(alloc, d, strand);
     match genome {
@@ -239,10 +239,10 @@ fn complement<A: Source, K: Sink>(
     requires block { HoldsBlock out.old.output.took out.old.output.put }
     ensures written { WritesRecords A.left A.has_failed
         (complement_written (entries_in (option_map entries genome.now)) limit)
-        (order_of (option_map entries genome.now)) first out.old.output (option_map told result.0) result.1 out.new.output }
-    ensures reads { TellsNoRead (option_map told result.0) → ReadsServe A.is_read first result.1 }
+        (order_of (option_map entries genome.now)) first out.old.output (option_map fault_value result.0) result.1 out.new.output }
+    ensures reads { TellsNoRead (option_map fault_value result.0) → ReadsServe A.is_read first result.1 }
     ensures own_failure { TellsOwnReads ⊥ (IsOwnFailure A.is_read first result.1) ⊥
-        (option_map told result.0) }
+        (option_map fault_value result.0) }
 {
     let Some(genome) = genome else { unreachable!() };
     let engine = Complement::new(genome, limit);
@@ -263,10 +263,10 @@ fn cover<A: Source, K: Sink>(
     requires block { HoldsBlock out.old.output.took out.old.output.put }
     ensures written { WritesRecords A.left A.has_failed
         (coverage_written (entries_in (option_map entries genome.now)) zeros strand)
-        (order_of (option_map entries genome.now)) first out.old.output (option_map told result.0) result.1 out.new.output }
-    ensures reads { TellsNoRead (option_map told result.0) → ReadsServe A.is_read first result.1 }
+        (order_of (option_map entries genome.now)) first out.old.output (option_map fault_value result.0) result.1 out.new.output }
+    ensures reads { TellsNoRead (option_map fault_value result.0) → ReadsServe A.is_read first result.1 }
     ensures own_failure { TellsOwnReads ⊥ (IsOwnFailure A.is_read first result.1) ⊥
-        (option_map told result.0) }
+        (option_map fault_value result.0) }
 {
     let Some(genome) = genome else { unreachable!() };
     let engine = Coverage::new(alloc, genome, zeros, strand);
@@ -296,12 +296,12 @@ fn sweep_both<A: Source, B: Source, K: Sink>(
     requires block { HoldsBlock out.old.output.took out.old.output.put }
     ensures written { WritesBy A.left A.has_failed A.end_told B.left B.has_failed
         (of_intersect (order_of (option_map entries genome.now)) shape rule limit)
-        first second out.old.output (option_map told result.0) result.1 result.2 out.new.output }
+        first second out.old.output (option_map fault_value result.0) result.1 result.2 out.new.output }
     ensures second { is_some result.2 ≡ is_some second }
-    ensures reads { TellsNoRead (option_map told result.0)
+    ensures reads { TellsNoRead (option_map fault_value result.0)
         → ReadsServe A.is_read first result.1 × ReadsServeIf B.is_read second result.2 }
     ensures own_failure { TellsOwnReads ⊥ (IsOwnFailure A.is_read first result.1)
-        (IsOwnFailureIf B.is_read second result.2) (option_map told result.0) }
+        (IsOwnFailureIf B.is_read second result.2) (option_map fault_value result.0) }
 {
     let Some(second) = second else { unreachable!() };
     let (fault, first, second) = match genome {
@@ -323,12 +323,12 @@ fn mask_both<A: Source, B: Source, K: Sink>(
     requires second { IsSome second }
     requires block { HoldsBlock out.old.output.took out.old.output.put }
     ensures written { WritesBy A.left A.has_failed A.end_told B.left B.has_failed (of_maskfasta how full)
-        first second out.old.output (option_map told result.0) result.1 result.2 out.new.output }
+        first second out.old.output (option_map fault_value result.0) result.1 result.2 out.new.output }
     ensures second { is_some result.2 ≡ is_some second }
-    ensures reads { TellsNoRead (option_map told result.0)
+    ensures reads { TellsNoRead (option_map fault_value result.0)
         → ReadsServe A.is_read first result.1 × ReadsServeIf B.is_read second result.2 }
     ensures own_failure { TellsOwnReads ⊥ (IsOwnFailure A.is_read first result.1)
-        (IsOwnFailureIf B.is_read second result.2) (option_map told result.0) }
+        (IsOwnFailureIf B.is_read second result.2) (option_map fault_value result.0) }
 {
     let Some(second) = second else { unreachable!() };
     let (fault, first, second) = mask(alloc, how, full, first, second, out);

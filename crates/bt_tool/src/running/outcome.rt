@@ -1,7 +1,7 @@
 //! How a run ended.
 
 ghost use Rattle.std.specs.Prelude.{◌≡◌, [], IfOk, None, Ok, option_map, string_bytes, unwrap_or};
-ghost use Rattle.bt_lines.specs.calls.Names.{told};
+ghost use Rattle.bt_lines.specs.calls.Names.{fault_value};
 ghost use Rattle.bt_tool.specs.calls.words.Plan.{plan_seen};
 ghost use Rattle.bt_tool.specs.model.report.Report.{fault_text, status_of};
 
@@ -18,7 +18,7 @@ pub struct Outcome {
 impl Outcome {
     /// The exit status: 0 without a fault, else 1.
     pub fn status(&self) -> u8
-        ensures { result ≡ status_of (option_map told self.now.fault) }
+        ensures { result ≡ status_of (option_map fault_value self.now.fault) }
     {
         match self.fault {
             Some(_) => 1,
@@ -30,7 +30,7 @@ impl Outcome {
     /// the plan lacks is empty. `Err` if memory runs out; without a fault it doesn't allocate.
     pub fn fault_line(&self, alloc: Global, plan: &Plan) -> Result<Option<Vec<u8>>, AllocError>
         ensures line { IfOk result (λ line. option_map (λ line. line.items) line
-            ≡ option_map (λ fault. fault_text (plan_seen plan.now) (told fault)) self.now.fault) }
+            ≡ option_map (λ fault. fault_text (plan_seen plan.now) (fault_value fault)) self.now.fault) }
         ensures none { self.now.fault ≡ None → result ≡ Ok None }
     {
         let Some(fault) = self.fault else {

@@ -2,7 +2,7 @@
 use Rattle.std.proofs.Common.{◌≡◌, ℕ, zero, suc, ◌+◌, ◌<◌, ◌≤◌, arith, take, Bool, true, false, cond, List, [], ◌∷◌, ◌++◌, Option, Some, None, Result, Ok, Err, refl, sym, ap, ◌∙◌, subst, append_assoc, append-nil}
 use Rattle.std.specs.Prelude.{IfErr, bytes_eq}
 use Rattle.std.proofs.lemmas.Bool.{or_parts}
-use Rattle.bt_lines.specs.model.Fault.{Told}
+use Rattle.bt_lines.specs.model.Fault.{FaultValue}
 use Rattle.bt_lines.proofs.lemmas.reader.lines.TextLemmas.{lines_are_numbered}
 use Rattle.bt_lines.specs.model.Lines.{TextLine, AreNumbered, text_lines}
 use Rattle.bt_lines.specs.declared.fault.Input.{Input}
@@ -27,7 +27,7 @@ distinct_push (m ∷ ms) n d e =
     let parts = or_parts (bytes_eq m n) (is_among ms n) e in
     (among_push ms n m d.0 (name_ne-sym m n parts.0), distinct_push ms n d.1 parts.1)
 
-ok_entries : (entry : Entry) (rest : Result (List Entry) Told) (entries : List Entry) → with_entry entry rest ≡ Ok entries → (more : List Entry) × (rest ≡ Ok more) × (entries ≡ entry ∷ more)
+ok_entries : (entry : Entry) (rest : Result (List Entry) FaultValue) (entries : List Entry) → with_entry entry rest ≡ Ok entries → (more : List Entry) × (rest ≡ Ok more) × (entries ≡ entry ∷ more)
 ok_entries entry (Ok more) entries e = (more, refl, cc)
 ok_entries entry (Err fault) entries e = cc
 
@@ -43,10 +43,10 @@ is_new names (Ok (Some other)) entry e =
     let tests = new_if (is_among names other.name) other entry e in
     subst (λ (it : Entry). is_among names it.name ≡ false) tests.1 tests.0
 
-abbrev KeepsDistinct : List (List ℕ) → Result (List Entry) Told → Type 0
+abbrev KeepsDistinct : List (List ℕ) → Result (List Entry) FaultValue → Type 0
 KeepsDistinct names result = (entries : List Entry) → result ≡ Ok entries → AreDistinct (names ++ genome_names entries)
 
-distinct_with : (input : Input) (line : TextLine) (names : List (List ℕ)) (rest : List (List ℕ) → Result (List Entry) Told) → AreDistinct names
+distinct_with : (input : Input) (line : TextLine) (names : List (List ℕ)) (rest : List (List ℕ) → Result (List Entry) FaultValue) → AreDistinct names
     → ((now : List (List ℕ)) → AreDistinct now → KeepsDistinct now (rest now))
     → (said : Result (Option Entry) Kind) → new_entry names (entry_of line.text) ≡ said → KeepsDistinct names (genome_with input line.number names said rest)
 distinct_with input line names rest d h (Err kind) was entries e = cc
@@ -72,25 +72,25 @@ pub distinct_genome : genome_names_are_distinct
 distinct_genome input lines entries e = distinct_from input [] lines tt entries e
 
 -- entries before those of a result
-pub before : List Entry → Result (List Entry) Told → Result (List Entry) Told
+pub before : List Entry → Result (List Entry) FaultValue → Result (List Entry) FaultValue
 before front (Ok more) = Ok (front ++ more)
 before front (Err fault) = Err fault
 
-before_none : (result : Result (List Entry) Told) → before [] result ≡ result
+before_none : (result : Result (List Entry) FaultValue) → before [] result ≡ result
 unfolding before
 before_none (Ok more) = refl
 before_none (Err fault) = refl
 
-before_more : (entry : Entry) (front : List Entry) (result : Result (List Entry) Told) → with_entry entry (before front result) ≡ before (entry ∷ front) result
+before_more : (entry : Entry) (front : List Entry) (result : Result (List Entry) FaultValue) → with_entry entry (before front result) ≡ before (entry ∷ front) result
 unfolding before
 before_more entry front (Ok more) = refl
 before_more entry front (Err fault) = refl
 
-pub before_ok : (front more : List Entry) (result : Result (List Entry) Told) → result ≡ Ok more → before front result ≡ Ok (front ++ more)
+pub before_ok : (front more : List Entry) (result : Result (List Entry) FaultValue) → result ≡ Ok more → before front result ≡ Ok (front ++ more)
 unfolding before
 before_ok front more result e = rw e refl
 
-pub before_err : (front : List Entry) (fault : Told) (result : Result (List Entry) Told) → result ≡ Err fault → before front result ≡ Err fault
+pub before_err : (front : List Entry) (fault : FaultValue) (result : Result (List Entry) FaultValue) → result ≡ Err fault → before front result ≡ Err fault
 unfolding before
 before_err front fault result e = rw e refl
 
@@ -119,7 +119,7 @@ says_then input names [] others entries e =
 says_then input names (line ∷ given) others entries e =
     said_with input line.number names given others (new_entry names (entry_of line.text)) entries (λ now. says_then input now given others) e
 
-first_with : (input : Input) (count number : ℕ) (names : List (List ℕ)) (said : Result (Option Entry) Kind) (whole taken : List (List ℕ) → Result (List Entry) Told) → number ≤ count
+first_with : (input : Input) (count number : ℕ) (names : List (List ℕ)) (said : Result (Option Entry) Kind) (whole taken : List (List ℕ) → Result (List Entry) FaultValue) → number ≤ count
     → ((now : List (List ℕ)) → IfErr (whole now) (IsFaultBeyond count) → (entries : List Entry) × (taken now ≡ Ok entries))
     → IfErr (genome_with input number names said whole) (IsFaultBeyond count) → (entries : List Entry) × (genome_with input number names said taken ≡ Ok entries)
 first_with input count number names (Err kind) whole taken low h beyond = absurd (let high : count < number = beyond in omega arith)
@@ -129,7 +129,7 @@ first_with input count number names (Ok (Some entry)) whole taken low h beyond =
     let more = h now (err_behind count entry (whole now) beyond) in
     (entry ∷ more.0, ap (with_entry entry) more.1)
   where
-    err_behind : (count : ℕ) (entry : Entry) (result : Result (List Entry) Told) → IfErr (with_entry entry result) (IsFaultBeyond count) → IfErr result (IsFaultBeyond count)
+    err_behind : (count : ℕ) (entry : Entry) (result : Result (List Entry) FaultValue) → IfErr (with_entry entry result) (IsFaultBeyond count) → IfErr result (IsFaultBeyond count)
     err_behind count entry (Ok entries) beyond = tt
     err_behind count entry (Err fault) beyond = beyond
 

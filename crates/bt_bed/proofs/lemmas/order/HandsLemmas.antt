@@ -6,7 +6,7 @@ use Rattle.std.proofs.lemmas.List.{drop-drop}
 use Rattle.bt_lines.proofs.lemmas.reader.lines.ReaderLemmas.{given_drops, hands_none as none_handed, hands_both as both_handed, sound_near}
 use Rattle.bt_lines.proofs.lemmas.reader.lines.TakingLemmas.{taken_below}
 use Rattle.bt_lines.proofs.lemmas.reader.lines.TextLemmas.{bytes_in-drop, line_feeds-append, lines_are_numbered}
-use Rattle.bt_lines.specs.model.Fault.{Told, read_failed}
+use Rattle.bt_lines.specs.model.Fault.{FaultValue, read_failed}
 use Rattle.bt_lines.specs.model.Lines.{TextLine, AreNumbered, bytes_in, lines_from}
 use Rattle.bt_lines.specs.calls.Output.{block_size}
 use Rattle.bt_lines.specs.calls.Reader.{CutsOff, GivesFault, GivesLine, Hands, IsNear, IsSound, bytes_left, bytes_taken, fault_kept, input_of, lines_given, lines_left, source_of}
@@ -86,13 +86,13 @@ module _ {S : Type 0} (left : S → Option (List ℕ)) (end : S → Bool) where
     }
 
     -- a line couldn't be read: of known bytes, those after it are left
-    pub near_fault : (fault : Told) → GivesFault left failed now fault new → fault_kept now ≡ None → IsNear left old new
+    pub near_fault : (fault : FaultValue) → GivesFault left failed now fault new → fault_kept now ≡ None → IsNear left old new
     near_fault fault gives going =
         near_pass (lines_left left old) (lines_left left now) (left (source_of new)) (lines_given now - lines_given old) (suc (lines_given new) - lines_given now) (suc (lines_given new) - lines_given old) p.lines
         (let same = gives.counted in let least = p.least in omega arith) (gives.near going)
 
     -- the line feeds among the bytes taken all end lines that were given
-    pub cut_fault : (fault : Told) → GivesFault left failed now fault new → fault_kept now ≡ None → fault ≡ read_failed (input_of now) (suc (lines_given now)) → CutsOff left old new
+    pub cut_fault : (fault : FaultValue) → GivesFault left failed now fault new → fault_kept now ≡ None → fault ≡ read_failed (input_of now) (suc (lines_given now)) → CutsOff left old new
     cut_fault fault gives going is =
         let cut = gives.cut_off going is in
         let within : bytes_taken now < 2 ^ 63 = taken_below now going in

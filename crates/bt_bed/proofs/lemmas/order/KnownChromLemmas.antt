@@ -1,7 +1,7 @@
 -- In blocks no chromosome is unknown.
 use Rattle.std.proofs.Common.{◌≡◌, ℕ, Bool, true, false, cond, List, [], ◌∷◌, Option, Some, None, Result, Ok, Err, refl, sym, ap, ◌∙◌}
 use Rattle.std.specs.Prelude.{⊤, ◌≢◌, IfSome, nat_lt}
-use Rattle.bt_lines.specs.model.Fault.{Told, read_failed}
+use Rattle.bt_lines.specs.model.Fault.{FaultValue, read_failed}
 use Rattle.bt_lines.specs.model.Handed.{cut_fault, lines_handed}
 use Rattle.bt_lines.specs.model.Lines.{TextLine, pieces}
 use Rattle.bt_lines.specs.model.Number.{value_of}
@@ -25,7 +25,7 @@ abbrev Other : {T : Type 0} → Result T Kind → Type 0
 Other (Ok x) = ⊤
 Other (Err kind) = is_other kind ≡ true
 
-abbrev Tells : Option Told → Type 0
+abbrev Tells : Option FaultValue → Type 0
 Tells None = ⊤
 Tells (Some fault) = is_other fault.kind ≡ true
 
@@ -86,7 +86,7 @@ from_other input last [] = tt
 from_other input last (line ∷ lines) =
     with_other input line.number last (line_says block_sorting last line.text) (λ now. good_from block_format input now lines) (line_other last line.text) (λ now. from_other input now lines)
 
-else_other : (one other : Option Told) → Tells one → Tells other → Tells (or_else one other)
+else_other : (one other : Option FaultValue) → Tells one → Tells other → Tells (or_else one other)
 else_other None other h k = k
 else_other (Some fault) other h k = h
 
@@ -95,7 +95,7 @@ unfolding is_other
 cut_by true input line = refl
 cut_by false input line = tt
 
-never_unknown : (fault : Option Told) → Tells fault → IfSome fault (λ fault. fault.kind ≢ UnknownChrom)
+never_unknown : (fault : Option FaultValue) → Tells fault → IfSome fault (λ fault. fault.kind ≢ UnknownChrom)
 unfolding is_other
 never_unknown None h = tt
 never_unknown (Some fault) h = λ e. absurd (let apart : true ≡ false = sym h ∙ ap is_other e in cc)

@@ -6,7 +6,7 @@ use Rattle.std.specs.Option.{option_to_list}
 use Rattle.std.proofs.lemmas.List.{map-append}
 use Rattle.std.proofs.lemmas.Option.{slice_get-map}
 use Rattle.std.proofs.Math.Seq.{take-append_seam}
-use Rattle.bt_lines.specs.model.Fault.{Told, read_failed, no_memory}
+use Rattle.bt_lines.specs.model.Fault.{FaultValue, read_failed, no_memory}
 use Rattle.bt_lines.specs.calls.LentLine.{GivesFirst}
 use Rattle.bt_lines.specs.model.Lines.{TextLine, pieces}
 use Rattle.bt_lines.specs.model.Number.{value_of}
@@ -209,7 +209,7 @@ first_lines old given new from to e n =
     rw (e, count) (take-append_seam given new)
 
 -- no line given is at fault
-none_wrong : (input : Input) (old now : Option (List TextLine)) (from to : ℕ) (front : List Entry) (fault : Told) → Continues input old from front now to → IsToldFirst input old (to - from) fault
+none_wrong : (input : Input) (old now : Option (List TextLine)) (from to : ℕ) (front : List Entry) (fault : FaultValue) → Continues input old from front now to → IsToldFirst input old (to - from) fault
 none_wrong input None now from to front fault c = tt
 none_wrong input (Some old) None from to front fault c = absurd c
 none_wrong input (Some old) (Some now) from to front fault c = λ other e.
@@ -244,7 +244,7 @@ given_entries input (Some old) (Some now) from to front c = (front, ap (λ lines
 pub record Going {S : Type 0} (left : S → Option (List ℕ)) (failed end : S → Bool) (old now : LineReader S) (genome : Genome) : Type 0 where
   pub continues : Continues (input_of old) (lines_left left old) (lines_given old) (entries genome) (lines_left left now) (lines_given now)
   pub distinct : AreDistinct (names_of genome)
-  pub stays : (before : Told) → fault_kept old ≡ Some before → now ≡ old
+  pub stays : (before : FaultValue) → fault_kept old ≡ Some before → now ≡ old
   pub going : fault_kept old ≡ None → fault_kept now ≡ None
   pub served : failed (source_of now) ≡ failed (source_of old)
   pub passed : Passed left end old now
@@ -264,7 +264,7 @@ module _ {S : Type 0} (left : S → Option (List ℕ)) (failed end : S → Bool)
   had_none : (now : LineReader S) (genome : Genome) → Going left failed end old now genome → fault_kept now ≡ None → fault_kept old ≡ None
   had_none now genome g none = by (fault_kept old) refl
     where
-      by : (kept : Option Told) → fault_kept old ≡ kept → kept ≡ None
+      by : (kept : Option FaultValue) → fault_kept old ≡ kept → kept ≡ None
       by None e = refl
       by (Some before) e =
           let same : fault_kept now ≡ fault_kept old = ap fault_kept (g.stays before e) in
@@ -301,7 +301,7 @@ module _ {S : Type 0} (left : S → Option (List ℕ)) (failed end : S → Bool)
     bytes = both now new g.passed.bytes (gives.bytes.0, gives.bytes.1);
   }
 
-  pub going_refused : (now next : LineReader S) (line : TextLine) (genome : Genome) (place : Place) (fault : Told) → Going left failed end old now genome → GivesLine left failed now line next
+  pub going_refused : (now next : LineReader S) (line : TextLine) (genome : Genome) (place : Place) (fault : FaultValue) → Going left failed end old now genome → GivesLine left failed now line next
       → place ≡ record { input = input_of old; line = line.number } → LineRefused place line.text genome fault → EntryIsWrong left failed old next fault
   going_refused now next line genome place fault g gives at refused =
       let is : fault ≡ fault_at_line (input_of old) line.number refused.kind = refused.is ∙ ap (λ (p : Place). fault_at_line p.input p.line refused.kind) at in
@@ -318,7 +318,7 @@ module _ {S : Type 0} (left : S → Option (List ℕ)) (failed end : S → Bool)
         served = gives.served ∙ g.served;
       }
 
-  stops_by : (now new : LineReader S) (genome : Genome) (fault : Told) → Going left failed end old now genome → GivesFault left failed now fault new → fault_kept now ≡ None → FailsToRead left failed now fault new ⊎ (fault ≡ no_memory) → StopCause left failed end old new fault
+  stops_by : (now new : LineReader S) (genome : Genome) (fault : FaultValue) → Going left failed end old now genome → GivesFault left failed now fault new → fault_kept now ≡ None → FailsToRead left failed now fault new ⊎ (fault ≡ no_memory) → StopCause left failed end old new fault
   stops_by now new genome fault g gives going (inl fails) = inr (inl (record {
     fails = record {
       is = fails.is ∙ ap (λ i. read_failed i (suc (lines_given now))) (same_input now genome g) ∙ ap (λ n. read_failed (input_of old) (suc n)) (sym gives.counted);
@@ -330,7 +330,7 @@ module _ {S : Type 0} (left : S → Option (List ℕ)) (failed end : S → Bool)
   }))
   stops_by now new genome fault g gives going (inr is) = inr (inr (record { is = is; served = gives.served is ∙ g.served }))
 
-  pub going_fault : (now new : LineReader S) (genome : Genome) (fault : Told) → Going left failed end old now genome → GivesFault left failed now fault new → ReadingStops left failed end old new fault
+  pub going_fault : (now new : LineReader S) (genome : Genome) (fault : FaultValue) → Going left failed end old now genome → GivesFault left failed now fault new → ReadingStops left failed end old new fault
   going_fault now new genome fault g gives = record {
     again = λ before e.
         let same = g.stays before e in
@@ -343,7 +343,7 @@ module _ {S : Type 0} (left : S → Option (List ℕ)) (failed end : S → Bool)
   }
 
   -- a line was refused, or had no room
-  going_wrong : (now next : LineReader S) (line : TextLine) (genome : Genome) (place : Place) (fault : Told) → Going left failed end old now genome → GivesLine left failed now line next → (IsSound left end now → IsSound left end next)
+  going_wrong : (now next : LineReader S) (line : TextLine) (genome : Genome) (place : Place) (fault : FaultValue) → Going left failed end old now genome → GivesLine left failed now line next → (IsSound left end now → IsSound left end next)
       → place ≡ record { input = input_of old; line = line.number } → LineRefused place line.text genome fault → ReadingStops left failed end old next fault
   going_wrong now next line genome place fault g gives sound at refused =
       let none = had_none now genome g gives.was_going.0 in
@@ -356,7 +356,7 @@ module _ {S : Type 0} (left : S → Option (List ℕ)) (failed end : S → Bool)
         near = λ none was. near_line left end old next (passed_line left end failed old now next g.passed line gives sound) gives.goes was;
       }
 
-  going_unkept : (now next : LineReader S) (line : TextLine) (genome : Genome) (fault : Told) → Going left failed end old now genome → GivesLine left failed now line next → (IsSound left end now → IsSound left end next) → LineUnkept line.text genome fault → ReadingStops left failed end old next fault
+  going_unkept : (now next : LineReader S) (line : TextLine) (genome : Genome) (fault : FaultValue) → Going left failed end old now genome → GivesLine left failed now line next → (IsSound left end now → IsSound left end next) → LineUnkept line.text genome fault → ReadingStops left failed end old next fault
   going_unkept now next line genome fault g gives sound unkept =
       let none = had_none now genome g gives.was_going.0 in
       let more = continues_line (input_of old) (lines_left left old) (lines_left left now) (lines_left left next) (lines_given old) (lines_given now) (lines_given next) (entries genome) line (Some unkept.entry) g.continues gives.first gives.counted unkept.says in
@@ -369,7 +369,7 @@ module _ {S : Type 0} (left : S → Option (List ℕ)) (failed end : S → Bool)
       }
 
   -- a line could not be added
-  pub going_err : (now next : LineReader S) (line : TextLine) (genome : Genome) (place : Place) (fault : Told) → Going left failed end old now genome → GivesLine left failed now line next → (IsSound left end now → IsSound left end next)
+  pub going_err : (now next : LineReader S) (line : TextLine) (genome : Genome) (place : Place) (fault : FaultValue) → Going left failed end old now genome → GivesLine left failed now line next → (IsSound left end now → IsSound left end next)
       → place ≡ record { input = input_of old; line = line.number } → LineRefused place line.text genome fault ⊎ LineUnkept line.text genome fault → ReadingStops left failed end old next fault
   going_err now next line genome place fault g gives sound at (inl refused) = going_wrong now next line genome place fault g gives sound at refused
   going_err now next line genome place fault g gives sound at (inr unkept) = going_unkept now next line genome fault g gives sound unkept

@@ -6,7 +6,7 @@ use Rattle.std.proofs.lemmas.Bool.{or_parts, or_from, or_left, or_right, false�
 use Rattle.bt_bed.specs.model.feature.Interval.{last_from, last_of, Interval}
 use Rattle.bt_bed.specs.model.order.Order.{Order, IsTotal}
 use Rattle.bt_bed.specs.model.order.Locus.{locus_of, IsUpTo, ArePlaced, placed_grows, fronts_are_placed}
-use Rattle.bt_bed.specs.model.order.Together.{has_records, IsFollowed, AreTogether, placed_are_together, together_grows, fronts_stand_together}
+use Rattle.bt_bed.specs.model.order.Contiguous.{has_records, IsFollowed, AreContiguous, placed_are_together, together_grows, fronts_stand_together}
 use Rattle.bt_bed.proofs.lemmas.parse.NameLemmas.{name_eq, name_ne, other_name, name_ne-sym}
 
 pub has_records-append : (name : List ℕ) (xs ys : List Interval) → has_records name (xs ++ ys) ≡ false → (has_records name xs ≡ false) × (has_records name ys ≡ false)
@@ -28,7 +28,7 @@ together_front (x ∷ y ∷ zs) ys t =
     ] in
     (next, rest)
 
-pub next_place : (q : Interval) (qs : List Interval) (r : Interval) → AreTogether (q ∷ qs ++ r ∷ []) → ((r.chrom ≡ (last_from q qs).chrom) × ((last_from q qs).start ≤ r.start)) ⊎ (has_records r.chrom (q ∷ qs) ≡ false)
+pub next_place : (q : Interval) (qs : List Interval) (r : Interval) → AreContiguous (q ∷ qs ++ r ∷ []) → ((r.chrom ≡ (last_from q qs).chrom) × ((last_from q qs).start ≤ r.start)) ⊎ (has_records r.chrom (q ∷ qs) ≡ false)
 next_place q [] r t = elim t.0 [
   | inl same ↦ inl same
   | inr gone ↦ inr (or_from (bytes_eq q.chrom r.chrom) false (name_ne-sym r.chrom q.chrom (or_parts (bytes_eq r.chrom q.chrom) false gone).0) refl)
@@ -63,7 +63,7 @@ has_records-push name (x ∷ xs) r f g =
     or_from (bytes_eq x.chrom name) (has_records name (xs ++ r ∷ [])) parts.0 (has_records-push name xs r parts.1 g)
 
 -- the next of a past in order: what the last record asks of it, it asks of all
-grows_from : (q : Interval) (qs : List Interval) (r : Interval) → AreTogether (q ∷ qs) → ((r.chrom ≡ (last_from q qs).chrom) × ((last_from q qs).start ≤ r.start)) ⊎ (has_records r.chrom (q ∷ qs) ≡ false) → AreTogether (q ∷ qs ++ r ∷ [])
+grows_from : (q : Interval) (qs : List Interval) (r : Interval) → AreContiguous (q ∷ qs) → ((r.chrom ≡ (last_from q qs).chrom) × ((last_from q qs).start ≤ r.start)) ⊎ (has_records r.chrom (q ∷ qs) ≡ false) → AreContiguous (q ∷ qs ++ r ∷ [])
 grows_from q [] r t next = (
   elim next [
     | inl same ↦ inl same

@@ -9,7 +9,7 @@ use Rattle.std.specs.Str.Parse.{digits_value}
 use Rattle.bt_lines.proofs.lemmas.numbers.NumberLemmas.{digits_denoting, digits_more, value_more, value_short}
 use Rattle.bt_lines.specs.model.Number.{value_of}
 use Rattle.bt_bed.specs.inside.FirstColumns.{AreBounds, BeginsWith, BeginsWithName, HasColumns, Leads}
-use Rattle.bt_bed.specs.declared.parse.leading.Leading.{Leading}
+use Rattle.bt_bed.specs.declared.parse.parsed_number.ParsedNumber.{ParsedNumber}
 use Rattle.bt_bed.proofs.lemmas.read.FirstColumnLemmas.{begins_below, front_is_name, leads_by, name_in_front}
 
 -- eight digits that denote a number
@@ -19,7 +19,7 @@ eight_begin text value room denotes =
     record { within = room; short = omega arith; digits = is.0; value = is.1 }
 
 -- the digits that eight bytes begin with
-pub few_begin : (text bytes : List ℕ) (lead : Leading) → bytes ≡ take 8 text → 8 ≤ length text → BeginsWith bytes lead → BeginsWith text lead
+pub few_begin : (text bytes : List ℕ) (lead : ParsedNumber) → bytes ≡ take 8 text → 8 ≤ length text → BeginsWith bytes lead → BeginsWith text lead
 few_begin text bytes lead are room begins =
     let within = begins.within in
     let size : length bytes ≡ 8 = ap length are ∙ length-take-le 8 text room in
@@ -32,7 +32,7 @@ few_begin text bytes lead are room begins =
     }
 
 -- one digit more
-pub one_more : (text : List ℕ) (lead : Leading) → BeginsWith text lead → lead.end < 12 → lead.end < length text → is_ascii_digit (get_or text lead.end 0) ≡ true
+pub one_more : (text : List ℕ) (lead : ParsedNumber) → BeginsWith text lead → lead.end < 12 → lead.end < length text → is_ascii_digit (get_or text lead.end 0) ≡ true
     → BeginsWith text (record { value = lead.value * 10 + (get_or text lead.end 0 - 48); end = lead.end + 1 })
 one_more text lead begins short inside digit = record {
   within = omega arith;
@@ -47,7 +47,7 @@ eight_small text value room denotes =
     let begins = eight_begin text value room denotes in
     value_short 8 value (begins_below text (record { value = value; end = 8 }) begins) (omega arith)
 
-module _ (bytes name : List ℕ) (start stop : Leading) (has : HasColumns bytes name start stop) where
+module _ (bytes name : List ℕ) (start stop : ParsedNumber) (has : HasColumns bytes name start stop) where
   name_tab : get_or bytes (length name) 0 ≡ 9
   name_tab = ap (λ l. get_or l (length name) 0) has.named ∙ get_or-append_seam name 9 (drop (length name + 1) bytes) 0
 
@@ -65,7 +65,7 @@ module _ (bytes name : List ℕ) (start stop : Leading) (has : HasColumns bytes 
         ∙ get_or-take (k + 1) bytes k 0 (omega arith)
 
     -- a number in it
-    number_in : (at : ℕ) (lead : Leading) → BeginsWith (drop at bytes) lead → at + lead.end ≤ length name + start.end + stop.end + 2 → take lead.end (drop at text) ≡ take lead.end (drop at bytes)
+    number_in : (at : ℕ) (lead : ParsedNumber) → BeginsWith (drop at bytes) lead → at + lead.end ≤ length name + start.end + stop.end + 2 → take lead.end (drop at text) ≡ take lead.end (drop at bytes)
     number_in at lead begins small =
         sym (drop-take at lead.end text) ∙ ap (drop at) (front_is (at + lead.end) small) ∙ drop-take at lead.end bytes
 
@@ -74,7 +74,7 @@ module _ (bytes name : List ℕ) (start stop : Leading) (has : HasColumns bytes 
         name_in_front text name (omega arith) (byte_is (length name) (omega arith) ∙ name_tab)
         ((bytes_eq-Decides name (take (length name) text)).1 (sym (front_is (length name) (omega arith) ∙ front_is_name bytes name has.named)))
 
-    leads_at : (at : ℕ) (lead : Leading) → BeginsWith (drop at bytes) lead → 0 < lead.end → at + lead.end ≤ length name + start.end + stop.end + 2 → (at + lead.end < length text → get_or text (at + lead.end) 0 ≡ 9)
+    leads_at : (at : ℕ) (lead : ParsedNumber) → BeginsWith (drop at bytes) lead → 0 < lead.end → at + lead.end ≤ length name + start.end + stop.end + 2 → (at + lead.end < length text → get_or text (at + lead.end) 0 ≡ 9)
         → Leads (drop at text) lead
     leads_at at lead begins some small tab =
         let same = number_in at lead begins small in

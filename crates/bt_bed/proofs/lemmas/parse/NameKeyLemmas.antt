@@ -7,8 +7,8 @@ use Rattle.std.proofs.lemmas.List.{length-append, take-append-drop, take-take}
 use Rattle.std.proofs.Math.Seq.{take-length}
 use Rattle.std.specs.Int.{from_le_bytes, w64}
 use Rattle.bt_bed.specs.inside.FirstColumns.{BeginsWithName}
-use Rattle.bt_bed.specs.inside.NameKey.{IsKey}
-use Rattle.bt_bed.specs.declared.parse.name_key.NameKey.{NameKey}
+use Rattle.bt_bed.specs.inside.PackedName.{IsKey}
+use Rattle.bt_bed.specs.declared.parse.packed_name.PackedName.{PackedName}
 
 -- bytes as one number, of which the first is the lowest
 abbrev worth : List ℕ → ℕ
@@ -79,7 +79,7 @@ bytes_and_tab (x ∷ name) bytes zero = bytes 0
 bytes_and_tab (x ∷ name) bytes (suc i) = bytes_and_tab name (λ k. bytes (suc k)) i
 
 -- bytes of which the first become the key's number begin with the name and a tab
-pub key_tells : (name bytes : List ℕ) (key : NameKey) → IsKey name key → length bytes ≡ 8 → ((i : ℕ) → get_or bytes i 0 < 256)
+pub key_tells : (name bytes : List ℕ) (key : PackedName) → IsKey name key → length bytes ≡ 8 → ((i : ℕ) → get_or bytes i 0 < 256)
     → (from_le_bytes w64 bytes * key.factor) % 2 ^ 64 ≡ key.word → take (length name + 1) bytes ≡ name ++ 9 ∷ []
 key_tells name bytes key is eight fit same =
     let short = is.short in

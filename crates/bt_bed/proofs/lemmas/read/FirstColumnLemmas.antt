@@ -23,7 +23,7 @@ use Rattle.bt_bed.specs.model.feature.Feature.{Feature}
 use Rattle.bt_bed.specs.inside.FirstColumns.{AreBounds, BeginsWith, BeginsWithName, EndsName, IsRecordName, Leads}
 use Rattle.bt_bed.specs.model.feature.Header.{is_header}
 use Rattle.bt_bed.specs.model.feature.Record.{IsName, columns_in, columns_say, feature_of, is_kept, kept_columns, record_of, strand_of}
-use Rattle.bt_bed.specs.declared.parse.leading.Leading.{Leading}
+use Rattle.bt_bed.specs.declared.parse.parsed_number.ParsedNumber.{ParsedNumber}
 use Rattle.bt_bed.specs.declared.record.strand.Strand.{Strand}
 
 pub cut_by : (text : List ℕ) (n : ℕ) → n ≤ length text → (n < length text → get_or text n 0 ≡ 9) → IsColumn (take n text) → (b : Bool) → ltb n (length text) ≡ b → pieces 9 text ≡ take n text ∷ columns_in (drop n text)
@@ -65,7 +65,7 @@ numbers_say (byte ∷ bytes) b c start stop columns some p q below =
     rw (p, q, test) refl
 
 -- the three columns say a feature
-pub direct_say : (text first second kept : List ℕ) (name : ℕ) (start stop : Leading) (strand : Strand) → first ≡ drop (name + 1) text → second ≡ drop (start.end + 1) first → kept ≡ drop stop.end second → strand ≡ strand_of (columns_in kept)
+pub direct_say : (text first second kept : List ℕ) (name : ℕ) (start stop : ParsedNumber) (strand : Strand) → first ≡ drop (name + 1) text → second ≡ drop (start.end + 1) first → kept ≡ drop stop.end second → strand ≡ strand_of (columns_in kept)
     → EndsName text name → Leads first start → start.end < length first → Leads second stop → start.value < stop.value
     → Ok (record { chrom = take name text; start = start.value; stop = stop.value; strand = strand; rest = kept }) ≡ columns_say (pieces 9 text)
 direct_say text first second kept name start stop strand f s k t n p inside q below =
@@ -106,7 +106,7 @@ pub digit_bound : (byte : ℕ) → is_ascii_digit byte ≡ true → byte ≤ 57
 digit_bound byte digit = grind (arith, nat_tests)
 
 -- the value of the first digits is below the power of ten that has one digit more
-pub begins_below : (text : List ℕ) (lead : Leading) → BeginsWith text lead → lead.value < 10 ^ lead.end
+pub begins_below : (text : List ℕ) (lead : ParsedNumber) → BeginsWith text lead → lead.value < 10 ^ lead.end
 begins_below text lead begins =
     let within = begins.within in
     let size : length (take lead.end text) ≡ lead.end = omega (arith, length-take lead.end text) in
@@ -125,7 +125,7 @@ rest_stands text first second kept a b c f s k =
     ∙ ap (drop c) behind ∙ sym k
 
 -- the feature of two columns that are its bounds, and of what follows them
-pub bounds_say : (text rest : List ℕ) (name : ℕ) (start stop : Leading) (strand : Strand) → EndsName text name → AreBounds text name start stop → rest ≡ drop (name + start.end + stop.end + 2) text
+pub bounds_say : (text rest : List ℕ) (name : ℕ) (start stop : ParsedNumber) (strand : Strand) → EndsName text name → AreBounds text name start stop → rest ≡ drop (name + start.end + stop.end + 2) text
     → strand ≡ strand_of (columns_in rest)
     → Ok (record { chrom = take name text; start = start.value; stop = stop.value; strand = strand; rest = rest }) ≡ columns_say (pieces 9 text)
 bounds_say text rest name start stop strand ends bounds r t =

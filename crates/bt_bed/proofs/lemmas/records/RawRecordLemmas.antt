@@ -13,7 +13,7 @@ use Rattle.bt_bed.specs.model.feature.Feature.{Feature}
 use Rattle.bt_bed.specs.inside.FirstColumns.{Leads}
 use Rattle.bt_bed.specs.model.feature.Record.{IsFeature, bed_text, columns_in, record_of, strand_of}
 use Rattle.bt_bed.specs.calls.RawRecord.{IsAsWritten, IsOnLine, kept_in, record_in, text_in}
-use Rattle.bt_bed.specs.declared.parse.leading.Leading.{Leading}
+use Rattle.bt_bed.specs.declared.parse.parsed_number.ParsedNumber.{ParsedNumber}
 use Rattle.bt_bed.specs.declared.record.raw_record.RawRecord.{RawRecord}
 use Rattle.bt_bed.proofs.lemmas.parse.FeatureLemmas.{columns_say_feature, record_said, said_is_feature}
 use Rattle.bt_bed.proofs.lemmas.read.FirstColumnLemmas.{bounds_say, rest_stands}
@@ -46,7 +46,7 @@ some_digits zero text value e = cc
 some_digits (suc end) text value e = omega arith
 
 -- so is a column
-column_written : (text : List ℕ) (lead : Leading) → Leads text lead → lead.value ≤ 999999999999 → (get_or text 0 0 ≡ 48 → ⊥) → decimal lead.value ≡ take lead.end text
+column_written : (text : List ℕ) (lead : ParsedNumber) → Leads text lead → lead.value ≤ 999999999999 → (get_or text 0 0 ≡ 48 → ⊥) → decimal lead.value ≡ take lead.end text
 column_written text lead leads small no_zero =
     digits_written (take lead.end text) lead.value leads.value small (λ zero. no_zero (sym (get_or-take lead.end text 0 0 (some_digits lead.end text lead.value leads.value)) ∙ zero))
 

@@ -1,7 +1,7 @@
 -- A record, put column by column, and what ends it.
 use Rattle.std.proofs.Common.{◌≡◌, ℕ, ◌-◌, List, [], ◌∷◌, ◌++◌, Result, ap, subst, ◌∙◌, append_assoc, arith, length, length-append, codes, drop, take}
 use Rattle.std.proofs.lemmas.List.{length-drop, take_at}
-use Rattle.bt_lines.specs.model.Fault.{Told}
+use Rattle.bt_lines.specs.model.Fault.{FaultValue}
 use Rattle.bt_lines.specs.calls.Output.{Output}
 use Rattle.bt_lines.specs.calls.Putting.{FailsToPut, Puts, PutsAll}
 use Rattle.bt_lines.specs.declared.fault.Fault.{Fault}
@@ -35,7 +35,7 @@ module _ (r : Feature) (end : List ℕ) where
   front_parts = append_assoc r.chrom (bounds_text r.start r.stop) (r.rest ++ end) ∙ record_parts r end
 
   -- the record was cut off in its name or in its bounds
-  pub cut_in_front : (old new : Output) (fault : Told) → FailsToPut old (r.chrom ++ bounds_text r.start r.stop) fault new → FailsToPut old (bed_text r ++ end) fault new
+  pub cut_in_front : (old new : Output) (fault : FaultValue) → FailsToPut old (r.chrom ++ bounds_text r.start r.stop) fault new → FailsToPut old (bed_text r ++ end) fault new
   cut_in_front old new fault p =
       subst (λ bytes. FailsToPut old bytes fault new) front_parts (fails_before old new (r.chrom ++ bounds_text r.start r.stop) (r.rest ++ end) fault p)
 

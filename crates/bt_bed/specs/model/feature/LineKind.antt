@@ -1,6 +1,6 @@
 -- Faults of a line.
 use Rattle.std.specs.Prelude.{◌≡◌, ℕ, Bool, true, false, List, Some}
-use Rattle.bt_lines.specs.model.Fault.{Told}
+use Rattle.bt_lines.specs.model.Fault.{FaultValue}
 use Rattle.bt_lines.specs.declared.fault.Input.{Input}
 use Rattle.bt_lines.specs.declared.fault.Kind.{Kind}
 use Rattle.bt_lines.specs.declared.fault.Kind.TheVariants.{TooFewColumns, EmptyName, BadStart}
@@ -52,6 +52,6 @@ is_genome_kind RepeatedChrom = true
 is_genome_kind _ = false
 
 -- a fault of this kind at a line of the input
-abbrev pub fault_at_line : Input → ℕ → Kind → Told
+abbrev pub fault_at_line : Input → ℕ → Kind → FaultValue
 fault_at_line input line kind =
     record { kind = kind; place = Some (record { input = input; line = line }) }

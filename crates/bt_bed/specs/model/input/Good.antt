@@ -1,7 +1,7 @@
 -- What an input gives: its members (records, sequences' lines, alignments) up to its first line at
 -- fault.
 use Rattle.std.specs.Prelude.{ℕ, List, [], ◌∷◌, map, Option, Some, None, Result, Ok, Err}
-use Rattle.bt_lines.specs.model.Fault.{Told}
+use Rattle.bt_lines.specs.model.Fault.{FaultValue}
 use Rattle.bt_lines.specs.model.Handed.{Handed, cut_fault, lines_handed}
 use Rattle.bt_lines.specs.model.Lines.{TextLine}
 use Rattle.bt_lines.specs.declared.fault.Input.{Input}
@@ -16,7 +16,7 @@ pub record Member (A : Type 0) : Type 0 where
 -- the members before the first line at fault, and the fault of that line, if there is one
 pub record Good (A : Type 0) : Type 0 where
   pub members : List (Member A)
-  pub fault : Option Told
+  pub fault : Option FaultValue
 
 -- the members without their lines
 abbrev pub items_in : {A : Type 0} → Good A → List A
@@ -33,7 +33,7 @@ pub record Format (A State : Type 0) : Type 0 where
   pub after : State → A → State
 
 -- no member, and a fault if there is one
-abbrev pub ends_with : {A : Type 0} → Option Told → Good A
+abbrev pub ends_with : {A : Type 0} → Option FaultValue → Good A
 ends_with fault = record { members = []; fault = fault }
 
 -- a member before others
@@ -61,12 +61,12 @@ abbrev pub good : {A State : Type 0} → Format A State → Input → List TextL
 good format input lines = good_from format input format.begin lines
 
 -- the first of two faults, if there is one
-abbrev pub or_else : Option Told → Option Told → Option Told
+abbrev pub or_else : Option FaultValue → Option FaultValue → Option FaultValue
 or_else None other = other
 or_else (Some fault) other = Some fault
 
 -- the same members, and after them this fault, if none of theirs comes before
-abbrev pub cut_by : {A : Type 0} → Option Told → Good A → Good A
+abbrev pub cut_by : {A : Type 0} → Option FaultValue → Good A → Good A
 cut_by fault good = record { members = good.members; fault = or_else good.fault fault }
 
 -- What is good of an input that may have been cut off: the good members of the lines handed over.

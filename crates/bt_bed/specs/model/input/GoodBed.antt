@@ -4,7 +4,7 @@
 use Rattle.std.specs.Prelude.{◌≡◌, ℕ, ◌≤◌, All, List, ◌++◌, length, take, Option, Some, None}
 use Rattle.std.specs.Prelude.{Result, Ok, Err, if◌then◌else◌}
 use Rattle.bt_lines.specs.model.Handed.{Handed}
-use Rattle.bt_lines.specs.model.Fault.{Told}
+use Rattle.bt_lines.specs.model.Fault.{FaultValue}
 use Rattle.bt_lines.specs.model.Lines.{text_lines}
 use Rattle.bt_lines.specs.declared.fault.Input.{Input}
 use Rattle.bt_lines.specs.declared.fault.Kind.{Kind}
@@ -80,7 +80,7 @@ good_stand_on_lines = (input : Input) (order : Order) (text : List ℕ)
 -- line, they are what is good of its first lines.
 abbrev pub first_lines_have_the_first : Type 0
 first_lines_have_the_first = (input : Input) (order : Order) (count : ℕ) (text : List ℕ)
-    (past rest : List (Member Feature)) (fault : Option Told)
+    (past rest : List (Member Feature)) (fault : Option FaultValue)
     → good (bed_format (sorting_of order)) input
     (text_lines text) ≡ record { members = past ++ rest; fault = fault }
     → All (λ m. m.line ≤ count) past → IsBeyond count (record { members = rest; fault = fault })

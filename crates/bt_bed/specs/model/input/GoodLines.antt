@@ -1,6 +1,6 @@
 -- Which lines the members of an input are on, and what is good of its first lines.
 use Rattle.std.specs.Prelude.{ℕ, suc, ◌<◌, ◌≤◌, ⊤, All, IfSome, List, [], ◌∷◌}
-use Rattle.bt_lines.specs.model.Fault.{Told}
+use Rattle.bt_lines.specs.model.Fault.{FaultValue}
 use Rattle.bt_bed.specs.model.input.Good.{Good, Member}
 
 -- each member's line comes after that of the one before, and none before the line given
@@ -9,7 +9,7 @@ AreAscending line [] = ⊤
 AreAscending line (m ∷ ms) = (line ≤ m.line) × AreAscending (suc m.line) ms
 
 -- a fault's line, if it has one, comes after the first `count`
-abbrev pub IsFaultBeyond : ℕ → Told → Type 0
+abbrev pub IsFaultBeyond : ℕ → FaultValue → Type 0
 IsFaultBeyond count fault = IfSome fault.place (λ place. count < place.line)
 
 -- the members and the fault are on lines after the first `count`

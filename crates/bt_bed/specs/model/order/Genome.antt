@@ -3,7 +3,7 @@
 -- with `#` are skipped (bedtools manual, genome file format).
 use Rattle.std.specs.Prelude.{◌≡◌, ℕ, Bool, true, ◌==◌, IfErr, List, [], ◌∷◌, ◌++◌, map, take}
 use Rattle.std.specs.Prelude.{Option, Some, None, Result, Ok, Err, if◌then◌else◌}
-use Rattle.bt_lines.specs.model.Fault.{Told}
+use Rattle.bt_lines.specs.model.Fault.{FaultValue}
 use Rattle.bt_lines.specs.model.Handed.{Handed, cut_fault, lines_handed}
 use Rattle.bt_lines.specs.model.Lines.{TextLine, pieces, text_lines}
 use Rattle.bt_lines.specs.model.Number.{value_of}
@@ -55,37 +55,37 @@ new_entry names (Ok (Some entry)) = if is_among names entry.name then Err Repeat
     (Some entry)
 
 -- an entry before others, if these have no fault
-abbrev pub with_entry : Entry → Result (List Entry) Told → Result (List Entry) Told
+abbrev pub with_entry : Entry → Result (List Entry) FaultValue → Result (List Entry) FaultValue
 with_entry entry (Ok entries) = Ok (entry ∷ entries)
 with_entry entry (Err fault) = Err fault
 
 -- what a line says after these names, and then what the lines after it say
 abbrev pub genome_with : Input → ℕ → List (List ℕ) → Result (Option Entry) Kind →
-    (List (List ℕ) → Result (List Entry) Told) → Result (List Entry) Told
+    (List (List ℕ) → Result (List Entry) FaultValue) → Result (List Entry) FaultValue
 genome_with input line names (Err kind) rest = Err (fault_at_line input line kind)
 genome_with input line names (Ok None) rest = rest names
 genome_with input line names (Ok (Some entry)) rest = with_entry entry
     (rest (names ++ entry.name ∷ []))
 
 -- the entries of the lines after these names, or the fault of the first line at fault
-unfoldable pub genome_from : Input → List (List ℕ) → List TextLine → Result (List Entry) Told
+unfoldable pub genome_from : Input → List (List ℕ) → List TextLine → Result (List Entry) FaultValue
 genome_from input names [] = Ok []
 genome_from input names (line ∷ lines) = genome_with input line.number names
     (new_entry names (entry_of line.text)) (λ now. genome_from input now lines)
 
 -- the entries of a genome file, or the fault of its first line at fault
-abbrev pub genome_of : Input → List TextLine → Result (List Entry) Told
+abbrev pub genome_of : Input → List TextLine → Result (List Entry) FaultValue
 genome_of input lines = genome_from input [] lines
 
 -- the entries, or the first fault, or else this one, if there is one
-abbrev pub genome_cut : Option Told → Result (List Entry) Told → Result (List Entry) Told
+abbrev pub genome_cut : Option FaultValue → Result (List Entry) FaultValue → Result (List Entry) FaultValue
 genome_cut None result = result
 genome_cut (Some fault) (Ok entries) = Err fault
 genome_cut (Some fault) (Err first) = Err first
 
 -- The entries of a genome file that may have been cut off: those of the lines handed over. Instead it
 -- is the fault of the first line at fault, or else the failed read after them.
-abbrev pub genome_handed : Input → Handed → Result (List Entry) Told
+abbrev pub genome_handed : Input → Handed → Result (List Entry) FaultValue
 genome_handed input handed = genome_cut (cut_fault input handed)
     (genome_of input (lines_handed handed))
 

@@ -20,11 +20,11 @@ fn records_of<'o>(
 }
 
 // What a line says of its record, and whether that is written as the line is.
-fn is_line_of(line: RawRecord<'_>, text: &[u8], bounds: (u64, u64), is_as_written: bool) -> bool {
+fn is_line_of(line: RawRecord<'_>, text: &[u8], bounds: (u64, u64), is_canonical: bool) -> bool {
     line.text() == text
         && (line.start(), line.stop()) == bounds
         && (line.to_bed().start, line.to_bed().stop) == bounds
-        && line.is_as_written() == is_as_written
+        && line.is_canonical() == is_canonical
 }
 
 // Lines of records, two of which begin a number with a zero, and the lines between two of them.

@@ -57,10 +57,10 @@ fn buffered_records_are_given_in_order(rt: HostRuntime) -> Result<(), Fail> {
 }
 
 // Consumes the next record: whether its line ends at this offset, and whether the line is what is written for it.
-fn ends_at<C: Cursor>(records: &mut C, offset: usize, is_canonical: bool) -> bool {
+fn ends_at<C: Cursor>(records: &mut C, offset: usize, is_canonical_line: bool) -> bool {
     match records.next() {
         None => false,
-        Some(record) => (records.offset(), record.is_canonical()) == (offset, is_canonical),
+        Some(record) => (records.offset(), record.is_canonical_line()) == (offset, is_canonical_line),
     }
 }
 

@@ -3,7 +3,7 @@ use Rattle.std.proofs.Common.{◌≡◌, ℕ, ◌<◌, ◌≤◌, Bool, true, fa
 use Rattle.std.specs.Prelude.{IsTrue, flat_map}
 use Rattle.std.specs.List.{AllByRecursion}
 use Rattle.std.specs.Io.BufRead.{strip_last}
-use Rattle.bt_lines.specs.model.Fault.{Told}
+use Rattle.bt_lines.specs.model.Fault.{FaultValue}
 use Rattle.bt_lines.specs.calls.LentLine.{NoLineFeed}
 use Rattle.bt_lines.specs.model.Lines.{text_lines}
 use Rattle.bt_lines.specs.declared.fault.Input.{Input}
@@ -59,7 +59,7 @@ places_are : (lines : List Columns) → intervals_of (map record_back lines) ≡
 places_are [] = refl
 places_are (line ∷ lines) = ap (λ rs. line.at ∷ rs) (places_are lines)
 
-or_else_none : (fault : Option Told) → or_else fault None ≡ fault
+or_else_none : (fault : Option FaultValue) → or_else fault None ≡ fault
 or_else_none None = refl
 or_else_none (Some fault) = refl
 

@@ -7,7 +7,7 @@ use Rattle.std.specs.Str.Parse.{digits_value}
 use Rattle.std.proofs.lemmas.Bool.{and_parts, leb-true}
 use Rattle.std.proofs.lemmas.List.Splits.{join_with_byte-slice_split}
 use Rattle.bt_lines.specs.model.Handed.{Handed, lines_handed}
-use Rattle.bt_lines.specs.model.Fault.{Told}
+use Rattle.bt_lines.specs.model.Fault.{FaultValue}
 use Rattle.bt_lines.specs.calls.LentLine.{NoLineFeed}
 use Rattle.bt_lines.specs.model.Lines.{TextLine, pieces, text_lines, whole_lines}
 use Rattle.bt_lines.specs.model.Number.{is_number, value_of}
@@ -132,15 +132,15 @@ unfolding entry_of
 line_is_chrom text entry clear e = columns_said text (pieces 9 text) entry clear refl (skipped_entry (is_skipped text) (columns_give (pieces 9 text)) entry e)
 
 -- the entries of an answer
-abbrev pub AreChroms : Result (List Entry) Told → Type 0
+abbrev pub AreChroms : Result (List Entry) FaultValue → Type 0
 AreChroms (Ok entries) = AllByRecursion IsChrom entries
 AreChroms (Err fault) = Unit {0}
 
-with_chrom : (entry : Entry) (rest : Result (List Entry) Told) → IsChrom entry → AreChroms rest → AreChroms (with_entry entry rest)
+with_chrom : (entry : Entry) (rest : Result (List Entry) FaultValue) → IsChrom entry → AreChroms rest → AreChroms (with_entry entry rest)
 with_chrom entry (Ok entries) is h = (is, h)
 with_chrom entry (Err fault) is h = tt
 
-new_chrom : (input : Input) (n : ℕ) (names : List (List ℕ)) (text : List ℕ) (said : Result (Option Entry) Kind) (rest : List (List ℕ) → Result (List Entry) Told) → NoLineFeed text → entry_of text ≡ said
+new_chrom : (input : Input) (n : ℕ) (names : List (List ℕ)) (text : List ℕ) (said : Result (Option Entry) Kind) (rest : List (List ℕ) → Result (List Entry) FaultValue) → NoLineFeed text → entry_of text ≡ said
     → ((now : List (List ℕ)) → AreChroms (rest now)) → AreChroms (genome_with input n names (new_entry names said) rest)
 new_chrom input n names text (Err kind) rest clear e h = tt
 new_chrom input n names text (Ok None) rest clear e h = h names
@@ -156,7 +156,7 @@ chroms_from input names [] clear = tt
 chroms_from input names (line ∷ lines) clear =
     new_chrom input line.number names line.text (entry_of line.text) (λ now. genome_from input now lines) clear.0 refl (λ now. chroms_from input now lines clear.1)
 
-cut_chroms : (fault : Option Told) (answer : Result (List Entry) Told) → AreChroms answer → AreChroms (genome_cut fault answer)
+cut_chroms : (fault : Option FaultValue) (answer : Result (List Entry) FaultValue) → AreChroms answer → AreChroms (genome_cut fault answer)
 cut_chroms None answer h = h
 cut_chroms (Some fault) (Ok entries) h = tt
 cut_chroms (Some fault) (Err first) h = tt

@@ -3,7 +3,7 @@ use Rattle.std.proofs.Common.{append-nil, append_assoc, ◌≡◌, ℕ, Bool, tr
 use Rattle.std.specs.Prelude.{◌≢◌, flat_map, if◌then◌else◌}
 use Rattle.std.specs.List.{AllByRecursion, list_all}
 use Rattle.std.specs.Option.{option_or}
-use Rattle.bt_lines.specs.model.Fault.{Told}
+use Rattle.bt_lines.specs.model.Fault.{FaultValue}
 use Rattle.bt_lines.specs.model.Handed.{Handed}
 use Rattle.bt_lines.specs.declared.fault.Input.TheVariants.{First, Genome, Second}
 use Rattle.bt_bed.specs.model.order.ByteOrder.{byte_order, bytes_total}
@@ -16,7 +16,7 @@ use Rattle.bt_bed.specs.model.feature.IntervalLine.{interval_lines}
 use Rattle.bt_bed.specs.model.order.Locus.{ArePlaced}
 use Rattle.bt_bed.specs.model.feature.LineKind.{fault_at_line}
 use Rattle.bt_lines.specs.declared.fault.Kind.TheVariants.{TooManyHeld}
-use Rattle.bt_bed.specs.model.input.Meeting.{Met, meet, written}
+use Rattle.bt_bed.specs.model.input.TwoInputReport.{Met, join_report, written}
 use Rattle.bt_bed.specs.model.order.Order.{Order, IsTotal}
 use Rattle.bt_bed.specs.model.order.Rank.{AreDistinct}
 use Rattle.bt_bed.specs.inside.RankTotal.{ranks_total}
@@ -61,11 +61,11 @@ pub order_total : (chromosomes : Option (List Entry)) → IsTotal (order_of chro
 order_total None = bytes_total
 order_total (Some entries) = ranks_total (genome_names entries)
 
-file_is : (answer : Result (List Entry) Told) (entries : List Entry) → of_file answer ≡ Ok (Some entries) → answer ≡ Ok entries
+file_is : (answer : Result (List Entry) FaultValue) (entries : List Entry) → of_file answer ≡ Ok (Some entries) → answer ≡ Ok entries
 file_is (Ok found) entries e = cc
 file_is (Err fault) entries e = cc
 
-no_file : (answer : Result (List Entry) Told) → of_file answer ≡ Ok None → ⊥
+no_file : (answer : Result (List Entry) FaultValue) → of_file answer ≡ Ok None → ⊥
 no_file (Ok found) e = cc
 no_file (Err fault) e = cc
 
@@ -75,7 +75,7 @@ chroms_of (Some genome) entries e = (genome_chroms Genome genome entries (file_i
 
 -- ---- a report of one input without a fault
 
-whole_by : {A : Type 0} (written : Written A) (members : List A) (fault : Option Told) → (report_by written members fault).fault ≡ None → (report_by written members fault).output ≡ written.whole members
+whole_by : {A : Type 0} (written : Written A) (members : List A) (fault : Option FaultValue) → (report_by written members fault).fault ≡ None → (report_by written members fault).output ≡ written.whole members
 whole_by written members None e = refl
 whole_by written members (Some fault) e = cc
 
@@ -190,13 +190,13 @@ genomecov_input zeros strand inputs chromosomes well =
 abbrev cut_either : Bool → Good Feature → Good Feature → Good Feature
 cut_either t one other = if t then one else other
 
-cut_whole_by : (t : Bool) (past : List (Member Feature)) (found : Told) (rest whole : Good Feature) → (rest.fault ≡ None → rest ≡ whole)
+cut_whole_by : (t : Bool) (past : List (Member Feature)) (found : FaultValue) (rest whole : Good Feature) → (rest.fault ≡ None → rest ≡ whole)
     → (cut_either t (record { members = past; fault = Some found }) rest).fault ≡ None → cut_either t (record { members = past; fault = Some found }) rest ≡ whole
 cut_whole_by true past found rest whole h e = cc
 cut_whole_by false past found rest whole h e = h e
 
 -- a limit without a fault of its own changes nothing
-cut_whole : (too : List Feature → Bool) (past members : List (Member Feature)) (fault : Option Told) → (cut_behind too past members fault).fault ≡ None → cut_behind too past members fault ≡ record { members = past ++ members; fault = fault }
+cut_whole : (too : List Feature → Bool) (past members : List (Member Feature)) (fault : Option FaultValue) → (cut_behind too past members fault).fault ≡ None → cut_behind too past members fault ≡ record { members = past ++ members; fault = fault }
 cut_whole too past [] fault e = ap (λ ms. record { members = ms; fault = fault }) (sym (append-nil past))
 cut_whole too past (m ∷ more) fault e =
     cut_whole_by (too (map (λ (m : Member Feature). m.item) (past ++ m ∷ []))) (past ++ m ∷ []) (fault_at_line Second m.line TooManyHeld) (cut_behind too (past ++ m ∷ []) more fault) (record { members = past ++ m ∷ more; fault = fault })
@@ -206,17 +206,17 @@ pub limit_whole : (order : Order) (limit : Option ℕ) (first : List Feature) (s
 limit_whole order None first second e = refl
 limit_whole order (Some most) first second e = cut_whole (are_too_many order most first) [] second.members second.fault e
 
-abbrev either_met : Bool → List ℕ → List ℕ → Option Told → Option Told → Met ℕ Told
+abbrev either_met : Bool → List ℕ → List ℕ → Option FaultValue → Option FaultValue → Met ℕ FaultValue
 either_met b lines other one fault = if b then record { lines = lines; fault = option_or one fault } else record { lines = other; fault = fault }
 
-either_fault : (b : Bool) (lines other : List ℕ) (one : Option Told) (fault : Option Told) → (either_met b lines other one fault).fault ≡ None → fault ≡ None
+either_fault : (b : Bool) (lines other : List ℕ) (one : Option FaultValue) (fault : Option FaultValue) → (either_met b lines other one fault).fault ≡ None → fault ≡ None
 either_fault true lines other None None e = refl
 either_fault true lines other None (Some f) e = cc
 either_fault true lines other (Some g) fault e = cc
 either_fault false lines other one fault e = e
 
-met_whole : (order : Order) (shape : Shape) (rule : HitRule) (first : Good Feature) (second : List Feature) (fault : Option Told) → fault ≡ None
-    → (meet (sweep_rule order shape rule second fault) (items_in first) first.fault).lines ≡ intersect shape rule (items_in first) second
+met_whole : (order : Order) (shape : Shape) (rule : HitRule) (first : Good Feature) (second : List Feature) (fault : Option FaultValue) → fault ≡ None
+    → (join_report (sweep_rule order shape rule second fault) (items_in first) first.fault).lines ≡ intersect shape rule (items_in first) second
 met_whole order shape rule first second None e = faultless_all order shape rule (items_in first) second first.fault
 met_whole order shape rule first second (Some fault) e = cc
 

@@ -9,7 +9,7 @@ use Rattle.bt_bed.specs.model.feature.Interval.{Interval, placed_on, spans_on}
 use Rattle.bt_bed.specs.model.feature.IntervalLine.{interval_lines}
 use Rattle.bt_bed.specs.model.order.Order.{Order}
 use Rattle.bt_bed.specs.model.order.Rank.{is_among}
-use Rattle.bt_bed.specs.model.order.Together.{has_records}
+use Rattle.bt_bed.specs.model.order.Contiguous.{has_records}
 use Rattle.bt_bed.specs.declared.record.strand.Strand.{Strand}
 use Rattle.bt_runs.specs.model.Counted.{counted, is_counted}
 use Rattle.bt_runs.specs.model.Depth.{coverage, depth_at, depth_lines, depth_of, depth_on, depths_on, is_counted_by, reported}

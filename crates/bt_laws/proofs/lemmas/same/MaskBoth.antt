@@ -3,8 +3,8 @@ use Rattle.std.proofs.Common.{◌≡◌, ◌||◌, ℕ, ◌+◌, ◌<◌, ◌≤
 use Rattle.std.specs.Prelude.{flat_map, if◌then◌else◌}
 use Rattle.std.specs.List.{AllByRecursion, list_any}
 use Rattle.std.specs.Option.{option_or}
-use Rattle.bt_lines.specs.model.Fault.{Told}
-use Rattle.bt_bed.specs.model.input.Meeting.{Met}
+use Rattle.bt_lines.specs.model.Fault.{FaultValue}
+use Rattle.bt_bed.specs.model.input.TwoInputReport.{Met}
 use Rattle.bt_lines.specs.model.Handed.{whole_text}
 use Rattle.bt_lines.specs.model.Lines.{end_bytes}
 use Rattle.bt_lines.specs.declared.fault.Input.TheVariants.{First, Second}
@@ -113,7 +113,7 @@ goes_on how next full inputs other chromosomes keeps one two =
     let mask = items_in (bed_of inputs) in
     let read = sequence_good full First (whole_text (flat_map (masked_line how mask) lines)) in
     let none : (mask_met next read (bed_of other)).fault ≡ None =
-    ap (λ (m : Met ℕ Told). m.fault) (met_all next (names_of (items_in read)) (bed_of other) (items_in read) read.fault (second_none next full (with_bed inputs other) chromosomes two))
+    ap (λ (m : Met ℕ FaultValue). m.fault) (met_all next (names_of (items_in read)) (bed_of other) (items_in read) read.fault (second_none next full (with_bed inputs other) chromosomes two))
     ∙ ap₂ (λ is fault. option_or fault (mask_rule next (names_of is) (bed_of other)).last) (read_items how full inputs chromosomes one keeps) (read_none how full inputs chromosomes one keeps)
     ∙ (ap (λ ns. (mask_rule next ns (bed_of other)).last) (names_same (masked_text how mask) lines) ∙ (nones next full (with_bed inputs other) chromosomes two).1) in
     record {

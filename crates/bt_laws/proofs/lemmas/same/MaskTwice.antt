@@ -7,7 +7,7 @@ use Rattle.std.specs.Io.BufRead.{ends_with_byte}
 use Rattle.std.proofs.lemmas.Bool.{and_parts, false≢true, leb-true, ne_eqb}
 use Rattle.std.proofs.lemmas.Bool.Decides.{nat_tests}
 use Rattle.std.proofs.lemmas.List.Elements.{All-cons, All-head, All-nil, All-tail}
-use Rattle.bt_lines.specs.model.Fault.{Told, read_failed}
+use Rattle.bt_lines.specs.model.Fault.{FaultValue, read_failed}
 use Rattle.bt_lines.specs.model.Handed.{Handed, cut_fault, lines_handed, whole_text}
 use Rattle.bt_lines.specs.calls.LentLine.{NoLineFeed}
 use Rattle.bt_lines.specs.model.Lines.{TextLine, end_bytes, text_lines, whole_lines}
@@ -16,7 +16,7 @@ use Rattle.bt_bed.specs.model.feature.Feature.{Feature}
 use Rattle.bt_bed.specs.model.order.Genome.{Entry}
 use Rattle.bt_bed.specs.model.input.Good.{Good, good, items_in, or_else}
 use Rattle.bt_bed.specs.model.input.GoodBlocks.{block_good}
-use Rattle.bt_bed.specs.model.input.Meeting.{Met, Rule, meet, written}
+use Rattle.bt_bed.specs.model.input.TwoInputReport.{Met, Rule, join_report, written}
 use Rattle.bt_seq.specs.model.MaskHow.{is_upper_case, masked_byte}
 use Rattle.bt_seq.specs.model.Masked.{covers, decided, mask_met, mask_rule, masked_from, masked_line, masked_text, names_of, no_sequence}
 use Rattle.bt_seq.specs.model.Owners.{own_records}
@@ -158,23 +158,23 @@ all_pass : {A : Type 0} (xs : List A) → list_all (λ (x : A). true) xs ≡ tru
 all_pass [] = refl
 all_pass (x ∷ xs) = all_pass xs
 
-abbrev met_of : Bool → List ℕ → List ℕ → Option Told → Option Told → Option Told → Met ℕ Told
+abbrev met_of : Bool → List ℕ → List ℕ → Option FaultValue → Option FaultValue → Option FaultValue → Met ℕ FaultValue
 met_of b lines other one last stop = if b then record { lines = lines; fault = option_or one last } else record { lines = other; fault = stop }
 
 -- without a fault of its own the second input decides all
 module _ (how : MaskHow) (names : List (List ℕ)) (second : Good Feature) where
-  abbrev rule : Rule SequenceLine ℕ Told
+  abbrev rule : Rule SequenceLine ℕ FaultValue
   rule = mask_rule how names second
 
-  second_by : (b : Bool) (lines other : List ℕ) (one one_more stop : Option Told) → (met_of b lines other one (or_else one_more stop) stop).fault ≡ None → stop ≡ None
+  second_by : (b : Bool) (lines other : List ℕ) (one one_more stop : Option FaultValue) → (met_of b lines other one (or_else one_more stop) stop).fault ≡ None → stop ≡ None
   second_by true lines other None None stop e = e
   second_by true lines other None (Some f) stop e = cc
   second_by true lines other (Some f) one_more stop e = cc
   second_by false lines other one one_more stop e = e
 
-  pub met_all : (items : List SequenceLine) (fault : Option Told) → second.fault ≡ None → meet rule items fault ≡ record { lines = flat_map (masked_line how (items_in second)) items; fault = option_or fault rule.last }
+  pub met_all : (items : List SequenceLine) (fault : Option FaultValue) → second.fault ≡ None → join_report rule items fault ≡ record { lines = flat_map (masked_line how (items_in second)) items; fault = option_or fault rule.last }
   met_all items fault none =
-      ap (λ (t : Option Told). met_of (list_all (λ line. is_none t || decided line (items_in second)) items) (flat_map rule.lines items) (written rule items) fault rule.last second.fault) none
+      ap (λ (t : Option FaultValue). met_of (list_all (λ line. is_none t || decided line (items_in second)) items) (flat_map rule.lines items) (written rule items) fault rule.last second.fault) none
       ∙ ap (λ b. met_of b (flat_map rule.lines items) (written rule items) fault rule.last second.fault) (all_pass items)
 
 -- the last names stay
@@ -183,19 +183,19 @@ names_same f [] = refl
 names_same f (line ∷ []) = refl
 names_same f (line ∷ next ∷ lines) = names_same f (next ∷ lines)
 
-both_none : (one last : Option Told) → option_or one last ≡ None → (one ≡ None) × (last ≡ None)
+both_none : (one last : Option FaultValue) → option_or one last ≡ None → (one ≡ None) × (last ≡ None)
 both_none None last e = (refl, e)
 both_none (Some f) last e = cc
 
-or_none : (one cut : Option Told) → or_else one cut ≡ None → (one ≡ None) × (cut ≡ None)
+or_none : (one cut : Option FaultValue) → or_else one cut ≡ None → (one ≡ None) × (cut ≡ None)
 or_none None cut e = (refl, e)
 or_none (Some f) cut e = cc
 
-pub or_else_none : (fault : Option Told) → or_else fault None ≡ fault
+pub or_else_none : (fault : Option FaultValue) → or_else fault None ≡ fault
 or_else_none None = refl
 or_else_none (Some fault) = refl
 
-uncut_by : (b : Bool) (told : Told) (whole all : List TextLine) → (if b then Some told else None) ≡ None → (if b then whole else all) ≡ all
+uncut_by : (b : Bool) (told : FaultValue) (whole all : List TextLine) → (if b then Some told else None) ≡ None → (if b then whole else all) ≡ all
 uncut_by true told whole all e = cc
 uncut_by false told whole all e = refl
 
@@ -245,10 +245,10 @@ module _ (how : MaskHow) (full : Bool) (inputs : Inputs) (chromosomes : Option (
   met_is = met_all how names second items first.fault second_none
 
   pub nones : (first.fault ≡ None) × ((mask_rule how names second).last ≡ None)
-  nones = both_none first.fault (mask_rule how names second).last (ap (λ (m : Met ℕ Told). m.fault) (sym met_is) ∙ no_fault)
+  nones = both_none first.fault (mask_rule how names second).last (ap (λ (m : Met ℕ FaultValue). m.fault) (sym met_is) ∙ no_fault)
 
   pub output_there : (report_of (MaskFasta how full) inputs).output ≡ output
-  output_there = ap (λ (r : Report). r.output) (report_is (MaskFasta how full) inputs chromosomes well) ∙ ap (λ (m : Met ℕ Told). m.lines) met_is
+  output_there = ap (λ (r : Report). r.output) (report_is (MaskFasta how full) inputs chromosomes well) ∙ ap (λ (m : Met ℕ FaultValue). m.lines) met_is
 
   parts : ((good (sequence_format full) First (lines_handed inputs.first)).fault ≡ None) × (cut_fault First inputs.first ≡ None)
   parts = or_none (good (sequence_format full) First (lines_handed inputs.first)).fault (cut_fault First inputs.first) nones.0

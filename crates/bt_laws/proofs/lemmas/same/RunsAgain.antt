@@ -3,7 +3,7 @@ use Rattle.std.proofs.Common.{◌≡◌, append-nil, inl, inr, ◌||◌, ℕ, Bo
 use Rattle.std.specs.Prelude.{bytes_eq, flat_map, ◌<◌}
 use Rattle.std.specs.List.{AllByRecursion}
 use Rattle.std.proofs.lemmas.Bool.{cases_Bool, or_parts}
-use Rattle.bt_lines.specs.model.Fault.{Told}
+use Rattle.bt_lines.specs.model.Fault.{FaultValue}
 use Rattle.bt_lines.specs.model.Handed.{whole_text}
 use Rattle.bt_lines.specs.declared.fault.Input.TheVariants.{First}
 use Rattle.bt_bed.specs.model.feature.Feature.{Feature, interval_of, intervals_of}
@@ -16,7 +16,7 @@ use Rattle.bt_bed.specs.model.order.Locus.{ArePlaced}
 use Rattle.bt_bed.specs.model.order.Order.{Order, IsTotal}
 use Rattle.bt_bed.specs.model.order.Rank.{AreDistinct, is_among}
 use Rattle.bt_bed.specs.model.feature.Stretches.{IsCovered}
-use Rattle.bt_bed.specs.model.order.Together.{has_records}
+use Rattle.bt_bed.specs.model.order.Contiguous.{has_records}
 use Rattle.bt_bed.proofs.lemmas.laws.GoodBedLemmas.{placed_good}
 use Rattle.bt_bed.proofs.lemmas.parse.NameLemmas.{cases_name, name_eq}
 use Rattle.bt_runs.specs.model.Counted.{counted, is_counted}
@@ -209,7 +209,7 @@ module _ (command : Command) (inputs : Inputs) (chromosomes : Option (List Entry
   unfolding report_of
   report_there = ap (λ found. report_on command found inputs.first inputs.second) genome
 
-writes_by : (written : Written Feature) (records : List Feature) (fault : Option Told) (members : List Feature) → fault ≡ None → members ≡ records → report_by written members fault ≡ record { output = written.whole records; fault = None }
+writes_by : (written : Written Feature) (records : List Feature) (fault : Option FaultValue) (members : List Feature) → fault ≡ None → members ≡ records → report_by written members fault ≡ record { output = written.whole records; fault = None }
 writes_by written records None members none same = ap (λ rs. record { output = written.whole rs; fault = None }) same
 writes_by written records (Some fault) members none same = cc
 
@@ -279,7 +279,7 @@ fault_as command other inputs chromosomes_in well same = record {
       ∙ ap (λ (r : Report). r.fault) (sym (report_there command inputs chromosomes_in well.genome)) ∙ well.faultless;
 }
 
-pub told_same : (one other : Written Feature) (members : List Feature) (fault : Option Told) → (report_by one members fault).fault ≡ (report_by other members fault).fault
+pub told_same : (one other : Written Feature) (members : List Feature) (fault : Option FaultValue) → (report_by one members fault).fault ≡ (report_by other members fault).fault
 told_same one other members None = refl
 told_same one other members (Some fault) = refl
 

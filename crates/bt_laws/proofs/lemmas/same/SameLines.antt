@@ -4,14 +4,14 @@ use Rattle.std.proofs.lemmas.Bool.{lt-ltb, ne_eqb}
 use Rattle.std.specs.Prelude.{flat_map, if◌then◌else◌, nat_lt, replicate, ◌==◌}
 use Rattle.std.specs.List.{list_all}
 use Rattle.std.specs.Option.{option_or}
-use Rattle.bt_lines.specs.model.Fault.{Told}
+use Rattle.bt_lines.specs.model.Fault.{FaultValue}
 use Rattle.bt_lines.specs.model.Handed.{Handed}
 use Rattle.bt_lines.specs.declared.fault.Input.TheVariants.{First, Second}
 use Rattle.bt_bed.specs.model.feature.Feature.{Feature}
 use Rattle.bt_bed.specs.model.order.Genome.{Entry}
 use Rattle.bt_bed.specs.model.input.Good.{Good, items_in}
 use Rattle.bt_bed.specs.model.input.GoodBed.{bed_good}
-use Rattle.bt_bed.specs.model.input.Meeting.{Met, Rule, meet, written}
+use Rattle.bt_bed.specs.model.input.TwoInputReport.{Met, Rule, join_report, written}
 use Rattle.bt_bed.specs.model.order.Order.{Order}
 use Rattle.bt_bed.specs.model.feature.Record.{bed_text}
 use Rattle.bt_sweep.specs.model.Hits.{hits_among}
@@ -34,11 +34,11 @@ use Rattle.bt_laws.proofs.lemmas.pipes.PipeLaws.{intersect_whole}
 
 -- ---- two shapes that write the same lines of each record
 
-abbrev met_by : Bool → List ℕ → List ℕ → Option Told → Option Told → Option Told → Met ℕ Told
+abbrev met_by : Bool → List ℕ → List ℕ → Option FaultValue → Option FaultValue → Option FaultValue → Met ℕ FaultValue
 met_by b lines other fault last stop = if b then record { lines = lines; fault = option_or fault last } else record { lines = other; fault = stop }
 
-meet_same : (mine yours : Rule Feature ℕ Told) (members : List Feature) (fault : Option Told) → mine.decided ≡ yours.decided → mine.fault ≡ yours.fault → mine.last ≡ yours.last → ((a : Feature) → mine.lines a ≡ yours.lines a)
-    → meet mine members fault ≡ meet yours members fault
+meet_same : (mine yours : Rule Feature ℕ FaultValue) (members : List Feature) (fault : Option FaultValue) → mine.decided ≡ yours.decided → mine.fault ≡ yours.fault → mine.last ≡ yours.last → ((a : Feature) → mine.lines a ≡ yours.lines a)
+    → join_report mine members fault ≡ join_report yours members fault
 meet_same mine yours members fault decided stop last lines =
     let all : flat_map mine.lines members ≡ flat_map yours.lines members = flat_map_same mine.lines yours.lines members (all_any _ members lines) in
     let some : written mine members ≡ written yours members = written_same mine yours members (all_any _ members (λ a. (ap (λ (d : Feature → Bool). d a) decided, lines a))) in
@@ -56,7 +56,7 @@ missing_met order rule limit first second =
     let seen = limited order limit (items_in first) second in
     meet_same (sweep_rule order Missing rule (items_in seen) seen.fault) (sweep_rule order Whole rule (items_in seen) seen.fault) (items_in first) first.fault refl refl refl (λ a. missing_lines rule a (hits_among rule a (items_in seen)))
 
-same_on : (rule : HitRule) (held : Option ℕ) (found : Result (Option (List Entry)) Told) (first : Handed) (second : Option Handed) → report_on (Intersect Missing rule held) found first second ≡ report_on (Subtract true rule held) found first second
+same_on : (rule : HitRule) (held : Option ℕ) (found : Result (Option (List Entry)) FaultValue) (first : Handed) (second : Option Handed) → report_on (Intersect Missing rule held) found first second ≡ report_on (Subtract true rule held) found first second
 same_on rule held (Err fault) first second = refl
 same_on rule held (Ok chromosomes) first second = ap met_report (missing_met (order_of chromosomes) rule held (bed_good First (order_of chromosomes) first) (bed_good Second (order_of chromosomes) (or_empty second)))
 
@@ -66,7 +66,7 @@ missing_whole rule held inputs = same_on rule held (chromosomes_of inputs.genome
 
 -- ---- the fault doesn't depend on the shape
 
-fault_by : (b : Bool) (l m k n : List ℕ) (fault last stop : Option Told) → (met_by b l m fault last stop).fault ≡ (met_by b k n fault last stop).fault
+fault_by : (b : Bool) (l m k n : List ℕ) (fault last stop : Option FaultValue) → (met_by b l m fault last stop).fault ≡ (met_by b k n fault last stop).fault
 fault_by true l m k n fault last stop = refl
 fault_by false l m k n fault last stop = refl
 

@@ -4,7 +4,7 @@ use Rattle.std.specs.Prelude.{bytes_eq, flat_map, if◌then◌else◌}
 use Rattle.std.specs.List.{AllByRecursion, list_all}
 use Rattle.std.specs.Option.{option_or}
 use Rattle.std.proofs.lemmas.Bool.{cases_Bool, lt-ltb}
-use Rattle.bt_lines.specs.model.Fault.{Told, read_failed}
+use Rattle.bt_lines.specs.model.Fault.{FaultValue, read_failed}
 use Rattle.bt_lines.specs.model.Lines.{TextLine, whole_lines}
 use Rattle.bt_lines.specs.declared.fault.Input.{Input}
 use Rattle.bt_lines.specs.declared.fault.Kind.{Kind}
@@ -17,7 +17,7 @@ use Rattle.bt_bed.specs.model.input.GoodBed.{bed_format, bed_good, line_says}
 use Rattle.bt_bed.specs.model.feature.Interval.{Interval, span_of, spans_on}
 use Rattle.bt_bed.specs.model.feature.IntervalLine.{interval_lines}
 use Rattle.bt_bed.specs.model.order.Locus.{Locus}
-use Rattle.bt_bed.specs.model.input.Meeting.{Met, meet, written}
+use Rattle.bt_bed.specs.model.input.TwoInputReport.{Met, join_report, written}
 use Rattle.bt_bed.specs.model.order.Order.{Order}
 use Rattle.bt_bed.specs.model.order.Sorting.{Sorting, sorting_of}
 use Rattle.bt_bed.specs.model.feature.Stretches.{IsCovered}
@@ -186,15 +186,15 @@ intersect_sees shape see first bs cs one two same = flat_map_same (λ a. lines_f
 
 -- ---- a run by another second input
 
-abbrev met_of : Bool → List ℕ → List ℕ → Option Told → Option Told → Met ℕ Told
+abbrev met_of : Bool → List ℕ → List ℕ → Option FaultValue → Option FaultValue → Met ℕ FaultValue
 met_of b lines other one fault = if b then record { lines = lines; fault = option_or one fault } else record { lines = other; fault = fault }
 
-none_by : (b : Bool) (lines other : List ℕ) (one fault : Option Told) → one ≡ None → fault ≡ None → (met_of b lines other one fault).fault ≡ None
+none_by : (b : Bool) (lines other : List ℕ) (one fault : Option FaultValue) → one ≡ None → fault ≡ None → (met_of b lines other one fault).fault ≡ None
 none_by true lines other None fault e f = f
 none_by true lines other (Some x) fault e f = cc
 none_by false lines other one fault e f = f
 
-both_by : (b : Bool) (lines other : List ℕ) (one fault : Option Told) → (met_of b lines other one fault).fault ≡ None → fault ≡ None
+both_by : (b : Bool) (lines other : List ℕ) (one fault : Option FaultValue) → (met_of b lines other one fault).fault ≡ None → fault ≡ None
 both_by true lines other None None e = refl
 both_by true lines other None (Some f) e = cc
 both_by true lines other (Some g) fault e = cc
@@ -204,12 +204,12 @@ all_pass : (as_read : List Feature) → list_all (λ (a : Feature). true) as_rea
 all_pass [] = refl
 all_pass (a ∷ more) = all_pass more
 
-alone_none : (b : Bool) (lines other : List ℕ) (one : Option Told) → b ≡ true → (met_of b lines other one None).fault ≡ None → one ≡ None
+alone_none : (b : Bool) (lines other : List ℕ) (one : Option FaultValue) → b ≡ true → (met_of b lines other one None).fault ≡ None → one ≡ None
 alone_none true lines other None e f = refl
 alone_none true lines other (Some g) e f = cc
 alone_none false lines other one e f = cc
 
-first_none : (order : Order) (shape : Shape) (rule : HitRule) (first : Good Feature) (second : List Feature) (fault : Option Told) → fault ≡ None → (meet (sweep_rule order shape rule second fault) (items_in first) first.fault).fault ≡ None → first.fault ≡ None
+first_none : (order : Order) (shape : Shape) (rule : HitRule) (first : Good Feature) (second : List Feature) (fault : Option FaultValue) → fault ≡ None → (join_report (sweep_rule order shape rule second fault) (items_in first) first.fault).fault ≡ None → first.fault ≡ None
 first_none order shape rule first second None none e =
     let r = sweep_rule order shape rule second None in
     alone_none (list_all r.decided (items_in first)) (flat_map r.lines (items_in first)) (written r (items_in first)) first.fault (all_pass (items_in first)) e
@@ -242,12 +242,12 @@ like_from sorting one other last [] e = (refl, refl)
 like_from sorting one other last (line ∷ lines) e =
     like_with sorting line.number last one other (line_says sorting last line.text) (λ now. good_from (bed_format sorting) one now lines) (λ now. good_from (bed_format sorting) other now lines) (λ now none. like_from sorting one other now lines none) e
 
-pub cut_none : (fault cut : Option Told) → or_else fault cut ≡ None → (fault ≡ None) × (cut ≡ None)
+pub cut_none : (fault cut : Option FaultValue) → or_else fault cut ≡ None → (fault ≡ None) × (cut ≡ None)
 cut_none None None e = (refl, refl)
 cut_none None (Some c) e = cc
 cut_none (Some f) cut e = cc
 
-pub uncut : (is_cut : Bool) (one other : Told) → (if is_cut then Some one else None) ≡ None → (if is_cut then Some other else None) ≡ None
+pub uncut : (is_cut : Bool) (one other : FaultValue) → (if is_cut then Some one else None) ≡ None → (if is_cut then Some other else None) ≡ None
 uncut true one other e = cc
 uncut false one other e = refl
 
@@ -260,7 +260,7 @@ other_input order handed e =
     let cut : cut_fault First handed ≡ None = uncut handed.is_cut (read_failed Second (suc (length (whole_lines handed.text)))) (read_failed First (suc (length (whole_lines handed.text)))) parts.1 in
     (like.0, ap (λ f. or_else f (cut_fault First handed)) like.1 ∙ cut)
 
-pub output_by : (written : Written Feature) (members : List Feature) (fault : Option Told) → fault ≡ None → (report_by written members fault).output ≡ written.whole members
+pub output_by : (written : Written Feature) (members : List Feature) (fault : Option FaultValue) → fault ≡ None → (report_by written members fault).output ≡ written.whole members
 output_by written members None e = refl
 output_by written members (Some fault) e = cc
 

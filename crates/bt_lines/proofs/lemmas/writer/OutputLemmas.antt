@@ -2,10 +2,10 @@
 use Rattle.std.proofs.Common.{◌≡◌, ◌≤◌, ℕ, length, List, ◌++◌, Option, None, Some, refl, sym, ap, ◌∙◌, append_assoc, take, drop, take-append-drop}
 use Rattle.std.proofs.KnownBytes.{Appends-trans}
 use Rattle.std.specs.Io.KnownBytes.{Appends, Keeps, append_known}
-use Rattle.bt_lines.specs.calls.Output.{IsFrontOf, Grows, HoldsBlock, block_size}
+use Rattle.bt_lines.specs.calls.Output.{IsPrefixOf, Grows, HoldsBlock, block_size}
 
 -- a part of the piece was taken, and then nothing
-pub front_part : (old mid new : Option (List ℕ)) (taken rest piece : List ℕ) → piece ≡ taken ++ rest → Appends old mid taken → Keeps mid new → IsFrontOf new old piece
+pub front_part : (old mid new : Option (List ℕ)) (taken rest piece : List ℕ) → piece ≡ taken ++ rest → Appends old mid taken → Keeps mid new → IsPrefixOf new old piece
 front_part old mid None taken rest piece e p q = tt
 front_part None mid (Some new) taken rest piece e p q = tt
 front_part (Some old) None (Some new) taken rest piece e p q = absurd p
@@ -19,12 +19,12 @@ more_taken old mid new taken rest piece n e p q =
     (e ∙ ap (λ l. taken ++ l) (sym (take-append-drop n rest)) ∙ sym (append_assoc taken (take n rest) (drop n rest)), Appends-trans old mid new taken (take n rest) p q)
 
 -- what was taken is a prefix of itself and of what is held back
-pub front_held : (took : Option (List ℕ)) (held more : List ℕ) → IsFrontOf took (append_known took held) more
+pub front_held : (took : Option (List ℕ)) (held more : List ℕ) → IsPrefixOf took (append_known took held) more
 front_held None held more = tt
 front_held (Some took) held more = (held ++ more, sym (append_assoc took held more))
 
 -- a prefix of the first bytes of a piece is one of the piece
-pub front_first : (old new : Option (List ℕ)) (piece : List ℕ) (n : ℕ) → IsFrontOf new old (take n piece) → IsFrontOf new old piece
+pub front_first : (old new : Option (List ℕ)) (piece : List ℕ) (n : ℕ) → IsPrefixOf new old (take n piece) → IsPrefixOf new old piece
 front_first None None piece n h = tt
 front_first (Some old) None piece n h = tt
 front_first None (Some new) piece n h = tt
@@ -35,7 +35,7 @@ front_first (Some old) (Some new) piece n h = (
 )
 
 -- a prefix of what is held back and of the first bytes of a piece
-pub front_filled : (old new : Option (List ℕ)) (held piece : List ℕ) (n : ℕ) → IsFrontOf new old (held ++ take n piece) → IsFrontOf new (append_known old held) piece
+pub front_filled : (old new : Option (List ℕ)) (held piece : List ℕ) (n : ℕ) → IsPrefixOf new old (held ++ take n piece) → IsPrefixOf new (append_known old held) piece
 front_filled None None held piece n h = tt
 front_filled (Some old) None held piece n h = tt
 front_filled None (Some new) held piece n h = tt

@@ -6,21 +6,21 @@ use Rattle.std.proofs.KnownBytes.{Appends-trans, Appends-nil}
 use Rattle.std.proofs.lemmas.Bool.{false≢true}
 use Rattle.std.specs.Io.KnownBytes.{Appends, append_known}
 use Rattle.bt_lines.proofs.lemmas.writer.OutputLemmas.{holds_held, grows_both}
-use Rattle.bt_lines.specs.model.Fault.{Told, write_failed}
-use Rattle.bt_lines.specs.calls.Names.{told}
-use Rattle.bt_lines.specs.calls.Output.{Output, HoldsBlock, IsFrontOf, Grows, block_size}
+use Rattle.bt_lines.specs.model.Fault.{FaultValue, write_failed}
+use Rattle.bt_lines.specs.calls.Names.{fault_value}
+use Rattle.bt_lines.specs.calls.Output.{Output, HoldsBlock, IsPrefixOf, Grows, block_size}
 use Rattle.bt_lines.specs.calls.Putting.{WorksAsBefore, PutsAll, FailsToPut, Puts, Grown, FailsToAdd, Adds}
 use Rattle.bt_lines.specs.declared.fault.Fault.{Fault}
 
 -- a prefix of the first bytes is a prefix of them and more
-pub front_longer : (new old : Option (List ℕ)) (xs ys : List ℕ) → IsFrontOf new old xs → IsFrontOf new old (xs ++ ys)
+pub front_longer : (new old : Option (List ℕ)) (xs ys : List ℕ) → IsPrefixOf new old xs → IsPrefixOf new old (xs ++ ys)
 front_longer None old xs ys f = tt
 front_longer (Some new) None xs ys f = tt
 front_longer (Some new) (Some old) xs ys f =
     (f.0 ++ ys, sym (append_assoc new f.0 ys) ∙ ap (λ l. l ++ ys) f.1 ∙ append_assoc old xs ys)
 
 -- a prefix of bytes that follow some that were appended
-pub front_behind : (new old mid : Option (List ℕ)) (xs ys : List ℕ) → Appends old mid xs → IsFrontOf new mid ys → IsFrontOf new old (xs ++ ys)
+pub front_behind : (new old mid : Option (List ℕ)) (xs ys : List ℕ) → Appends old mid xs → IsPrefixOf new mid ys → IsPrefixOf new old (xs ++ ys)
 front_behind None old mid xs ys p f = tt
 front_behind (Some new) None mid xs ys p f = tt
 front_behind (Some new) (Some old) None xs ys p f = absurd p
@@ -40,7 +40,7 @@ module _ (old mid new : Output) (xs ys : List ℕ) where
     sink_served = q.sink_served ∙ p.sink_served;
   }
 
-  pub fails_behind : (fault : Told) → PutsAll old xs mid → FailsToPut mid ys fault new → FailsToPut old (xs ++ ys) fault new
+  pub fails_behind : (fault : FaultValue) → PutsAll old xs mid → FailsToPut mid ys fault new → FailsToPut old (xs ++ ys) fault new
   fails_behind fault p q = record {
     is = q.is;
     front = front_behind new.took old.put mid.put xs ys p.appends q.front;
@@ -50,7 +50,7 @@ module _ (old mid new : Output) (xs ys : List ℕ) where
     again = λ e. absurd (false≢true (sym p.was_served ∙ e));
   }
 
-pub fails_before : (old new : Output) (xs ys : List ℕ) (fault : Told) → FailsToPut old xs fault new → FailsToPut old (xs ++ ys) fault new
+pub fails_before : (old new : Output) (xs ys : List ℕ) (fault : FaultValue) → FailsToPut old xs fault new → FailsToPut old (xs ++ ys) fault new
 fails_before old new xs ys fault p = record {
   is = p.is;
   front = front_longer new.took old.put xs ys p.front;
@@ -63,13 +63,13 @@ fails_before old new xs ys fault p = record {
 -- whatever the second call returns
 pub puts_more : {A : Type 0} (old mid new : Output) (xs ys : List ℕ) (r : Result A Fault) → PutsAll old xs mid → Puts mid ys r new → Puts old (xs ++ ys) r new
 puts_more old mid new xs ys (Ok done) p q = put_more old mid new xs ys p q
-puts_more old mid new xs ys (Err fault) p q = fails_behind old mid new xs ys (told fault) p q
+puts_more old mid new xs ys (Err fault) p q = fails_behind old mid new xs ys (fault_value fault) p q
 
 -- what the clauses of a put say, together
 pub puts_from : {A : Type 0} (old new : Output) (bytes : List ℕ) (r : Result A Fault)
-    → OnOk r (Appends old.put new.put bytes) → OnOk r (HoldsBlock new.took new.put) → OnErr r (IsFrontOf new.took old.put bytes) → Grows old.took new.took
+    → OnOk r (Appends old.put new.put bytes) → OnOk r (HoldsBlock new.took new.put) → OnErr r (IsPrefixOf new.took old.put bytes) → Grows old.took new.took
     → OnOk r ((new.has_failed ≡ false) × (old.has_failed ≡ false) × (new.sink_has_failed ≡ old.sink_has_failed))
-    → IfErr r (λ fault. told fault ≡ write_failed) → OnErr r ((new.has_failed ≡ true) × (new.sink_has_failed ≡ true))
+    → IfErr r (λ fault. fault_value fault ≡ write_failed) → OnErr r ((new.has_failed ≡ true) × (new.sink_has_failed ≡ true))
     → (old.has_failed ≡ true → IsErr r × (new ≡ old)) → Puts old bytes r new
 puts_from old new bytes (Ok done) p b f g s w c a =
     record { appends = p; block = b; grows = g; was_served = s.1; served = s.0; sink_served = s.2 }
@@ -175,7 +175,7 @@ module _ (old mid new : Output) (xs ys : List ℕ) where
     nothing = λ e. q.nothing (nothing_behind xs ys e) ∙ p.nothing (nothing_before xs ys e);
   }
 
-  pub fails_then : (fault : Told) → Grown old xs mid → FailsToAdd mid ys fault new → FailsToAdd old (xs ++ ys) fault new
+  pub fails_then : (fault : FaultValue) → Grown old xs mid → FailsToAdd mid ys fault new → FailsToAdd old (xs ++ ys) fault new
   fails_then fault p q = record {
     puts = record {
       is = q.puts.is;
@@ -190,10 +190,10 @@ module _ (old mid new : Output) (xs ys : List ℕ) where
 
 pub adds_more : {A : Type 0} (old mid new : Output) (xs ys : List ℕ) (r : Result A Fault) → Grown old xs mid → Adds mid ys r new → Adds old (xs ++ ys) r new
 adds_more old mid new xs ys (Ok done) p q = grown_more old mid new xs ys p q
-adds_more old mid new xs ys (Err fault) p q = fails_then old mid new xs ys (told fault) p q
+adds_more old mid new xs ys (Err fault) p q = fails_then old mid new xs ys (fault_value fault) p q
 
 -- what was cut off is cut off of more
-pub cut_off : (old new : Output) (xs ys : List ℕ) (fault : Told) → FailsToAdd old xs fault new → FailsToAdd old (xs ++ ys) fault new
+pub cut_off : (old new : Output) (xs ys : List ℕ) (fault : FaultValue) → FailsToAdd old xs fault new → FailsToAdd old (xs ++ ys) fault new
 cut_off old new xs ys fault p = record {
   puts = fails_before old new xs ys fault p.puts;
   some = λ e. p.some (nothing_before xs ys e);
@@ -210,7 +210,7 @@ module _ {X : Type 0} (line : X → List ℕ) where
     pub adds_lines : {A : Type 0} (r : Result A Fault) → Grown old (flat_map line xs) mid → Adds mid (flat_map line ys) r new → Adds old (flat_map line (xs ++ ys)) r new
     adds_lines r p q = rw (flat_map-append line xs ys) (adds_more old mid new (flat_map line xs) (flat_map line ys) r p q)
 
-  pub cut_lines : (old new : Output) (xs ys : List X) (fault : Told) → FailsToAdd old (flat_map line xs) fault new → FailsToAdd old (flat_map line (xs ++ ys)) fault new
+  pub cut_lines : (old new : Output) (xs ys : List X) (fault : FaultValue) → FailsToAdd old (flat_map line xs) fault new → FailsToAdd old (flat_map line (xs ++ ys)) fault new
   cut_lines old new xs ys fault p = rw (flat_map-append line xs ys) (cut_off old new (flat_map line xs) (flat_map line ys) fault p)
 
   pub line_alone : {A : Type 0} (x : X) (old new : Output) (r : Result A Fault) → (line x ≡ [] → ⊥) → Puts old (line x) r new → Adds old (flat_map line (x ∷ [])) r new

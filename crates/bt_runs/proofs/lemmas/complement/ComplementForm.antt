@@ -7,7 +7,7 @@ use Rattle.bt_bed.specs.model.feature.Feature.{Feature, intervals_of, interval_o
 use Rattle.bt_bed.specs.model.order.Genome.{Entry, genome_names}
 use Rattle.bt_bed.specs.model.feature.Interval.{Interval, Span, placed_on, spans_on, span_of}
 use Rattle.bt_bed.specs.model.order.Rank.{rank_order}
-use Rattle.bt_bed.specs.model.order.Together.{has_records}
+use Rattle.bt_bed.specs.model.order.Contiguous.{has_records}
 use Rattle.bt_runs.specs.model.Gaps.{gaps_of, gaps_on, is_asked, is_over, is_over_at, complement, over_by, settled_gaps}
 use Rattle.bt_runs.specs.inside.walk.GapStep.{bare_gap, gap_between, gap_walk}
 use Rattle.bt_runs.proofs.lemmas.laws.Standing.{has_records-push, compare_same}

@@ -3,8 +3,8 @@ use Rattle.std.proofs.Common.{◌≡◌, ◌⊎◌, ℕ, List, [], ◌∷◌, �
 use Rattle.std.specs.Option.{option_eq}
 use Rattle.std.proofs.lemmas.Bool.{cases_Bool, cond-true, cond-false, eqb-false, eqb-true, le-ltb}
 use Rattle.std.proofs.lemmas.Grind.{flat_map-append}
-use Rattle.bt_lines.specs.model.Fault.{Told, no_memory, write_failed}
-use Rattle.bt_lines.specs.calls.Names.{told}
+use Rattle.bt_lines.specs.model.Fault.{FaultValue, no_memory, write_failed}
+use Rattle.bt_lines.specs.calls.Names.{fault_value}
 use Rattle.bt_lines.specs.calls.Output.{Output}
 use Rattle.bt_lines.specs.calls.Putting.{Adds, FailsToAdd, Grown}
 use Rattle.bt_lines.specs.declared.fault.Fault.{Fault}
@@ -109,8 +109,8 @@ cursor_reached cursor = reached_at (entries cursor.genome.now) cursor.name.now c
 same_complement : (a b : Complementing) → a.entries ≡ b.entries → a.limit ≡ b.limit → a.current ≡ b.current → a.bases ≡ b.bases → a ≡ b
 same_complement a b e l c n = rw (e, l, c, n) refl
 
-other_fault : {answer : Told} → answer ≡ no_memory → answer ≡ write_failed → ⊥
-other_fault memory write = let apart : no_memory.kind ≡ write_failed.kind = ap (λ (t : Told). t.kind) (sym memory ∙ write) in cc
+other_fault : {answer : FaultValue} → answer ≡ no_memory → answer ≡ write_failed → ⊥
+other_fault memory write = let apart : no_memory.kind ≡ write_failed.kind = ap (λ (t : FaultValue). t.kind) (sym memory ∙ write) in cc
 
 abbrev none_wanted : Complementing → Feature → Type 0
 none_wanted rule r = ⊥
@@ -216,15 +216,15 @@ module _ (old : Complementing) (at : AreReached old.entries old.current) (out : 
           })
 
       -- what is left before it can't be written
-      pub enters_cut : (fault : Fault) (new : Complementing) (grown : Output) → FailsToAdd out (interval_lines items) (told fault) grown → Enters (Err fault) new grown
+      pub enters_cut : (fault : Fault) (new : Complementing) (grown : Output) → FailsToAdd out (interval_lines items) (fault_value fault) grown → Enters (Err fault) new grown
       enters_cut fault new grown p = λ r on.
           let walk = gap_walk old.limit in
           let way : going walk old.entries old.current r.chrom ≡ (Some place, items) = ap (going walk old.entries old.current) on ∙ goes in
           let starts = step_starts walk old.entries old.current r in
-          let more = cut_lines interval_line out grown items starts.0 (told fault) p in
+          let more = cut_lines interval_line out grown items starts.0 (fault_value fault) p in
           let same : (next_gaps old r) ≡ items ++ starts.0 = starts.1 ∙ ap (λ s. s.1 ++ starts.0) way in
           gap_taken r (Err fault) new grown (record {
-            adds = subst (λ (gaps : List Interval). FailsToAdd out (interval_lines gaps) (told fault) grown) (sym same) more;
+            adds = subst (λ (gaps : List Interval). FailsToAdd out (interval_lines gaps) (fault_value fault) grown) (sym same) more;
             next = tt;
           })
 

@@ -2,7 +2,7 @@
 use Rattle.std.proofs.Common.{◌≡◌, ℕ, List, [], ◌∷◌, ◌++◌, Result, Ok, Err, refl, sym, ◌∙◌, append-nil, inl, inr}
 use Rattle.std.proofs.lemmas.List.{append_cancel_left}
 use Rattle.bt_lines.specs.model.Fault.{no_memory}
-use Rattle.bt_lines.specs.calls.Names.{told}
+use Rattle.bt_lines.specs.calls.Names.{fault_value}
 use Rattle.bt_lines.specs.calls.Output.{Output}
 use Rattle.bt_lines.specs.calls.Putting.{Adds, FailsToAdd, Grown}
 use Rattle.bt_lines.specs.declared.fault.Fault.{Fault}
@@ -39,7 +39,7 @@ module _ {E : Type 0} (MayTake : E → List Feature → Type 0) (Stands : E → 
     }
 
     -- its lines couldn't be written
-    pub rule_cut : {A : Type 0} (e : Fault) (new : E) (grown : Output) → FailsToAdd out lines (told e) grown
+    pub rule_cut : {A : Type 0} (e : Fault) (new : E) (grown : Output) → FailsToAdd out lines (fault_value e) grown
         → RuleFeeds MayTake Stands settled old r out {A = A} Quiet (Err e) new grown
     rule_cut e new grown p = record {
       answers = inl (record {
@@ -54,7 +54,7 @@ module _ {E : Type 0} (MayTake : E → List Feature → Type 0) (Stands : E → 
     }
 
     -- its lines were written, and what is kept couldn't grow
-    pub rule_short : {A : Type 0} (e : Fault) (new : E) (grown : Output) → told e ≡ no_memory → AfterEach MayTake Stands old r (λ first past. Quiet first past r → ⊥) → Grown out lines grown
+    pub rule_short : {A : Type 0} (e : Fault) (new : E) (grown : Output) → fault_value e ≡ no_memory → AfterEach MayTake Stands old r (λ first past. Quiet first past r → ⊥) → Grown out lines grown
         → RuleFeeds MayTake Stands settled old r out {A = A} Quiet (Err e) new grown
     rule_short e new grown is loud p = record {
       answers = inr (record {

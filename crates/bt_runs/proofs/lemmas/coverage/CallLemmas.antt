@@ -1,20 +1,20 @@
 -- What a call of an engine does, taken apart: from `Feeds` and `Finishes` to a fact for each clause, and back.
 use Rattle.std.proofs.Common.{◌≡◌, ℕ, List, Option, None, Some, Result, Ok, Err, IfErr, sym, ap, ◌∙◌, inl, inr}
-use Rattle.bt_lines.specs.model.Fault.{Told, no_memory, write_failed}
-use Rattle.bt_lines.specs.calls.Names.{told}
+use Rattle.bt_lines.specs.model.Fault.{FaultValue, no_memory, write_failed}
+use Rattle.bt_lines.specs.calls.Names.{fault_value}
 use Rattle.bt_lines.specs.calls.Output.{Output}
 use Rattle.bt_lines.specs.declared.fault.Fault.{Fault}
 use Rattle.bt_bed.specs.model.feature.Feature.{Feature}
 use Rattle.bt_runs.specs.calls.Calls.{AnswersAgain, KeepsFault, WritesFirst, WritesLeft, WritesLeftPrefix, WritesPrefix, WritesSettled}
 use Rattle.bt_runs.specs.calls.Engine.{Feeds, Finishes, IsWanted}
 
-other_fault : {answer : Told} → answer ≡ no_memory → answer ≡ write_failed → ⊥
-other_fault memory write = let apart : no_memory.kind ≡ write_failed.kind = ap (λ (t : Told). t.kind) (sym memory ∙ write) in cc
+other_fault : {answer : FaultValue} → answer ≡ no_memory → answer ≡ write_failed → ⊥
+other_fault memory write = let apart : no_memory.kind ≡ write_failed.kind = ap (λ (t : FaultValue). t.kind) (sym memory ∙ write) in cc
 
 none_before : {A : Type 0} {o : Option A} {x : A} → o ≡ None → o ≡ Some x → ⊥
 none_before none some = cc
 
-module _ {E A : Type 0} {MayTake : E → List Feature → Type 0} {Stands : E → List Feature → E → Type 0} {fault : E → Option Told} {settled : E → List Feature → List ℕ}
+module _ {E A : Type 0} {MayTake : E → List Feature → Type 0} {Stands : E → List Feature → E → Type 0} {fault : E → Option FaultValue} {settled : E → List Feature → List ℕ}
     {old : E} {r : Feature} {out : Output} {Quiet : E → List Feature → Feature → Type 0} {new : E} {grown : Output} where
   pub feeds_settled : (result : Result A Fault) → Feeds MayTake Stands fault settled old r out Quiet result new grown → WritesSettled MayTake Stands fault settled old r out result new grown
   feeds_settled (Ok done) fed = fed.answers
@@ -52,7 +52,7 @@ module _ {E A : Type 0} {MayTake : E → List Feature → Type 0} {Stands : E �
     | inr (inr ran) ↦ absurd (none_before ran.was_going some)
   ]
 
-  pub feeds_failed : (result : Result A Fault) → Feeds MayTake Stands fault settled old r out Quiet result new grown → (before : Told) → fault old ≡ Some before → (new ≡ old) × (grown ≡ out)
+  pub feeds_failed : (result : Result A Fault) → Feeds MayTake Stands fault settled old r out Quiet result new grown → (before : FaultValue) → fault old ≡ Some before → (new ≡ old) × (grown ≡ out)
   feeds_failed (Ok done) fed = λ before some. absurd (none_before fed.answers.was_going some)
   feeds_failed (Err answer) fed = λ before some. elim fed.answers [
     | inl repeats ↦ (repeats.same, repeats.same_output)
@@ -60,7 +60,7 @@ module _ {E A : Type 0} {MayTake : E → List Feature → Type 0} {Stands : E �
     | inr (inr ran) ↦ absurd (none_before ran.was_going some)
   ]
 
-module _ {E A : Type 0} {MayTake : E → List Feature → Type 0} {Stands : E → List Feature → E → Type 0} {fault : E → Option Told} {settled whole : E → List Feature → List ℕ}
+module _ {E A : Type 0} {MayTake : E → List Feature → Type 0} {Stands : E → List Feature → E → Type 0} {fault : E → Option FaultValue} {settled whole : E → List Feature → List ℕ}
     {last : E} {out grown : Output} where
   pub finishes_left : (result : Result A Fault) → Finishes MayTake Stands fault settled whole last out result grown → WritesLeft MayTake Stands fault settled whole last out result grown
   finishes_left (Ok done) ends = ends.answers
@@ -80,7 +80,7 @@ module _ {E A : Type 0} {MayTake : E → List Feature → Type 0} {Stands : E �
     | inr fails ↦ absurd (none_before fails.was_going some)
   ]
 
-  pub finishes_failed : (result : Result A Fault) → Finishes MayTake Stands fault settled whole last out result grown → (before : Told) → fault last ≡ Some before → grown ≡ out
+  pub finishes_failed : (result : Result A Fault) → Finishes MayTake Stands fault settled whole last out result grown → (before : FaultValue) → fault last ≡ Some before → grown ≡ out
   finishes_failed (Ok done) ends = λ before some. absurd (none_before ends.answers.was_going some)
   finishes_failed (Err answer) ends = λ before some. elim ends.answers [
     | inl repeats ↦ repeats.same_output
@@ -88,10 +88,10 @@ module _ {E A : Type 0} {MayTake : E → List Feature → Type 0} {Stands : E �
   ]
 
 -- an engine that wants no memory fails only if a write fails
-module _ {E A : Type 0} {MayTake : E → List Feature → Type 0} {Stands : E → List Feature → E → Type 0} {fault : E → Option Told} {settled : E → List Feature → List ℕ}
+module _ {E A : Type 0} {MayTake : E → List Feature → Type 0} {Stands : E → List Feature → E → Type 0} {fault : E → Option FaultValue} {settled : E → List Feature → List ℕ}
     {old : E} {r : Feature} {out : Output} {Quiet : E → List Feature → Feature → Type 0} {new : E} {grown : Output} where
   pub only_writes : (result : Result A Fault) → fault old ≡ None → Feeds MayTake Stands fault settled old r out Quiet result new grown → IsWanted (λ old r. ⊥) fault old r result
-      → IfErr result (λ answer. told answer ≡ write_failed)
+      → IfErr result (λ answer. fault_value answer ≡ write_failed)
   only_writes (Ok done) going fed wanted = tt
   only_writes (Err answer) going fed wanted = elim fed.answers [
     | inl repeats ↦ absurd (none_before going repeats.is)

@@ -7,7 +7,7 @@ use Rattle.bt_bed.specs.model.feature.Feature.{Feature, interval_of, intervals_o
 use Rattle.bt_bed.specs.model.order.Genome.{Entry, genome_names}
 use Rattle.bt_bed.specs.model.feature.Interval.{Interval, span_of}
 use Rattle.bt_bed.specs.model.order.Rank.{rank_order}
-use Rattle.bt_bed.specs.model.order.Together.{has_records}
+use Rattle.bt_bed.specs.model.order.Contiguous.{has_records}
 use Rattle.bt_bed.specs.declared.record.strand.Strand.{Strand}
 use Rattle.bt_runs.specs.model.Depth.{DepthInterval, counted_on, coverage, depth_of, depth_on, depths_on, ended_by, is_counted_by, is_ended_by, settled_depths}
 use Rattle.bt_runs.specs.inside.coverage.DepthStep.{Known, depth_walk, known_by, known_with, levels_by, levels_left, levels_on, levels_with}

@@ -1,6 +1,6 @@
 -- What a coverage does with one record on the chromosome that it has reached.
 use Rattle.std.proofs.Common.{◌≡◌, ℕ, ◌<◌, Bool, true, false, List, Option, None, Some, Ok, Err, inl, inr, refl, sym, ap, subst, ◌∙◌}
-use Rattle.bt_lines.specs.calls.Names.{told}
+use Rattle.bt_lines.specs.calls.Names.{fault_value}
 use Rattle.bt_lines.specs.calls.Output.{Output}
 use Rattle.bt_lines.specs.declared.fault.Fault.{Fault}
 use Rattle.bt_bed.specs.model.feature.Feature.{Feature}
@@ -17,8 +17,8 @@ use Rattle.bt_runs.specs.calls.Failure.{fault_of}
 use Rattle.bt_runs.specs.inside.coverage.OpenRecords.{OpenAt}
 use Rattle.bt_runs.specs.inside.walk.Walk.{AreReached, IsPlaced, Place, entry_at, is_on}
 use Rattle.bt_runs.specs.declared.coverage.depth_rule.DepthChrom.{DepthChrom}
-use Rattle.bt_runs.specs.declared.coverage.depths.BegunDepth.{BegunDepth}
-use Rattle.bt_runs.specs.declared.coverage.depths.DepthPlace.{DepthPlace}
+use Rattle.bt_runs.specs.declared.coverage.depths.OpenInterval.{OpenInterval}
+use Rattle.bt_runs.specs.declared.coverage.depths.DepthCursor.{DepthCursor}
 use Rattle.bt_bed.specs.declared.record.strand.Strand.{Strand}
 use Rattle.bt_runs.specs.declared.engine.failure.Failure.{Failure}
 use Rattle.bt_runs.specs.declared.engine.failure.Failure.TheVariants.{Write, Memory}
@@ -48,7 +48,7 @@ module _ (old : Covering) (place : Place Known) (reached : old.current ≡ Some 
   step_is = step_here old r out place reached on ∙ rw (named, sized, counts, starts, stops) refl
 
   -- it was taken
-  pub counts_ok : (begun : Option BegunDepth) (held : OpenAt) (grown : Output) → Counts chrom (levels_past old.zeros size place.known bounds) (known_past old.zeros counted size place.known bounds) begun held out grown
+  pub counts_ok : (begun : Option OpenInterval) (held : OpenAt) (grown : Output) → Counts chrom (levels_past old.zeros size place.known bounds) (known_past old.zeros counted size place.known bounds) begun held out grown
       → CountsDepths old r out (Ok tt) (record { entries = old.entries; zeros = old.zeros; strand = old.strand; current = Some (place_seen (record { rank = place.rank; begun = begun }) held); is_here = old.is_here; name = old.name; length = old.length }) grown
   counts_ok begun held grown c =
       record {
@@ -67,8 +67,8 @@ module _ (old : Covering) (place : Place Known) (reached : old.current ≡ Some 
       record { counted = counts ∙ is.0; starts = rw (starts, size_ranked old.entries r.chrom place.rank ranked, sized) is.1 }
 
   -- it couldn't be
-  pub counts_err : (failure : Failure) (fault : Fault) (new : Covering) (held : OpenAt) (grown : Output) → told fault ≡ fault_of failure → CountAnswers chrom (levels_past old.zeros size place.known bounds) (known_past old.zeros counted size place.known bounds) (Err failure) held out grown
-      → OnWant {A = Option BegunDepth} ((counted ≡ true) × (bounds.start < size)) (Err failure) → CountsDepths old r out (Err fault) new grown
+  pub counts_err : (failure : Failure) (fault : Fault) (new : Covering) (held : OpenAt) (grown : Output) → fault_value fault ≡ fault_of failure → CountAnswers chrom (levels_past old.zeros size place.known bounds) (known_past old.zeros counted size place.known bounds) (Err failure) held out grown
+      → OnWant {A = Option OpenInterval} ((counted ≡ true) × (bounds.start < size)) (Err failure) → CountsDepths old r out (Err fault) new grown
   counts_err Write fault new held grown is cut want = inl (rw (step_is, is) cut)
   counts_err Memory fault new held grown is puts want = inr (record { is = is; puts = rw step_is puts; to_keep = to_keep want })
 
@@ -76,13 +76,13 @@ module _ (old : Covering) (place : Place Known) (reached : old.current ≡ Some 
 module _ (table : List Entry) (zeros : Bool) (strand : Option Strand) (is_here : Bool) (name : List ℕ) (size : ℕ) (on : DepthChrom) (here : on.is_here ≡ true)
     (r : Feature) (bounds : Bounds) (starts : r.start ≡ bounds.start) (stops : r.stop ≡ bounds.stop) (counted : Bool) (counts : is_counted_by strand r.strand ≡ counted) (out grown : Output) where
   -- a coverage with these open records
-  abbrev pub covering : Option DepthPlace → OpenAt → Covering
+  abbrev pub covering : Option DepthCursor → OpenAt → Covering
   covering current held = record { entries = table; zeros = zeros; strand = strand; current = seen current held; is_here = is_here; name = name; length = size }
 
-  abbrev pub ended_with : Option BegunDepth → DepthChrom
+  abbrev pub ended_with : Option OpenInterval → DepthChrom
   ended_with begun = record { is_here = on.is_here; name = on.name; length = on.length; begun = begun }
 
-  pub step_ok : (current : Option DepthPlace) (held : OpenAt) → AreReached table (seen current held) → IsOnChrom (with_chrom (covering current held) on) r.chrom → (begun : Option BegunDepth) (now_held : OpenAt)
+  pub step_ok : (current : Option DepthCursor) (held : OpenAt) → AreReached table (seen current held) → IsOnChrom (with_chrom (covering current held) on) r.chrom → (begun : Option OpenInterval) (now_held : OpenAt)
       → Counts on.name.now (levels_past zeros on.length (known_seen on.begun held) bounds) (known_past zeros counted on.length (known_seen on.begun held) bounds) begun now_held out grown
       → CountsDepths (with_chrom (covering current held) on) r out (Ok tt) (with_chrom (covering current now_held) (ended_with begun)) grown × IsOnChrom (with_chrom (covering current now_held) (ended_with begun)) r.chrom
   step_ok None held placed lies begun now_held c = absurd (on_here table None on.name.now on.length r.chrom on.is_here here lies).1
@@ -93,9 +93,9 @@ module _ (table : List Entry) (zeros : Bool) (strand : Option Strand) (is_here :
         stays_here table place (place_seen (record { rank = reached.rank; begun = begun }) now_held) on.name.now on.length r.chrom on.is_here refl here l,
       )
 
-  pub step_err : (current : Option DepthPlace) (held : OpenAt) → AreReached table (seen current held) → IsOnChrom (with_chrom (covering current held) on) r.chrom → (failure : Failure) (fault : Fault) (new : Covering) (now_held : OpenAt) → told fault ≡ fault_of failure
+  pub step_err : (current : Option DepthCursor) (held : OpenAt) → AreReached table (seen current held) → IsOnChrom (with_chrom (covering current held) on) r.chrom → (failure : Failure) (fault : Fault) (new : Covering) (now_held : OpenAt) → fault_value fault ≡ fault_of failure
       → CountAnswers on.name.now (levels_past zeros on.length (known_seen on.begun held) bounds) (known_past zeros counted on.length (known_seen on.begun held) bounds) (Err failure) now_held out grown
-      → OnWant {A = Option BegunDepth} ((counted ≡ true) × (bounds.start < on.length)) (Err failure) → CountsDepths (with_chrom (covering current held) on) r out (Err fault) new grown
+      → OnWant {A = Option OpenInterval} ((counted ≡ true) × (bounds.start < on.length)) (Err failure) → CountsDepths (with_chrom (covering current held) on) r out (Err fault) new grown
   step_err None held placed lies failure fault new now_held is c want = absurd (on_here table None on.name.now on.length r.chrom on.is_here here lies).1
   step_err (Some reached) held placed lies failure fault new now_held is c want =
       let place = place_seen (record { rank = reached.rank; begun = on.begun }) held in

@@ -1,7 +1,7 @@
 -- The lines of intervals with their depths, and what the private calls of a coverage write of them.
 use Rattle.std.proofs.Common.{◌≡◌, ℕ, List, [], ◌∷◌, ◌++◌, Result, Err, sym, ap, ◌∙◌, append_assoc, codes, decimal, arith, length, length-append, ◌<◌, refl, Bool, true, false, Option, Some, None}
 use Rattle.std.proofs.lemmas.List.{map-append}
-use Rattle.bt_lines.specs.calls.Names.{told}
+use Rattle.bt_lines.specs.calls.Names.{fault_value}
 use Rattle.bt_lines.specs.calls.Output.{Output}
 use Rattle.bt_lines.specs.calls.Putting.{Adds, FailsToAdd, Grown, Puts}
 use Rattle.bt_lines.specs.declared.fault.Fault.{Fault}
@@ -18,7 +18,7 @@ use Rattle.bt_bed.specs.declared.record.strand.Strand.{Strand}
 use Rattle.bt_runs.specs.inside.coverage.CountSeen.{seen}
 use Rattle.bt_runs.specs.inside.coverage.OpenRecords.{OpenAt, none_open_at}
 use Rattle.bt_runs.specs.inside.walk.Walk.{Place, begun, entry_at, is_on, left_before, taking, walk_step}
-use Rattle.bt_runs.specs.declared.coverage.depths.DepthPlace.{DepthPlace}
+use Rattle.bt_runs.specs.declared.coverage.depths.DepthCursor.{DepthCursor}
 use Rattle.bt_runs.proofs.lemmas.complement.Walks.{going_to, step_goes}
 
 -- the name, and what follows it
@@ -52,13 +52,13 @@ module _ (chrom : List ℕ) (old mid new : Output) (xs ys all : List Level) wher
   pub adds_levels : {A : Type 0} (r : Result A Fault) → all ≡ xs ++ ys → Grown old (depth_lines (levels_on chrom xs)) mid → Adds mid (depth_lines (levels_on chrom ys)) r new → Adds old (depth_lines (levels_on chrom all)) r new
   adds_levels r is p q = rw (is, map-append (depth_on chrom) xs ys) (adds_lines depth_line old mid new (levels_on chrom xs) (levels_on chrom ys) r p q)
 
-  pub cut_levels : (zs : List Level) (fault : Fault) → all ≡ (xs ++ ys) ++ zs → Grown old (depth_lines (levels_on chrom xs)) mid → FailsToAdd mid (depth_lines (levels_on chrom ys)) (told fault) new → FailsToAdd old (depth_lines (levels_on chrom all)) (told fault) new
+  pub cut_levels : (zs : List Level) (fault : Fault) → all ≡ (xs ++ ys) ++ zs → Grown old (depth_lines (levels_on chrom xs)) mid → FailsToAdd mid (depth_lines (levels_on chrom ys)) (fault_value fault) new → FailsToAdd old (depth_lines (levels_on chrom all)) (fault_value fault) new
   cut_levels zs fault is p q =
       rw (is, map-append (depth_on chrom) (xs ++ ys) zs, map-append (depth_on chrom) xs ys)
-      (cut_lines depth_line old new (levels_on chrom xs ++ levels_on chrom ys) (levels_on chrom zs) (told fault) (adds_lines depth_line old mid new (levels_on chrom xs) (levels_on chrom ys) {A = Unit {0}} (Err fault) p q))
+      (cut_lines depth_line old new (levels_on chrom xs ++ levels_on chrom ys) (levels_on chrom zs) (fault_value fault) (adds_lines depth_line old mid new (levels_on chrom xs) (levels_on chrom ys) {A = Unit {0}} (Err fault) p q))
 
-pub left_cut : (chrom : List ℕ) (old new : Output) (xs ys : List Level) (fault : Fault) → FailsToAdd old (depth_lines (levels_on chrom xs)) (told fault) new → FailsToAdd old (depth_lines (levels_on chrom (xs ++ ys))) (told fault) new
-left_cut chrom old new xs ys fault p = rw (map-append (depth_on chrom) xs ys) (cut_lines depth_line old new (levels_on chrom xs) (levels_on chrom ys) (told fault) p)
+pub left_cut : (chrom : List ℕ) (old new : Output) (xs ys : List Level) (fault : Fault) → FailsToAdd old (depth_lines (levels_on chrom xs)) (fault_value fault) new → FailsToAdd old (depth_lines (levels_on chrom (xs ++ ys))) (fault_value fault) new
+left_cut chrom old new xs ys fault p = rw (map-append (depth_on chrom) xs ys) (cut_lines depth_line old new (levels_on chrom xs) (levels_on chrom ys) (fault_value fault) p)
 
 -- one bare chromosome
 pub bare_some : (zeros : Bool) (entries : List Entry) (rank size : ℕ) (name : List ℕ) → (entry_at entries rank).length ≡ size → (entry_at entries rank).name ≡ name → zeros ≡ true → 0 < size
@@ -66,7 +66,7 @@ pub bare_some : (zeros : Bool) (entries : List Entry) (rank size : ℕ) (name : 
 bare_some zeros entries rank size name is named t some = rw (is, named, t, lt-ltb 0 size some) refl
 
 -- how many chromosomes have begun doesn't depend on the open records
-pub begun_same : (current : Option DepthPlace) (held : OpenAt) → begun (seen current (none_open_at 0)) ≡ begun (seen current held)
+pub begun_same : (current : Option DepthCursor) (held : OpenAt) → begun (seen current (none_open_at 0)) ≡ begun (seen current held)
 begun_same None held = refl
 begun_same (Some r) held = refl
 

@@ -16,7 +16,7 @@ use Rattle.std.proofs.lemmas.Bool.{cases_lt, lt-ltb, le-ltb}
 use Rattle.std.proofs.lemmas.Grind.{flat_map-append}
 use Rattle.bt_lines.specs.calls.Output.{Output}
 use Rattle.bt_lines.specs.calls.Putting.{Adds, FailsToAdd, Grown}
-use Rattle.bt_lines.specs.calls.Names.{told}
+use Rattle.bt_lines.specs.calls.Names.{fault_value}
 use Rattle.bt_lines.specs.declared.fault.Fault.{Fault}
 use Rattle.bt_lines.specs.declared.fault.Kind.TheVariants.{NoMemory, WriteFailed}
 use Rattle.bt_bed.specs.model.feature.Interval.{Span, last_of}
@@ -262,9 +262,9 @@ module _ (old : Covering) where
     enters_there out mid p r same result new grown c = taken_by r out result new grown (answers_there r same out mid result new grown p c)
 
     -- or what is left before it couldn't be written
-    pub enters_cut : (out : Output) (fault : Fault) (new : Covering) (grown : Output) → FailsToAdd out (depth_lines before) (told fault) grown → Enters old chrom out (Err fault) new grown
+    pub enters_cut : (out : Output) (fault : Fault) (new : Covering) (grown : Output) → FailsToAdd out (depth_lines before) (fault_value fault) grown → Enters old chrom out (Err fault) new grown
     enters_cut out fault new grown cut r same =
-        taken_by r out (Err fault) new grown (inl (rw (steps_old r same out) (cut_lines depth_line out grown before (taken r same).1 (told fault) cut)))
+        taken_by r out (Err fault) new grown (inl (rw (steps_old r same out) (cut_lines depth_line out grown before (taken r same).1 (fault_value fault) cut)))
 
   -- the lines that are left
   lines_left : (out : Output) (stop : ℕ) → stop ≡ length old.entries → AtEnd may_take stands_after old (λ first past. whole_output first past ≡ settled_lines first past ++ depth_lines (left_before (depths_left old.zeros) (bare_of old.zeros) old.entries old.current stop))

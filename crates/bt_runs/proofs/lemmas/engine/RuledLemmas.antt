@@ -1,7 +1,7 @@
 -- What an engine does that goes by a rule: what the rule does, until it has failed.
 use Rattle.std.proofs.Common.{◌≡◌, ◌⊎◌, ℕ, List, [], ◌∷◌, Option, None, Some, Result, Ok, Err, refl, sym, ap, subst, ◌∙◌, inl, inr, option_map}
 use Rattle.bt_lines.specs.model.Fault.{no_memory, write_failed}
-use Rattle.bt_lines.specs.calls.Names.{told}
+use Rattle.bt_lines.specs.calls.Names.{fault_value}
 use Rattle.bt_lines.specs.calls.Output.{Output}
 use Rattle.bt_lines.specs.declared.fault.Fault.{Fault}
 use Rattle.bt_bed.specs.model.feature.Feature.{Feature}
@@ -27,7 +27,7 @@ module _ {E : Type 0} (takes : E → List Feature → Type 0) (stands : E → Li
   -- one record
   module _ (old : E) (r : Feature) (out : Output) where
     answers : {A : Type 0} (result : Result A Fault) (new : Ruled E) (grown : Output) → RuleAnswers takes stands settled old r out result new.rule grown
-        → ((done : A) → result ≡ Ok done → new.failure ≡ None) → ((fault : Fault) → result ≡ Err fault → ruled_fault new ≡ Some (told fault))
+        → ((done : A) → result ≡ Ok done → new.failure ≡ None) → ((fault : Fault) → result ≡ Err fault → ruled_fault new ≡ Some (fault_value fault))
         → FeedAnswers (ruled_takes takes) (ruled_stands stands) ruled_fault (ruled_text settled) (going old) r out result new grown
     answers (Ok done) new grown p none kept = record {
       was_going = refl;
@@ -53,7 +53,7 @@ module _ {E : Type 0} (takes : E → List Feature → Type 0) (stands : E → Li
     }))
 
     feeds_by : {A : Type 0} (result : Result A Fault) (new : Ruled E) (grown : Output) → RuleFeeds takes stands settled old r out quiet result new.rule grown
-        → ((done : A) → result ≡ Ok done → new.failure ≡ None) → ((fault : Fault) → result ≡ Err fault → ruled_fault new ≡ Some (told fault))
+        → ((done : A) → result ≡ Ok done → new.failure ≡ None) → ((fault : Fault) → result ≡ Err fault → ruled_fault new ≡ Some (fault_value fault))
         → Feeds (ruled_takes takes) (ruled_stands stands) ruled_fault (ruled_text settled) (going old) r out (ruled_quiet quiet) result new grown
     feeds_by result new grown p none kept = record {
       going = stands_going (going old);
@@ -77,7 +77,7 @@ module _ {E : Type 0} (takes : E → List Feature → Type 0) (stands : E → Li
     )
 
     -- what ended the rule is a failed write, or out of memory
-    pub ends_by : (old : E) (r : Feature) (out : Output) (fault : Fault) (new : E) (grown : Output) → does old r out (Err fault) new grown → (told fault ≡ write_failed) ⊎ (told fault ≡ no_memory)
+    pub ends_by : (old : E) (r : Feature) (out : Output) (fault : Fault) (new : E) (grown : Output) → does old r out (Err fault) new grown → (fault_value fault ≡ write_failed) ⊎ (fault_value fault ≡ no_memory)
     ends_by old r out fault new grown d = elim (feeds old r out (Err fault) new grown d).answers [
       | inl p ↦ inl p.is
       | inr p ↦ inr p.is
@@ -85,7 +85,7 @@ module _ {E : Type 0} (takes : E → List Feature → Type 0) (stands : E → Li
 
     module _ {C : Type 0} (gives : C → List Feature → C → Type 0) (has_ended : C → Type 0) (cursor : C) (out : Output) where
       pub batch_going : (rule : E) (result : Result (Unit {0}) Fault) (new : Ruled E) (passed : C) (grown : Output) → Follows does gives has_ended rule cursor out result new.rule passed grown
-          → ((done : Unit {0}) → result ≡ Ok done → new.failure ≡ None) → ((fault : Fault) → result ≡ Err fault → ruled_fault new ≡ Some (told fault))
+          → ((done : Unit {0}) → result ≡ Ok done → new.failure ≡ None) → ((fault : Fault) → result ≡ Err fault → ruled_fault new ≡ Some (fault_value fault))
           → FeedsBatch (ruled_takes takes) (ruled_stands stands) ruled_fault (ruled_text settled) (ruled_quiet quiet) (ruled_wants wants) gives has_ended (going rule) cursor out result new passed grown
       batch_going rule (Ok done) new passed grown f none kept = (
         record {
@@ -109,7 +109,7 @@ module _ {E : Type 0} (takes : E → List Feature → Type 0) (stands : E → Li
 
       -- the same for an engine that hasn't failed
       pub batch_fed : (old : Ruled E) (result : Result (Unit {0}) Fault) (new : Ruled E) (passed : C) (grown : Output) → old.failure ≡ None → Follows does gives has_ended old.rule cursor out result new.rule passed grown
-          → ((done : Unit {0}) → result ≡ Ok done → new.failure ≡ None) → ((fault : Fault) → result ≡ Err fault → ruled_fault new ≡ Some (told fault))
+          → ((done : Unit {0}) → result ≡ Ok done → new.failure ≡ None) → ((fault : Fault) → result ≡ Err fault → ruled_fault new ≡ Some (fault_value fault))
           → FeedsBatch (ruled_takes takes) (ruled_stands stands) ruled_fault (ruled_text settled) (ruled_quiet quiet) (ruled_wants wants) gives has_ended old cursor out result new passed grown
       batch_fed old result new passed grown was f none kept =
           subst (λ (failure : Option Failure). FeedsBatch (ruled_takes takes) (ruled_stands stands) ruled_fault (ruled_text settled) (ruled_quiet quiet) (ruled_wants wants) gives has_ended (record { rule = old.rule; failure = failure }) cursor out result new passed grown)

@@ -1,6 +1,6 @@
 -- One record is a batch of one.
 use Rattle.std.proofs.Common.{◌≡◌, ℕ, List, [], ◌∷◌, ◌++◌, Option, Result, Ok, Err, refl, sym, ap, subst, ◌∙◌, inl, inr, append-nil}
-use Rattle.bt_lines.specs.model.Fault.{Told}
+use Rattle.bt_lines.specs.model.Fault.{FaultValue}
 use Rattle.bt_lines.specs.calls.Output.{Grows, Output}
 use Rattle.bt_lines.specs.declared.fault.Fault.{Fault}
 use Rattle.bt_lines.proofs.lemmas.writer.PuttingLemmas.{grows_nothing}
@@ -15,7 +15,7 @@ first_of_one r x [] more e = let first : r ≡ x = cc in (refl, sym first)
 first_of_one r x (y ∷ []) more e = absurd (cc)
 first_of_one r x (y ∷ z ∷ xs) more e = absurd (cc)
 
-module _ {E : Type 0} (MayTake : E → List Feature → Type 0) (Stands : E → List Feature → E → Type 0) (fault : E → Option Told) (settled : E → List Feature → List ℕ) (Quiet : E → List Feature → Feature → Type 0) (wants : E → Feature → Type 0) (old : E) (r : Feature) (out : Output) where
+module _ {E : Type 0} (MayTake : E → List Feature → Type 0) (Stands : E → List Feature → E → Type 0) (fault : E → Option FaultValue) (settled : E → List Feature → List ℕ) (Quiet : E → List Feature → Feature → Type 0) (wants : E → Feature → Type 0) (old : E) (r : Feature) (out : Output) where
   one_taken : (records : List Feature) (new : E) (grown : Output) → records ≡ r ∷ [] → TakesEach MayTake Stands fault settled Quiet old out records new grown → Feeds MayTake Stands fault settled old r out {A = Unit {0}} Quiet (Ok tt) new grown
   one_taken records new grown is taken =
       let t = subst (λ (l : List Feature). TakesEach MayTake Stands fault settled Quiet old out l new grown) is taken in

@@ -3,30 +3,30 @@ use Rattle.std.proofs.Common.{◌≡◌, ℕ, ◌+◌, ◌<◌, ◌≤◌, List,
 use Rattle.std.proofs.lemmas.Bool.{cond-true, or_from, or_left, or_right, not_from_true, not_from_false, cond-false, or_parts}
 use Rattle.bt_bed.specs.model.feature.Interval.{Interval, Span, placed_on}
 use Rattle.bt_bed.proofs.lemmas.parse.NameLemmas.{name_eq}
-use Rattle.bt_runs.specs.model.MergedRuns.{is_passed}
+use Rattle.bt_runs.specs.model.MergedRuns.{is_closed}
 use Rattle.bt_runs.proofs.lemmas.merge.Bridging.{AreApartBy}
 use Rattle.std.proofs.lemmas.List.{map-append}
 use Rattle.std.proofs.lemmas.List.Elements.{filter-append}
 use Rattle.bt_bed.specs.model.feature.Feature.{Feature, interval_of, intervals_of}
-use Rattle.bt_bed.specs.model.order.Together.{has_records}
+use Rattle.bt_bed.specs.model.order.Contiguous.{has_records}
 use Rattle.bt_runs.specs.model.Counted.{is_counted, counted}
 use Rattle.bt_runs.specs.declared.merge.merge_strand.MergeStrand.{MergeStrand}
 
-pub passed_elsewhere : (gap : ℕ) (last run : Interval) → bytes_eq run.chrom last.chrom ≡ false → is_passed gap last run ≡ true
+pub passed_elsewhere : (gap : ℕ) (last run : Interval) → bytes_eq run.chrom last.chrom ≡ false → is_closed gap last run ≡ true
 passed_elsewhere gap last run other = or_left (not (bytes_eq run.chrom last.chrom)) (nat_lt (run.stop + gap) last.start) (not_from_false (bytes_eq run.chrom last.chrom) other)
 
-pub passed_far : (gap : ℕ) (last run : Interval) → run.stop + gap < last.start → is_passed gap last run ≡ true
+pub passed_far : (gap : ℕ) (last run : Interval) → run.stop + gap < last.start → is_closed gap last run ≡ true
 passed_far gap last run far = or_right (not (bytes_eq run.chrom last.chrom)) (nat_lt (run.stop + gap) last.start) (lt-ltb (run.stop + gap) last.start far)
 
-pub not_passed : (gap : ℕ) (last run : Interval) → run.chrom ≡ last.chrom → last.start ≤ run.stop + gap → is_passed gap last run ≡ false
+pub not_passed : (gap : ℕ) (last run : Interval) → run.chrom ≡ last.chrom → last.start ≤ run.stop + gap → is_closed gap last run ≡ false
 not_passed gap last run same near = or_from (not (bytes_eq run.chrom last.chrom)) (nat_lt (run.stop + gap) last.start) (not_from_true (bytes_eq run.chrom last.chrom) (name_eq run.chrom last.chrom same)) (le-ltb (run.stop + gap) last.start near)
 
 -- a record closes all runs on other chromosomes than its own
-pub placed_elsewhere : (gap : ℕ) (last : Interval) (name : List ℕ) (spans : List Span) → bytes_eq name last.chrom ≡ false → filter (is_passed gap last) (map (placed_on name) spans) ≡ map (placed_on name) spans
+pub placed_elsewhere : (gap : ℕ) (last : Interval) (name : List ℕ) (spans : List Span) → bytes_eq name last.chrom ≡ false → filter (is_closed gap last) (map (placed_on name) spans) ≡ map (placed_on name) spans
 placed_elsewhere gap last name [] other = refl
 placed_elsewhere gap last name (s ∷ ss) other =
-    let others : List Interval = filter (is_passed gap last) (map (placed_on name) ss) in
-    cond-true (is_passed gap last (placed_on name s)) (placed_on name s ∷ others) others (passed_elsewhere gap last (placed_on name s) other)
+    let others : List Interval = filter (is_closed gap last) (map (placed_on name) ss) in
+    cond-true (is_closed gap last (placed_on name s)) (placed_on name s ∷ others) others (passed_elsewhere gap last (placed_on name s) other)
     ∙ ap (λ runs. placed_on name s ∷ runs) (placed_elsewhere gap last name ss other)
 
 first_up_to : (gap first : ℕ) (done : List Span) (run : Span) → AreApartBy gap first (done ++ run ∷ []) → first ≤ run.start
@@ -34,12 +34,12 @@ first_up_to gap first [] run a = a.0
 first_up_to gap first (x ∷ done) run a = let h = first_up_to gap (x.stop + gap + 1) done run a.2 in omega arith
 
 -- a record at or past the start of the last run closes those before that
-pub passed_before : (gap first : ℕ) (last : Interval) (name : List ℕ) (done : List Span) (run : Span) → AreApartBy gap first (done ++ run ∷ []) → run.start ≤ last.start → filter (is_passed gap last) (map (placed_on name) done) ≡ map (placed_on name) done
+pub passed_before : (gap first : ℕ) (last : Interval) (name : List ℕ) (done : List Span) (run : Span) → AreApartBy gap first (done ++ run ∷ []) → run.start ≤ last.start → filter (is_closed gap last) (map (placed_on name) done) ≡ map (placed_on name) done
 passed_before gap first last name [] run apart up = refl
 passed_before gap first last name (x ∷ done) run apart up =
     let low = first_up_to gap (x.stop + gap + 1) done run apart.2 in
-    let others : List Interval = filter (is_passed gap last) (map (placed_on name) done) in
-    cond-true (is_passed gap last (placed_on name x)) (placed_on name x ∷ others) others (passed_far gap last (placed_on name x) (omega arith))
+    let others : List Interval = filter (is_closed gap last) (map (placed_on name) done) in
+    cond-true (is_closed gap last (placed_on name x)) (placed_on name x ∷ others) others (passed_far gap last (placed_on name x) (omega arith))
     ∙ ap (λ runs. placed_on name x ∷ runs) (passed_before gap (x.stop + gap + 1) last name done run apart.2 up)
 
 module _ (keep : Feature → Bool) where

@@ -10,7 +10,7 @@ use Rattle.bt_bed.specs.model.order.Rank.{is_among, AreDistinct, compare_ranks, 
 use Rattle.bt_bed.proofs.lemmas.parse.NameLemmas.{same_name, name_eq, name_ne-sym, name_ne}
 use Rattle.bt_bed.specs.model.feature.Interval.{Interval, last_from, last_of}
 use Rattle.bt_bed.specs.model.order.Locus.{ArePlaced, IsUpTo, locus_of}
-use Rattle.bt_bed.specs.model.order.Together.{has_records}
+use Rattle.bt_bed.specs.model.order.Contiguous.{has_records}
 use Rattle.bt_bed.proofs.lemmas.order.TogetherLemmas.{last_of-push}
 
 -- ranks compared

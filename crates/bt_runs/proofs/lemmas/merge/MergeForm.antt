@@ -5,11 +5,11 @@ use Rattle.std.proofs.lemmas.List.{map-append}
 use Rattle.std.proofs.lemmas.List.Elements.{filter-append}
 use Rattle.bt_bed.specs.model.feature.Feature.{Feature, interval_of, intervals_of}
 use Rattle.bt_bed.specs.model.feature.Interval.{Interval, Span, placed_on, span_of, spans_on}
-use Rattle.bt_bed.specs.model.order.Together.{has_records}
+use Rattle.bt_bed.specs.model.order.Contiguous.{has_records}
 use Rattle.bt_bed.proofs.lemmas.parse.NameLemmas.{name_ne}
 use Rattle.bt_runs.specs.model.Counted.{is_counted, counted}
 use Rattle.bt_runs.specs.model.Merged.{runs_of, runs_on}
-use Rattle.bt_runs.specs.model.MergedRuns.{is_passed, merged_runs, settled_runs}
+use Rattle.bt_runs.specs.model.MergedRuns.{is_closed, merged_runs, settled_runs}
 use Rattle.bt_runs.specs.inside.merge.MergeStep.{kept_by, left_by, settled_by, with_record}
 use Rattle.bt_runs.specs.declared.merge.merge_strand.MergeStrand.{MergeStrand}
 use Rattle.bt_runs.proofs.lemmas.order.ByChromosome.{Divides, Form, NoRecords, Owes, picks_by}
@@ -75,9 +75,9 @@ module _ (gap : ℕ) (name : List ℕ) (spans : List Span) where
               last = later gap spans start x.start up k.last;
               far = far;
               done_is =
-                  ap₂ (λ (xs ys : List Interval). xs ++ ys) k.done_is (ap (λ runs. settled_by gap runs x) k.kept_is ∙ cond-true (is_passed gap x run) (run ∷ []) [] past)
+                  ap₂ (λ (xs ys : List Interval). xs ++ ys) k.done_is (ap (λ runs. settled_by gap runs x) k.kept_is ∙ cond-true (is_closed gap x run) (run ∷ []) [] past)
                   ∙ sym (map-append (placed_on name) k.last.before (k.last.run ∷ []));
-              kept_is = ap (λ runs. left_by gap runs x) k.kept_is ∙ cond-false (not (is_passed gap x run)) (run ∷ []) [] (not_from_true (is_passed gap x run) past);
+              kept_is = ap (λ runs. left_by gap runs x) k.kept_is ∙ cond-false (not (is_closed gap x run)) (run ∷ []) [] (not_from_true (is_closed gap x run) past);
             }))
         | inr near ↦
             let stays = not_passed gap x run is near in
@@ -85,9 +85,9 @@ module _ (gap : ℕ) (name : List ℕ) (spans : List Span) where
               last = later gap spans start x.start up k.last;
               near = near;
               done_is =
-                  ap (λ runs. done ++ runs) (ap (λ runs. settled_by gap runs x) k.kept_is ∙ cond-false (is_passed gap x run) (run ∷ []) [] stays)
+                  ap (λ runs. done ++ runs) (ap (λ runs. settled_by gap runs x) k.kept_is ∙ cond-false (is_closed gap x run) (run ∷ []) [] stays)
                   ∙ append-nil done ∙ k.done_is;
-              kept_is = ap (λ runs. left_by gap runs x) k.kept_is ∙ cond-true (not (is_passed gap x run)) (run ∷ []) [] (not_from_false (is_passed gap x run) stays);
+              kept_is = ap (λ runs. left_by gap runs x) k.kept_is ∙ cond-true (not (is_closed gap x run)) (run ∷ []) [] (not_from_false (is_closed gap x run) stays);
             }))
       ]
 
@@ -119,7 +119,7 @@ module _ (gap : ℕ) (name : List ℕ) (spans : List Span) where
   gone start done kept x other (inr (inl k)) =
       let run = placed_on name k.last.run in
       let past = passed_elsewhere gap x run other in
-      rw k.kept_is (cond-true (is_passed gap x run) (run ∷ []) [] past, cond-false (not (is_passed gap x run)) (run ∷ []) [] (not_from_true (is_passed gap x run) past))
+      rw k.kept_is (cond-true (is_closed gap x run) (run ∷ []) [] past, cond-false (not (is_closed gap x run)) (run ∷ []) [] (not_from_true (is_closed gap x run) past))
 
   -- one run at most is kept
   pub few : (start : ℕ) (done kept : List Interval) → Runs gap name spans start done kept → length kept ≤ 1
@@ -132,7 +132,7 @@ module _ (gap : ℕ) (strand : MergeStrand) where
   form = record {
     name = λ name. name;
     part = λ name past. runs_on name gap (counted strand past);
-    pick = λ last runs. filter (is_passed gap last) runs;
+    pick = λ last runs. filter (is_closed gap last) runs;
     whole = merged_runs gap strand;
     settled = settled_runs gap strand;
     bare = λ name. [];
@@ -186,7 +186,7 @@ module _ (gap : ℕ) (strand : MergeStrand) where
       record {
         all = ap (map (placed_on name)) (sym (open_runs gap spans k.last.at k.last.before k.last.run one)) ∙ map-append (placed_on name) k.last.before (k.last.run ∷ []) ∙ sym (ap₂ (λ (xs ys : List Interval). xs ++ ys) k.done_is k.kept_is);
         done_over = rw k.done_is (passed_before gap 0 last name k.last.before k.last.run one.joined.apart (let h = k.last.up in let g = one.began in omega arith));
-        left_open = rw k.kept_is (cond-false (is_passed gap last run) (run ∷ []) [] (not_passed gap last run is k.near));
+        left_open = rw k.kept_is (cond-false (is_closed gap last run) (run ∷ []) [] (not_passed gap last run is k.near));
       }
   divides_on name past last done kept (inr (inr d)) is =
       let run = placed_on name d.last.run in
@@ -195,9 +195,9 @@ module _ (gap : ℕ) (strand : MergeStrand) where
       let before = map (placed_on name) d.last.before in
       record {
         all = ap (map (placed_on name)) (sym (open_runs gap spans d.last.at d.last.before d.last.run one)) ∙ sym d.done_is ∙ sym (append-nil done) ∙ ap (λ runs. done ++ runs) (sym d.kept_is);
-        done_over = rw (d.done_is, map-append (placed_on name) d.last.before (d.last.run ∷ []), filter-append (is_passed gap last) before (run ∷ []))
+        done_over = rw (d.done_is, map-append (placed_on name) d.last.before (d.last.run ∷ []), filter-append (is_closed gap last) before (run ∷ []))
             (ap₂ (λ (xs ys : List Interval). xs ++ ys) (passed_before gap 0 last name d.last.before d.last.run one.joined.apart (let h = d.last.up in let g = one.began in omega arith))
-            (cond-true (is_passed gap last run) (run ∷ []) [] (passed_far gap last run d.far)));
+            (cond-true (is_closed gap last run) (run ∷ []) [] (passed_far gap last run d.far)));
         left_open = rw d.kept_is refl;
       }
 
@@ -208,10 +208,10 @@ module _ (gap : ℕ) (strand : MergeStrand) where
   pub owes : (names : List (List ℕ)) → Owes form (At gap strand) names
   owes names = record {
     nothing = nothing_settled;
-    picks = λ last. picks_by (is_passed gap last);
+    picks = λ last. picks_by (is_closed gap last);
     elsewhere = elsewhere;
     is_before = λ last name past less. placed_elsewhere gap last name (runs_of gap (spans_on name (counted strand past))) (name_ne name last.chrom (λ e. not_less names name last.chrom e less));
-    is_behind = λ last name past greater none. ap (filter (is_passed gap last)) (none_on name past none).part_is;
+    is_behind = λ last name past greater none. ap (filter (is_closed gap last)) (none_on name past none).part_is;
     none = none_on;
     next = next_on;
     divides = λ name past last done kept at is some. divides_on name past last done kept at is;

@@ -1,14 +1,14 @@
 -- What the calls of a merge do is what those of the engine inside it do, of whichever of the two kinds it is.
 use Rattle.std.proofs.Common.{◌≡◌, ℕ, inl, inr, List, [], ◌∷◌, ◌++◌, ap, refl, sym, subst, Option, None, Result, Ok, Err}
 use Rattle.std.specs.Prelude.{IsOk}
-use Rattle.bt_lines.specs.model.Fault.{Told}
-use Rattle.bt_lines.specs.calls.Names.{told}
+use Rattle.bt_lines.specs.model.Fault.{FaultValue}
+use Rattle.bt_lines.specs.calls.Names.{fault_value}
 use Rattle.bt_lines.specs.calls.Output.{Output}
 use Rattle.bt_lines.specs.calls.Putting.{CutsRest, PutsRest}
 use Rattle.bt_lines.specs.declared.fault.Fault.{Fault}
 use Rattle.bt_bed.specs.model.feature.Feature.{Feature}
 use Rattle.bt_runs.specs.calls.Engine.{AfterEach, AtEnd, FeedAnswers, Feeds, FeedsBatch, FinishAnswers, Finishes, NotTaken, TakesEach, TakesGiven}
-use Rattle.bt_runs.specs.calls.Merging.{Merging, StandsNew, Together, Apart, merge_begun, is_quiet, kept_fault, may_take, settled_lines, stands_after, wants_memory, whole_output}
+use Rattle.bt_runs.specs.calls.Merging.{Merging, StandsNew, Contiguous, Apart, merge_begun, is_quiet, kept_fault, may_take, settled_lines, stands_after, wants_memory, whole_output}
 use Rattle.bt_runs.specs.calls.Unstranded as pool
 use Rattle.bt_runs.specs.declared.merge.merge_strand.MergeStrand.{MergeStrand}
 use Rattle.bt_runs.specs.declared.merge.merge_strand.MergeStrand.TheVariants.{All, Each, One}
@@ -25,7 +25,7 @@ module _ {E : Type 0} (merge : E → Merging) (only : (first : Merging) (past : 
   abbrev Stands : E → List Feature → E → Type 0
   Stands first past now = stands_after (merge first) past (merge now)
 
-  abbrev fault : E → Option Told
+  abbrev fault : E → Option FaultValue
   fault inner = kept_fault (merge inner)
 
   abbrev settled : E → List Feature → List ℕ
@@ -50,7 +50,7 @@ module _ {E : Type 0} (merge : E → Merging) (only : (first : Merging) (past : 
       h inner.0 past (subst (λ (m : Merging). stands_after m past (merge old)) (sym inner.1) s)
 
   module _ (r : Feature) (out : Output) (new : E) (grown : Output) where
-    not_taken : (e : Told) → NotTaken MayTake Stands fault settled old r out e new grown → NotTaken may_take stands_after kept_fault settled_lines (merge old) r out e (merge new) grown
+    not_taken : (e : FaultValue) → NotTaken MayTake Stands fault settled old r out e new grown → NotTaken may_take stands_after kept_fault settled_lines (merge old) r out e (merge new) grown
     not_taken e (inl p) = inl (record { is = p.is; kind = p.kind; same = ap merge p.same; same_output = p.same_output })
     not_taken e (inr (inl p)) = inr (inl (record {
       is = p.is;
@@ -76,7 +76,7 @@ module _ {E : Type 0} (merge : E → Merging) (only : (first : Merging) (past : 
       puts = after_each r (λ first past. PutsRest (settled_lines first past) (settled_lines first (past ++ r ∷ [])) out grown) p.puts;
       works = p.works;
     }
-    answers (Err e) p = not_taken (told e) p
+    answers (Err e) p = not_taken (fault_value e) p
 
     pub feeds_inside : {A : Type 0} (result : Result A Fault) → Feeds MayTake Stands fault settled old r out (λ first past r. is_quiet (merge first) past r) result new grown → Feeds may_take stands_after kept_fault settled_lines (merge old) r out is_quiet result (merge new) grown
     feeds_inside result p = record {
@@ -119,7 +119,7 @@ module _ {E : Type 0} (merge : E → Merging) (only : (first : Merging) (past : 
   abbrev StandsIn : E → List Feature → E → Type 0
   StandsIn first past now = stands_after (merge first) past (merge now)
 
-  abbrev fault_in : E → Option Told
+  abbrev fault_in : E → Option FaultValue
   fault_in inner = kept_fault (merge inner)
 
   abbrev settled_in : E → List Feature → List ℕ
@@ -165,13 +165,13 @@ module _ {E : Type 0} (merge : E → Merging) (only : (first : Merging) (past : 
     })
 
 -- one that merges all records together, and one that keeps the strands apart
-pub only_together : (first : Merging) (past : List Feature) (old : Ruled pool.Unstranded) → stands_after first past (Together old) → (inner : Ruled pool.Unstranded) × (Together inner ≡ first)
-only_together (Together first) past old s = (first, refl)
+pub only_together : (first : Merging) (past : List Feature) (old : Ruled pool.Unstranded) → stands_after first past (Contiguous old) → (inner : Ruled pool.Unstranded) × (Contiguous inner ≡ first)
+only_together (Contiguous first) past old s = (first, refl)
 only_together (Apart first) past old s = absurd s
 
 pub only_apart : (first : Merging) (past : List Feature) (old : Ruled strands.Stranding) → stands_after first past (Apart old) → (inner : Ruled strands.Stranding) × (Apart inner ≡ first)
 only_apart (Apart first) past old s = (first, refl)
-only_apart (Together first) past old s = absurd s
+only_apart (Contiguous first) past old s = absurd s
 
 -- no list ends with an element and is empty
 none_last : {A : Type 0} (xs : List A) (x : A) → [] ≡ xs ++ x ∷ [] → ⊥

@@ -5,14 +5,14 @@ use Rattle.std.proofs.lemmas.Bool.{cases_Bool, cond-true, cond-false, false≢tr
 use Rattle.std.proofs.lemmas.List.{length-map, map-append}
 use Rattle.bt_bed.specs.model.feature.Feature.{Feature, interval_of, intervals_of}
 use Rattle.bt_bed.specs.model.feature.Interval.{Interval, last_from, last_of}
-use Rattle.bt_bed.specs.model.order.Together.{has_records, AreTogether}
+use Rattle.bt_bed.specs.model.order.Contiguous.{has_records, AreContiguous}
 use Rattle.bt_bed.specs.declared.record.strand.Strand.{Strand}
 use Rattle.bt_bed.specs.declared.record.strand.Strand.TheVariants.{Plus, Minus, Dot}
 use Rattle.bt_bed.proofs.lemmas.order.TogetherLemmas.{last_of-push}
 use Rattle.bt_runs.specs.model.Counted.{is_counted}
 use Rattle.bt_bed.specs.model.feature.Strands.{is_strand}
 use Rattle.bt_runs.specs.model.Merged.{chromosomes, merged}
-use Rattle.bt_runs.specs.model.MergedRuns.{AreTaken, is_passed, kept_runs, merged_runs, passed_by, settled_runs}
+use Rattle.bt_runs.specs.model.MergedRuns.{AreTaken, is_closed, kept_runs, merged_runs, passed_by, settled_runs}
 use Rattle.bt_runs.specs.inside.merge.MergeStep.{joined_run, left_by, settled_by, with_record}
 use Rattle.bt_runs.specs.model.StrandRuns.{StrandRun, runs_of_strand}
 use Rattle.bt_runs.specs.inside.merge.StrandStep.{run_from, run_with}
@@ -39,7 +39,7 @@ same_strand a b t = absurd (false≢true t)
 not_gone : (x r : Interval) (xs : List Interval) → x.chrom ≡ r.chrom → has_records x.chrom (xs ++ r ∷ []) ≡ false → ⊥
 not_gone x r xs e gone = false≢true (sym gone ∙ has_records-here x.chrom xs r (sym e))
 
-pub up_to : (xs : List Interval) (r : Interval) → AreTogether (xs ++ r ∷ []) → Each (λ p. p.chrom ≡ r.chrom → p.start ≤ r.start) xs
+pub up_to : (xs : List Interval) (r : Interval) → AreContiguous (xs ++ r ∷ []) → Each (λ p. p.chrom ≡ r.chrom → p.start ≤ r.start) xs
 up_to [] r t = tt
 up_to (x ∷ []) r t = (λ e. elim t.0 [ inl s ↦ s.1 | inr gone ↦ absurd (not_gone x r [] e gone) ], tt)
 up_to (x ∷ y ∷ ys) r t =
@@ -47,7 +47,7 @@ up_to (x ∷ y ∷ ys) r t =
     (λ e. elim t.0 [ inl s ↦ (let h = rest.0 (s.0 ∙ e) in let g = s.1 in omega arith) | inr gone ↦ absurd (not_gone x r (y ∷ ys) e gone) ], rest)
 
 -- and so does the last one, on the same chromosome
-pub last_there : (x : Interval) (xs : List Interval) (r : Interval) → AreTogether (x ∷ xs ++ r ∷ []) → Each (λ p. p.chrom ≡ r.chrom → ((last_from x xs).chrom ≡ r.chrom) × ((last_from x xs).start ≤ r.start)) (x ∷ xs)
+pub last_there : (x : Interval) (xs : List Interval) (r : Interval) → AreContiguous (x ∷ xs ++ r ∷ []) → Each (λ p. p.chrom ≡ r.chrom → ((last_from x xs).chrom ≡ r.chrom) × ((last_from x xs).start ≤ r.start)) (x ∷ xs)
 last_there x [] r t = (λ e. (e, (up_to (x ∷ []) r t).0 e), tt)
 last_there x (y ∷ ys) r t =
     let rest = last_there y ys r t.1 in
@@ -56,19 +56,19 @@ last_there x (y ∷ ys) r t =
 -- one more record and the runs of one strand, of which it closes all but one at most
 module _ (gap : ℕ) (x : Interval) where
   abbrev pub is_open : Interval → Bool
-  is_open run = not (is_passed gap x run)
+  is_open run = not (is_closed gap x run)
 
   abbrev pub joined : Interval → Interval
   joined run = cond (is_open run) (joined_run run x) run
 
   abbrev pub IsPassed : Interval → Type 0
-  IsPassed run = is_passed gap x run ≡ true
+  IsPassed run = is_closed gap x run ≡ true
 
   passed_leaves : (runs : List Interval) → Each IsPassed runs → Each (λ run. joined run ≡ run) runs
-  passed_leaves runs = each_weaker IsPassed (λ run. joined run ≡ run) (λ run p. cond-false (is_open run) (joined_run run x) run (not_from_true (is_passed gap x run) p)) runs
+  passed_leaves runs = each_weaker IsPassed (λ run. joined run ≡ run) (λ run p. cond-false (is_open run) (joined_run run x) run (not_from_true (is_closed gap x run) p)) runs
 
   passed_closed : (runs : List Interval) → Each IsPassed runs → Each (λ run. is_open run ≡ false) runs
-  passed_closed runs = each_weaker IsPassed (λ run. is_open run ≡ false) (λ run p. not_from_true (is_passed gap x run) p) runs
+  passed_closed runs = each_weaker IsPassed (λ run. is_open run ≡ false) (λ run p. not_from_true (is_closed gap x run) p) runs
 
   none_open : (runs : List Interval) → Each IsPassed runs → runs ++ x ∷ [] ≡ map joined runs ++ cond (list_any is_open runs) [] (x ∷ [])
   none_open runs passed =
@@ -78,13 +78,13 @@ module _ (gap : ℕ) (x : Interval) where
   pub grown_runs : (done kept : List Interval) → Each IsPassed done → length kept ≤ 1
       → (done ++ settled_by gap kept x) ++ with_record (left_by gap kept x) x ≡ map joined (done ++ kept) ++ cond (list_any is_open (done ++ kept)) [] (x ∷ [])
   grown_runs done [] passed few = none_open (done ++ []) (rw (append-nil done) passed)
-  grown_runs done (k ∷ []) passed few = elim (cases_Bool (is_passed gap x k)) [
+  grown_runs done (k ∷ []) passed few = elim (cases_Bool (is_closed gap x k)) [
     | inl t ↦
-        ap₂ (λ (a b : List Interval). (done ++ a) ++ with_record b x) (cond-true (is_passed gap x k) (k ∷ []) [] t) (cond-false (is_open k) (k ∷ []) [] (not_from_true (is_passed gap x k) t))
+        ap₂ (λ (a b : List Interval). (done ++ a) ++ with_record b x) (cond-true (is_closed gap x k) (k ∷ []) [] t) (cond-false (is_open k) (k ∷ []) [] (not_from_true (is_closed gap x k) t))
         ∙ none_open (done ++ k ∷ []) (each_append IsPassed done (k ∷ []) passed (t, tt))
     | inr f ↦
-        let opened = not_from_false (is_passed gap x k) f in
-        ap₂ (λ (a b : List Interval). (done ++ a) ++ with_record b x) (cond-false (is_passed gap x k) (k ∷ []) [] f) (cond-true (is_open k) (k ∷ []) [] opened)
+        let opened = not_from_false (is_closed gap x k) f in
+        ap₂ (λ (a b : List Interval). (done ++ a) ++ with_record b x) (cond-false (is_closed gap x k) (k ∷ []) [] f) (cond-true (is_open k) (k ∷ []) [] opened)
         ∙ ap (λ l. l ++ joined_run k x ∷ []) (append-nil done)
         ∙ sym (ap₂ (λ (a b : List Interval). a ++ b)
         (map-append joined done (k ∷ []) ∙ ap₂ (λ (a b : List Interval). a ++ b) (map_leaves joined done (passed_leaves done passed)) (ap (λ y. y ∷ []) (cond-true (is_open k) (joined_run k x) k opened)))
@@ -95,7 +95,7 @@ module _ (gap : ℕ) (x : Interval) where
 
 -- a record is joined to a run of its strand that it doesn't close
 abbrev pub reaches : ℕ → Feature → StrandRun → Bool
-reaches gap r item = is_strand item.strand r.strand && not (is_passed gap (interval_of r) item.run)
+reaches gap r item = is_strand item.strand r.strand && not (is_closed gap (interval_of r) item.run)
 
 abbrev pub joined_to : ℕ → Feature → StrandRun → StrandRun
 joined_to gap r item = cond (reaches gap r item) (run_with r item) item
@@ -152,9 +152,9 @@ module _ (gap : ℕ) (past : List Feature) (r : Feature) (taken : AreTaken (past
       let x = interval_of r in
       let strand = One r.strand in
       let last = ap last_of (intervals_next past r) ∙ last_of-push (intervals_of past) x in
-      let is : settled_runs gap strand (past ++ r ∷ []) ≡ filter (is_passed gap x) (merged_runs gap strand (past ++ r ∷ [])) = ap (passed_by gap (merged_runs gap strand (past ++ r ∷ []))) last in
+      let is : settled_runs gap strand (past ++ r ∷ []) ≡ filter (is_closed gap x) (merged_runs gap strand (past ++ r ∷ [])) = ap (passed_by gap (merged_runs gap strand (past ++ r ∷ []))) last in
       each_front (IsPassed gap x) (settled_runs gap strand past) (settled_by gap (kept_runs gap strand past) x)
-      (subst (λ (runs : List Interval). Each (IsPassed gap x) runs) (sym is ∙ (next_taken gap strand past r taken).settles) (filter_passes (is_passed gap x) (merged_runs gap strand (past ++ r ∷ []))))
+      (subst (λ (runs : List Interval). Each (IsPassed gap x) runs) (sym is ∙ (next_taken gap strand past r taken).settles) (filter_passes (is_closed gap x) (merged_runs gap strand (past ++ r ∷ []))))
 
   all_one : merged_runs gap (One r.strand) past ≡ settled_runs gap (One r.strand) past ++ kept_runs gap (One r.strand) past
   all_one = (whole_taken gap (One r.strand) past (taken_front past (r ∷ []) taken)).all
@@ -191,7 +191,7 @@ module _ (gap : ℕ) (past : List Feature) (r : Feature) (taken : AreTaken (past
   passed_closed_on runs passed =
       each_map (λ item. reaches gap r item ≡ false) (on_strand r.strand) runs
       (each_weaker (IsPassed gap (interval_of r)) (λ run. reaches gap r (on_strand r.strand run) ≡ false)
-      (λ run p. reaches_open gap r run ∙ not_from_true (is_passed gap (interval_of r) run) p) runs passed)
+      (λ run p. reaches_open gap r run ∙ not_from_true (is_closed gap (interval_of r) run) p) runs passed)
 
   pub parted : Parted gap r (runs_of_strand gap past r.strand)
   parted = record {

@@ -6,8 +6,8 @@ use Rattle.std.proofs.lemmas.Bool.{cases_Bool, cases_lt, cond-true, cond-false, 
 use Rattle.std.proofs.lemmas.Grind.{flat_map-append}
 use Rattle.std.proofs.lemmas.List.{drop-map, get_or-map, length-map, map-append, map-set, take-map}
 use Rattle.std.proofs.lemmas.Option.{get_or_from_slice_get, slice_get-get_or, slice_get_within}
-use Rattle.bt_lines.specs.model.Fault.{Told, no_memory, write_failed}
-use Rattle.bt_lines.specs.calls.Names.{told}
+use Rattle.bt_lines.specs.model.Fault.{FaultValue, no_memory, write_failed}
+use Rattle.bt_lines.specs.calls.Names.{fault_value}
 use Rattle.bt_lines.specs.calls.Output.{Output}
 use Rattle.bt_lines.specs.calls.Putting.{Adds, FailsToAdd, FailsToPut, Grown}
 use Rattle.bt_lines.specs.declared.fault.Fault.{Fault}
@@ -19,7 +19,7 @@ use Rattle.bt_bed.proofs.lemmas.write.IntervalLineLemmas.{adds_line}
 use Rattle.bt_bed.proofs.lemmas.parse.NameLemmas.{name_eq, name_ne, other_name}
 use Rattle.bt_runs.specs.calls.Engine.{AfterEach}
 use Rattle.bt_runs.specs.calls.Failure.{fault_of}
-use Rattle.bt_runs.specs.model.MergedRuns.{AreTaken, is_passed}
+use Rattle.bt_runs.specs.model.MergedRuns.{AreTaken, is_closed}
 use Rattle.bt_runs.specs.inside.merge.PendingRuns.{joined_here, left_runs, lengthened, passed_runs, pending_from, place_of, placed_run, placed_runs, with_joined}
 use Rattle.bt_runs.specs.inside.merge.PerStrand.{kept_in, run_at_hand}
 use Rattle.bt_runs.specs.inside.walk.Rule.{EnterAnswers, RuleFeeds, RuleFinishes, Taken, WantsMemory}
@@ -66,13 +66,13 @@ module _ (gap : ℕ) (chrom : List ℕ) (r : Feature) where
   abbrev reach : ℕ
   reach = r.start - gap
 
-  test_same : (w : PendingRun) → is_passed gap (interval_of r) (placed_run chrom w).run ≡ (not here || nat_lt w.stop reach)
+  test_same : (w : PendingRun) → is_closed gap (interval_of r) (placed_run chrom w).run ≡ (not here || nat_lt w.stop reach)
   test_same w = ap (λ b. not here || b) (below_reach w.stop gap r.start)
 
-  prefix_placed : (runs : List PendingRun) → prefix_len (λ item. is_passed gap (interval_of r) item.run) (placed_runs chrom runs) ≡ prefix_len (λ (w : PendingRun). not here || nat_lt w.stop reach) runs
+  prefix_placed : (runs : List PendingRun) → prefix_len (λ item. is_closed gap (interval_of r) item.run) (placed_runs chrom runs) ≡ prefix_len (λ (w : PendingRun). not here || nat_lt w.stop reach) runs
   prefix_placed runs =
-      prefix_map (λ item. is_passed gap (interval_of r) item.run) (placed_run chrom) runs
-      ∙ prefix_same (λ (w : PendingRun). is_passed gap (interval_of r) (placed_run chrom w).run) (λ (w : PendingRun). not here || nat_lt w.stop reach) test_same runs
+      prefix_map (λ item. is_closed gap (interval_of r) item.run) (placed_run chrom) runs
+      ∙ prefix_same (λ (w : PendingRun). is_closed gap (interval_of r) (placed_run chrom w).run) (λ (w : PendingRun). not here || nat_lt w.stop reach) test_same runs
 
   -- the runs that the record settles, and those that stay
   pub front_placed : (runs : List PendingRun) → front_settled gap (placed_runs chrom runs) r ≡ placed_runs chrom (passed_runs here reach runs)
@@ -110,12 +110,12 @@ module _ (gap : ℕ) (chrom : List ℕ) (r : Feature) where
       let item = placed_run chrom w in
       let more = items ++ run_from r ∷ [] in
       let longer = set rest place (lengthened r.stop w) in
-      let passed = is_passed gap (interval_of r) item.run in
+      let passed = is_closed gap (interval_of r) item.run in
       let read = get_map (placed_run chrom) rest place w (run_from r) got in
       let pair : with_joined reach r.stop rest (place_of r.strand rest) ≡ cond (nat_lt w.stop reach) (false, rest) (true, longer) = ap (with_joined reach r.stop rest) is ∙ ap (joined_here reach r.stop rest place) got in
       let all : with_added gap items r ≡ cond passed more (set items place (run_with r item)) =
       place_same rest ∙ ap (added_at gap items r) is
-      ∙ ap (λ i. cond (is_passed gap (interval_of r) i.run) more (set items place (run_with r i))) read in
+      ∙ ap (λ i. cond (is_closed gap (interval_of r) i.run) more (set items place (run_with r i))) read in
       let test : passed ≡ nat_lt w.stop reach = test_same w ∙ ap (λ b. b || nat_lt w.stop reach) (not_from_true here on) in
       elim (cases_Bool (nat_lt w.stop reach)) [
         | inl t ↦ subst (λ (p : Bool × List PendingRun). Added rest p.0 p.1) (sym (pair ∙ cond-true (nat_lt w.stop reach) (false, rest) (true, longer) t)) (record {
@@ -183,8 +183,8 @@ module _ (old : Stranding) (r : Feature) (out : Output) (runs : List PendingRun)
     puts = subst (λ l. Grown out l grown) lines_is puts;
   }
 
-  fails_with : (fault : Fault) (new : Stranding) (grown : Output) → FailsToAdd out (strand_lines (placed_runs old.chrom (passed_runs true near runs))) (told fault) grown → TakesNext old r out (Err fault) new grown
-  fails_with fault new grown p = inl (subst (λ l. FailsToAdd out l (told fault) grown) lines_is p)
+  fails_with : (fault : Fault) (new : Stranding) (grown : Output) → FailsToAdd out (strand_lines (placed_runs old.chrom (passed_runs true near runs))) (fault_value fault) grown → TakesNext old r out (Err fault) new grown
+  fails_with fault new grown p = inl (subst (λ l. FailsToAdd out l (fault_value fault) grown) lines_is p)
 
   -- among the runs that are left
   abbrev joined : Bool × List PendingRun
@@ -206,7 +206,7 @@ module _ (old : Stranding) (r : Feature) (out : Output) (runs : List PendingRun)
       (ap (λ rest. with_added old.gap (placed_runs old.chrom rest) r) p.none ∙ ap (λ n. placed_run n (pending_from r) ∷ []) (sym on) ∙ sym kept)
       p.puts
 
-  pub fails_among : (failure : Failure) (fault : Fault) (now : List PendingRun) (new : Stranding) (grown : Output) → told fault ≡ fault_of failure → JoinsAmong old.chrom near runs (pending_from r) out (Err failure) now grown → TakesNext old r out (Err fault) new grown
+  pub fails_among : (failure : Failure) (fault : Fault) (now : List PendingRun) (new : Stranding) (grown : Output) → fault_value fault ≡ fault_of failure → JoinsAmong old.chrom near runs (pending_from r) out (Err failure) now grown → TakesNext old r out (Err fault) new grown
   fails_among Write fault now new grown is p = fails_with fault new grown (subst (λ t. FailsToAdd out (strand_lines (placed_runs old.chrom (passed_runs true near runs))) t grown) (sym is) p)
   fails_among Memory fault now new grown is p = inr (
     is,
@@ -218,11 +218,11 @@ module _ (old : Stranding) (r : Feature) (out : Output) (runs : List PendingRun)
 
 -- the only run couldn't be written
 pub fails_alone : (old : Stranding) (r : Feature) (out : Output) (w : PendingRun) → old.kept ≡ placed_run old.chrom w ∷ [] → old.chrom ≡ r.chrom → w.stop < r.start - old.gap
-    → (fault : Fault) (new : Stranding) (grown : Output) → FailsToPut out (interval_line (placed_run old.chrom w).run) (told fault) grown → TakesNext old r out (Err fault) new grown
+    → (fault : Fault) (new : Stranding) (grown : Output) → FailsToPut out (interval_line (placed_run old.chrom w).run) (fault_value fault) grown → TakesNext old r out (Err fault) new grown
 fails_alone old r out w kept_is on far fault new grown p =
     let passed : passed_runs true (r.start - old.gap) (w ∷ []) ≡ w ∷ [] = take_goes (is_over true (r.start - old.gap)) w [] (over_so true (r.start - old.gap) w (inr far)) in
     fails_with old r out (w ∷ []) kept_is on fault new grown
-    (subst (λ (l : List PendingRun). FailsToAdd out (strand_lines (placed_runs old.chrom l)) (told fault) grown) (sym passed) (adds_line {A = Unit {0}} (placed_run old.chrom w).run out grown (Err fault) p))
+    (subst (λ (l : List PendingRun). FailsToAdd out (strand_lines (placed_runs old.chrom l)) (fault_value fault) grown) (sym passed) (adds_line {A = Unit {0}} (placed_run old.chrom w).run out grown (Err fault) p))
 
 -- what is done with a record on another chromosome
 module _ (old : Stranding) (r : Feature) (out : Output) (runs : List PendingRun) (kept_is : old.kept ≡ placed_runs old.chrom runs) (other : old.chrom ≡ r.chrom → ⊥) where
@@ -244,10 +244,10 @@ module _ (old : Stranding) (r : Feature) (out : Output) (runs : List PendingRun)
   all_lines : strand_lines old.kept ≡ lines_by old r
   all_lines = ap strand_lines (sym all_settled)
 
-  pub fails_to_close : (fault : Fault) (new : Stranding) (grown : Output) → FailsToAdd out (strand_lines old.kept) (told fault) grown → TakesNext old r out (Err fault) new grown
-  fails_to_close fault new grown p = inl (subst (λ l. FailsToAdd out l (told fault) grown) all_lines p)
+  pub fails_to_close : (fault : Fault) (new : Stranding) (grown : Output) → FailsToAdd out (strand_lines old.kept) (fault_value fault) grown → TakesNext old r out (Err fault) new grown
+  fails_to_close fault new grown p = inl (subst (λ l. FailsToAdd out l (fault_value fault) grown) all_lines p)
 
-  pub fails_to_name : (fault : Fault) (new : Stranding) (grown : Output) → told fault ≡ no_memory → Grown out (strand_lines old.kept) grown → TakesNext old r out (Err fault) new grown
+  pub fails_to_name : (fault : Fault) (new : Stranding) (grown : Output) → fault_value fault ≡ no_memory → Grown out (strand_lines old.kept) grown → TakesNext old r out (Err fault) new grown
   fails_to_name fault new grown is p = inr (is, record { wanted = inr other; puts = subst (λ l. Grown out l grown) all_lines p })
 
   module _ (mid : Stranding) (through : Output) (gap : mid.gap ≡ old.gap) (none : mid.kept ≡ []) (closed : Grown out (strand_lines old.kept) through) where
@@ -390,7 +390,7 @@ module _ (merge : Stranding) (out : Output) where
 
     pub does_memory : (result : Result (Unit {0}) Fault) (new : Stranding) (grown : Output) → TakesNext merge r out result new grown → WantsMemory wants_memory merge r result
     does_memory (Ok done) new grown p = tt
-    does_memory (Err e) new grown (inl p) = λ memory. let is = p.puts.is in let kind : no_memory.kind ≡ write_failed.kind = ap (λ (t : Told). t.kind) (sym memory ∙ is) in absurd (cc)
+    does_memory (Err e) new grown (inl p) = λ memory. let is = p.puts.is in let kind : no_memory.kind ≡ write_failed.kind = ap (λ (t : FaultValue). t.kind) (sym memory ∙ is) in absurd (cc)
     does_memory (Err e) new grown (inr p) = λ memory. p.1.wanted
 
     pub does_taken : (result : Result (Unit {0}) Fault) (new : Stranding) (grown : Output) → TakesNext merge r out result new grown
@@ -412,10 +412,10 @@ module _ (old : Stranding) (out : Output) (runs : List PendingRun) (kept_is : ol
   not_on : (r : Feature) → r.chrom ≡ chrom → old.chrom ≡ r.chrom → ⊥
   not_on r at on = other_name old.chrom chrom other (on ∙ at)
 
-  pub enter_fails : (fault : Fault) (new : Stranding) (grown : Output) → FailsToAdd out (strand_lines old.kept) (told fault) grown → Enters old chrom out (Err fault) new grown
+  pub enter_fails : (fault : Fault) (new : Stranding) (grown : Output) → FailsToAdd out (strand_lines old.kept) (fault_value fault) grown → Enters old chrom out (Err fault) new grown
   enter_fails fault new grown p r at = does_taken old out r (Err fault) new grown (fails_to_close old r out runs kept_is (not_on r at) fault new grown p)
 
-  pub enter_runs_out : (fault : Fault) (new : Stranding) (grown : Output) → told fault ≡ no_memory → Grown out (strand_lines old.kept) grown → Enters old chrom out (Err fault) new grown
+  pub enter_runs_out : (fault : Fault) (new : Stranding) (grown : Output) → fault_value fault ≡ no_memory → Grown out (strand_lines old.kept) grown → Enters old chrom out (Err fault) new grown
   enter_runs_out fault new grown is p r at = does_taken old out r (Err fault) new grown (fails_to_name old r out runs kept_is (not_on r at) fault new grown is p)
 
   pub entered : (done : Unit {0}) (mid : Stranding) (through : Output) → mid.gap ≡ old.gap → mid.kept ≡ [] → Grown out (strand_lines old.kept) through → Enters old chrom out (Ok done) mid through

@@ -5,10 +5,10 @@ use Rattle.bt_bed.specs.model.feature.Feature.{Feature, interval_of, intervals_o
 use Rattle.bt_bed.specs.model.feature.Interval.{Interval}
 use Rattle.bt_bed.specs.model.order.Locus.{ArePlaced}
 use Rattle.bt_bed.specs.model.order.Rank.{AreDistinct, rank_order}
-use Rattle.bt_bed.specs.model.order.Together.{AreTogether}
+use Rattle.bt_bed.specs.model.order.Contiguous.{AreContiguous}
 use Rattle.bt_bed.proofs.lemmas.order.TogetherLemmas.{placed_front, together_front}
 use Rattle.bt_runs.specs.model.Merged.{chromosomes, merged}
-use Rattle.bt_runs.specs.model.MergedRuns.{is_passed, passed_by, merged_runs, settled_runs, kept_runs, AreTaken, settled_runs_stay, settled_runs_begin, one_run_is_kept}
+use Rattle.bt_runs.specs.model.MergedRuns.{is_closed, passed_by, merged_runs, settled_runs, kept_runs, AreTaken, settled_runs_stay, settled_runs_begin, one_run_is_kept}
 use Rattle.bt_runs.specs.calls.Settling.{Settles}
 use Rattle.bt_runs.specs.inside.merge.MergeStep.{settled_by, kept_by, with_record}
 use Rattle.bt_runs.specs.model.Counted.{is_counted}
@@ -28,7 +28,7 @@ same_names (n ∷ ns) = ap (λ ms. n ∷ ms) (same_names ns)
 -- the first records of those that may be taken
 pub taken_front : (past more : List Feature) → AreTaken (past ++ more) → AreTaken past
 taken_front past more t = record {
-  together = together_front (intervals_of past) (intervals_of more) (subst AreTogether (map-append interval_of past more) t.together);
+  together = together_front (intervals_of past) (intervals_of more) (subst AreContiguous (map-append interval_of past more) t.together);
   full = full_front past more t.full;
 }
 
@@ -40,7 +40,7 @@ module _ (gap : ℕ) (strand : MergeStrand) where
       let whole : merged_runs gap strand past ≡ parts (form gap strand) past names = sym (in_file_order names gap strand past distinct placed) in
       record {
         whole_is = whole;
-        settled_is = λ last is. ap (passed_by gap (merged_runs gap strand past)) is ∙ ap (filter (is_passed gap last)) whole;
+        settled_is = λ last is. ap (passed_by gap (merged_runs gap strand past)) is ∙ ap (filter (is_closed gap last)) whole;
       }
 
   ordered : (all : List Feature) → AreTaken all → Ordered (form gap strand) (At gap strand) all

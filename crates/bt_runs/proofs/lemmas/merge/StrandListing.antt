@@ -7,13 +7,13 @@ use Rattle.std.proofs.lemmas.List.Elements.{filter-append, recursion_from_All}
 use Rattle.std.proofs.lemmas.Map.Views.{any-filter_same}
 use Rattle.bt_bed.specs.model.feature.Feature.{Feature, interval_of, intervals_of}
 use Rattle.bt_bed.specs.model.feature.Interval.{Interval}
-use Rattle.bt_bed.specs.model.order.Together.{AreTogether}
+use Rattle.bt_bed.specs.model.order.Contiguous.{AreContiguous}
 use Rattle.bt_bed.specs.declared.record.strand.Strand.{Strand}
 use Rattle.bt_bed.specs.declared.record.strand.Strand.TheVariants.{Plus, Minus, Dot}
 use Rattle.bt_bed.proofs.lemmas.parse.NameLemmas.{name_eq, same_name}
 use Rattle.bt_bed.specs.model.feature.Strands.{is_strand}
 use Rattle.bt_runs.specs.model.Merged.{merged}
-use Rattle.bt_runs.specs.model.MergedRuns.{AreTaken, is_passed, merged_runs}
+use Rattle.bt_runs.specs.model.MergedRuns.{AreTaken, is_closed, merged_runs}
 use Rattle.bt_runs.specs.model.StrandRuns.{StrandRun, begun_by, is_in, lies_in, listed_behind, runs_of_strand, strand_runs}
 use Rattle.bt_runs.specs.inside.merge.StrandStep.{run_from, run_with}
 use Rattle.bt_runs.specs.declared.merge.merge_strand.MergeStrand.TheVariants.{One}
@@ -86,8 +86,8 @@ module _ (gap : ℕ) (r : Feature) where
 
   pub reached : (item : StrandRun) → reaches gap r item ≡ true → Reached item
   reached item t =
-      let parts = and_parts (is_strand item.strand r.strand) (not (is_passed gap (interval_of r) item.run)) t in
-      let passed = or_parts (not (bytes_eq item.run.chrom r.chrom)) (nat_lt (item.run.stop + gap) r.start) (not-true (is_passed gap (interval_of r) item.run) parts.1) in
+      let parts = and_parts (is_strand item.strand r.strand) (not (is_closed gap (interval_of r) item.run)) t in
+      let passed = or_parts (not (bytes_eq item.run.chrom r.chrom)) (nat_lt (item.run.stop + gap) r.start) (not-true (is_closed gap (interval_of r) item.run) parts.1) in
       record {
         same = same_strand item.strand r.strand parts.0;
         on = same_name item.run.chrom r.chrom (not-false (bytes_eq item.run.chrom r.chrom) passed.0);
@@ -99,8 +99,8 @@ module _ (gap : ℕ) (r : Feature) where
     | inl far ↦ far
     | inr near ↦
         let stays = not_passed gap (interval_of r) item.run on near in
-        let is = and_from (is_strand item.strand r.strand) (not (is_passed gap (interval_of r) item.run))
-        (ap (λ s. is_strand item.strand s) (sym same) ∙ strand_self item.strand) (not_from_false (is_passed gap (interval_of r) item.run) stays) in
+        let is = and_from (is_strand item.strand r.strand) (not (is_closed gap (interval_of r) item.run))
+        (ap (λ s. is_strand item.strand s) (sym same) ∙ strand_self item.strand) (not_from_false (is_closed gap (interval_of r) item.run) stays) in
         absurd (false≢true (sym f ∙ is))
   ]
 
@@ -157,7 +157,7 @@ module _ (gap : ℕ) (past : List Feature) (r : Feature) (taken : AreTaken (past
 
   pub up : Each (λ p. p.chrom ≡ r.chrom → p.start ≤ r.start) past
   up = each_unmap (λ p. p.chrom ≡ r.chrom → p.start ≤ r.start) interval_of past
-      (up_to (intervals_of past) (interval_of r) (subst AreTogether (intervals_next past r) taken.together))
+      (up_to (intervals_of past) (interval_of r) (subst AreContiguous (intervals_next past r) taken.together))
 
   pub some_base : Each (λ p. p.start < p.stop) past
   some_base = each_unmap (λ p. p.start < p.stop) interval_of past (recursion_from_All (λ p. p.start < p.stop) (intervals_of past) (full_front past (r ∷ []) taken.full))
@@ -168,13 +168,13 @@ module _ (gap : ℕ) (past : List Feature) (r : Feature) (taken : AreTaken (past
   reached_split : list_any (reaches gap r) (runs_of_strand gap past r.strand) ≡ some_reached
   reached_split =
       ap (list_any (reaches gap r)) (sym (listed.split r.strand))
-      ∙ any-filter_same (reaches gap r) (λ item. is_strand item.strand r.strand) true (λ item t. (and_parts (is_strand item.strand r.strand) (not (is_passed gap (interval_of r) item.run)) t).0) (strand_runs gap past)
+      ∙ any-filter_same (reaches gap r) (λ item. is_strand item.strand r.strand) true (λ item t. (and_parts (is_strand item.strand r.strand) (not (is_closed gap (interval_of r) item.run)) t).0) (strand_runs gap past)
 
   -- the runs of each strand, with the record
   leaves_other : (strand : Strand) (runs : List Interval) → is_strand strand r.strand ≡ false → map (joined_to gap r) (map (on_strand strand) runs) ≡ map (on_strand strand) runs
   leaves_other strand [] other = refl
   leaves_other strand (run ∷ runs) other =
-      ap₂ (λ y ys. y ∷ ys) (join_not gap r (on_strand strand run) (and_left (is_strand strand r.strand) (not (is_passed gap (interval_of r) run)) other))
+      ap₂ (λ y ys. y ∷ ys) (join_not gap r (on_strand strand run) (and_left (is_strand strand r.strand) (not (is_closed gap (interval_of r) run)) other))
       (leaves_other strand runs other)
 
   runs_next : (strand : Strand) → runs_of_strand gap (past ++ r ∷ []) strand ≡ map (joined_to gap r) (runs_of_strand gap past strand) ++ cond (is_strand strand r.strand) (new_run some_reached r) []

@@ -8,11 +8,11 @@ use Rattle.std.proofs.lemmas.List.Folds.{length-prefix_len, list_any-append}
 use Rattle.std.proofs.lemmas.List.Sums.{take_while-cons}
 use Rattle.bt_bed.specs.model.feature.Feature.{Feature, interval_of, intervals_of}
 use Rattle.bt_bed.specs.model.feature.Interval.{Interval, last_from, last_of}
-use Rattle.bt_bed.specs.model.order.Together.{AreTogether}
+use Rattle.bt_bed.specs.model.order.Contiguous.{AreContiguous}
 use Rattle.bt_bed.proofs.lemmas.parse.NameLemmas.{cases_name, name_eq}
 use Rattle.bt_bed.proofs.lemmas.order.TogetherLemmas.{last_of-push}
 use Rattle.bt_bed.specs.model.feature.Strands.{is_strand}
-use Rattle.bt_runs.specs.model.MergedRuns.{AreTaken, is_passed}
+use Rattle.bt_runs.specs.model.MergedRuns.{AreTaken, is_closed}
 use Rattle.bt_runs.specs.calls.Settling.{Settles}
 use Rattle.bt_runs.specs.model.StrandRuns.{StrandRun, kept_strand_runs, passed_front, settled_strand_runs, strand_runs, strand_runs_begin, strand_runs_divide, strand_runs_stay, strands_stay_in_order}
 use Rattle.bt_runs.specs.inside.merge.StrandStep.{added_at, behind_settled, front_settled, kept_with, last_place, place_among, run_from, run_with, with_added}
@@ -92,10 +92,10 @@ module _ (gap : ℕ) (r : Feature) where
   only_behind (x ∷ xs) ys o = only_behind xs ys o.1
 
   not_reached : (item : StrandRun) → on_its item ≡ false → reaches gap r item ≡ false
-  not_reached item f = and_left (is_strand item.strand r.strand) (not (is_passed gap (interval_of r) item.run)) f
+  not_reached item f = and_left (is_strand item.strand r.strand) (not (is_closed gap (interval_of r) item.run)) f
 
-  passed_unreached : (item : StrandRun) → is_passed gap (interval_of r) item.run ≡ true → reaches gap r item ≡ false
-  passed_unreached item t = and_right (is_strand item.strand r.strand) (not (is_passed gap (interval_of r) item.run)) (not_from_true (is_passed gap (interval_of r) item.run) t)
+  passed_unreached : (item : StrandRun) → is_closed gap (interval_of r) item.run ≡ true → reaches gap r item ≡ false
+  passed_unreached item t = and_right (is_strand item.strand r.strand) (not (is_closed gap (interval_of r) item.run)) (not_from_true (is_closed gap (interval_of r) item.run) t)
 
   none_on : (xs : List StrandRun) → filter on_its xs ≡ [] → list_any on_its xs ≡ false
   none_on [] e = refl
@@ -131,7 +131,7 @@ module _ (gap : ℕ) (r : Feature) where
   added_later : (x : StrandRun) (xs : List StrandRun) (place : Option ℕ) → is_some place ≡ true → added_at gap (x ∷ xs) r (place_among (on_its x) place) ≡ x ∷ added_at gap xs r place
   added_later x xs None some = absurd (false≢true some)
   added_later x xs (Some place) some =
-      apart_cond (is_passed gap (interval_of r) (get_or xs place (run_from r)).run) x (xs ++ run_from r ∷ []) (set xs place (run_with r (get_or xs place (run_from r))))
+      apart_cond (is_closed gap (interval_of r) (get_or xs place (run_from r)).run) x (xs ++ run_from r ∷ []) (set xs place (run_with r (get_or xs place (run_from r))))
 
   leaves_all : (xs : List StrandRun) → Each (λ item. reaches gap r item ≡ false) xs → map (joined_to gap r) xs ++ new_run (list_any (reaches gap r) xs) r ≡ xs ++ run_from r ∷ []
   leaves_all xs e =
@@ -141,7 +141,7 @@ module _ (gap : ℕ) (r : Feature) where
   added_here : (x : StrandRun) (xs : List StrandRun) → list_any on_its xs ≡ false → added_at gap (x ∷ xs) r (place_among (on_its x) None) ≡ map (joined_to gap r) (x ∷ xs) ++ new_run (list_any (reaches gap r) (x ∷ xs)) r
   added_here x xs none =
       let others = each_weaker (λ item. on_its item ≡ false) (λ item. reaches gap r item ≡ false) (λ item f. not_reached item f) xs (none_each on_its xs none) in
-      let passed = is_passed gap (interval_of r) x.run in
+      let passed = is_closed gap (interval_of r) x.run in
       let more = x ∷ xs ++ run_from r ∷ [] in
       elim (cases_Bool (on_its x)) [
         | inr f ↦ ap (added_at gap (x ∷ xs) r) (cond-false (on_its x) (Some 0) None f) ∙ sym (leaves_all (x ∷ xs) (not_reached x f, others))
@@ -178,12 +178,12 @@ last_near (q ∷ qs) r last taken is =
     let e : last_from (interval_of q) (intervals_of qs) ≡ last = cc in
     subst (λ (l : Interval). Each (λ p. p.chrom ≡ r.chrom → (l.chrom ≡ r.chrom) × (l.start ≤ r.start)) (q ∷ qs)) e
     (each_unmap (λ p. p.chrom ≡ r.chrom → ((last_from (interval_of q) (intervals_of qs)).chrom ≡ r.chrom) × ((last_from (interval_of q) (intervals_of qs)).start ≤ r.start)) interval_of (q ∷ qs)
-    (last_there (interval_of q) (intervals_of qs) (interval_of r) (subst AreTogether (intervals_next (q ∷ qs) r) taken.together)))
+    (last_there (interval_of q) (intervals_of qs) (interval_of r) (subst AreContiguous (intervals_next (q ∷ qs) r) taken.together)))
 
 module _ (gap : ℕ) where
   -- whether a record closes a run
   abbrev passes : Interval → StrandRun → Bool
-  passes last item = is_passed gap last item.run
+  passes last item = is_closed gap last item.run
 
   front_parts : (items : List StrandRun) (last : Option Interval) → items ≡ passed_front gap items last ++ drop (length (passed_front gap items last)) items
   front_parts items None = refl

@@ -3,8 +3,8 @@ use Rattle.std.proofs.Common.{◌≡◌, ◌==◌, ℕ, false, List, [], ◌∷�
 use Rattle.std.specs.Prelude.{bytes_eq}
 use Rattle.std.proofs.lemmas.Bool.{cases_Bool}
 use Rattle.std.proofs.lemmas.Grind.{flat_map-append}
-use Rattle.bt_lines.specs.model.Fault.{Told, no_memory, write_failed}
-use Rattle.bt_lines.specs.calls.Names.{told}
+use Rattle.bt_lines.specs.model.Fault.{FaultValue, no_memory, write_failed}
+use Rattle.bt_lines.specs.calls.Names.{fault_value}
 use Rattle.bt_lines.specs.calls.Output.{Output}
 use Rattle.bt_lines.specs.calls.Putting.{Adds, FailsToAdd, Grown}
 use Rattle.bt_lines.specs.declared.fault.Fault.{Fault}
@@ -74,7 +74,7 @@ module _ (old : Unstranded) (out : Output) where
 
     pub does_memory : (result : Result (Unit {0}) Fault) (new : Unstranded) (grown : Output) → Does old r out result new grown → WantsMemory IsElsewhere old r result
     does_memory (Ok done) new grown d = tt
-    does_memory (Err e) new grown (inl p) = λ memory. let is = p.puts.is in let kind : no_memory.kind ≡ write_failed.kind = ap (λ (t : Told). t.kind) (sym memory ∙ is) in absurd (cc)
+    does_memory (Err e) new grown (inl p) = λ memory. let is = p.puts.is in let kind : no_memory.kind ≡ write_failed.kind = ap (λ (t : FaultValue). t.kind) (sym memory ∙ is) in absurd (cc)
     does_memory (Err e) new grown (inr p) = λ memory. p.1.elsewhere
 
     pub does_taken : (result : Result (Unit {0}) Fault) (new : Unstranded) (grown : Output) → Does old r out result new grown
@@ -129,14 +129,14 @@ module _ (old : Unstranded) (run : OpenRun) (is : kept_at old.chrom run ≡ old.
         (entered_does r (ap (bytes_eq old.chrom) same ∙ apart) now through gap strand (on ∙ sym same) none put result next later d)
 
     -- the run couldn't be written
-    pub enters_cut : (fault : Fault) (new : Unstranded) (grown : Output) → FailsToAdd out (interval_lines old.kept) (told fault) grown
+    pub enters_cut : (fault : Fault) (new : Unstranded) (grown : Output) → FailsToAdd out (interval_lines old.kept) (fault_value fault) grown
         → EnterAnswers Does (Taken may_take stands_after settled_lines is_quiet IsElsewhere Does) old name out (Err fault) new grown
     enters_cut fault new grown p r same =
         does_taken old out r (Err fault) new grown
-        (inl (subst (λ (l : List ℕ). FailsToAdd out l (told fault) grown) (sym (lines_are r (ap (bytes_eq old.chrom) same ∙ apart))) p))
+        (inl (subst (λ (l : List ℕ). FailsToAdd out l (fault_value fault) grown) (sym (lines_are r (ap (bytes_eq old.chrom) same ∙ apart))) p))
 
     -- it was, and the name couldn't be kept
-    pub enters_short : (elsewhere : old.chrom ≡ name → ⊥) (fault : Fault) (new : Unstranded) (grown : Output) → told fault ≡ no_memory → Grown out (interval_lines old.kept) grown
+    pub enters_short : (elsewhere : old.chrom ≡ name → ⊥) (fault : Fault) (new : Unstranded) (grown : Output) → fault_value fault ≡ no_memory → Grown out (interval_lines old.kept) grown
         → EnterAnswers Does (Taken may_take stands_after settled_lines is_quiet IsElsewhere Does) old name out (Err fault) new grown
     enters_short elsewhere fault new grown memory p r same =
         does_taken old out r (Err fault) new grown

@@ -3,7 +3,7 @@ use Rattle.std.proofs.Common.{◌≡◌, ℕ, inl, inr, List, [], ◌∷◌, ◌
 use Rattle.std.proofs.lemmas.Bool.{cond-true, cond-false, or_parts, or_left, not_from_true, not_from_false}
 use Rattle.bt_bed.specs.model.feature.Interval.{Interval, span_of, placed_on, spans_on}
 use Rattle.bt_bed.specs.model.order.Rank.{is_among}
-use Rattle.bt_bed.specs.model.order.Together.{has_records}
+use Rattle.bt_bed.specs.model.order.Contiguous.{has_records}
 use Rattle.bt_bed.proofs.lemmas.parse.NameLemmas.{name_eq, name_ne, other_name, cases_name}
 use Rattle.bt_runs.specs.model.Merged.{runs_of, runs_on, without, chromosomes}
 

@@ -11,7 +11,7 @@ use Rattle.bt_bed.specs.model.order.Locus.{locus_of, IsUpTo, IsPlacedBefore, Are
 use Rattle.bt_bed.specs.model.order.Rank.{is_among, AreDistinct, rank_of, compare_ranks, rank_order}
 use Rattle.bt_bed.specs.inside.RankTotal.{ranks_total}
 use Rattle.bt_bed.specs.model.feature.Stretches.{stretches_from}
-use Rattle.bt_bed.specs.model.order.Together.{has_records}
+use Rattle.bt_bed.specs.model.order.Contiguous.{has_records}
 use Rattle.bt_bed.proofs.lemmas.parse.NameLemmas.{name_eq, name_ne, name_ne-sym, cases_name}
 use Rattle.bt_runs.specs.model.Counted.{is_counted, counted}
 use Rattle.bt_runs.specs.model.Merged.{runs_of, runs_on, merged, without, chromosomes}

@@ -14,7 +14,7 @@ use Rattle.bt_runs.proofs.lemmas.laws.Standing.{Found, found}
 use Rattle.bt_lines.specs.calls.Output.{Output}
 use Rattle.bt_lines.specs.calls.Putting.{Adds, Grown}
 use Rattle.bt_lines.specs.declared.fault.Fault.{Fault}
-use Rattle.bt_lines.specs.calls.Names.{told}
+use Rattle.bt_lines.specs.calls.Names.{fault_value}
 use Rattle.bt_lines.proofs.lemmas.writer.PuttingLemmas.{adds_more, cut_off}
 
 -- the name of a chromosome
@@ -143,4 +143,4 @@ module _ {T : Type 0} (bare : Entry → List T) (entries : List Entry) where
     bare_cut stop fault below p =
         let rest = bares_from (rank + 1) stop in
         rw (bares_split first (rank + 1) stop (omega arith) (omega arith), flat_map-append line (bares_from first (rank + 1)) rest)
-        (cut_off old new (flat_map line (bares_from first (rank + 1))) (flat_map line rest) (told fault) (one_more {A = Unit {0}} (Err fault) p))
+        (cut_off old new (flat_map line (bares_from first (rank + 1))) (flat_map line rest) (fault_value fault) (one_more {A = Unit {0}} (Err fault) p))

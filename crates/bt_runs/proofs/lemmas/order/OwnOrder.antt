@@ -6,7 +6,7 @@ use Rattle.std.proofs.lemmas.Bool.{or_parts, or_from}
 use Rattle.bt_bed.specs.model.feature.Interval.{Interval}
 use Rattle.bt_bed.specs.model.order.Locus.{ArePlaced}
 use Rattle.bt_bed.specs.model.order.Rank.{is_among, AreDistinct, compare_ranks, rank_of, rank_order}
-use Rattle.bt_bed.specs.model.order.Together.{has_records, AreTogether}
+use Rattle.bt_bed.specs.model.order.Contiguous.{has_records, AreContiguous}
 use Rattle.bt_bed.proofs.lemmas.parse.NameLemmas.{cases_name, name_ne-sym}
 use Rattle.bt_runs.specs.model.Merged.{chromosomes, without}
 use Rattle.bt_runs.proofs.lemmas.order.ChromosomeLemmas.{among_chromosomes, among_without, without-here, without-other}
@@ -65,7 +65,7 @@ shift name names (r ∷ s ∷ ss) f p =
       rest,
     )
 
-pub placed_own : (records : List Interval) → AreTogether records → ArePlaced (rank_order (chromosomes records)) records
+pub placed_own : (records : List Interval) → AreContiguous records → ArePlaced (rank_order (chromosomes records)) records
 placed_own [] t = tt
 placed_own (r ∷ []) t = (ap is_some (rank_of-here r.chrom r.chrom [] refl), tt, tt)
 placed_own (r ∷ s ∷ ss) t =

@@ -9,7 +9,7 @@ use Rattle.bt_runs.specs.model.Depth.{depth_lines}
 use Rattle.bt_runs.specs.inside.coverage.DepthStep.{Known, known_by, levels_by, levels_on, start_from}
 use Rattle.bt_runs.specs.model.Levels.{Level}
 use Rattle.bt_runs.specs.inside.coverage.OpenRecords.{OpenAt}
-use Rattle.bt_runs.specs.declared.coverage.depths.BegunDepth.{BegunDepth}
+use Rattle.bt_runs.specs.declared.coverage.depths.OpenInterval.{OpenInterval}
 use Rattle.bt_runs.specs.declared.engine.failure.Failure.{Failure}
 use Rattle.bt_runs.specs.declared.engine.failure.Failure.TheVariants.{Write, Memory}
 
@@ -24,12 +24,12 @@ known_past zeros counted size known bounds =
 
 module _ (chrom : List ℕ) (levels : List Level) (known : Known) where
   -- a record was counted: these intervals are written, and this is known
-  pub record Counts (begun : Option BegunDepth) (held : OpenAt) (out grown : Output) : Type 0 where
+  pub record Counts (begun : Option OpenInterval) (held : OpenAt) (out grown : Output) : Type 0 where
     pub puts : Grown out (depth_lines (levels_on chrom levels)) grown
     pub knows : known_seen begun held ≡ known
 
   -- or they couldn't be written, or the record couldn't be kept
-  abbrev pub CountAnswers : Result (Option BegunDepth) Failure → OpenAt → Output → Output → Type 0
+  abbrev pub CountAnswers : Result (Option OpenInterval) Failure → OpenAt → Output → Output → Type 0
   CountAnswers (Ok begun) held out grown = Counts begun held out grown
   CountAnswers (Err Write) held out grown =
       FailsToAdd out (depth_lines (levels_on chrom levels)) write_failed grown

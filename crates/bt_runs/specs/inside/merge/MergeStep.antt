@@ -3,7 +3,7 @@ use Rattle.std.specs.Prelude.{ℕ, Bool, not, cond, List, [], ◌∷◌, max, fi
 use Rattle.bt_bed.specs.model.feature.Feature.{Feature, interval_of}
 use Rattle.bt_bed.specs.model.feature.Interval.{Interval}
 use Rattle.bt_runs.specs.model.Counted.{is_counted}
-use Rattle.bt_runs.specs.model.MergedRuns.{is_passed, passed_by}
+use Rattle.bt_runs.specs.model.MergedRuns.{is_closed, passed_by}
 use Rattle.bt_runs.specs.declared.merge.merge_strand.MergeStrand.{MergeStrand}
 
 -- the run with the record joined to it
@@ -21,7 +21,7 @@ settled_by gap runs r = passed_by gap runs (Some r)
 
 -- and the others
 abbrev pub left_by : ℕ → List Interval → Interval → List Interval
-left_by gap runs r = filter (λ run. not (is_passed gap r run)) runs
+left_by gap runs r = filter (λ run. not (is_closed gap r run)) runs
 
 -- the runs that are kept after the record, which is added if it counts
 abbrev pub kept_then : ℕ → Bool → List Interval → Interval → List Interval

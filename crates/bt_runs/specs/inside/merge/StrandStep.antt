@@ -3,7 +3,7 @@ use Rattle.std.specs.Prelude.{ℕ, suc, Bool, cond, List, [], ◌∷◌, ◌++�
 use Rattle.std.specs.Prelude.{get_or, length, set, Option, Some, None}
 use Rattle.bt_bed.specs.model.feature.Feature.{Feature, interval_of}
 use Rattle.bt_bed.specs.model.feature.Strands.{is_strand}
-use Rattle.bt_runs.specs.model.MergedRuns.{is_passed}
+use Rattle.bt_runs.specs.model.MergedRuns.{is_closed}
 use Rattle.bt_runs.specs.inside.merge.MergeStep.{joined_run}
 use Rattle.bt_runs.specs.model.StrandRuns.{StrandRun, passed_front}
 
@@ -39,7 +39,7 @@ last_place test (x ∷ xs) = place_among (test x) (last_place test xs)
 abbrev pub added_at : ℕ → List StrandRun → Feature → Option ℕ → List StrandRun
 added_at gap items r None = items ++ run_from r ∷ []
 added_at gap items r (Some place) =
-    cond (is_passed gap (interval_of r) (get_or items place (run_from r)).run)
+    cond (is_closed gap (interval_of r) (get_or items place (run_from r)).run)
     (items ++ run_from r ∷ [])
     (set items place (run_with r (get_or items place (run_from r))))
 

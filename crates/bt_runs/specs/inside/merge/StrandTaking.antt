@@ -1,7 +1,7 @@
 -- What a merge that keeps the strands apart does with one more record, exactly.
 use Rattle.std.specs.Prelude.{◌≡◌, ℕ, ◌⊎◌, Bool, true, false, cond, List, [], ◌∷◌, ◌++◌, Result, Ok, Err}
 use Rattle.bt_lines.specs.model.Fault.{no_memory, write_failed}
-use Rattle.bt_lines.specs.calls.Names.{told}
+use Rattle.bt_lines.specs.calls.Names.{fault_value}
 use Rattle.bt_lines.specs.calls.Output.{Output}
 use Rattle.bt_lines.specs.calls.Putting.{FailsToAdd, Grown}
 use Rattle.bt_lines.specs.declared.fault.Fault.{Fault}
@@ -48,8 +48,8 @@ module _ (old : Stranding) (r : Feature) (out : Output) where
 abbrev pub TakesNext : Stranding → Feature → Output → Result (Unit {0}) Fault → Stranding → Output → Type 0
 TakesNext old r out (Ok done) new grown = Takes old r out new grown
 TakesNext old r out (Err fault) new grown =
-    FailsToAdd out (lines_by old r) (told fault) grown
-    ⊎ ((told fault ≡ no_memory) × FailsToKeep old r out grown)
+    FailsToAdd out (lines_by old r) (fault_value fault) grown
+    ⊎ ((fault_value fault ≡ no_memory) × FailsToKeep old r out grown)
 
 -- a record whose start less the gap is `reach`, as a run, among runs on its chromosome
 module _ (chrom : List ℕ) (reach : ℕ) (runs : List PendingRun) (run : PendingRun) (out : Output) where

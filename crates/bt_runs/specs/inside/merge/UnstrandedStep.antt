@@ -1,7 +1,7 @@
 -- What a merge of all its records together does with one more record, exactly.
 use Rattle.std.specs.Prelude.{◌≡◌, ◌⊎◌, ◌==◌, ℕ, cond, List, [], ◌∷◌, Result, Ok, Err}
 use Rattle.bt_lines.specs.model.Fault.{no_memory}
-use Rattle.bt_lines.specs.calls.Names.{told}
+use Rattle.bt_lines.specs.calls.Names.{fault_value}
 use Rattle.bt_lines.specs.calls.Output.{Output}
 use Rattle.bt_lines.specs.calls.Putting.{FailsToAdd, Grown}
 use Rattle.bt_lines.specs.declared.fault.Fault.{Fault}
@@ -51,5 +51,5 @@ module _ (old : Unstranded) (r : Feature) (out : Output) where
 abbrev pub Does : Unstranded → Feature → Output → Result (Unit {0}) Fault → Unstranded → Output → Type 0
 Does old r out (Ok done) new grown = Takes old r out new grown
 Does old r out (Err fault) new grown =
-    FailsToAdd out (lines_by old r) (told fault) grown
-    ⊎ ((told fault ≡ no_memory) × FailsToKeep old r out grown)
+    FailsToAdd out (lines_by old r) (fault_value fault) grown
+    ⊎ ((fault_value fault ≡ no_memory) × FailsToKeep old r out grown)

@@ -1,7 +1,7 @@
 -- What the rule of an engine does: one record after another, and the chromosomes between them.
 use Rattle.std.specs.Prelude.{◌≡◌, ◌⊎◌, ℕ, true, List, [], ◌∷◌, ◌++◌, Result, Ok, Err, IsOk, ⊤}
-use Rattle.bt_lines.specs.model.Fault.{Told, no_memory, write_failed}
-use Rattle.bt_lines.specs.calls.Names.{told}
+use Rattle.bt_lines.specs.model.Fault.{FaultValue, no_memory, write_failed}
+use Rattle.bt_lines.specs.calls.Names.{fault_value}
 use Rattle.bt_lines.specs.calls.Output.{Output, Grows}
 use Rattle.bt_lines.specs.calls.Putting.{CutsRest, PutsRest, WorksAsBefore}
 use Rattle.bt_lines.specs.declared.fault.Fault.{Fault}
@@ -20,7 +20,7 @@ module _ {E : Type 0} (MayTake : E → List Feature → Type 0) (Stands : E → 
       pub works : WorksAsBefore out grown
 
     -- those lines couldn't be written: only if the sink failed
-    pub record RuleFailsToWrite (answer : Told) (grown : Output) : Type 0 where
+    pub record RuleFailsToWrite (answer : FaultValue) (grown : Output) : Type 0 where
       pub is : answer ≡ write_failed
       pub cuts : AfterEach MayTake Stands old r (λ first past.
           CutsRest (settled first past) (settled first (past ++ r ∷ [])) out grown)
@@ -28,7 +28,7 @@ module _ {E : Type 0} (MayTake : E → List Feature → Type 0) (Stands : E → 
       pub sink_failed : grown.sink_has_failed ≡ true
 
     -- they were put, and what is kept couldn't grow
-    pub record RuleRunsOut (answer : Told) (grown : Output) : Type 0 where
+    pub record RuleRunsOut (answer : FaultValue) (grown : Output) : Type 0 where
       pub is : answer ≡ no_memory
       pub puts : AfterEach MayTake Stands old r (λ first past.
           PutsRest (settled first past) (settled first (past ++ r ∷ [])) out grown)
@@ -36,7 +36,7 @@ module _ {E : Type 0} (MayTake : E → List Feature → Type 0) (Stands : E → 
 
     abbrev pub RuleAnswers : {A : Type 0} → Result A Fault → E → Output → Type 0
     RuleAnswers (Ok done) new grown = RuleTakes new grown
-    RuleAnswers (Err answer) new grown = RuleFailsToWrite (told answer) grown ⊎ RuleRunsOut (told answer) grown
+    RuleAnswers (Err answer) new grown = RuleFailsToWrite (fault_value answer) grown ⊎ RuleRunsOut (fault_value answer) grown
 
     -- what a rule does with a record
     pub record RuleFeeds {A : Type 0} (Quiet : E → List Feature → Feature → Type 0) (result : Result A Fault)
@@ -58,7 +58,7 @@ module _ {E : Type 0} (MayTake : E → List Feature → Type 0) (Stands : E → 
       pub works : WorksAsBefore out grown
 
     -- they couldn't be written: only if the sink failed
-    pub record RuleFailsAtEnd (answer : Told) (grown : Output) : Type 0 where
+    pub record RuleFailsAtEnd (answer : FaultValue) (grown : Output) : Type 0 where
       pub is : answer ≡ write_failed
       pub cuts : AtEnd MayTake Stands old (λ first past.
           CutsRest (settled first past) (whole first past) out grown)
@@ -67,7 +67,7 @@ module _ {E : Type 0} (MayTake : E → List Feature → Type 0) (Stands : E → 
 
     abbrev pub RuleEnds : {A : Type 0} → Result A Fault → Output → Type 0
     RuleEnds (Ok done) grown = RulePutsLeft grown
-    RuleEnds (Err answer) grown = RuleFailsAtEnd (told answer) grown
+    RuleEnds (Err answer) grown = RuleFailsAtEnd (fault_value answer) grown
 
     -- what a rule does at the end
     pub record RuleFinishes {A : Type 0} (result : Result A Fault) (grown : Output) : Type 0 where
@@ -78,7 +78,7 @@ module _ {E : Type 0} (MayTake : E → List Feature → Type 0) (Stands : E → 
 -- if memory runs out, this holds of the rule and the record
 abbrev pub WantsMemory : {E A : Type 0} → (E → Feature → Type 0) → E → Feature → Result A Fault → Type 0
 WantsMemory wants old r (Ok done) = ⊤
-WantsMemory wants old r (Err fault) = told fault ≡ no_memory → wants old r
+WantsMemory wants old r (Err fault) = fault_value fault ≡ no_memory → wants old r
 
 -- what is done with a record: exactly, after every past, and what needs memory
 pub record Taken {E : Type 0} (takes : E → List Feature → Type 0) (stands : E → List Feature → E → Type 0)

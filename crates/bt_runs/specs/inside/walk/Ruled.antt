@@ -1,13 +1,13 @@
 -- What an engine is that goes by a rule: what the rule is, until it has failed.
 use Rattle.std.specs.Prelude.{◌≡◌, ℕ, List, Option, None, option_map}
-use Rattle.bt_lines.specs.model.Fault.{Told}
+use Rattle.bt_lines.specs.model.Fault.{FaultValue}
 use Rattle.bt_bed.specs.model.feature.Feature.{Feature}
 use Rattle.bt_runs.specs.calls.Failure.{fault_of}
 use Rattle.bt_runs.specs.declared.engine.rule.Ruled.{Ruled}
 
 module _ {E : Type 0} where
   -- the failure that was returned, if one was
-  abbrev pub ruled_fault : Ruled E → Option Told
+  abbrev pub ruled_fault : Ruled E → Option FaultValue
   ruled_fault ruled = option_map fault_of ruled.failure
 
   -- what the rule may take

@@ -4,7 +4,7 @@ use Rattle.std.specs.Prelude.{flat_map}
 use Rattle.std.proofs.lemmas.Grind.{flat_map-append}
 use Rattle.std.proofs.lemmas.List.{map-append}
 use Rattle.bt_bed.specs.model.feature.Interval.{Span}
-use Rattle.bt_lines.specs.model.Fault.{Told}
+use Rattle.bt_lines.specs.model.Fault.{FaultValue}
 use Rattle.bt_lines.specs.calls.Output.{Output}
 use Rattle.bt_lines.specs.calls.Putting.{Adds, FailsToAdd, FailsToPut, Grown, Puts, PutsAll}
 use Rattle.bt_lines.specs.declared.fault.Fault.{Fault}
@@ -27,7 +27,7 @@ module _ (with_cigar : Bool) (a : Alignment) where
   read_parts = append_assoc a.name (marks a.first a.last ++ quality_text with_cigar a) (text_if with_cigar (a.cigar ++ codes "\n"))
 
   -- name and tail were cut off before the CIGAR
-  pub read_cut : (piece : List ℕ) (old new : Output) (fault : Told) → piece ≡ marks a.first a.last ++ quality_text with_cigar a → FailsToPut old (a.name ++ piece) fault new → FailsToPut old (a.name ++ line_tail with_cigar a) fault new
+  pub read_cut : (piece : List ℕ) (old new : Output) (fault : FaultValue) → piece ≡ marks a.first a.last ++ quality_text with_cigar a → FailsToPut old (a.name ++ piece) fault new → FailsToPut old (a.name ++ line_tail with_cigar a) fault new
   read_cut piece old new fault e p =
       rw (← read_parts) (fails_before old new read_head (text_if with_cigar (a.cigar ++ codes "\n")) fault (subst (λ l. FailsToPut old (a.name ++ l) fault new) e p))
 
@@ -43,7 +43,7 @@ module _ (with_cigar : Bool) (a : Alignment) where
       (subst (λ b. Puts mid (text_if b (a.cigar ++ codes "\n")) result new) (sym asked) q))
 
   -- the line was cut off in one of its pieces
-  module _ (s : Span) (o : Output) (fault : Told) where
+  module _ (s : Span) (o : Output) (fault : FaultValue) where
     whole : (new : Output) → FailsToPut o (a.chrom ++ (bounds_text s.start s.stop ++ (a.name ++ line_tail with_cigar a))) fault new → FailsToPut o (bed_line with_cigar a s) fault new
     whole new p = subst (λ l. FailsToPut o l fault new) (line_parts with_cigar a s) p
 
@@ -76,7 +76,7 @@ module _ (with_cigar : Bool) (a : Alignment) where
       rw (one_more done s) (grown_more old mid new (lines_of done) (bed_line with_cigar a s) p (grown_all mid new (bed_line with_cigar a s) (line_has_bytes s) q))
 
   -- one of them was cut off
-  pub cut_line : (done : List Span) (s : Span) (rest all : List Span) (old mid new : Output) (fault : Told) → done ++ s ∷ rest ≡ all → Grown old (lines_of done) mid → FailsToPut mid (bed_line with_cigar a s) fault new
+  pub cut_line : (done : List Span) (s : Span) (rest all : List Span) (old mid new : Output) (fault : FaultValue) → done ++ s ∷ rest ≡ all → Grown old (lines_of done) mid → FailsToPut mid (bed_line with_cigar a s) fault new
       → FailsToAdd old (lines_of all) fault new
   cut_line done s rest all old mid new fault e p q =
       let here = fails_then old mid new (lines_of done) (bed_line with_cigar a s) fault p (record { puts = q; some = line_has_bytes s }) in

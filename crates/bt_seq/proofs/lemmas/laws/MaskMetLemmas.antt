@@ -7,9 +7,9 @@ use Rattle.bt_bed.specs.model.feature.Feature.{Feature}
 use Rattle.bt_bed.specs.model.input.Good.{Good, Member, items_in}
 use Rattle.bt_bed.specs.model.input.GoodBlocks.{AreInBlocks}
 use Rattle.bt_bed.specs.model.feature.LineKind.{fault_at_line}
-use Rattle.bt_bed.specs.model.input.Meeting.{StaysDecided}
+use Rattle.bt_bed.specs.model.input.TwoInputReport.{StaysDecided}
 use Rattle.bt_bed.proofs.lemmas.laws.MeetingLemmas.{all_written, met_lines, written_begins}
-use Rattle.bt_lines.specs.model.Fault.{Told}
+use Rattle.bt_lines.specs.model.Fault.{FaultValue}
 use Rattle.bt_lines.specs.declared.fault.Input.TheVariants.{Second}
 use Rattle.bt_lines.specs.declared.fault.Kind.TheVariants.{NoSequence}
 use Rattle.bt_seq.proofs.lemmas.laws.LeftLemmas.{is_last, leave, leave_all}
@@ -53,11 +53,11 @@ abbrev pub items : List (Member Feature) → List Feature
 items ms = map (λ (m : Member Feature). m.item) ms
 
 -- what is reported of a record after which these names are left, or later
-abbrev told_by : Option (List (List ℕ)) → Member Feature → Option Told → Option Told
+abbrev told_by : Option (List (List ℕ)) → Member Feature → Option FaultValue → Option FaultValue
 told_by None m later = Some (fault_at_line Second m.line NoSequence)
 told_by (Some names) m later = later
 
-abbrev told_of : List (Tagged (Member Feature)) → Option Told
+abbrev told_of : List (Tagged (Member Feature)) → Option FaultValue
 told_of [] = None
 told_of (t ∷ ts) = told_by t.left t.item (told_of ts)
 
@@ -111,7 +111,7 @@ first_by : (left : Option (List (List ℕ))) (p : Member Feature) (past more : L
 first_by None p past more m e rest = absurd (never_owned (Some p.item.chrom) (items past) e)
 first_by (Some names) p past more m e rest = rest
 
-first_here : (left : Option (List (List ℕ))) (m : Member Feature) (later : Option Told) → left ≡ None → told_by left m later ≡ Some (fault_at_line Second m.line NoSequence)
+first_here : (left : Option (List (List ℕ))) (m : Member Feature) (later : Option FaultValue) → left ≡ None → told_by left m later ≡ Some (fault_at_line Second m.line NoSequence)
 first_here left m later e = ap (λ l. told_by l m later) e
 
 first_told : (left : Option (List (List ℕ))) (last : Option (List ℕ)) (past more : List (Member Feature)) (m : Member Feature) → is_some (leave left last (items past)) ≡ true → leave left last (items (past ++ m ∷ [])) ≡ None

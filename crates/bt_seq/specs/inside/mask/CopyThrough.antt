@@ -2,7 +2,7 @@
 use Rattle.std.specs.Prelude.{◌≡◌, ⊤, ℕ, ◌+◌, ◌≤◌, List, [], ◌∷◌, ◌++◌, flat_map, length, false, true, Result, Ok, Err}
 use Rattle.bt_lines.specs.calls.Buffered.{PassesLine, rest_in}
 use Rattle.bt_lines.specs.model.Lines.{TextLine, spelled}
-use Rattle.bt_lines.specs.calls.Names.{told}
+use Rattle.bt_lines.specs.calls.Names.{fault_value}
 use Rattle.bt_lines.specs.calls.Output.{Output}
 use Rattle.bt_lines.specs.calls.Putting.{FailsToAdd, Grown}
 use Rattle.bt_lines.specs.declared.reader.buffered_lines.BufferedLines.{BufferedLines}
@@ -50,7 +50,7 @@ abbrev pub WritesAll : {A : Type 0} → Masking → List TextLine → Output →
 WritesAll old lines out (Ok done) new grown =
     (new ≡ passed_all old lines) × Grown out (flat_map spelled lines) grown
 WritesAll old lines out (Err fault) new grown =
-    (new.want ≡ Nothing) × FailsToAdd out (flat_map spelled lines) (told fault) grown
+    (new.want ≡ Nothing) × FailsToAdd out (flat_map spelled lines) (fault_value fault) grown
 
 -- those of the lines that are buffered were copied through that are known to be written as they are
 pub record CopiesThrough {A : Type 0} (old : Masking) (lines : BufferedLines) (out : Output)

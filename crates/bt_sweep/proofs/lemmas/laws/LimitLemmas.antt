@@ -3,13 +3,13 @@ use Rattle.std.proofs.Common.{◌≡◌, ℕ, ◌≤◌, Bool, true, false, not,
 use Rattle.std.specs.Prelude.{IfSome, if◌then◌else◌, nat_lt}
 use Rattle.std.specs.List.{find, list_all}
 use Rattle.std.proofs.lemmas.Bool.{false≢true, and_from, and_parts, lt-ltb, le-ltb, ltb-true, false_from_ne_true}
-use Rattle.bt_lines.specs.model.Fault.{Told}
+use Rattle.bt_lines.specs.model.Fault.{FaultValue}
 use Rattle.bt_lines.specs.declared.fault.Input.TheVariants.{Second}
 use Rattle.bt_lines.specs.declared.fault.Kind.TheVariants.{TooManyHeld}
 use Rattle.bt_bed.specs.model.feature.Feature.{Feature}
 use Rattle.bt_bed.specs.model.input.Good.{Good, Member, items_in}
 use Rattle.bt_bed.specs.model.feature.LineKind.{fault_at_line}
-use Rattle.bt_bed.specs.model.input.Meeting.{Met, meet}
+use Rattle.bt_bed.specs.model.input.TwoInputReport.{Met, join_report}
 use Rattle.bt_bed.specs.model.order.Order.{Order}
 use Rattle.bt_bed.proofs.lemmas.laws.MeetingLemmas.{all_stop, met_fault_stop, met_lines, written_stop}
 use Rattle.bt_sweep.specs.model.Deciding.{decided}
@@ -54,7 +54,7 @@ pub within_more : (limit : Option ℕ) (a b : Feature) (held : List Feature) →
 within_more limit a b held room within = within_at limit b held (is_held a b) room within
 
 -- after prefixes that aren't too many
-pub cut_past : (too_many : List Feature → Bool) (before past more : List (Member Feature)) (fault : Option Told)
+pub cut_past : (too_many : List Feature → Bool) (before past more : List (Member Feature)) (fault : Option FaultValue)
     → ((front : List (Member Feature)) (m : Member Feature) (rest : List (Member Feature)) → past ≡ front ++ m ∷ rest → too_many (map (λ m. m.item) (before ++ (front ++ m ∷ []))) ≡ false)
     → cut_behind too_many before (past ++ more) fault ≡ cut_behind too_many (before ++ past) more fault
 cut_past too_many before [] more fault few = ap (λ l. cut_behind too_many l more fault) (sym (append-nil before))
@@ -66,7 +66,7 @@ cut_past too_many before (m ∷ past) more fault few =
     ∙ ap (λ l. cut_behind too_many l more fault) (append_assoc before (m ∷ []) past)
 
 -- at the first with which they are
-pub cut_here : (too_many : List Feature → Bool) (past more : List (Member Feature)) (m : Member Feature) (fault : Option Told) → too_many (map (λ m. m.item) (past ++ m ∷ [])) ≡ true
+pub cut_here : (too_many : List Feature → Bool) (past more : List (Member Feature)) (m : Member Feature) (fault : Option FaultValue) → too_many (map (λ m. m.item) (past ++ m ∷ [])) ≡ true
     → cut_behind too_many past (m ∷ more) fault ≡ record { members = past ++ m ∷ []; fault = Some (fault_at_line Second m.line TooManyHeld) }
 cut_here too_many past more m fault many =
     ap (λ b. if b then record { members = past ++ m ∷ []; fault = Some (fault_at_line Second m.line TooManyHeld) } else cut_behind too_many (past ++ m ∷ []) more fault) many
@@ -77,7 +77,7 @@ keeps_by true cut on past m e f = ([], e ∙ sym (append-nil (past ++ m ∷ []))
 keeps_by false cut on past m e f = f
 
 -- past one with which they aren't
-pub cut_on : (too_many : List Feature → Bool) (past more : List (Member Feature)) (m : Member Feature) (fault : Option Told) → too_many (map (λ m. m.item) (past ++ m ∷ [])) ≡ false
+pub cut_on : (too_many : List Feature → Bool) (past more : List (Member Feature)) (m : Member Feature) (fault : Option FaultValue) → too_many (map (λ m. m.item) (past ++ m ∷ [])) ≡ false
     → cut_behind too_many past (m ∷ more) fault ≡ cut_behind too_many (past ++ m ∷ []) more fault
 cut_on too_many past more m fault few =
     ap (λ b. if b then record { members = past ++ m ∷ []; fault = Some (fault_at_line Second m.line TooManyHeld) } else cut_behind too_many (past ++ m ∷ []) more fault) few
@@ -88,14 +88,14 @@ front_by true cut on past more m e f = (more, sym (append_assoc past (m ∷ []) 
 front_by false cut on past more m e f = (f.0, sym (append_assoc past (m ∷ []) more) ∙ f.1)
 
 -- what is left comes first
-pub cut_front : (too_many : List Feature → Bool) (past more : List (Member Feature)) (fault : Option Told) → (rest : List (Member Feature)) × (past ++ more ≡ (cut_behind too_many past more fault).members ++ rest)
+pub cut_front : (too_many : List Feature → Bool) (past more : List (Member Feature)) (fault : Option FaultValue) → (rest : List (Member Feature)) × (past ++ more ≡ (cut_behind too_many past more fault).members ++ rest)
 cut_front too_many past [] fault = ([], refl)
 cut_front too_many past (m ∷ more) fault =
     front_by (too_many (map (λ m. m.item) (past ++ m ∷ []))) (record { members = past ++ m ∷ []; fault = Some (fault_at_line Second m.line TooManyHeld) }) (cut_behind too_many (past ++ m ∷ []) more fault) past more m refl
     (cut_front too_many (past ++ m ∷ []) more fault)
 
 -- whatever comes after them, members stay
-pub cut_keeps : (too_many : List Feature → Bool) (past more : List (Member Feature)) (fault : Option Told) → (rest : List (Member Feature)) × ((cut_behind too_many past more fault).members ≡ past ++ rest)
+pub cut_keeps : (too_many : List Feature → Bool) (past more : List (Member Feature)) (fault : Option FaultValue) → (rest : List (Member Feature)) × ((cut_behind too_many past more fault).members ≡ past ++ rest)
 cut_keeps too_many past [] fault = ([], sym (append-nil past))
 cut_keeps too_many past (m ∷ more) fault =
     let keeps = keeps_by (too_many (map (λ m. m.item) (past ++ m ∷ []))) (record { members = past ++ m ∷ []; fault = Some (fault_at_line Second m.line TooManyHeld) }) (cut_behind too_many (past ++ m ∷ []) more fault) past m refl
@@ -103,13 +103,13 @@ cut_keeps too_many past (m ∷ more) fault =
     (m ∷ keeps.0, keeps.1 ∙ append_assoc past (m ∷ []) keeps.0)
 
 -- and so does the next of them
-pub cut_next : (too_many : List Feature → Bool) (past more : List (Member Feature)) (m : Member Feature) (fault : Option Told) → (rest : List (Member Feature)) × ((cut_behind too_many past (m ∷ more) fault).members ≡ (past ++ m ∷ []) ++ rest)
+pub cut_next : (too_many : List Feature → Bool) (past more : List (Member Feature)) (m : Member Feature) (fault : Option FaultValue) → (rest : List (Member Feature)) × ((cut_behind too_many past (m ∷ more) fault).members ≡ (past ++ m ∷ []) ++ rest)
 cut_next too_many past more m fault =
     keeps_by (too_many (map (λ m. m.item) (past ++ m ∷ []))) (record { members = past ++ m ∷ []; fault = Some (fault_at_line Second m.line TooManyHeld) }) (cut_behind too_many (past ++ m ∷ []) more fault) past m refl
     (cut_keeps too_many (past ++ m ∷ []) more fault)
 
 -- if none is too many, nothing is cut
-pub cut_none : (too_many : List Feature → Bool) (past more : List (Member Feature)) (fault : Option Told)
+pub cut_none : (too_many : List Feature → Bool) (past more : List (Member Feature)) (fault : Option FaultValue)
     → ((front : List (Member Feature)) (m : Member Feature) (rest : List (Member Feature)) → more ≡ front ++ m ∷ rest → too_many (map (λ m. m.item) (past ++ (front ++ m ∷ []))) ≡ false)
     → cut_behind too_many past more fault ≡ record { members = past ++ more; fault = fault }
 cut_none too_many past more fault few = ap (λ l. cut_behind too_many past l fault) (sym (append-nil more)) ∙ cut_past too_many past more [] fault few
@@ -176,19 +176,19 @@ limit_kept order most first second enough =
     cut_none (are_too_many order most first) [] second.members second.fault
     (λ front m rest e. enough_few order most (map (λ m. m.item) (front ++ m ∷ [])) first (enough (front ++ m ∷ []) rest (e ∙ sym (append_assoc front (m ∷ []) rest))))
 
-met_is : (met : Met ℕ Told) (lines : List ℕ) (fault : Option Told) → met.lines ≡ lines → met.fault ≡ fault → met ≡ record { lines = lines; fault = fault }
-met_is met lines fault e f = ap (λ l. record { lines = l; fault = met.fault }) e ∙ ap (λ (o : Option Told). record { lines = lines; fault = o }) f
+met_is : (met : Met ℕ FaultValue) (lines : List ℕ) (fault : Option FaultValue) → met.lines ≡ lines → met.fault ≡ fault → met ≡ record { lines = lines; fault = fault }
+met_is met lines fault e f = ap (λ l. record { lines = l; fault = met.fault }) e ∙ ap (λ (o : Option FaultValue). record { lines = lines; fault = o }) f
 
 -- if a record is undecided, and the second input has a fault
-met_stops : (order : Order) (shape : Shape) (rule : HitRule) (first second : Good Feature) (before after : List Feature) (a : Feature) (fault : Told) → items_in first ≡ before ++ a ∷ after → second.fault ≡ Some fault
+met_stops : (order : Order) (shape : Shape) (rule : HitRule) (first second : Good Feature) (before after : List Feature) (a : Feature) (fault : FaultValue) → items_in first ≡ before ++ a ∷ after → second.fault ≡ Some fault
     → list_all (λ x. decided order x (items_in second)) before ≡ true → decided order a (items_in second) ≡ false
     → intersect_met order shape rule first second ≡ record { lines = intersect shape rule before (items_in second); fault = Some fault }
 met_stops order shape rule first second before after a fault is told all undecided =
     let early = sweep_rule order shape rule (items_in second) (Some fault) in
-    let made : intersect_met order shape rule first second ≡ meet early (before ++ a ∷ after) first.fault =
-    ap (λ (o : Option Told). meet (sweep_rule order shape rule (items_in second) o) (items_in first) first.fault) told ∙ ap (λ l. meet early l first.fault) is in
+    let made : intersect_met order shape rule first second ≡ join_report early (before ++ a ∷ after) first.fault =
+    ap (λ (o : Option FaultValue). join_report (sweep_rule order shape rule (items_in second) o) (items_in first) first.fault) told ∙ ap (λ l. join_report early l first.fault) is in
     made
-    ∙ met_is (meet early (before ++ a ∷ after) first.fault) (intersect shape rule before (items_in second)) (Some fault)
+    ∙ met_is (join_report early (before ++ a ∷ after) first.fault) (intersect shape rule before (items_in second)) (Some fault)
     (met_lines early (before ++ a ∷ after) first.fault ∙ written_stop early before a after all undecided)
     (met_fault_stop early (before ++ a ∷ after) first.fault (all_stop early before a after undecided))
 

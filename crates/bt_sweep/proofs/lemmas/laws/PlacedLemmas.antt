@@ -5,7 +5,7 @@ use Rattle.bt_bed.specs.model.feature.Feature.{Feature, interval_of, intervals_o
 use Rattle.bt_bed.specs.model.feature.Interval.{Interval, last_from}
 use Rattle.bt_bed.specs.model.order.Locus.{ArePlaced}
 use Rattle.bt_bed.specs.model.order.Order.{Order, IsTotal}
-use Rattle.bt_bed.specs.model.order.Together.{has_records}
+use Rattle.bt_bed.specs.model.order.Contiguous.{has_records}
 use Rattle.bt_bed.proofs.lemmas.order.TogetherLemmas.{has_records-last, next_place, placed_front, placed_together}
 use Rattle.bt_sweep.specs.calls.Standing.{last_after, last_given}
 

@@ -3,10 +3,10 @@ use Rattle.std.proofs.Common.{◌≡◌, Bool, true, false, ap₂, List, [], ◌
 use Rattle.std.specs.Prelude.{is_none}
 use Rattle.std.specs.List.{AllByRecursion, list_all}
 use Rattle.std.proofs.lemmas.Bool.{or_right}
-use Rattle.bt_lines.specs.model.Fault.{Told}
+use Rattle.bt_lines.specs.model.Fault.{FaultValue}
 use Rattle.bt_bed.specs.model.feature.Feature.{Feature, intervals_of}
 use Rattle.bt_bed.specs.model.order.Locus.{ArePlaced}
-use Rattle.bt_bed.specs.model.input.Meeting.{StaysDecided}
+use Rattle.bt_bed.specs.model.input.TwoInputReport.{StaysDecided}
 use Rattle.bt_bed.specs.model.order.Order.{Order, IsTotal}
 use Rattle.bt_bed.proofs.lemmas.laws.MeetingLemmas.{all_written, met_lines, written_begins}
 use Rattle.bt_sweep.specs.model.Deciding.{decided}
@@ -20,7 +20,7 @@ use Rattle.bt_sweep.specs.declared.output.shape.Shape.TheVariants.{Whole}
 use Rattle.bt_sweep.proofs.lemmas.laws.DecidingLemmas.{stays_decided}
 use Rattle.bt_sweep.proofs.lemmas.laws.HitLemmas.{stay_lines}
 
-all_stay : (order : Order) (shape : Shape) (rule : HitRule) (first second more : List Feature) (fault : Option Told) → IsTotal order → ArePlaced order (intervals_of first) → ArePlaced order (intervals_of (second ++ more))
+all_stay : (order : Order) (shape : Shape) (rule : HitRule) (first second more : List Feature) (fault : Option FaultValue) → IsTotal order → ArePlaced order (intervals_of first) → ArePlaced order (intervals_of (second ++ more))
     → AllByRecursion (StaysDecided (early_rule order shape rule second) (sweep_rule order shape rule (second ++ more) fault)) first
 all_stay order shape rule [] second more fault total known placed = tt
 all_stay order shape rule (a ∷ first) second more fault total known placed = (

@@ -6,7 +6,7 @@ use Rattle.std.proofs.lemmas.List.{take-append-drop}
 use Rattle.std.proofs.lemmas.List.Elements.{filter-append}
 use Rattle.std.proofs.lemmas.List.Folds.{list_any-append}
 use Rattle.bt_sweep.proofs.lemmas.hits.StartedLemmas.{only_one}
-use Rattle.bt_lines.specs.calls.Names.{told}
+use Rattle.bt_lines.specs.calls.Names.{fault_value}
 use Rattle.bt_lines.specs.calls.Output.{Output}
 use Rattle.bt_lines.specs.calls.Putting.{Adds, FailsToAdd, Grown}
 use Rattle.bt_lines.specs.declared.fault.Fault.{Fault}
@@ -93,8 +93,8 @@ module _ (f : Feature → List ℕ) (p : Feature → Bool) (xs : List Feature) w
     all_lines = sym (lines_append (take (i + 1) xs) (drop (i + 1) xs)) ∙ ap (λ l. flat_map f (filter p l)) (take-append-drop (i + 1) xs)
 
     -- the line of one couldn't be written
-    pub lines_cut : (A : Type 0) (old mid new : Output) (fault : Fault) → Grown old (flat_map f (filter p (take i xs))) mid → Adds {A = A} mid (flat_map f (filter p (option_to_list (slice_get xs i)))) (Err fault) new → FailsToAdd old (flat_map f (filter p xs)) (told fault) new
+    pub lines_cut : (A : Type 0) (old mid new : Output) (fault : Fault) → Grown old (flat_map f (filter p (take i xs))) mid → Adds {A = A} mid (flat_map f (filter p (option_to_list (slice_get xs i)))) (Err fault) new → FailsToAdd old (flat_map f (filter p xs)) (fault_value fault) new
     lines_cut A old mid new fault so_far here =
-        let cut = fails_then old mid new (flat_map f (filter p (take i xs))) (flat_map f (filter p (option_to_list (slice_get xs i)))) (told fault) so_far here in
-        let next : FailsToAdd old (flat_map f (filter p (take (i + 1) xs))) (told fault) new = subst (λ (l : List ℕ). FailsToAdd old l (told fault) new) (sym next_lines) cut in
-        rw (← all_lines) (cut_off old new (flat_map f (filter p (take (i + 1) xs))) (flat_map f (filter p (drop (i + 1) xs))) (told fault) next)
+        let cut = fails_then old mid new (flat_map f (filter p (take i xs))) (flat_map f (filter p (option_to_list (slice_get xs i)))) (fault_value fault) so_far here in
+        let next : FailsToAdd old (flat_map f (filter p (take (i + 1) xs))) (fault_value fault) new = subst (λ (l : List ℕ). FailsToAdd old l (fault_value fault) new) (sym next_lines) cut in
+        rw (← all_lines) (cut_off old new (flat_map f (filter p (take (i + 1) xs))) (flat_map f (filter p (drop (i + 1) xs))) (fault_value fault) next)

@@ -3,7 +3,7 @@ use Rattle.std.proofs.Common.{◌≡◌, ℕ, ◌+◌, ◌≤◌, List, [], ◌�
 use Rattle.std.specs.List.{slice_get}
 use Rattle.std.proofs.lemmas.List.{take-append-drop}
 use Rattle.std.proofs.lemmas.List.Elements.{filter-append}
-use Rattle.bt_lines.specs.calls.Names.{told}
+use Rattle.bt_lines.specs.calls.Names.{fault_value}
 use Rattle.bt_lines.specs.calls.Output.{Output}
 use Rattle.bt_lines.specs.calls.Putting.{Adds, FailsToAdd, Grown}
 use Rattle.bt_lines.specs.declared.fault.Fault.{Fault}
@@ -30,7 +30,7 @@ lines_append a free (x ∷ xs) ys =
 
 adds_after : {A : Type 0} (r : Result A Fault) (old mid new : Output) (before after : List ℕ) → Grown old before mid → Adds mid after r new → Adds old (before ++ after) r new
 adds_after (Ok done) old mid new before after grown adds = grown_more old mid new before after grown adds
-adds_after (Err fault) old mid new before after grown adds = fails_then old mid new before after (told fault) grown adds
+adds_after (Err fault) old mid new before after grown adds = fails_then old mid new before after (fault_value fault) grown adds
 
 module _ (rule : HitRule) (a : Feature) (held : List Feature) where
   abbrev found_to : ℕ → List Feature
@@ -77,10 +77,10 @@ module _ (rule : HitRule) (a : Feature) (held : List Feature) where
 
     -- the piece before one couldn't be put
     pub pieces_cut : (A : Type 0) (old mid new : Output) (fault : Fault) → AreRising held → Grown old (before_to i) mid → Adds {A = A} mid (lines_before a free (found_at i)) (Err fault) new
-        → FailsToAdd old (flat_map (piece_line a) (pieces a (hits_among rule a held))) (told fault) new
+        → FailsToAdd old (flat_map (piece_line a) (pieces a (hits_among rule a held))) (fault_value fault) new
     pieces_cut A old mid new fault rises so_far here =
-        let cut = fails_then old mid new (before_to i) (lines_before a free (found_at i)) (told fault) so_far here in
-        rw (← all_lines rises) (cut_off old new (before_to (i + 1)) lines_behind (told fault) (subst (λ (l : List ℕ). FailsToAdd old l (told fault) new) (sym next_lines) cut))
+        let cut = fails_then old mid new (before_to i) (lines_before a free (found_at i)) (fault_value fault) so_far here in
+        rw (← all_lines rises) (cut_off old new (before_to (i + 1)) lines_behind (fault_value fault) (subst (λ (l : List ℕ). FailsToAdd old l (fault_value fault) new) (sym next_lines) cut))
 
   -- the last piece
   pub pieces_end : {A : Type 0} (r : Result A Fault) (i free : ℕ) (old mid new : Output) → length held ≤ i → free ≡ free_after a.start (found_to i) → AreRising held

@@ -2,8 +2,8 @@
 use Rattle.std.proofs.Common.{◌≡◌, inl, inr, ℕ, Bool, true, false, cond, List, [], ◌∷◌, ◌++◌, Option, Some, None, Ok, Err, Result, refl, sym, ap, ◌∙◌, subst, append-nil, length, option_to_list}
 use Rattle.std.specs.Prelude.{OnErr, OnOk, is_some, ⊤}
 use Rattle.std.proofs.lemmas.Bool.{false≢true}
-use Rattle.bt_lines.specs.model.Fault.{Told}
-use Rattle.bt_lines.specs.calls.Names.{told}
+use Rattle.bt_lines.specs.model.Fault.{FaultValue}
+use Rattle.bt_lines.specs.calls.Names.{fault_value}
 use Rattle.bt_lines.specs.calls.Output.{Output}
 use Rattle.bt_lines.specs.calls.Putting.{Adds, FailsToAdd, Grown}
 use Rattle.bt_lines.specs.declared.fault.Fault.{Fault}
@@ -78,8 +78,8 @@ module _ (order : Order) (total : IsTotal order) (shape : Shape) (rule : HitRule
       (subst (StandsAt order shape rule limit (with_b_ended stage)) (sym (now ∙ is)) stands_ended, subst (λ (l : List ℕ). Grown out l grown) lines_last lines)
   ends_b (Err fault) mid new b out grown placed is same now stops adds =
       let rises = keeps_rising order shape rule limit stage.written a stage.taken old kept_last total placed in
-      let lines = subst (λ (m : Sweeping). AreRising m.held → FailsToAdd out (lines_for m.shape m.rule a m.held) (told fault) grown) is (subst (λ (f : Feature). AreRising mid.held → FailsToAdd out (lines_for mid.shape mid.rule f mid.held) (told fault) grown) same adds) rises in
-      (stops, subst (λ (l : List ℕ). FailsToAdd out l (told fault) grown) lines_last lines)
+      let lines = subst (λ (m : Sweeping). AreRising m.held → FailsToAdd out (lines_for m.shape m.rule a m.held) (fault_value fault) grown) is (subst (λ (f : Feature). AreRising mid.held → FailsToAdd out (lines_for mid.shape mid.rule f mid.held) (fault_value fault) grown) same adds) rises in
+      (stops, subst (λ (l : List ℕ). FailsToAdd out l (fault_value fault) grown) lines_last lines)
 
   -- ---- a record of the second input, beside the one that waits
 
@@ -114,11 +114,11 @@ module _ (order : Order) (total : IsTotal order) (shape : Shape) (rule : HitRule
           settled = before_lines order shape rule a b stage.taken total known told_so;
         }
 
-    pub cuts_b : (fault : Fault) → ArePlaced order (intervals_of stage.taken) → decides order a b ≡ true → new ≡ stopped mid → (AreRising mid.held → FailsToAdd out (lines_for mid.shape mid.rule a mid.held) (told fault) grown) → Answers (Err fault)
+    pub cuts_b : (fault : Fault) → ArePlaced order (intervals_of stage.taken) → decides order a b ≡ true → new ≡ stopped mid → (AreRising mid.held → FailsToAdd out (lines_for mid.shape mid.rule a mid.held) (fault_value fault) grown) → Answers (Err fault)
     cuts_b fault placed told_so now adds =
         let rises = keeps_rising order shape rule limit stage.written a stage.taken old kept_last total placed in
-        let lines = subst (λ (m : Sweeping). AreRising m.held → FailsToAdd out (lines_for m.shape m.rule a m.held) (told fault) grown) mid_is adds rises in
-        (ap want_in now ∙ ap (λ (m : Sweeping). want_in (stopped m)) mid_is, inl (record { decides = told_so; fails = subst (λ (l : List ℕ). FailsToAdd out l (told fault) grown) lines_last lines }))
+        let lines = subst (λ (m : Sweeping). AreRising m.held → FailsToAdd out (lines_for m.shape m.rule a m.held) (fault_value fault) grown) mid_is adds rises in
+        (ap want_in now ∙ ap (λ (m : Sweeping). want_in (stopped m)) mid_is, inl (record { decides = told_so; fails = subst (λ (l : List ℕ). FailsToAdd out l (fault_value fault) grown) lines_last lines }))
 
     -- it leaves that one undecided, and is taken
     pub takes_b : decides order a b ≡ false → (is_held a b ≡ true → has_room_in old ≡ true) → new ≡ holding old a b → grown ≡ out → Answers (Ok Yes)
@@ -261,8 +261,8 @@ module _ (order : Order) (total : IsTotal order) (shape : Shape) (rule : HitRule
       let k = kept (placed_at stage.b_ended refl ordered) in
       let rises = keeps_rising order shape rule limit stage.written a stage.taken mid k total (taken_at stage.b_ended refl ordered) in (
         ap want_in stops ∙ ap (λ (o : Option Feature). want_of (is_some o) true) (ap (λ (s : Sweeping). s.current) mid_is ∙ none),
-        subst (λ (c : Bool). Fails out (cond c (lines_for shape rule a stage.taken) []) (told fault) grown) (sym e)
-            (inl (subst (λ (l : List ℕ). FailsToAdd out l (told fault) grown) (keeps_lines order shape rule limit stage.written a stage.taken mid k) (adds rises))),
+        subst (λ (c : Bool). Fails out (cond c (lines_for shape rule a stage.taken) []) (fault_value fault) grown) (sym e)
+            (inl (subst (λ (l : List ℕ). FailsToAdd out l (fault_value fault) grown) (keeps_lines order shape rule limit stage.written a stage.taken mid k) (adds rises))),
       )
 
 -- ---- the one that waits alone
@@ -290,7 +290,7 @@ module _ {A V : Type 0} (a_gives : A → List Feature → A → Type 0) (a_ended
   lifts_left true new some d = (lifts new d.0, inl (stops_b a_gives a_ended v_gives v_ended v_line order old from_a from_a from_v to_v out new d.1.0 d.1.1))
   lifts_left false new some d = (lifts new d.0, inr (some, d.1))
 
-  pub lifts_fault : (fault : Told) → FailsAt NoneGiven (λ u. ⊤) v_gives v_ended v_line order old tt from_v out fault tt to_v grown → FailsAt a_gives a_ended v_gives v_ended v_line order old from_a from_v out fault from_a to_v grown
+  pub lifts_fault : (fault : FaultValue) → FailsAt NoneGiven (λ u. ⊤) v_gives v_ended v_line order old tt from_v out fault tt to_v grown → FailsAt a_gives a_ended v_gives v_ended v_line order old from_a from_v out fault from_a to_v grown
   lifts_fault fault b = record {
     firsts = b.firsts;
     seconds = b.seconds;

@@ -12,7 +12,7 @@ use Rattle.bt_bed.specs.model.feature.Feature.{Feature, intervals_of}
 use Rattle.bt_bed.specs.model.order.Order.{Order, IsTotal}
 use Rattle.bt_bed.specs.model.input.GoodBed.{locus_at}
 use Rattle.bt_bed.specs.model.order.Locus.{is_below_at, IsUpTo, ArePlaced}
-use Rattle.bt_bed.specs.model.order.Together.{has_records}
+use Rattle.bt_bed.specs.model.order.Contiguous.{has_records}
 use Rattle.bt_bed.proofs.lemmas.parse.NameLemmas.{name_eq, name_ne, other_name, same_name}
 use Rattle.bt_sweep.specs.model.Deciding.{decides}
 use Rattle.bt_sweep.specs.calls.Standing.{is_held, held_for, last_after, last_given, leaves_some, HoldsFor}

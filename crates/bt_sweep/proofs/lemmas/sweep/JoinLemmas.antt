@@ -4,8 +4,8 @@ use Rattle.std.specs.Prelude.{All, IfSome}
 use Rattle.std.specs.List.{list_all}
 use Rattle.std.proofs.lemmas.Bool.{and_from, and_parts, ltb-true, or_left, or_right}
 use Rattle.std.proofs.lemmas.List.Folds.{list_any-append}
-use Rattle.bt_lines.specs.model.Fault.{Told}
-use Rattle.bt_lines.specs.calls.Names.{told}
+use Rattle.bt_lines.specs.model.Fault.{FaultValue}
+use Rattle.bt_lines.specs.calls.Names.{fault_value}
 use Rattle.bt_lines.specs.calls.Output.{Output}
 use Rattle.bt_lines.specs.calls.Putting.{FailsToAdd, Grown}
 use Rattle.bt_lines.specs.declared.fault.Fault.{Fault}
@@ -108,7 +108,7 @@ module _ (first : Feature) (firsts seconds newly : List Feature) (cur : Feature)
       (behind_same first firsts seconds newly cur are old mid goes firsts2 (λ order shape rule limit as_given taken. GrownWith left grown (intersect shape rule newly2 taken) rest now) more
       order shape rule limit before taken total kept pg pt)
 
-  pub cuts_both : (fault : Told) (now : Output) → Cuts cur firsts2 [] mid newly2 left grown fault now → Cuts first (firsts ++ firsts2) seconds old (newly ++ newly2) pending out fault now
+  pub cuts_both : (fault : FaultValue) (now : Output) → Cuts cur firsts2 [] mid newly2 left grown fault now → Cuts first (firsts ++ firsts2) seconds old (newly ++ newly2) pending out fault now
   cuts_both fault now more order shape rule limit before taken total kept pg pt =
       cut_both shape rule (taken ++ seconds) pending left out grown newly
       (wrote order shape rule limit before taken total kept (front_of order before first firsts firsts2 pg) pt) newly2 fault now
@@ -162,14 +162,14 @@ module _ {A B : Type 0} (a_gives : A → List Feature → A → Type 0) (a_ended
   abbrev So : Option Feature → Sweeping → A → B → List ℕ → Output → Type 0
   So = JoinsSo a_gives a_ended b_gives b_ended b_line IsTotal Decided old first from_a from_b pending out
 
-  abbrev BreaksSo : Told → A → B → List ℕ → Output → Type 0
+  abbrev BreaksSo : FaultValue → A → B → List ℕ → Output → Type 0
   BreaksSo = Breaks a_gives a_ended b_gives b_ended b_line IsTotal Decided old first from_a from_b pending out
 
   -- ---- the lines that are left pending are put at last
 
   module _ (to_a : A) (to_b : B) (left : List ℕ) (grown now : Output) where
     -- it had failed before
-    breaks_rest : (fault : Told) → BreaksSo fault to_a to_b left grown → Grown grown left now → BreaksSo fault to_a to_b [] now
+    breaks_rest : (fault : FaultValue) → BreaksSo fault to_a to_b left grown → Grown grown left now → BreaksSo fault to_a to_b [] now
     breaks_rest fault b puts = record {
       firsts = b.firsts;
       seconds = b.seconds;
@@ -203,7 +203,7 @@ module _ {A B : Type 0} (a_gives : A → List Feature → A → Type 0) (a_ended
       ];
     }
 
-    breaks_cut : (fault : Told) (failed : Fault) → BreaksSo fault to_a to_b left grown → FailsToAdd grown left (told failed) now → BreaksSo (told failed) to_a to_b [] now
+    breaks_cut : (fault : FaultValue) (failed : Fault) → BreaksSo fault to_a to_b left grown → FailsToAdd grown left (fault_value failed) now → BreaksSo (fault_value failed) to_a to_b [] now
     breaks_cut fault failed b fails = record {
       firsts = b.firsts;
       seconds = b.seconds;
@@ -222,15 +222,15 @@ module _ {A B : Type 0} (a_gives : A → List Feature → A → Type 0) (a_ended
               | inl cut ↦
                   let here = cut.cuts order shape rule limit before taken total kept pg pt in
                   let again = fails_again {T = Unit {0}} grown now (pending ++ intersect shape rule b.newly (taken ++ b.seconds)) left fault out (Err failed) here fails in
-                  subst (λ (f : Told). FailsToAdd out (pending ++ intersect shape rule b.newly (taken ++ b.seconds)) f now) (again.puts.is ∙ sym fails.puts.is) again
+                  subst (λ (f : FaultValue). FailsToAdd out (pending ++ intersect shape rule b.newly (taken ++ b.seconds)) f now) (again.puts.is ∙ sym fails.puts.is) again
               | inr lack ↦
-                  with_rest_cut pending (intersect shape rule b.newly (taken ++ b.seconds)) left out grown (lack.writes order shape rule limit before taken total kept pg pt) (told failed) now fails
+                  with_rest_cut pending (intersect shape rule b.newly (taken ++ b.seconds)) left out grown (lack.writes order shape rule limit before taken total kept pg pt) (fault_value failed) now fails
             ];
       });
     }
 
     -- it hadn't
-    stops_cut : (waiting : Option Feature) (s : Sweeping) (fault : Told) → So waiting s to_a to_b left grown → FailsToAdd grown left fault now → BreaksSo fault to_a to_b [] now
+    stops_cut : (waiting : Option Feature) (s : Sweeping) (fault : FaultValue) → So waiting s to_a to_b left grown → FailsToAdd grown left fault now → BreaksSo fault to_a to_b [] now
     stops_cut waiting s fault j fails = record {
       firsts = j.firsts;
       seconds = j.seconds;
@@ -272,11 +272,11 @@ module _ {A B : Type 0} (a_gives : A → List Feature → A → Type 0) (a_ended
         stops,
         leaves,
       )
-      joins_rest (Err fault) b puts = breaks_rest (told fault) b puts
+      joins_rest (Err fault) b puts = breaks_rest (fault_value fault) b puts
 
-      pub joins_cut : (result : Result (Option R) Fault) (failed : Fault) → Answers result left grown → FailsToAdd grown left (told failed) now → BreaksSo (told failed) to_a to_b [] now
-      joins_cut (Ok waiting) failed (j, stops, leaves) fails = stops_cut (option_map feature waiting) s (told failed) j fails
-      joins_cut (Err fault) failed b fails = breaks_cut (told fault) failed b fails
+      pub joins_cut : (result : Result (Option R) Fault) (failed : Fault) → Answers result left grown → FailsToAdd grown left (fault_value failed) now → BreaksSo (fault_value failed) to_a to_b [] now
+      joins_cut (Ok waiting) failed (j, stops, leaves) fails = stops_cut (option_map feature waiting) s (fault_value failed) j fails
+      joins_cut (Err fault) failed b fails = breaks_cut (fault_value fault) failed b fails
 
   module _ (cur : Feature) (s : Sweeping) (to_a : A) (to_b : B) (left : List ℕ) (grown : Output) (j : So (Some cur) s to_a to_b left grown) (b : Feature) (after : B) (gives_b : b_gives to_b (b ∷ []) after) (on : b.chrom ≡ first.chrom) where
     module _ (front : j.next ≡ None) where
@@ -315,7 +315,7 @@ module _ {A B : Type 0} (a_gives : A → List Feature → A → Type 0) (a_ended
       )
 
       -- they couldn't all be
-      pub breaks_write : (to_a2 : A) (rest : List ℕ) (now : Output) (fault : Told) → CutsOff a_gives a_ended b.start s cur to_a left grown fault to_a2 now → BreaksSo fault to_a2 to_b rest now
+      pub breaks_write : (to_a2 : A) (rest : List ℕ) (now : Output) (fault : FaultValue) → CutsOff a_gives a_ended b.start s cur to_a left grown fault to_a2 now → BreaksSo fault to_a2 to_b rest now
       breaks_write to_a2 rest now fault cut = record {
         firsts = j.firsts ++ cut.firsts;
         seconds = j.seconds;
@@ -392,12 +392,12 @@ module _ {A B : Type 0} (a_gives : A → List Feature → A → Type 0) (a_ended
       room_is order shape rule limit gs taken k =
           ap (λ (l : List Feature). has_room limit (length l)) (sym (keeps_held order shape rule limit gs cur taken s k)) ∙ ap (λ (l : Option ℕ). has_room l (length s.held)) (sym k.limit_is)
 
-      cannot : (fault : Fault) (line : ℕ) (limit : Option ℕ) (taken : List Feature) → has_room limit (length (held_for (Some cur) taken)) ≡ has_room_in s → CannotHold s line fault → CannotBeHeld limit cur taken line (told fault)
+      cannot : (fault : Fault) (line : ℕ) (limit : Option ℕ) (taken : List Feature) → has_room limit (length (held_for (Some cur) taken)) ≡ has_room_in s → CannotHold s line fault → CannotBeHeld limit cur taken line (fault_value fault)
       cannot fault line limit taken room (inl full) = inl (room ∙ full.0, full.1)
       cannot fault line limit taken room (inr lacks) = inr (room ∙ lacks.0, lacks.1)
 
       -- b has to be held, and can't be
-      pub breaks_take : (fault : Fault) → is_held cur b ≡ true → CannotHold s (b_line after) fault → BreaksSo (told fault) to_a to_b left grown
+      pub breaks_take : (fault : Fault) → is_held cur b ≡ true → CannotHold s (b_line after) fault → BreaksSo (fault_value fault) to_a to_b left grown
       breaks_take fault held lacks = record {
         firsts = j.firsts;
         seconds = j.seconds;

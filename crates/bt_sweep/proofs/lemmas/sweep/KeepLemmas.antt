@@ -7,7 +7,7 @@ use Rattle.std.specs.declared.cmp.Ordering.TheVariants.{Equal}
 use Rattle.std.proofs.lemmas.Bool.{lt-ltb, and_parts, and_from, or_left, or_right, cases_Bool}
 use Rattle.std.proofs.lemmas.Grind.{flat_map-append}
 use Rattle.std.proofs.lemmas.List.Folds.{list_any-append, list_all-append}
-use Rattle.bt_lines.specs.model.Fault.{Told}
+use Rattle.bt_lines.specs.model.Fault.{FaultValue}
 use Rattle.bt_lines.specs.calls.Output.{Output}
 use Rattle.bt_lines.specs.calls.Putting.{FailsToAdd}
 use Rattle.bt_bed.specs.model.feature.Feature.{Feature, intervals_of}
@@ -153,9 +153,9 @@ module _ (shape : Shape) (rule : HitRule) (taken : List Feature) (pending left :
   pub lines_then : (a : Feature) (rest : List ℕ) (new : Output) → GrownWith left mid (lines_for shape rule a taken) rest new → GrownWith pending old (intersect shape rule (xs ++ a ∷ []) taken) rest new
   lines_then a rest new second = lines_both (a ∷ []) rest new (subst (λ (l : List ℕ). GrownWith left mid l rest new) (sym (append-nil (lines_for shape rule a taken))) second)
 
-  pub cut_both : (ys : List Feature) (fault : Told) (new : Output) → FailsToAdd mid (left ++ intersect shape rule ys taken) fault new → FailsToAdd old (pending ++ intersect shape rule (xs ++ ys) taken) fault new
+  pub cut_both : (ys : List Feature) (fault : FaultValue) (new : Output) → FailsToAdd mid (left ++ intersect shape rule ys taken) fault new → FailsToAdd old (pending ++ intersect shape rule (xs ++ ys) taken) fault new
   cut_both ys fault new fails =
       rw (flat_map-append (λ a. lines_for shape rule a taken) xs ys) (with_cut pending (intersect shape rule xs taken) left old mid first (intersect shape rule ys taken) fault new fails)
 
-  pub cut_then : (a : Feature) (fault : Told) (new : Output) → FailsToAdd mid (left ++ lines_for shape rule a taken) fault new → FailsToAdd old (pending ++ intersect shape rule (xs ++ a ∷ []) taken) fault new
+  pub cut_then : (a : Feature) (fault : FaultValue) (new : Output) → FailsToAdd mid (left ++ lines_for shape rule a taken) fault new → FailsToAdd old (pending ++ intersect shape rule (xs ++ a ∷ []) taken) fault new
   cut_then a fault new fails = cut_both (a ∷ []) fault new (subst (λ (l : List ℕ). FailsToAdd mid (left ++ l) fault new) (sym (append-nil (lines_for shape rule a taken))) fails)

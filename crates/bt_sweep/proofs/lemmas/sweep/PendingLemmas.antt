@@ -4,8 +4,8 @@ use Rattle.std.specs.Prelude.{OnOk}
 use Rattle.std.specs.Result.{is_ok}
 use Rattle.std.proofs.lemmas.Bool.{false≢true, lt-ltb}
 use Rattle.std.proofs.lemmas.Fmt.{decimal_digit}
-use Rattle.bt_lines.specs.model.Fault.{Told, write_failed}
-use Rattle.bt_lines.specs.calls.Names.{told}
+use Rattle.bt_lines.specs.model.Fault.{FaultValue, write_failed}
+use Rattle.bt_lines.specs.calls.Names.{fault_value}
 use Rattle.bt_lines.specs.calls.Output.{Output}
 use Rattle.bt_lines.specs.calls.Putting.{Adds, FailsToAdd, Grown, Puts}
 use Rattle.bt_lines.specs.declared.fault.Fault.{Fault}
@@ -78,7 +78,7 @@ module _ (pending xs left : List ℕ) (out mid : Output) (first : GrownWith pend
     puts = grown_more out mid grown first.bytes second.bytes first.puts second.puts;
   }
 
-  pub with_cut : (ys : List ℕ) (fault : Told) (grown : Output) → FailsToAdd mid (left ++ ys) fault grown → FailsToAdd out (pending ++ (xs ++ ys)) fault grown
+  pub with_cut : (ys : List ℕ) (fault : FaultValue) (grown : Output) → FailsToAdd mid (left ++ ys) fault grown → FailsToAdd out (pending ++ (xs ++ ys)) fault grown
   with_cut ys fault grown fails =
       subst (λ (l : List ℕ). FailsToAdd out l fault grown) (sym (parts_more ys)) (fails_then out mid grown first.bytes (left ++ ys) fault first.puts fails)
 
@@ -90,12 +90,12 @@ module _ (pending xs left : List ℕ) (out mid : Output) (first : GrownWith pend
     puts = grown_more out mid grown first.bytes left first.puts puts;
   }
 
-  pub with_rest_cut : (fault : Told) (grown : Output) → FailsToAdd mid left fault grown → FailsToAdd out (pending ++ xs) fault grown
+  pub with_rest_cut : (fault : FaultValue) (grown : Output) → FailsToAdd mid left fault grown → FailsToAdd out (pending ++ xs) fault grown
   with_rest_cut fault grown fails =
       subst (λ (l : List ℕ). FailsToAdd out l fault grown) (sym first.parts) (fails_then out mid grown first.bytes left fault first.puts fails)
 
 -- an output that failed stays as it is, whatever is put then
-pub fails_again : {T : Type 0} (mid now : Output) (lines left : List ℕ) (fault : Told) (out : Output) (r : Result T Fault) → FailsToAdd out lines fault mid → Adds mid left r now → FailsToAdd out lines fault now
+pub fails_again : {T : Type 0} (mid now : Output) (lines left : List ℕ) (fault : FaultValue) (out : Output) (r : Result T Fault) → FailsToAdd out lines fault mid → Adds mid left r now → FailsToAdd out lines fault now
 fails_again mid now lines left fault out (Ok t) fails adds = subst (λ (o : Output). FailsToAdd out lines fault o) (sym (adds.again fails.puts.failed)) fails
 fails_again mid now lines left fault out (Err f) fails adds = subst (λ (o : Output). FailsToAdd out lines fault o) (sym (adds.puts.again fails.puts.failed)) fails
 
@@ -108,14 +108,14 @@ module _ {T : Type 0} (out half : Output) (xs : List ℕ) (r : Result T Fault) (
 
   not_put : (ys : List ℕ) (r : Result T Fault) → is_ok r ≡ false → Adds out xs r half → FailsToAdd out (xs ++ ys) write_failed half
   not_put ys (Ok t) e adds = absurd (false≢true (sym e))
-  not_put ys (Err f) e adds = subst (λ (f : Told). FailsToAdd out (xs ++ ys) f half) adds.puts.is (cut_off out half xs ys (told f) adds)
+  not_put ys (Err f) e adds = subst (λ (f : FaultValue). FailsToAdd out (xs ++ ys) f half) adds.puts.is (cut_off out half xs ys (fault_value f) adds)
 
   pub puts_not : (ys : List ℕ) (b : Bool) → b ≡ is_ok r → b ≡ false → PutsOr b out (xs ++ ys) half
   puts_not ys b is none = subst (λ (c : Bool). PutsOr c out (xs ++ ys) half) (sym none) (not_put ys r (sym is ∙ none) adds)
 
   puts_second : {U : Type 0} (ys : List ℕ) (now : Output) (p : Result U Fault) → Grown out xs half → Adds half ys p now → PutsOr (is_ok p) out (xs ++ ys) now
   puts_second ys now (Ok u) first second = grown_more out half now xs ys first second
-  puts_second ys now (Err f) first second = subst (λ (f : Told). FailsToAdd out (xs ++ ys) f now) second.puts.is (fails_then out half now xs ys (told f) first second)
+  puts_second ys now (Err f) first second = subst (λ (f : FaultValue). FailsToAdd out (xs ++ ys) f now) second.puts.is (fails_then out half now xs ys (fault_value f) first second)
 
   pub puts_then : {U : Type 0} (ys : List ℕ) (now : Output) (p : Result U Fault) (b : Bool) → is_ok r ≡ true → b ≡ is_ok p → Adds half ys p now → PutsOr b out (xs ++ ys) now
   puts_then ys now p b could is second = subst (λ (c : Bool). PutsOr c out (xs ++ ys) now) (sym is) (puts_second ys now p (could_put r could adds) second)

@@ -5,7 +5,7 @@ use Rattle.std.specs.List.{list_all}
 use Rattle.std.specs.declared.cmp.Ordering.{Ordering}
 use Rattle.std.specs.declared.cmp.Ordering.TheVariants.{Less, Equal, Greater}
 use Rattle.std.proofs.lemmas.Bool.{and_from, or_left}
-use Rattle.bt_lines.specs.calls.Names.{told}
+use Rattle.bt_lines.specs.calls.Names.{fault_value}
 use Rattle.bt_lines.specs.model.Number.{max_number}
 use Rattle.bt_lines.specs.calls.Output.{Output}
 use Rattle.bt_lines.specs.calls.Putting.{FailsToAdd}
@@ -207,7 +207,7 @@ module _ {A B R : Type 0} (a_gives : A → List Feature → A → Type 0) (a_end
     each = λ other shape rule limit before taken this kept pg pt. b.each other shape rule limit before taken (subst IsTotal (sym this) total) kept pg pt;
     cause = elim b.cause [
       | inl cut ↦ inl (record {
-        cuts = to_this b.firsts b.seconds (λ order shape rule limit as_given taken. FailsToAdd out ([] ++ intersect shape rule b.newly taken) (told fault) grown) cut.cuts;
+        cuts = to_this b.firsts b.seconds (λ order shape rule limit as_given taken. FailsToAdd out ([] ++ intersect shape rule b.newly taken) (fault_value fault) grown) cut.cuts;
       })
       | inr lack ↦ inr (record {
         last = lack.last;
@@ -219,7 +219,7 @@ module _ {A B R : Type 0} (a_gives : A → List Feature → A → Type 0) (a_end
         starts = lack.starts;
         ends = lack.ends;
         writes = to_this b.firsts b.seconds (λ order shape rule limit as_given taken. GrownWith [] out (intersect shape rule b.newly taken) [] grown) lack.writes;
-        lacks = to_this b.firsts b.seconds (λ order shape rule limit as_given taken. CannotBeHeld limit lack.last taken (b_line lack.after) (told fault)) lack.lacks;
+        lacks = to_this b.firsts b.seconds (λ order shape rule limit as_given taken. CannotBeHeld limit lack.last taken (b_line lack.after) (fault_value fault)) lack.lacks;
       })
     ];
   }
@@ -276,5 +276,5 @@ module _ {A B R : Type 0} (a_gives : A → List Feature → A → Type 0) (a_end
     comes = comes_of name behind;
     each = λ other shape rule limit before taken this kept pg pt. tt;
     settles = settles_of name behind cut.newly cut.end;
-    cause = inl (record { cuts = to_this cut.firsts [] (λ order shape rule limit as_given taken. FailsToAdd out ([] ++ intersect shape rule cut.newly taken) (told fault) grown) cut.cuts });
+    cause = inl (record { cuts = to_this cut.firsts [] (λ order shape rule limit as_given taken. FailsToAdd out ([] ++ intersect shape rule cut.newly taken) (fault_value fault) grown) cut.cuts });
   }

@@ -1,8 +1,8 @@
 -- Lemmas on where a sweep stands once records of both inputs were given and taken.
 use Rattle.std.proofs.Common.{◌≡◌, inl, inr, ℕ, Bool, true, false, List, [], ◌∷◌, ◌++◌, Option, Some, None, Ok, Err, Result, refl, sym, ap, ◌∙◌, subst, append-nil, append_assoc, option_to_list}
 use Rattle.std.specs.Prelude.{IfSome, is_some}
-use Rattle.bt_lines.specs.model.Fault.{Told, no_memory}
-use Rattle.bt_lines.specs.calls.Names.{told}
+use Rattle.bt_lines.specs.model.Fault.{FaultValue, no_memory}
+use Rattle.bt_lines.specs.calls.Names.{fault_value}
 use Rattle.bt_lines.specs.declared.fault.Fault.{Fault}
 use Rattle.bt_lines.specs.calls.Output.{Output}
 use Rattle.bt_lines.specs.calls.Putting.{FailsToAdd, Grown}
@@ -177,7 +177,7 @@ module _ (order : Order) (old mid : Sweeping) (first : Feature) (pre : List Feat
     }
 
     -- it failed at one of them
-    pub fails_from : (fault : Told) (b : Breaks a_gives a_ended b_gives b_ended' b_line (IsThis order) (Settles order mid.phase) mid first from_a from_b [] out fault to_a to_b [] grown)
+    pub fails_from : (fault : FaultValue) (b : Breaks a_gives a_ended b_gives b_ended' b_line (IsThis order) (Settles order mid.phase) mid first from_a from_b [] out fault to_a to_b [] grown)
         → u_gives from_u (pre ++ b.firsts) to_u → FailsAt u_gives u_ended b_gives b_ended b_line order old from_u from_b out fault to_u to_b grown
     fails_from fault b gives = record {
       firsts = pre ++ b.firsts;
@@ -211,7 +211,7 @@ module _ (order : Order) (old mid : Sweeping) (first : Feature) (pre : List Feat
     }
 
     -- the one that waits can't be kept
-    pub lacks_from : (a : Feature) (fault : Told) (j : JoinsSo a_gives a_ended b_gives b_ended' b_line (IsThis order) (Settles order mid.phase) mid first from_a from_b [] out (Some a) new to_a to_b [] grown)
+    pub lacks_from : (a : Feature) (fault : FaultValue) (j : JoinsSo a_gives a_ended b_gives b_ended' b_line (IsThis order) (Settles order mid.phase) mid first from_a from_b [] out (Some a) new to_a to_b [] grown)
         → u_gives from_u (pre ++ j.firsts) to_u → old.current ≡ None → old.phase ≡ Both → b_ended to_b → fault ≡ no_memory → FailsAt u_gives u_ended b_gives b_ended b_line order old from_u from_b out fault to_u to_b grown
     lacks_from a fault j gives none both ended is = record {
       firsts = pre ++ j.firsts;
@@ -236,7 +236,7 @@ module _ (order : Order) (old mid : Sweeping) (first : Feature) (pre : List Feat
       advances_from (Some a) final j gives same is (λ w shape rule limit stage st. both_open stage.a_ended stage.b_ended old.phase st.phase_is (λ e. not_first (phase ∙ e)) not_over) leaves,
       stops_b u_gives u_ended b_gives b_ended b_line order old from_u to_u from_b to_b out final (want_b final a (ap (λ (s : Sweeping). s.current) is)) ended,
     )
-    kept_or_not a j none ended not_first gives same not_over leaves (Err fault) final is = lacks_from a (told fault) j gives none (still_both old.phase (λ e. not_first (phase ∙ e)) not_over) ended is.1
+    kept_or_not a j none ended not_first gives same not_over leaves (Err fault) final is = lacks_from a (fault_value fault) j gives none (still_both old.phase (λ e. not_first (phase ∙ e)) not_over) ended is.1
 
 -- ---- where nothing is given or taken
 

@@ -3,7 +3,7 @@ use Rattle.std.proofs.Common.{◌≡◌, ◌≤◌, ℕ, List, [], ◌∷◌, �
 use Rattle.std.specs.Prelude.{All}
 use Rattle.bt_lines.specs.calls.Output.{Output}
 use Rattle.bt_lines.specs.calls.Putting.{FailsToAdd, Grown}
-use Rattle.bt_lines.specs.model.Fault.{Told}
+use Rattle.bt_lines.specs.model.Fault.{FaultValue}
 use Rattle.bt_bed.specs.model.feature.Feature.{Feature, intervals_of}
 use Rattle.bt_bed.specs.model.order.Locus.{ArePlaced}
 use Rattle.bt_bed.specs.model.order.Order.{Order, IsTotal}
@@ -68,7 +68,7 @@ module _ {A : Type 0} (gives : A → List Feature → A → Type 0) (has_ended :
   }
 
   -- or couldn't all be
-  pub cuts_rest : (waiting : Option Feature) (s : Sweeping) (to : A) (left : List ℕ) (grown now : Output) (fault : Told) → So waiting s to left grown → FailsToAdd grown left fault now → CutsOff gives has_ended place old first from pending out fault to now
+  pub cuts_rest : (waiting : Option Feature) (s : Sweeping) (to : A) (left : List ℕ) (grown now : Output) (fault : FaultValue) → So waiting s to left grown → FailsToAdd grown left fault now → CutsOff gives has_ended place old first from pending out fault to now
   cuts_rest waiting s to left grown now fault so fails = record {
     firsts = so.firsts;
     newly = so.newly;
@@ -129,7 +129,7 @@ module _ {A : Type 0} (gives : A → List Feature → A → Type 0) (has_ended :
       }
 
     -- its lines couldn't be written
-    pub cuts_off : (fault : Told) (now : Output) → cur.stop ≤ place → (AreRising s.held → FailsToAdd grown (left ++ lines_for s.shape s.rule cur s.held) fault now) → CutsOff gives has_ended place old first from pending out fault to now
+    pub cuts_off : (fault : FaultValue) (now : Output) → cur.stop ≤ place → (AreRising s.held → FailsToAdd grown (left ++ lines_for s.shape s.rule cur s.held) fault now) → CutsOff gives has_ended place old first from pending out fault to now
     cuts_off fault now up fails = record {
       firsts = so.firsts;
       newly = so.newly ++ cur ∷ [];

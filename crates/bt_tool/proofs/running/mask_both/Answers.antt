@@ -1,6 +1,6 @@
 use Rattle.std.proofs.Common.{Some, subst, sym}
 use Rattle.std.specs.Prelude.{option_map}
-use Rattle.bt_lines.specs.calls.Names.{told}
+use Rattle.bt_lines.specs.calls.Names.{fault_value}
 use Rattle.bt_tool.specs.calls.run.OwnReads.{IsOwnFailure, IsOwnFailureIf, TellsOwnReads}
 use Rattle.bt_tool.proofs.running.mask_both.Goals as goal
 
@@ -10,7 +10,7 @@ returns-clause-written g c = rw c.in-Some.is c.mask-fault.ensures.written
 pub returns-clause-own_failure : goal.returns-clause-own_failure
 returns-clause-own_failure g c =
     let masked = c.mask-fault in
-    subst (λ second. TellsOwnReads ⊥ (IsOwnFailure g.A.Source.is_read c.args.first masked.result.1) (IsOwnFailureIf g.B.Source.is_read second (Some masked.result.2)) (option_map told masked.result.0)) (sym c.in-Some.is)
+    subst (λ second. TellsOwnReads ⊥ (IsOwnFailure g.A.Source.is_read c.args.first masked.result.1) (IsOwnFailureIf g.B.Source.is_read second (Some masked.result.2)) (option_map fault_value masked.result.0)) (sym c.in-Some.is)
     masked.ensures.own_failure
 
 pub returns-clause-reads : goal.returns-clause-reads

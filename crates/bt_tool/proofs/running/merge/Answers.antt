@@ -1,5 +1,5 @@
 use Rattle.std.specs.Prelude.{option_map}
-use Rattle.bt_lines.specs.calls.Names.{told}
+use Rattle.bt_lines.specs.calls.Names.{fault_value}
 use Rattle.bt_bed.specs.model.order.ByteOrder.{byte_order, bytes_total}
 use Rattle.bt_bed.specs.model.feature.Feature.{intervals_of}
 use Rattle.bt_bed.specs.calls.GenomeTable.{names_of}
@@ -41,10 +41,10 @@ returns-in-Some-clause-written g c =
     let names = names_of c.in-Some.genome in
     rw c.in-Some.is
     (merge_writes (rank_order names) (ranks_total names) g.A.Source.left g.A.Source.has_failed c.args.d c.args.strand c.new-engine.result c.new-engine.ensures.begun
-    c.args.first c.args.out.now.output (option_map told c.drive.result.0) c.drive.result.1 c.drive.new.out.output c.drive.ensures.written)
+    c.args.first c.args.out.now.output (option_map fault_value c.drive.result.0) c.drive.result.1 c.drive.new.out.output c.drive.ensures.written)
 
 pub returns-in-None-clause-written : goal.returns-in-None-clause-written
 returns-in-None-clause-written g c =
     rw c.in-None.is
     (merge_writes byte_order bytes_total g.A.Source.left g.A.Source.has_failed c.args.d c.args.strand c.new-engine.result c.new-engine.ensures.begun
-    c.args.first c.args.out.now.output (option_map told c.drive-in-None.result.0) c.drive-in-None.result.1 c.drive-in-None.new.out.output c.drive-in-None.ensures.written)
+    c.args.first c.args.out.now.output (option_map fault_value c.drive-in-None.result.0) c.drive-in-None.result.1 c.drive-in-None.new.out.output c.drive-in-None.ensures.written)

@@ -1,6 +1,6 @@
 use Rattle.std.proofs.Common.{ap}
 use Rattle.std.specs.Prelude.{option_map}
-use Rattle.bt_lines.specs.calls.Names.{told}
+use Rattle.bt_lines.specs.calls.Names.{fault_value}
 use Rattle.bt_tool.proofs.lemmas.running.whole.RunningLemmas.{runs_by}
 use Rattle.bt_tool.proofs.lemmas.running.whole.OwnFailureLemmas.{all_own, flushed_no_read, flushed_own, genome_no_read}
 use Rattle.bt_tool.proofs.running.run.Goals as goal
@@ -11,19 +11,19 @@ returns-clause-report g c =
     runs_by g.G.Source.left g.G.Source.has_failed g.A.Source.left g.A.Source.has_failed g.A.Source.end_told g.B.Source.left g.B.Source.has_failed g.K.Sink.took g.K.Sink.has_failed
     c.args.plan.now.command c.args.genome c.read_genome-chromosomes.result.1 c.args.first c.write_output-fault.result.1 c.args.second c.write_output-fault.result.2 c.args.out c.into_sink.result
     begun.result.output c.write_output-fault.new.out.output c.flushed-fault.new.out.output (ap (λ o. o.output.put) begun.ensures) (ap (λ o. o.output.took) begun.ensures) (ap (λ o. o.output.sink_has_failed) begun.ensures)
-    c.into_sink.ensures.took c.into_sink.ensures.failed (option_map told c.write_output-fault.result.0) (option_map told c.flushed-fault.result) c.flushed-fault.ensures.ends
+    c.into_sink.ensures.took c.into_sink.ensures.failed (option_map fault_value c.write_output-fault.result.0) (option_map fault_value c.flushed-fault.result) c.flushed-fault.ensures.ends
     c.read_genome-chromosomes.result.0 c.read_genome-chromosomes.ensures.read c.write_output-fault.ensures.written
 
 pub returns-clause-own_failure : goal.returns-clause-own_failure
 returns-clause-own_failure g c =
-    flushed_own _ _ _ c.write_output-fault.new.out.output c.flushed-fault.new.out.output (option_map told c.write_output-fault.result.0) (option_map told c.flushed-fault.result) c.flushed-fault.ensures.ends
-    (all_own g.A.Source.left g.A.Source.has_failed g.A.Source.end_told g.B.Source.left g.B.Source.has_failed c.args.plan.now.command c.args.first c.args.second c.new-out.result.output (option_map told c.write_output-fault.result.0) c.write_output-fault.result.1
+    flushed_own _ _ _ c.write_output-fault.new.out.output c.flushed-fault.new.out.output (option_map fault_value c.write_output-fault.result.0) (option_map fault_value c.flushed-fault.result) c.flushed-fault.ensures.ends
+    (all_own g.A.Source.left g.A.Source.has_failed g.A.Source.end_told g.B.Source.left g.B.Source.has_failed c.args.plan.now.command c.args.first c.args.second c.new-out.result.output (option_map fault_value c.write_output-fault.result.0) c.write_output-fault.result.1
     c.write_output-fault.result.2 c.write_output-fault.new.out.output _ _ _ c.read_genome-chromosomes.result.0 c.read_genome-chromosomes.ensures.own_failure c.write_output-fault.ensures.written c.write_output-fault.ensures.own_failure)
 
 pub returns-clause-reads : goal.returns-clause-reads
 returns-clause-reads g c = λ no_write never.
-    let fault = option_map told c.write_output-fault.result.0 in
-    let none = flushed_no_read c.write_output-fault.new.out.output c.flushed-fault.new.out.output fault (option_map told c.flushed-fault.result) c.flushed-fault.ensures.ends no_write never in
+    let fault = option_map fault_value c.write_output-fault.result.0 in
+    let none = flushed_no_read c.write_output-fault.new.out.output c.flushed-fault.new.out.output fault (option_map fault_value c.flushed-fault.result) c.flushed-fault.ensures.ends no_write never in
     let others = c.write_output-fault.ensures.reads none in (
       c.read_genome-chromosomes.ensures.reads
           (genome_no_read g.A.Source.left g.A.Source.has_failed g.A.Source.end_told g.B.Source.left g.B.Source.has_failed c.args.plan.now.command c.args.first c.args.second c.new-out.result.output fault c.write_output-fault.result.1

@@ -1,9 +1,9 @@
 -- What reading the genome file of a run does, if it has one.
 use Rattle.std.specs.Prelude.{◌≡◌, ◌≢◌, ℕ, ◌⊎◌, Bool, List, Option, Some, Ok, Err, Result, is_some}
 use Rattle.std.specs.Prelude.{IfSome, option_map}
-use Rattle.bt_lines.specs.model.Fault.{Told, no_memory, write_failed}
+use Rattle.bt_lines.specs.model.Fault.{FaultValue, no_memory, write_failed}
 use Rattle.bt_lines.specs.model.Handed.{Handed}
-use Rattle.bt_lines.specs.calls.Names.{told}
+use Rattle.bt_lines.specs.calls.Names.{fault_value}
 use Rattle.bt_lines.specs.calls.Output.{Output}
 use Rattle.bt_lines.specs.declared.fault.Fault.{Fault}
 use Rattle.bt_lines.specs.declared.fault.Input.TheVariants.{Genome as FromGenome}
@@ -13,7 +13,7 @@ use Rattle.bt_bed.specs.model.order.Rank.{AreDistinct}
 use Rattle.bt_bed.specs.declared.order.genome.Genome.{Genome}
 use Rattle.bt_tool.specs.model.usage.Kinds.{IsOneOf}
 use Rattle.bt_tool.specs.model.report.Behaviour.{behaviour_of}
-use Rattle.bt_tool.specs.calls.run.Telling.{IsOfInput, TellsInputIf}
+use Rattle.bt_tool.specs.calls.run.FaultSource.{IsOfInput, TellsInputIf}
 use Rattle.bt_tool.specs.model.report.Inputs.{HoldsIf, ReadsIf, ServesIf}
 use Rattle.bt_tool.specs.model.report.Report.{chromosomes_of}
 use Rattle.bt_tool.specs.calls.run.Writing.{WritesBy}
@@ -32,7 +32,7 @@ module _ {G : Type 0} (left : G → Option (List ℕ)) (failed : G → Bool) whe
     pub served : ServesIf failed before after
 
   -- the genome file is at fault, or couldn't be read
-  pub record LacksChromosomes (before after : Option G) (fault : Told) : Type 0 where
+  pub record LacksChromosomes (before after : Option G) (fault : FaultValue) : Type 0 where
     pub whole : (handed : Option Handed) → ReadsIf left failed before after handed
         → fault ≢ no_memory
         → chromosomes_of handed ≡ Err fault
@@ -44,11 +44,11 @@ module _ {G : Type 0} (left : G → Option (List ℕ)) (failed : G → Bool) whe
 
   abbrev pub ReadsChromosomes : Option G → Result (Option Genome) Fault → Option G → Type 0
   ReadsChromosomes before (Ok table) after = KnowsChromosomes before after table
-  ReadsChromosomes before (Err fault) after = LacksChromosomes before after (told fault)
+  ReadsChromosomes before (Err fault) after = LacksChromosomes before after (fault_value fault)
 
 -- the run ended with the genome file's fault, and nothing else was touched
 pub record StopsAtGenome {A B : Type 0} (first : A) (second : Option B) (out : Output)
-    (genome_fault : Told) (fault : Option Told) (first_after : A) (second_after : Option B)
+    (genome_fault : FaultValue) (fault : Option FaultValue) (first_after : A) (second_after : Option B)
     (grown : Output) : Type 0 where
   pub is : fault ≡ Some genome_fault
   pub untouched : first_after ≡ first
@@ -59,10 +59,10 @@ module _ {A B : Type 0} (a_left : A → Option (List ℕ)) (a_failed a_end : A �
     (b_left : B → Option (List ℕ)) (b_failed : B → Bool) where
   -- the output was written by the chromosomes that were read, or the run ended with their fault
   abbrev pub WritesOutput : Command → Result (Option Genome) Fault → A → Option B → Output
-      → Option Told → A → Option B → Output → Type 0
+      → Option FaultValue → A → Option B → Output → Type 0
   WritesOutput command (Ok table) first second out fault first_after second_after grown =
       WritesBy a_left a_failed a_end b_left b_failed
       (behaviour_of command (option_map entries table)) first second out fault first_after
       second_after grown
   WritesOutput command (Err genome_fault) first second out fault first_after second_after grown =
-      StopsAtGenome first second out (told genome_fault) fault first_after second_after grown
+      StopsAtGenome first second out (fault_value genome_fault) fault first_after second_after grown

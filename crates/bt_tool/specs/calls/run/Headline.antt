@@ -1,7 +1,7 @@
 -- What a user sees of a run, from the words of the command line and the texts of the inputs.
 use Rattle.std.specs.Prelude.{◌≡◌, ◌≢◌, ℕ, Bool, false, List, [], Option, Some, Ok, option_map}
-use Rattle.bt_lines.specs.model.Fault.{Told, no_memory}
-use Rattle.bt_tool.specs.calls.run.Gives.{ReadsInputs, Runs}
+use Rattle.bt_lines.specs.model.Fault.{FaultValue, no_memory}
+use Rattle.bt_tool.specs.calls.run.RunContract.{ReadsInputs, Runs}
 use Rattle.bt_tool.specs.model.usage.Options.{PlanSeen, options}
 use Rattle.bt_tool.specs.model.report.Report.{fault_text, report, status_of, texts_of}
 use Rattle.bt_tool.specs.model.usage.Table.{Word}
@@ -12,7 +12,7 @@ module _ {G A B K : Type 0} (g_left : G → Option (List ℕ)) (g_failed : G →
   -- A plan was run, its inputs handed over these whole texts, the sink had taken nothing before and
   -- took these bytes, and no growth was refused.
   pub record RunsWell (plan : PlanSeen) (genome : Option G) (first : A) (second : Option B)
-      (out : K) (fault : Option Told) (genome_after : Option G) (first_after : A)
+      (out : K) (fault : Option FaultValue) (genome_after : Option G) (first_after : A)
       (second_after : Option B) (out_after : K)
       (genome_text first_text second_text bytes : List ℕ) : Type 0 where
     pub runs : Runs g_left g_failed a_left a_failed a_end b_left b_failed k_took k_failed
@@ -30,7 +30,7 @@ module _ {G A B K : Type 0} (g_left : G → Option (List ℕ)) (g_failed : G →
   abbrev pub ShowsReport : Type 0
   ShowsReport =
       (words : List Word) (plan : PlanSeen) (genome : Option G) (first : A) (second : Option B)
-      (out : K) (fault : Option Told) (genome_after : Option G) (first_after : A)
+      (out : K) (fault : Option FaultValue) (genome_after : Option G) (first_after : A)
       (second_after : Option B) (out_after : K)
       (genome_text first_text second_text bytes : List ℕ) → options words ≡ Ok plan
       → RunsWell plan genome first second out fault genome_after first_after second_after out_after

@@ -1,8 +1,8 @@
 -- A failed read is reported only if a read of the run failed, whatever its source did before.
 use Rattle.std.specs.Prelude.{◌≡◌, ◌≢◌, ℕ, ◌^◌, ◌≤◌, ◌⊎◌, ⊤, Option, Some, None, Result, Ok, Err}
 use Rattle.bt_lines.specs.calls.Device.{ReadsFail, ReadsOn}
-use Rattle.bt_lines.specs.model.Fault.{Told, read_failed}
-use Rattle.bt_lines.specs.calls.Names.{told}
+use Rattle.bt_lines.specs.model.Fault.{FaultValue, read_failed}
+use Rattle.bt_lines.specs.calls.Names.{fault_value}
 use Rattle.bt_lines.specs.declared.fault.Fault.{Fault}
 use Rattle.bt_lines.specs.declared.fault.Input.{Input}
 use Rattle.bt_lines.specs.declared.fault.Input.TheVariants.{Genome, First, Second}
@@ -25,12 +25,12 @@ IsOwnFailureIf IsRead (Some before) (Some after) = IsOwnFailure IsRead before af
 IsOwnFailureIf IsRead _ _ = ⊥
 
 -- no failed read is reported
-abbrev pub TellsNoRead : Option Told → Type 0
+abbrev pub TellsNoRead : Option FaultValue → Type 0
 TellsNoRead fault = (input : Input) (line : ℕ) → fault ≢ Some (read_failed input line)
 
 abbrev pub AnswersNoRead : {T : Type 0} → Result T Fault → Type 0
 AnswersNoRead (Ok done) = ⊤
-AnswersNoRead (Err fault) = TellsNoRead (Some (told fault))
+AnswersNoRead (Err fault) = TellsNoRead (Some (fault_value fault))
 
 -- all reads of a run served
 pub record ReadsServe {S : Type 0} (IsRead : S → Option ℕ → S → Type 0)
@@ -46,7 +46,7 @@ ReadsServeIf IsRead (Some before) (Some after) = ReadsServe IsRead before after
 ReadsServeIf IsRead _ _ = ⊥
 
 -- a failed read is reported of an input only if this holds of it
-pub record TellsOwnReads (OfGenome OfFirst OfSecond : Type 0) (fault : Option Told) : Type 0 where
+pub record TellsOwnReads (OfGenome OfFirst OfSecond : Type 0) (fault : Option FaultValue) : Type 0 where
   pub genome_file : (line : ℕ) → fault ≡ Some (read_failed Genome line) → OfGenome
   pub first_input : (line : ℕ) → fault ≡ Some (read_failed First line) → OfFirst
   pub second_input : (line : ℕ) → fault ≡ Some (read_failed Second line) → OfSecond

@@ -1,12 +1,12 @@
 -- What is known of the text of an input, once it was read.
 use Rattle.std.specs.Prelude.{◌≡◌, ◌≢◌, ◌⊎◌, ℕ, Bool, List, Option, Some}
-use Rattle.bt_lines.specs.model.Fault.{Told, read_failed}
+use Rattle.bt_lines.specs.model.Fault.{FaultValue, read_failed}
 use Rattle.bt_lines.specs.model.Handed.{Handed, whole_text}
 use Rattle.bt_lines.specs.declared.fault.Input.{Input}
 use Rattle.bt_tool.specs.model.report.Inputs.{Reads}
 
 module _ {S : Type 0} (left : S → Option (List ℕ)) (failed : S → Bool) (first last : S)
-    (fault : Option Told) where
+    (fault : Option FaultValue) where
   -- it is the whole text, and no failed read is reported
   pub record IsWhole (handed : Handed) : Type 0 where
     pub text : List ℕ

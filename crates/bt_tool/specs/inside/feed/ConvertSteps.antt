@@ -1,8 +1,8 @@
 -- What a run does with one line of a SAM input, and with all of them.
 use Rattle.std.specs.Prelude.{◌≡◌, ℕ, ◌⊎◌, ⊤, Bool, List, Option, Some, Result, Ok, Err}
-use Rattle.bt_lines.specs.model.Fault.{Told}
+use Rattle.bt_lines.specs.model.Fault.{FaultValue}
 use Rattle.bt_lines.specs.model.Lines.{TextLine}
-use Rattle.bt_lines.specs.calls.Names.{told}
+use Rattle.bt_lines.specs.calls.Names.{fault_value}
 use Rattle.bt_lines.specs.calls.Output.{Output}
 use Rattle.bt_lines.specs.calls.Putting.{FailsToAdd, Grown}
 use Rattle.bt_lines.specs.declared.fault.Fault.{Fault}
@@ -30,7 +30,7 @@ pub record LineWritten (old : Converting) (line : TextLine) (out : Output) (new 
   pub unchanged : new ≡ old
 
 -- the line is at fault
-pub record LineRefused (input : Input) (line : TextLine) (out : Output) (fault : Told)
+pub record LineRefused (input : Input) (line : TextLine) (out : Output) (fault : FaultValue)
     (grown : Output) : Type 0 where
   pub kind : Kind
   pub says : alignment_of line.text ≡ Err kind
@@ -38,7 +38,7 @@ pub record LineRefused (input : Input) (line : TextLine) (out : Output) (fault :
   pub unchanged : grown ≡ out
 
 -- the lines of its alignment couldn't be written
-pub record LineUnwritten (old : Converting) (line : TextLine) (out : Output) (fault : Told)
+pub record LineUnwritten (old : Converting) (line : TextLine) (out : Output) (fault : FaultValue)
     (grown : Output) : Type 0 where
   pub said : Alignment
   pub says : alignment_of line.text ≡ Ok (Some said)
@@ -49,7 +49,7 @@ abbrev pub ConvertsLine : {T : Type 0} → Input → Converting → TextLine →
     → Converting → Output → Type 0
 ConvertsLine input old line out (Ok done) new grown = LineWritten old line out new grown
 ConvertsLine input old line out (Err fault) new grown =
-    LineRefused input line out (told fault) grown ⊎ LineUnwritten old line out (told fault) grown
+    LineRefused input line out (fault_value fault) grown ⊎ LineUnwritten old line out (fault_value fault) grown
 
 -- a reader of lines as one of the alignments on them
 abbrev pub sam_reader : {S : Type 0} → LineReader S → MemberReader S Alignment ⊤

@@ -1,9 +1,9 @@
 -- What feeding an engine with the members of a reader does to the devices.
 use Rattle.std.specs.Prelude.{◌≡◌, ◌≢◌, ℕ, ◌+◌, ◌^◌, ◌<◌, ◌≤◌, ◌⊎◌, Bool, true, List, [], ◌++◌}
 use Rattle.std.specs.Prelude.{length, Option, Some, None, Result, Ok, Err, IfSome}
-use Rattle.bt_lines.specs.model.Fault.{Told, write_failed}
-use Rattle.bt_lines.specs.calls.Names.{told}
-use Rattle.bt_lines.specs.calls.Output.{Output, IsFrontOf, Grows, block_size}
+use Rattle.bt_lines.specs.model.Fault.{FaultValue, write_failed}
+use Rattle.bt_lines.specs.calls.Names.{fault_value}
+use Rattle.bt_lines.specs.calls.Output.{Output, IsPrefixOf, Grows, block_size}
 use Rattle.bt_lines.specs.calls.Putting.{WorksAsBefore}
 use Rattle.bt_lines.specs.calls.Reader.{Hands, IsSound, source_of, bytes_taken}
 use Rattle.bt_lines.specs.calls.Reader.{feeds_taken, lines_given}
@@ -21,7 +21,7 @@ use Rattle.bt_bed.specs.declared.order.ChromOrder.{Ghosts}
 use Rattle.bt_bed.specs.declared.read.records.Records.{Records}
 pub use Rattle.bt_tool.specs.inside.feed.Passed.{ComeFirst, member_items}
 use Rattle.bt_tool.specs.inside.feed.Passed.{AreAll, HasFaultBehind, IsReadFor, LacksMemory}
-use Rattle.bt_tool.specs.calls.run.Telling.{IsPutTo}
+use Rattle.bt_tool.specs.calls.run.FaultSource.{IsPutTo}
 
 -- these lines were put after what was put before
 abbrev pub PutsLines : Output → List ℕ → Output → Type 0
@@ -38,7 +38,7 @@ pub record PutsFront (old : Output) (lines : List ℕ) (new : Output) : Type 0 w
 -- the sink took a prefix of what was put before and these lines, and failed
 pub record CutsLines (old : Output) (lines : List ℕ) (new : Output) : Type 0 where
   pub front : (before : List ℕ) → old.put ≡ Some before
-      → IsFrontOf new.took (Some (before ++ lines)) []
+      → IsPrefixOf new.took (Some (before ++ lines)) []
   pub failed : new.has_failed ≡ true
   pub sink_failed : new.sink_has_failed ≡ true
 
@@ -94,34 +94,34 @@ module _ {S A State : Type 0} (settled : List A → List ℕ) (Kinds : Kind → 
 
   -- a line is at fault, or the source failed, or its text is too long
   pub record StopsReading (old : MemberReader S A State) (out : Output) (past : List (Member A))
-      (fault : Told) (new : MemberReader S A State) (grown : Output) : Type 0 where
+      (fault : FaultValue) (new : MemberReader S A State) (grown : Output) : Type 0 where
     pub behind : HasFaultBehind left failed end old Kinds past fault new
     pub puts : PutsLines out (settled (member_items past)) grown
     pub works : WorksAsBefore out grown
 
   -- memory ran out
   pub record StopsGrowing (old : MemberReader S A State) (out : Output) (past : List (Member A))
-      (fault : Told) (new : MemberReader S A State) (grown : Output) : Type 0 where
+      (fault : FaultValue) (new : MemberReader S A State) (grown : Output) : Type 0 where
     pub lacks : LacksMemory left failed end old fault new
     pub puts : PutsLines out (settled (member_items past)) grown
     pub works : WorksAsBefore out grown
 
   -- the sink failed
   pub record StopsWriting (old : MemberReader S A State) (out : Output) (past : List (Member A))
-      (fault : Told) (new : MemberReader S A State) (grown : Output) : Type 0 where
+      (fault : FaultValue) (new : MemberReader S A State) (grown : Output) : Type 0 where
     pub is : fault ≡ write_failed
     pub cuts : CutsLines out (settled (member_items past)) grown
     pub served : failed (source_of new.below) ≡ failed (source_of old.below)
 
   -- why the members weren't all taken
-  abbrev pub StopCause : MemberReader S A State → Output → List (Member A) → Told
+  abbrev pub StopCause : MemberReader S A State → Output → List (Member A) → FaultValue
       → MemberReader S A State → Output → Type 0
   StopCause old out past fault new grown =
       StopsReading old out past fault new grown
       ⊎ (StopsGrowing old out past fault new grown ⊎ StopsWriting old out past fault new grown)
 
   -- the members were taken up to a fault
-  pub record FeedsUpTo (old : MemberReader S A State) (out : Output) (fault : Told)
+  pub record FeedsUpTo (old : MemberReader S A State) (out : Output) (fault : FaultValue)
       (new : MemberReader S A State) (grown : Output) : Type 0 where
     pub past : List (Member A)
     pub took : Took old out past new grown
@@ -135,7 +135,7 @@ module _ {S A State : Type 0} (settled : List A → List ℕ) (Kinds : Kind → 
   abbrev pub FeedsMembers : {T : Type 0} → (List A → Type 0) → MemberReader S A State → Output
       → Result T Fault → MemberReader S A State → Output → Type 0
   FeedsMembers Stands old out (Ok done) new grown = FeedsAll Stands old out new grown
-  FeedsMembers Stands old out (Err fault) new grown = FeedsUpTo old out (told fault) new grown
+  FeedsMembers Stands old out (Err fault) new grown = FeedsUpTo old out (fault_value fault) new grown
 
 -- records are in the order of their chromosomes, and each has a base
 abbrev pub AreInOrder : Order → List Feature → Type 0

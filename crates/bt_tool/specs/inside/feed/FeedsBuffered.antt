@@ -1,6 +1,6 @@
 -- What feeding an engine with the records that a reader has buffered does.
 use Rattle.std.specs.Prelude.{◌≡◌, ◌⊎◌, ℕ, Bool, List, [], ◌∷◌, ◌++◌, Option, Result, Ok, Err}
-use Rattle.bt_lines.specs.model.Fault.{Told}
+use Rattle.bt_lines.specs.model.Fault.{FaultValue}
 use Rattle.bt_lines.specs.calls.Output.{Output}
 use Rattle.bt_lines.specs.declared.fault.Fault.{Fault}
 use Rattle.bt_bed.specs.model.feature.Feature.{Feature}
@@ -12,7 +12,7 @@ use Rattle.bt_tool.specs.inside.feed.Passed.{HasTaken}
 
 module _ {S O E : Type 0} {g : Ghosts O} (left : S → Option (List ℕ)) (failed end : S → Bool)
     (MayTake : E → List Feature → Type 0) (Stands : E → List Feature → E → Type 0)
-    (engine_fault : E → Option Told) (settled : E → List Feature → List ℕ)
+    (engine_fault : E → Option FaultValue) (settled : E → List Feature → List ℕ)
     (Quiet : E → List Feature → Feature → Type 0)
     (old : Records S O g) (engine : E) (out : Output) where
   -- all of them were given, one after another, and each was taken

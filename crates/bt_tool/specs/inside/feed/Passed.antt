@@ -1,7 +1,7 @@
 -- What a reader of members has consumed, and why it stops.
 use Rattle.std.specs.Prelude.{◌≡◌, ℕ, suc, ◌+◌, ◌^◌, ◌<◌, ◌≤◌, ◌⊎◌, ⊤, All, Bool, true, List, []}
 use Rattle.std.specs.Prelude.{◌∷◌, ◌++◌, drop, length, map, Option, Some, None, IfSome, IsSome}
-use Rattle.bt_lines.specs.model.Fault.{Told, read_failed, no_memory}
+use Rattle.bt_lines.specs.model.Fault.{FaultValue, read_failed, no_memory}
 use Rattle.bt_lines.specs.model.Lines.{bytes_in}
 use Rattle.bt_lines.specs.calls.Output.{block_size}
 use Rattle.bt_lines.specs.calls.Reader.{CutsOff, Hands, IsKept, IsUnread, source_of, input_of}
@@ -34,7 +34,7 @@ lines_read format state lines =
 
 -- a failed read that is kept is of the reads since then: the last of them failed, whatever the
 -- source did before, or the text is too long
-abbrev pub IsOwnFault : {S : Type 0} → (S → Option ℕ → S → Type 0) → LineReader S → Option Told
+abbrev pub IsOwnFault : {S : Type 0} → (S → Option ℕ → S → Type 0) → LineReader S → Option FaultValue
     → LineReader S → Type 0
 IsOwnFault IsRead old kept new =
     (input : Input) (line : ℕ) → kept ≡ Some (read_failed input line) → IsUnread IsRead old new
@@ -77,7 +77,7 @@ module _ {S A State : Type 0} (left : S → Option (List ℕ)) (failed end : S �
     pub clear : new.fault ≡ None → line_fault new.below ≡ None
 
   -- it reports a fault
-  pub record IsStopped (old : MemberReader S A State) (fault : Told)
+  pub record IsStopped (old : MemberReader S A State) (fault : FaultValue)
       (new : MemberReader S A State) : Type 0 where
     pub answers : AnswersFault left failed end old fault new
     pub kept : IsKept left end old.below → IsKept left end new.below
@@ -129,7 +129,7 @@ module _ {S A State : Type 0} (left : S → Option (List ℕ)) (failed end : S �
         IfSome (good_coming left old) (λ good. (good.members ≡ past) × (good.fault ≡ None))
 
     -- a line after them is at fault
-    pub record IsWrongBehind (Kinds : Kind → Type 0) (past : List (Member A)) (fault : Told)
+    pub record IsWrongBehind (Kinds : Kind → Type 0) (past : List (Member A)) (fault : FaultValue)
         (new : MemberReader S A State) : Type 0 where
       pub whole : IfSome (good_coming left old)
           (λ good. (good.members ≡ past) × (good.fault ≡ Some fault))
@@ -141,7 +141,7 @@ module _ {S A State : Type 0} (left : S → Option (List ℕ)) (failed end : S �
       pub within : bytes_taken new.below < 2 ^ 63
 
     -- the source failed, or its text is too long: after the lines that were given
-    pub record IsUnreadBehind (past : List (Member A)) (fault : Told)
+    pub record IsUnreadBehind (past : List (Member A)) (fault : FaultValue)
         (new : MemberReader S A State) : Type 0 where
       pub is : fault ≡ read_failed (input_of old.below) (suc (lines_given new.below))
       pub kept : new.fault ≡ Some fault
@@ -154,18 +154,18 @@ module _ {S A State : Type 0} (left : S → Option (List ℕ)) (failed end : S �
       pub behind : All (λ m. m.line ≤ lines_given new.below) past
 
     -- the fault of the input lies after these members
-    abbrev pub HasFaultBehind : (Kind → Type 0) → List (Member A) → Told → MemberReader S A State
+    abbrev pub HasFaultBehind : (Kind → Type 0) → List (Member A) → FaultValue → MemberReader S A State
         → Type 0
     HasFaultBehind Kinds past fault new =
         IsWrongBehind Kinds past fault new ⊎ IsUnreadBehind past fault new
 
     -- memory ran out
-    pub record LacksMemory (fault : Told) (new : MemberReader S A State) : Type 0 where
+    pub record LacksMemory (fault : FaultValue) (new : MemberReader S A State) : Type 0 where
       pub is : fault ≡ no_memory
       pub served : failed (source_of new.below) ≡ failed (source_of old.below)
 
     -- the reader stopped after these members
-    pub record StopsAfter (Kinds : Kind → Type 0) (past : List (Member A)) (fault : Told)
+    pub record StopsAfter (Kinds : Kind → Type 0) (past : List (Member A)) (fault : FaultValue)
         (new : MemberReader S A State) : Type 0 where
       pub bytes : (bytes : List ℕ) × Hands left old.below bytes new.below
       pub cause : IsWrongBehind Kinds past fault new

@@ -2,8 +2,8 @@
 use Rattle.std.specs.Prelude.{◌≡◌, ℕ, ◌⊎◌, ⊤, Bool, true, not, List, [], Option, Some, None}
 use Rattle.std.specs.Prelude.{IsTrue, is_some, Result, Ok, Err}
 use Rattle.std.specs.List.{list_any}
-use Rattle.bt_lines.specs.model.Fault.{Told}
-use Rattle.bt_lines.specs.calls.Names.{told}
+use Rattle.bt_lines.specs.model.Fault.{FaultValue}
+use Rattle.bt_lines.specs.calls.Names.{fault_value}
 use Rattle.bt_lines.specs.calls.Output.{Output}
 use Rattle.bt_lines.specs.calls.Reader.{has_ended, input_of}
 use Rattle.bt_lines.specs.declared.fault.Input.TheVariants.{First}
@@ -24,9 +24,9 @@ use Rattle.bt_seq.specs.declared.mask.mask_how.MaskHow.{MaskHow}
 use Rattle.bt_tool.specs.model.usage.Kinds.{IsOneOf}
 use Rattle.bt_tool.specs.model.report.SweepReport.{bytes_up_to}
 use Rattle.bt_tool.specs.model.report.MaskReport.{is_fasta_kind, is_mask_kind, last_needed}
-use Rattle.bt_tool.specs.inside.pair.Pair.{Making, Pair, item_ahead}
-use Rattle.bt_tool.specs.inside.pair.PairComes.{Comes, Stage as PairStage}
-use Rattle.bt_tool.specs.inside.pair.PairEnds.{Finishes}
+use Rattle.bt_tool.specs.inside.pair.Pair.{JoinDef, Pair, item_ahead}
+use Rattle.bt_tool.specs.inside.pair.Progress.{Comes, Stage as PairStage}
+use Rattle.bt_tool.specs.inside.pair.Endings.{Finishes}
 use Rattle.bt_tool.specs.inside.feed.Passed.{IsKeptBelow, lines_read}
 
 -- a reader of lines as one of the lines of sequences, if those that were given have come so far
@@ -43,8 +43,8 @@ abbrev pub AreOwned : List SequenceLine → List Feature → Type 0
 AreOwned lines records = is_some (left_after (names_of lines) records) ≡ true
 
 -- what masking makes of a line by records
-abbrev pub mask_making : MaskHow → Making SequenceLine Feature
-mask_making how = record {
+abbrev pub mask_join : MaskHow → JoinDef SequenceLine Feature
+mask_join how = record {
   decided = decided;
   bytes = λ line records. masked_line how records line;
   limited = λ lines second. second;
@@ -100,9 +100,9 @@ module _ {A B : Type 0} (a_left : A → Option (List ℕ)) (a_failed a_end : A �
   }
 
   module _ (out : Output) where
-    abbrev pub MaskEnds : Option Told → MemberReader A SequenceLine Reached
+    abbrev pub MaskEnds : Option FaultValue → MemberReader A SequenceLine Reached
         → MemberReader B Feature (Option Locus) → Output → Type 0
-    MaskEnds = Finishes (mask_making how) mask_pair out
+    MaskEnds = Finishes (mask_join how) mask_pair out
 
     -- the lines and the records so far were given
     pub record Masks (first : MemberReader A SequenceLine Reached)
@@ -112,7 +112,7 @@ module _ {A B : Type 0} (a_left : A → Option (List ℕ)) (a_failed a_end : A �
       pub past_second : List (Member Feature)
       pub stage : MaskStage
       pub stands : MaskStandsAt how full stage mask
-      pub comes : Comes (mask_making how) mask_pair out (stage_of stage) past_first past_second
+      pub comes : Comes (mask_join how) mask_pair out (stage_of stage) past_first past_second
           first second grown
       -- the record ahead, if one is known to be, is the next one
       pub kept_ahead : (r : Feature) → stage.ahead ≡ Some r → item_ahead second ≡ Some r
@@ -134,4 +134,4 @@ FinishesMask {A} {B} {T} a_left a_failed a_end b_left b_failed b_end how full ol
     (members : MemberReader A SequenceLine Reached) × (members.below ≡ first)
     × MaskEnds a_left a_failed a_end b_left b_failed b_end how full
     (line_members full nothing_reached old_first) old_second out
-    (Some (told fault)) members second grown × IsKeptBelow members first
+    (Some (fault_value fault)) members second grown × IsKeptBelow members first

@@ -1,7 +1,7 @@
 -- What a loop of masking does in one round, and how much is still wanted.
 use Rattle.std.specs.Prelude.{◌≡◌, ◌⊎◌, ℕ, ◌+◌, ◌*◌, ◌<◌, ◌≤◌, Bool, true, false, List, Option, Some, is_some, length, Result, Ok, Err}
-use Rattle.bt_lines.specs.model.Fault.{Told}
-use Rattle.bt_lines.specs.calls.Names.{told}
+use Rattle.bt_lines.specs.model.Fault.{FaultValue}
+use Rattle.bt_lines.specs.calls.Names.{fault_value}
 use Rattle.bt_lines.specs.calls.Output.{Output}
 use Rattle.bt_lines.specs.calls.Reader.{buffered_bytes, room as line_room}
 use Rattle.bt_lines.specs.declared.fault.Fault.{Fault}
@@ -51,7 +51,7 @@ module _ {A B : Type 0} (a_left : A → Option (List ℕ)) (a_failed a_end : A �
   GoesOn lines second mask grown = (reached : Reached) × GoesOnAt reached lines second mask grown
 
   -- masking has ended
-  abbrev pub Ends : Option Told → LineReader A → MemberReader B Feature (Option Locus) → Output
+  abbrev pub Ends : Option FaultValue → LineReader A → MemberReader B Feature (Option Locus) → Output
       → Type 0
   Ends fault lines second grown = (members : MemberReader A SequenceLine Reached)
       × (members.below ≡ lines)
@@ -70,7 +70,7 @@ module _ {A B : Type 0} (a_left : A → Option (List ℕ)) (a_failed a_end : A �
         × IsThere mask.want lines second))
     Fills (Ok false) lines second mask grown =
         GoesOn lines second mask grown × (mask.want ≡ Nothing)
-    Fills (Err fault) lines second mask grown = Ends (Some (told fault)) lines second grown
+    Fills (Err fault) lines second mask grown = Ends (Some (fault_value fault)) lines second grown
 
     -- what is buffered was given, as far as it is wanted
     abbrev pub Gives : {T : Type 0} → Result T Fault → LineReader A
@@ -79,4 +79,4 @@ module _ {A B : Type 0} (a_left : A → Option (List ℕ)) (a_failed a_end : A �
         × (left_to_ask lines second mask ≤ left_to_ask old old_second old_mask)
         × (IsThere old_mask.want old old_second
         → left_to_ask lines second mask < left_to_ask old old_second old_mask)
-    Gives (Err fault) lines second mask grown = Ends (Some (told fault)) lines second grown
+    Gives (Err fault) lines second mask grown = Ends (Some (fault_value fault)) lines second grown

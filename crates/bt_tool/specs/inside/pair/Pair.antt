@@ -3,16 +3,16 @@
 use Rattle.std.specs.Prelude.{◌≡◌, ℕ, ◌^◌, ◌<◌, ◌||◌, Bool, true, List, ◌++◌, flat_map}
 use Rattle.std.specs.Prelude.{Option, None, is_none, option_map}
 use Rattle.std.specs.List.{list_all}
-use Rattle.bt_lines.specs.model.Fault.{Told}
+use Rattle.bt_lines.specs.model.Fault.{FaultValue}
 use Rattle.bt_lines.specs.model.Lines.{TextLine}
 use Rattle.bt_lines.specs.calls.Reader.{bytes_taken, source_of}
 use Rattle.bt_lines.specs.declared.fault.Kind.{Kind}
 use Rattle.bt_bed.specs.model.input.Good.{Good, Member, items_in, or_else}
-use Rattle.bt_bed.specs.model.input.Meeting.{Met, Rule, meet}
+use Rattle.bt_bed.specs.model.input.TwoInputReport.{Met, Rule, join_report}
 use Rattle.bt_bed.specs.calls.Reading.{MemberReader, ahead_in}
 
 -- what a command makes of the members of the first input by good members of the second
-pub record Making (X Y : Type 0) : Type 1 where
+pub record JoinDef (X Y : Type 0) : Type 1 where
   -- whether they decide a member
   pub decided : X → List Y → Bool
   -- its bytes against them
@@ -22,7 +22,7 @@ pub record Making (X Y : Type 0) : Type 1 where
   -- by these members of the first, no limit lies among these of the second
   pub Fits : List X → List (Member Y) → Type 0
   -- what is reported when all members of the first input are written, before the fault of the second
-  pub last : List X → List (Member Y) → Option Told
+  pub last : List X → List (Member Y) → Option FaultValue
   -- how many bytes of the lines of the second input these members of the first need
   pub reaches : List X → List (Member Y) → List TextLine → ℕ
   -- these members of the first input need these of the second
@@ -47,7 +47,7 @@ pub record Pair (A B X Y U V : Type 0) : Type 0 where
 -- these may be the good members of the second input and its fault, if the first of them were
 -- seen, and no others once it has ended
 pub record MayCome {Y : Type 0} (seen : List Y) (ended : Bool) (second : List Y)
-    (fault : Option Told) : Type 0 where
+    (fault : Option FaultValue) : Type 0 where
   pub begins : (more : List Y) × (second ≡ seen ++ more)
   pub all : ended ≡ true → (second ≡ seen) × (fault ≡ None)
 
@@ -61,28 +61,28 @@ pub record Serves {S A State : Type 0} (failed : S → Bool)
 abbrev pub item_ahead : {S A State : Type 0} → MemberReader S A State → Option A
 item_ahead reader = option_map (λ m. m.item) (ahead_in reader)
 
-module _ {X Y : Type 0} (making : Making X Y) where
+module _ {X Y : Type 0} (join : JoinDef X Y) where
   -- what the good members of the second input, and its fault, make of the members of the first
-  abbrev pub rule_of : List X → Good Y → Rule X ℕ Told
+  abbrev pub rule_of : List X → Good Y → Rule X ℕ FaultValue
   rule_of all second = record {
-    decided = λ x. is_none second.fault || making.decided x (items_in second);
-    lines = λ x. making.bytes x (items_in second);
+    decided = λ x. is_none second.fault || join.decided x (items_in second);
+    lines = λ x. join.bytes x (items_in second);
     fault = second.fault;
-    last = or_else (making.last all second.members) second.fault;
+    last = or_else (join.last all second.members) second.fault;
   }
 
   -- what is written of two inputs, and the fault that is reported
-  abbrev pub met_whole : Good X → Good Y → Met ℕ Told
-  met_whole first second = meet (rule_of (items_in first) second) (items_in first) first.fault
+  abbrev pub met_whole : Good X → Good Y → Met ℕ FaultValue
+  met_whole first second = join_report (rule_of (items_in first) second) (items_in first) first.fault
 
   -- the same, by what the first meets of the second
-  abbrev pub met_by : Good X → Good Y → Met ℕ Told
-  met_by first second = met_whole first (making.limited (items_in first) second)
+  abbrev pub met_by : Good X → Good Y → Met ℕ FaultValue
+  met_by first second = met_whole first (join.limited (items_in first) second)
 
   -- whatever the second input still has, these members of the first are decided and have these bytes
   pub record Settles (written : List X) (bytes : List ℕ) (seen : List Y)
       (ended : Bool) : Type 0 where
-    pub whatever : (second : List Y) (fault : Option Told) → making.InOrder second
+    pub whatever : (second : List Y) (fault : Option FaultValue) → join.InOrder second
         → MayCome seen ended second fault
-        → (list_all (λ x. is_none fault || making.decided x second) written ≡ true)
-        × (flat_map (λ x. making.bytes x second) written ≡ bytes)
+        → (list_all (λ x. is_none fault || join.decided x second) written ≡ true)
+        × (flat_map (λ x. join.bytes x second) written ≡ bytes)

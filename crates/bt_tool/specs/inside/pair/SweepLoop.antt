@@ -2,9 +2,9 @@
 use Rattle.std.specs.Prelude.{◌≡◌, ◌⊎◌, ℕ, ◌≤◌, ◌<◌, All, Bool, true, List, ◌++◌, Option, Some, None, Result, Ok, Err}
 use Rattle.std.specs.Prelude.{⊤, [], IsTrue, option_to_list}
 use Rattle.std.specs.List.{list_all}
-use Rattle.bt_lines.specs.model.Fault.{Told, read_failed}
+use Rattle.bt_lines.specs.model.Fault.{FaultValue, read_failed}
 use Rattle.bt_lines.specs.model.Lines.{TextLine}
-use Rattle.bt_lines.specs.calls.Names.{told}
+use Rattle.bt_lines.specs.calls.Names.{fault_value}
 use Rattle.bt_lines.specs.calls.Output.{Output}
 use Rattle.bt_lines.specs.calls.Reader.{Hands, end_told, lines_given}
 use Rattle.bt_lines.specs.declared.fault.Fault.{Fault}
@@ -28,9 +28,9 @@ use Rattle.bt_sweep.specs.declared.hits.hit_rule.HitRule.{HitRule}
 use Rattle.bt_sweep.specs.declared.output.shape.Shape.{Shape}
 use Rattle.bt_sweep.specs.declared.sweep.want.Want.TheVariants.{Nothing}
 use Rattle.bt_tool.specs.model.report.SweepReport.{IsSweptKind, bytes_up_to, decider}
-use Rattle.bt_tool.specs.inside.pair.Pair.{Making, Pair}
-use Rattle.bt_tool.specs.inside.pair.PairComes.{Comes, Stage as PairStage}
-use Rattle.bt_tool.specs.inside.pair.PairEnds.{Finishes, IsKnown}
+use Rattle.bt_tool.specs.inside.pair.Pair.{JoinDef, Pair}
+use Rattle.bt_tool.specs.inside.pair.Progress.{Comes, Stage as PairStage}
+use Rattle.bt_tool.specs.inside.pair.Endings.{Finishes, IsKnown}
 use Rattle.bt_tool.specs.inside.feed.Passed.{AreAll, Passes, StopsAfter}
 
 -- Whatever comes after them of either input, by these records of the first the limit doesn't lie
@@ -38,13 +38,13 @@ use Rattle.bt_tool.specs.inside.feed.Passed.{AreAll, Passes, StopsAfter}
 abbrev pub AreWithin : Order → Option ℕ → List Feature → List (Member Feature) → Type 0
 AreWithin order None as_given past = ⊤
 AreWithin order (Some most) as_given past =
-    (later : List Feature) (more : List (Member Feature)) (fault : Option Told)
+    (later : List Feature) (more : List (Member Feature)) (fault : Option FaultValue)
     → cut_behind (are_too_many order most (as_given ++ later)) [] (past ++ more) fault
     ≡ cut_behind (are_too_many order most (as_given ++ later)) past more fault
 
 -- what a sweep makes of a record of the first input by records of the second
-abbrev pub sweep_making : Order → Shape → HitRule → Option ℕ → Making Feature Feature
-sweep_making order shape rule limit = record {
+abbrev pub sweep_join : Order → Shape → HitRule → Option ℕ → JoinDef Feature Feature
+sweep_join order shape rule limit = record {
   decided = decided order;
   bytes = lines_for shape rule;
   limited = limited order limit;
@@ -87,9 +87,9 @@ module _ {A B O : Type 0} {g : Ghosts O} (a_left : A → Option (List ℕ)) (a_f
     (b_left : B → Option (List ℕ)) (b_failed b_end : B → Bool)
     (order : Order) (shape : Shape) (rule : HitRule) (limit : Option ℕ) (old_first : Records A O g)
     (old_second : Records B O g) (out : Output) where
-  abbrev pub SweepEnds : Option Told → Records A O g → Records B O g → Output → Type 0
+  abbrev pub SweepEnds : Option FaultValue → Records A O g → Records B O g → Output → Type 0
   SweepEnds fault first second grown =
-      Finishes (sweep_making order shape rule limit)
+      Finishes (sweep_join order shape rule limit)
       (records_pair a_left a_failed a_end b_left b_failed b_end old_first old_second) out fault
       (view_of first) (view_of second) grown
 
@@ -100,7 +100,7 @@ module _ {A B O : Type 0} {g : Ghosts O} (a_left : A → Option (List ℕ)) (a_f
     pub past_second : List (Member Feature)
     pub stage : Stage
     pub stands : StandsAt order shape rule limit stage sweep
-    pub comes : Comes (sweep_making order shape rule limit)
+    pub comes : Comes (sweep_join order shape rule limit)
         (records_pair a_left a_failed a_end b_left b_failed b_end old_first old_second) out
         (stage_of stage) past_first past_second (view_of first) (view_of second) grown
     -- they go by the order from the beginning
@@ -116,13 +116,13 @@ module _ {A B O : Type 0} {g : Ghosts O} (a_left : A → Option (List ℕ)) (a_f
       → Sweeping → Output → Type 0
   SweepsOrStops (Ok done) first second sweep grown =
       Sweeps first second sweep grown × (want_in sweep ≡ Nothing)
-  SweepsOrStops (Err fault) first second sweep grown = SweepEnds (Some (told fault)) first second grown
+  SweepsOrStops (Err fault) first second sweep grown = SweepEnds (Some (fault_value fault)) first second grown
 
   -- and what reading the second input to its end then does
   abbrev pub FinishesBoth : {T : Type 0} → Result T Fault → Records A O g → Records B O g
       → Output → Type 0
   FinishesBoth (Ok done) first second grown = SweepEnds None first second grown
-  FinishesBoth (Err fault) first second grown = SweepEnds (Some (told fault)) first second grown
+  FinishesBoth (Err fault) first second grown = SweepEnds (Some (fault_value fault)) first second grown
 
 module _ {S A State : Type 0} (left : S → Option (List ℕ)) (failed end : S → Bool)
     (old : MemberReader S A State) (past : List (Member A)) (before : MemberReader S A State) where
@@ -133,7 +133,7 @@ module _ {S A State : Type 0} (left : S → Option (List ℕ)) (failed end : S �
     pub all : AreAll left failed end old (past ++ more)
 
   -- a fault lies after some of them
-  pub record ChecksUpTo (Kinds : Kind → Type 0) (fault : Told)
+  pub record ChecksUpTo (Kinds : Kind → Type 0) (fault : FaultValue)
       (new : MemberReader S A State) : Type 0 where
     pub more : List (Member A)
     pub stops : StopsAfter left failed end old Kinds (past ++ more) fault new
@@ -145,7 +145,7 @@ module _ {S A State : Type 0} (left : S → Option (List ℕ)) (failed end : S �
   abbrev pub ChecksRest : {T : Type 0} → (Kind → Type 0) → Result T Fault → MemberReader S A State
       → Type 0
   ChecksRest Kinds (Ok done) new = ChecksAll new
-  ChecksRest Kinds (Err fault) new = ChecksUpTo Kinds (told fault) new
+  ChecksRest Kinds (Err fault) new = ChecksUpTo Kinds (fault_value fault) new
 
   abbrev pub Checks : {T : Type 0} → (Kind → Type 0) → Result T Fault → MemberReader S A State
       → Type 0

@@ -2,8 +2,8 @@
 -- its end is given, and then what both have buffered is given.
 use Rattle.std.specs.Prelude.{◌≡◌, ◌⊎◌, ◌<◌, ℕ, Bool, true, false, List, ◌∷◌, [], ◌++◌, Option, Some, Result, Ok, Err}
 use Rattle.std.specs.Prelude.{None, ⊤, is_some, option_to_list}
-use Rattle.bt_lines.specs.model.Fault.{Told, no_memory}
-use Rattle.bt_lines.specs.calls.Names.{told}
+use Rattle.bt_lines.specs.model.Fault.{FaultValue, no_memory}
+use Rattle.bt_lines.specs.calls.Names.{fault_value}
 use Rattle.bt_lines.specs.calls.Output.{Output}
 use Rattle.bt_lines.specs.calls.Putting.{FailsToAdd, Grown}
 use Rattle.bt_lines.specs.declared.fault.Fault.{Fault}
@@ -100,7 +100,7 @@ module _ {A B O : Type 0} {g : Ghosts O} (a_left : A → Option (List ℕ)) (a_f
     pub fails : (shape : Shape) (rule : HitRule) (limit : Option ℕ) (stage : Stage) (a : Feature)
         → StandsAt order shape rule limit stage sweep → stage.waiting ≡ Some a
         → ArePlaced order (intervals_of stage.taken)
-        → FailsToAdd out (lines_for shape rule a stage.taken) (told fault) grown
+        → FailsToAdd out (lines_for shape rule a stage.taken) (fault_value fault) grown
 
   -- whether anything is wanted
   abbrev pub FillsWanted : Result Bool Fault → Records A O g → Records B O g → Sweeping → Output → Type 0
@@ -144,7 +144,7 @@ module _ {A B O : Type 0} {g : Ghosts O} (a_left : A → Option (List ℕ)) (a_f
         ⊎ ((is_some sweep.current ≡ true) × (swept.current ≡ None))
 
   module _ (firsts seconds newly : List Feature) (waiting : Option Feature) (new_second : Records B O g)
-      (fault : Told) (grown : Output) where
+      (fault : FaultValue) (grown : Output) where
     -- the lines couldn't all be written
     pub record FailsToWrite : Type 0 where
       pub cuts : AtEach order sweep firsts seconds (λ shape rule limit stage.
@@ -175,7 +175,7 @@ module _ {A B O : Type 0} {g : Ghosts O} (a_left : A → Option (List ℕ)) (a_f
       pub puts : PutsEach order sweep firsts seconds newly out grown
 
   -- it failed once the lines of these records of the first were settled
-  pub record FailsAmong (fault : Told) (new_first : Records A O g) (new_second : Records B O g)
+  pub record FailsAmong (fault : FaultValue) (new_first : Records A O g) (new_second : Records B O g)
       (grown : Output) : Type 0 where
     pub firsts : List Feature
     pub seconds : List Feature
@@ -194,4 +194,4 @@ module _ {A B O : Type 0} {g : Ghosts O} (a_left : A → Option (List ℕ)) (a_f
       → Output → Type 0
   AdvancesBoth (Ok done) new_first new_second swept grown = GivesBoth new_first new_second swept grown
   AdvancesBoth (Err fault) new_first new_second swept grown =
-      FailsAmong (told fault) new_first new_second grown
+      FailsAmong (fault_value fault) new_first new_second grown

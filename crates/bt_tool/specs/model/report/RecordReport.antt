@@ -1,6 +1,6 @@
 -- The report on the members of one input: the bytes written and the fault reported.
 use Rattle.std.specs.Prelude.{ℕ, List, Option, Some, None}
-use Rattle.bt_lines.specs.model.Fault.{Told}
+use Rattle.bt_lines.specs.model.Fault.{FaultValue}
 use Rattle.bt_lines.specs.model.Handed.{Handed}
 use Rattle.bt_lines.specs.model.Lines.{TextLine}
 use Rattle.bt_lines.specs.declared.fault.Input.TheVariants.{First}
@@ -14,10 +14,10 @@ use Rattle.bt_tool.specs.model.report.Written.{Written}
 -- what a run writes, and the fault that it tells, if there is one
 pub record Report : Type 0 where
   pub output : List ℕ
-  pub fault : Option Told
+  pub fault : Option FaultValue
 
 -- the lines of all members, or if a line is at fault, those that the members before it settle
-abbrev pub report_by : {A : Type 0} → Written A → List A → Option Told → Report
+abbrev pub report_by : {A : Type 0} → Written A → List A → Option FaultValue → Report
 report_by written members None = record { output = written.whole members; fault = None }
 report_by written members (Some fault) =
     record { output = written.settled members; fault = Some fault }

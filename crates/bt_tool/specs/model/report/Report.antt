@@ -2,7 +2,7 @@
 -- command line and what its inputs hand over.
 use Rattle.std.specs.Prelude.{◌≡◌, ℕ, List, [], Option, Some, None, Result, Ok, Err}
 use Rattle.std.specs.Prelude.{option_map, unwrap_or}
-use Rattle.bt_lines.specs.model.Fault.{Told, InputNames, line_of}
+use Rattle.bt_lines.specs.model.Fault.{FaultValue, InputNames, line_of}
 use Rattle.bt_lines.specs.model.Handed.{Handed, whole_text}
 use Rattle.bt_lines.specs.model.Lines.{TextLine}
 use Rattle.bt_lines.specs.declared.fault.Input.TheVariants.{Genome}
@@ -19,18 +19,18 @@ use Rattle.bt_tool.specs.declared.options.usage.Refusal.{Refusal}
 use Rattle.bt_tool.specs.declared.options.usage.Refusal.TheVariants.{Usage as InWords, NoMemory}
 
 -- the chromosomes that a genome file has, or its fault
-abbrev pub of_file : Result (List Entry) Told → Result (Option (List Entry)) Told
+abbrev pub of_file : Result (List Entry) FaultValue → Result (Option (List Entry)) FaultValue
 of_file (Ok entries) = Ok (Some entries)
 of_file (Err fault) = Err fault
 
 -- The chromosomes of the genome file, or its fault. A run without a genome file has no list of them,
 -- which isn't an empty one: it goes by the bytes of the names.
-abbrev pub chromosomes_of : Option Handed → Result (Option (List Entry)) Told
+abbrev pub chromosomes_of : Option Handed → Result (Option (List Entry)) FaultValue
 chromosomes_of None = Ok None
 chromosomes_of (Some genome) = of_file (genome_handed Genome genome)
 
 -- the genome file's fault comes before all else, and nothing is written
-abbrev pub report_on : Command → Result (Option (List Entry)) Told → Handed → Option Handed → Report
+abbrev pub report_on : Command → Result (Option (List Entry)) FaultValue → Handed → Option Handed → Report
 report_on command (Err fault) first second = record { output = []; fault = Some fault }
 report_on command (Ok chromosomes) first second =
     (behaviour_of command chromosomes).report first second
@@ -41,14 +41,14 @@ report_of command inputs =
     report_on command (chromosomes_of inputs.genome) inputs.first inputs.second
 
 -- what the first lines of the first input settle; after the genome file's fault nothing
-abbrev pub settles_on : Command → Result (Option (List Entry)) Told → Option Handed
+abbrev pub settles_on : Command → Result (Option (List Entry)) FaultValue → Option Handed
     → List TextLine → List ℕ
 settles_on command (Err fault) second lines = []
 settles_on command (Ok chromosomes) second lines =
     (behaviour_of command chromosomes).settles second lines
 
 -- how much of the second input they need; after that fault nothing
-abbrev pub reaches_on : Command → Result (Option (List Entry)) Told → Option Handed
+abbrev pub reaches_on : Command → Result (Option (List Entry)) FaultValue → Option Handed
     → List TextLine → ℕ
 reaches_on command (Err fault) second lines = 0
 reaches_on command (Ok chromosomes) second lines =
@@ -64,11 +64,11 @@ names_in plan =
     }
 
 -- the line that tells a fault of a run of the plan
-abbrev pub fault_text : PlanSeen → Told → List ℕ
+abbrev pub fault_text : PlanSeen → FaultValue → List ℕ
 fault_text plan fault = line_of (tool_name (tool_of plan.command)) (names_in plan) fault
 
 -- the exit status of a run
-abbrev pub status_of : Option Told → ℕ
+abbrev pub status_of : Option FaultValue → ℕ
 status_of None = 0
 status_of (Some fault) = 1
 

@@ -3,7 +3,7 @@
 use Rattle.std.specs.Prelude.{◌≡◌, ◌⊎◌, ℕ, Bool, true, List, [], ◌∷◌, take, Option, Some, None}
 use Rattle.std.specs.Prelude.{if◌then◌else◌, is_some}
 use Rattle.std.specs.List.{list_all}
-use Rattle.bt_lines.specs.model.Fault.{Told}
+use Rattle.bt_lines.specs.model.Fault.{FaultValue}
 use Rattle.bt_lines.specs.model.Handed.{Handed}
 use Rattle.bt_lines.specs.model.Lines.{TextLine, bytes_in, text_lines}
 use Rattle.bt_lines.specs.declared.fault.Input.TheVariants.{First, Second}
@@ -13,7 +13,7 @@ use Rattle.bt_bed.specs.model.feature.Feature.{Feature}
 use Rattle.bt_bed.specs.model.input.Good.{Good, Member, good, items_in}
 use Rattle.bt_bed.specs.model.input.GoodBed.{bed_format, bed_good}
 use Rattle.bt_bed.specs.model.feature.LineKind.{IsBedKind}
-use Rattle.bt_bed.specs.model.input.Meeting.{Met}
+use Rattle.bt_bed.specs.model.input.TwoInputReport.{Met}
 use Rattle.bt_bed.specs.model.order.Order.{Order}
 use Rattle.bt_bed.specs.model.order.Sorting.{sorting_of}
 use Rattle.bt_sweep.specs.model.Deciding.{decides}
@@ -26,13 +26,13 @@ use Rattle.bt_sweep.specs.declared.output.shape.Shape.{Shape}
 use Rattle.bt_tool.specs.model.report.RecordReport.{Report}
 
 -- the report on how two inputs meet
-abbrev pub met_report : Met ℕ Told → Report
+abbrev pub met_report : Met ℕ FaultValue → Report
 met_report met = record { output = met.lines; fault = met.fault }
 
 -- what intersect makes of the good records of two inputs, if no more of the second are held than
 -- the limit allows
 abbrev pub met_within : Order → Shape → HitRule → Option ℕ → Good Feature → Good Feature
-    → Met ℕ Told
+    → Met ℕ FaultValue
 met_within order shape rule limit first second =
     intersect_met order shape rule first (limited order limit (items_in first) second)
 

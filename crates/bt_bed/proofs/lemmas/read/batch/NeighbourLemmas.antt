@@ -10,7 +10,7 @@ use Rattle.bt_bed.proofs.lemmas.read.good.SaidLemmas.{wrong_is_of_line, wrong_is
 use Rattle.bt_bed.specs.model.feature.Feature.{Feature}
 use Rattle.bt_bed.specs.model.input.GoodBed.{line_says, said_after, in_order, locus_at, wrong_lines_are_of_bed}
 use Rattle.bt_bed.specs.model.feature.LineKind.{is_bed_kind, is_record_kind}
-use Rattle.bt_bed.specs.inside.Neighbours.{start_after, start_at, start_on}
+use Rattle.bt_bed.specs.inside.OrderedLookahead.{start_after, start_at, start_on}
 use Rattle.bt_bed.specs.model.order.Locus.{Locus}
 use Rattle.bt_bed.specs.model.feature.Record.{record_of}
 use Rattle.bt_bed.specs.model.order.Order.{Order}

@@ -15,7 +15,7 @@ use Rattle.bt_bed.specs.calls.SortedReader.{IsPlaced, buffered_in as records_in,
 use Rattle.bt_bed.specs.model.feature.Feature.{Feature}
 use Rattle.bt_bed.specs.model.input.Good.{Member, good}
 use Rattle.bt_bed.specs.model.input.GoodBed.{bed_format, line_says, locus_at}
-use Rattle.bt_bed.specs.inside.Neighbours.{last_in}
+use Rattle.bt_bed.specs.inside.OrderedLookahead.{last_in}
 use Rattle.bt_bed.specs.model.order.Order.{Order, IsTotal}
 use Rattle.bt_bed.specs.model.order.Locus.{Locus, IsUpTo}
 use Rattle.bt_bed.specs.calls.Reading.{Fills, FillAnswers as MembersAnswers, GivesMember, Takes, TellsOwnFailure, first_from, good_coming}
@@ -93,7 +93,7 @@ module _ {S O : Type 0} {g : Ghosts O} (left : S → Option (List ℕ)) (failed 
 
 module _ {S Q : Type 0} (left : S → Option (List ℕ)) (failed end : S → Bool) (sorting : Sorting) (sorted : SortedReader S Q) where
   -- a reader that has given no record has all of the good ones left
-  pub good_at_start : (reader : LineReader S) → sorted.reader ≡ reader → sorted.fault ≡ None → last_in sorted.neighbours ≡ None → line_fault reader ≡ None
+  pub good_at_start : (reader : LineReader S) → sorted.reader ≡ reader → sorted.fault ≡ None → last_in sorted.lookahead ≡ None → line_fault reader ≡ None
       → good_coming left (view_in sorting sorted) ≡ option_map (good (bed_format sorting) (input_of reader)) (lines_left left reader)
   unfolding view_with
   good_at_start reader same own last going =
@@ -101,7 +101,7 @@ module _ {S Q : Type 0} (left : S → Option (List ℕ)) (failed end : S → Boo
       good_at_first left failed end (view_in sorting sorted) fault last
       ∙ ap (λ r. option_map (good (bed_format sorting) (input_of r)) (lines_left left r)) same
 
-  pub placed_at_start : records_in sorted ≡ [] → last_in sorted.neighbours ≡ None → IsPlaced sorting (view_in sorting sorted)
+  pub placed_at_start : records_in sorted ≡ [] → last_in sorted.lookahead ≡ None → IsPlaced sorting (view_in sorting sorted)
   unfolding view_with
   placed_at_start none last = record {
     last = λ place e. cc;
@@ -112,14 +112,14 @@ module _ {S Q : Type 0} (left : S → Option (List ℕ)) (failed end : S → Boo
 module _ {S O : Type 0} (g : Ghosts O) where
   -- how the records of a reader are sorted
   abbrev pub sorting_at : SortedReader S (ByOrder O) → Sorting
-  sorting_at sorted = sorting_of (g.order sorted.neighbours.rule.order.now)
+  sorting_at sorted = sorting_of (g.order sorted.lookahead.rule.order.now)
 
-module _ {S O : Type 0} (g : Ghosts O) (old new : SortedReader S (ByOrder O)) (rule : new.neighbours.rule ≡ old.neighbours.rule) where
+module _ {S O : Type 0} (g : Ghosts O) (old new : SortedReader S (ByOrder O)) (rule : new.lookahead.rule ≡ old.lookahead.rule) where
   -- the order stays with the rule
   pub placed_by : IsPlaced (sorting_at g old) (view_in (sorting_at g old) new) → IsPlaced (sorting_at g new) (view_in (sorting_at g new) new)
   placed_by placed = subst (λ (by : ByOrder O). IsPlaced (sorting_of (g.order by.order.now)) (view_in (sorting_of (g.order by.order.now)) new)) (sym rule) placed
 
-module _ {S O : Type 0} {g : Ghosts O} (left : S → Option (List ℕ)) (failed end : S → Bool) (old new : Records S O g) (rule : new.sorted.neighbours.rule ≡ old.sorted.neighbours.rule) where
+module _ {S O : Type 0} {g : Ghosts O} (left : S → Option (List ℕ)) (failed end : S → Bool) (old new : Records S O g) (rule : new.sorted.lookahead.rule ≡ old.sorted.lookahead.rule) where
   same_order : order_in new ≡ order_in old
   unfolding order_in
   same_order = ap (λ (by : ByOrder O). g.order by.order.now) rule

@@ -6,7 +6,7 @@ use Rattle.std.proofs.lemmas.Bool.{false≢true}
 use Rattle.bt_lines.proofs.lemmas.reader.lines.TakingLemmas.{is_prefix}
 use Rattle.bt_lines.specs.calls.Buffered.{buffered_lines}
 use Rattle.bt_lines.specs.model.Lines.{AreNumbered, TextLine, lines_from}
-use Rattle.bt_lines.specs.calls.Names.{told}
+use Rattle.bt_lines.specs.calls.Names.{fault_value}
 use Rattle.bt_lines.specs.calls.Reader.{DropsLines, TakesLines, bytes_left, buffered_bytes, buffered_in as lines_buffered, end_told, fault_kept as line_fault, held, input_of, is_open, left_at, lines_given, lines_left, source_of}
 use Rattle.bt_lines.specs.declared.fault.Input.{Input}
 use Rattle.bt_lines.specs.declared.reader.line_reader.LineReader.{LineReader}
@@ -19,14 +19,14 @@ use Rattle.bt_bed.specs.model.feature.Feature.{Feature}
 use Rattle.bt_bed.specs.model.input.Good.{Format, Good, Member, good_from, or_else}
 use Rattle.bt_bed.specs.model.input.GoodBed.{bed_format, line_says, locus_at}
 use Rattle.bt_bed.specs.model.order.Locus.{Locus}
-use Rattle.bt_bed.specs.inside.Neighbours.{HoldsChrom, LineTaken, MakesLast, last_in, name_in, start_in}
+use Rattle.bt_bed.specs.inside.OrderedLookahead.{HoldsChrom, LineTaken, MakesLast, last_in, name_in, start_in}
 use Rattle.bt_bed.specs.calls.Reading.{AreSaid, BeginsComing, MemberReader, Takes, good_behind, good_coming, members_from, state_behind, with_members}
 use Rattle.bt_bed.specs.calls.Run.{is_some_left, last_start, run_of}
 use Rattle.bt_bed.specs.model.order.Sorting.{Sorting}
 use Rattle.bt_bed.specs.inside.Ahead.{ahead_of}
 use Rattle.bt_bed.specs.calls.SortedReader.{IsPlaced, IsTaken, are_in_order, buffered_in, count_in, view_in, view_with}
 use Rattle.bt_bed.specs.declared.read.batch.Consumed.{Consumed}
-use Rattle.bt_bed.specs.declared.read.neighbours.Neighbours.{Neighbours}
+use Rattle.bt_bed.specs.declared.read.lookahead.OrderedLookahead.{OrderedLookahead}
 use Rattle.bt_bed.specs.declared.read.sorted_reader.SortedReader.{SortedReader}
 
 none_by : (told : Bool) (held : List ℕ) (number : ℕ) → option_map (lines_from number) (left_at told held None) ≡ None
@@ -104,11 +104,11 @@ known_last sorting state r [] more last said e place is =
     subst (λ (p : Locus). IsTrue (sorting.knows p.chrom)) same (knows_said sorting state said.0.0.text r said.0.1)
 known_last sorting state r (x ∷ records) more last said e place is = known_last sorting (Some (locus_at r)) x records more last said.1 e place is
 
-module _ {S Q : Type 0} (left : S → Option (List ℕ)) (end : S → Bool) (sorting : Sorting) (old : SortedReader S Q) (reader : LineReader S) (neighbours : Neighbours Q) (is_ahead : Bool) (consumed : Consumed) (is : IsTaken old consumed) (some : 0 < count_in old consumed)
-    (placed : IsPlaced sorting (view_in sorting old)) (takes : TakesLines left end old.reader consumed.lines reader) (makes : MakesLast old.neighbours consumed.start neighbours)
+module _ {S Q : Type 0} (left : S → Option (List ℕ)) (end : S → Bool) (sorting : Sorting) (old : SortedReader S Q) (reader : LineReader S) (lookahead : OrderedLookahead Q) (is_ahead : Bool) (consumed : Consumed) (is : IsTaken old consumed) (some : 0 < count_in old consumed)
+    (placed : IsPlaced sorting (view_in sorting old)) (takes : TakesLines left end old.reader consumed.lines reader) (makes : MakesLast old.lookahead consumed.start lookahead)
     (ahead : is_ahead ≡ consumed.is_ahead) where
   abbrev pub now : MemberReader S Feature (Option Locus)
-  now = view_with sorting (option_map told old.fault) reader neighbours (ahead_of is_ahead reader neighbours)
+  now = view_with sorting (option_map fault_value old.fault) reader lookahead (ahead_of is_ahead reader lookahead)
 
   abbrev pub n : ℕ
   n = count_in old consumed
@@ -134,64 +134,64 @@ module _ {S Q : Type 0} (left : S → Option (List ℕ)) (end : S → Bool) (sor
   parts : (r : Feature) × (more : List Feature) × (take n (buffered_in old) ≡ r ∷ more) × (buffered_in old ≡ r ∷ (more ++ drop n (buffered_in old))) × (n ≡ length (r ∷ more))
   parts = some_taken n (buffered_in old) some is.within
 
-  was : (old.is_ahead ≡ true) × (run_of (name_in old.neighbours) (start_in old.neighbours) (lines_buffered old.reader) ≡ parts.0 ∷ (parts.1 ++ rest))
+  was : (old.is_ahead ≡ true) × (run_of (name_in old.lookahead) (start_in old.lookahead) (lines_buffered old.reader) ≡ parts.0 ∷ (parts.1 ++ rest))
   unfolding buffered_in
-  was = is_ahead_by old.is_ahead (run_of (name_in old.neighbours) (start_in old.neighbours) (lines_buffered old.reader)) parts.0 (parts.1 ++ rest) parts.3
+  was = is_ahead_by old.is_ahead (run_of (name_in old.lookahead) (start_in old.lookahead) (lines_buffered old.reader)) parts.0 (parts.1 ++ rest) parts.3
 
-  run_then : run_of (name_in neighbours) (start_in neighbours) (lines_buffered reader) ≡ rest
+  run_then : run_of (name_in lookahead) (start_in lookahead) (lines_buffered reader) ≡ rest
   run_then =
-      let start : start_in neighbours ≡ last_start (start_in old.neighbours) (parts.0 ∷ parts.1) =
-      makes.start_is ∙ is.start ∙ ap (last_start (start_in old.neighbours)) parts.2 in
+      let start : start_in lookahead ≡ last_start (start_in old.lookahead) (parts.0 ∷ parts.1) =
+      makes.start_is ∙ is.start ∙ ap (last_start (start_in old.lookahead)) parts.2 in
       let lines : lines_buffered reader ≡ drop (length (parts.0 ∷ parts.1)) (lines_buffered old.reader) = lines_then ∙ ap (λ k. drop k (lines_buffered old.reader)) parts.4 in
-      ap (λ m. run_of m (start_in neighbours) (lines_buffered reader)) makes.name_is
-      ∙ ap (λ s. run_of (name_in old.neighbours) s (lines_buffered reader)) start
-      ∙ ap (run_of (name_in old.neighbours) (last_start (start_in old.neighbours) (parts.0 ∷ parts.1))) lines
-      ∙ run_behind (name_in old.neighbours) (start_in old.neighbours) (lines_buffered old.reader) (parts.0 ∷ parts.1) rest was.1
+      ap (λ m. run_of m (start_in lookahead) (lines_buffered reader)) makes.name_is
+      ∙ ap (λ s. run_of (name_in old.lookahead) s (lines_buffered reader)) start
+      ∙ ap (run_of (name_in old.lookahead) (last_start (start_in old.lookahead) (parts.0 ∷ parts.1))) lines
+      ∙ run_behind (name_in old.lookahead) (start_in old.lookahead) (lines_buffered old.reader) (parts.0 ∷ parts.1) rest was.1
 
-  buffered_then : ahead_of is_ahead reader neighbours ≡ rest
-  buffered_then = cond_left is_ahead (run_of (name_in neighbours) (start_in neighbours) (lines_buffered reader)) rest (ahead ∙ is.ahead) run_then
+  buffered_then : ahead_of is_ahead reader lookahead ≡ rest
+  buffered_then = cond_left is_ahead (run_of (name_in lookahead) (start_in lookahead) (lines_buffered reader)) rest (ahead ∙ is.ahead) run_then
 
   going : (view_in sorting old).fault ≡ None
   unfolding view_with
   going = placed.going (ap is_some_left parts.3)
 
-  none_kept : or_else (option_map told old.fault) (line_fault old.reader) ≡ None
+  none_kept : or_else (option_map fault_value old.fault) (line_fault old.reader) ≡ None
   unfolding view_with
   none_kept = going
 
-  order_all : are_in_order sorting (last_in old.neighbours) (buffered_in old) ≡ true
+  order_all : are_in_order sorting (last_in old.lookahead) (buffered_in old) ≡ true
   unfolding view_with
   order_all = placed.in_order
 
-  said_all : AreSaid (bed_format sorting) (last_in old.neighbours) (buffered_in old)
-  said_all = order_is_said sorting (last_in old.neighbours) (name_in old.neighbours) (start_in old.neighbours) (lines_buffered old.reader) (buffered_in old) (was.1 ∙ sym parts.3) order_all
+  said_all : AreSaid (bed_format sorting) (last_in old.lookahead) (buffered_in old)
+  said_all = order_is_said sorting (last_in old.lookahead) (name_in old.lookahead) (start_in old.lookahead) (lines_buffered old.reader) (buffered_in old) (was.1 ∙ sym parts.3) order_all
 
-  say_those : LinesSay (bed_format sorting) (last_in old.neighbours) (lines_buffered old.reader) taken
+  say_those : LinesSay (bed_format sorting) (last_in old.lookahead) (lines_buffered old.reader) taken
   say_those =
-      say_fewer (bed_format sorting) (last_in old.neighbours) (lines_buffered old.reader) taken rest
-      (run_says sorting (last_in old.neighbours) (name_in old.neighbours) (start_in old.neighbours) (lines_buffered old.reader) (taken ++ rest)
-      (was.1 ∙ sym parts.3 ∙ split) (subst (AreSaid (bed_format sorting) (last_in old.neighbours)) split said_all))
+      say_fewer (bed_format sorting) (last_in old.lookahead) (lines_buffered old.reader) taken rest
+      (run_says sorting (last_in old.lookahead) (name_in old.lookahead) (start_in old.lookahead) (lines_buffered old.reader) (taken ++ rest)
+      (was.1 ∙ sym parts.3 ∙ split) (subst (AreSaid (bed_format sorting) (last_in old.lookahead)) split said_all))
 
   count_is : n ≡ length taken
   count_is = parts.4 ∙ ap length (sym parts.2)
 
-  state_then : last_in neighbours ≡ state_behind (bed_format sorting) (last_in old.neighbours) taken
+  state_then : last_in lookahead ≡ state_behind (bed_format sorting) (last_in old.lookahead) taken
   state_then =
-      makes.last ∙ ap (λ s. Some (record { chrom = name_in old.neighbours; start = s })) (is.start ∙ ap (last_start (start_in old.neighbours)) parts.2)
-      ∙ sym (ap (state_behind (bed_format sorting) (last_in old.neighbours)) parts.2
-      ∙ place_behind sorting (last_in old.neighbours) (name_in old.neighbours) (start_in old.neighbours) (lines_buffered old.reader) parts.0 parts.1 rest was.1)
+      makes.last ∙ ap (λ s. Some (record { chrom = name_in old.lookahead; start = s })) (is.start ∙ ap (last_start (start_in old.lookahead)) parts.2)
+      ∙ sym (ap (state_behind (bed_format sorting) (last_in old.lookahead)) parts.2
+      ∙ place_behind sorting (last_in old.lookahead) (name_in old.lookahead) (start_in old.lookahead) (lines_buffered old.reader) parts.0 parts.1 rest was.1)
 
   fault_then : now.fault ≡ (view_in sorting old).fault
   unfolding view_with
-  fault_then = ap (or_else (option_map told old.fault)) takes.fault_is
+  fault_then = ap (or_else (option_map fault_value old.fault)) takes.fault_is
 
   good_then : option_map (with_members (members_from (suc (lines_given old.reader)) taken)) (good_coming left now) ≡ good_coming left (view_in sorting old)
   unfolding good_coming view_with
   good_then =
       let format = bed_format sorting in
-      let state = last_in old.neighbours in
+      let state = last_in old.lookahead in
       let drops : DropsLines (lines_left left old.reader) (length taken) (lines_left left reader) = subst (λ k. DropsLines (lines_left left old.reader) k (lines_left left reader)) (is.lines.feeds ∙ count_is) takes.left_is in
-      rw (ap (or_else (option_map told old.fault)) takes.fault_is ∙ none_kept, none_kept, state_then, takes.input_is)
+      rw (ap (or_else (option_map fault_value old.fault)) takes.fault_is ∙ none_kept, none_kept, state_then, takes.input_is)
       (taken_good format (input_of old.reader) state (suc (lines_given old.reader)) taken (lines_left left old.reader) (lines_left left reader) (left_numbered left end old.reader)
       (say_all format state (lines_buffered old.reader) taken (lines_left left old.reader) (is_prefix left old.reader) say_those) (still_unknown left old.reader reader takes.source_is) drops)
 
@@ -199,7 +199,7 @@ module _ {S Q : Type 0} (left : S → Option (List ℕ)) (end : S → Bool) (sor
   unfolding view_with
   sorted_takes = record {
     buffered = split ∙ ap (λ l. taken ++ l) (sym buffered_then);
-    said = said_fewer (bed_format sorting) (last_in old.neighbours) taken rest (subst (AreSaid (bed_format sorting) (last_in old.neighbours)) split said_all);
+    said = said_fewer (bed_format sorting) (last_in old.lookahead) taken rest (subst (AreSaid (bed_format sorting) (last_in old.lookahead)) split said_all);
     state = state_then;
     good = good_then;
     goes = fault_then;
@@ -214,19 +214,19 @@ module _ {S Q : Type 0} (left : S → Option (List ℕ)) (end : S → Bool) (sor
     shrinks = omega (arith, takes.taken_is, takes.shrinks, is.lines.feeds, count_is);
   }
 
-  known_then : ForSome (last_in neighbours) (λ place. IsTrue (sorting.knows place.chrom))
-  known_then = known_last sorting (last_in old.neighbours) parts.0 parts.1 rest (last_in neighbours) (subst (AreSaid (bed_format sorting) (last_in old.neighbours)) (split ∙ ap (λ l. l ++ rest) parts.2) said_all) (state_then ∙ ap (state_behind (bed_format sorting) (last_in old.neighbours)) parts.2)
+  known_then : ForSome (last_in lookahead) (λ place. IsTrue (sorting.knows place.chrom))
+  known_then = known_last sorting (last_in old.lookahead) parts.0 parts.1 rest (last_in lookahead) (subst (AreSaid (bed_format sorting) (last_in old.lookahead)) (split ∙ ap (λ l. l ++ rest) parts.2) said_all) (state_then ∙ ap (state_behind (bed_format sorting) (last_in old.lookahead)) parts.2)
 
   pub sorted_placed : IsPlaced sorting now
   unfolding view_with
   sorted_placed = record {
     last = known_then;
-    in_order = ap (are_in_order sorting (last_in neighbours)) buffered_then
-        ∙ ap (λ s. are_in_order sorting s rest) state_then ∙ order_behind sorting (last_in old.neighbours) taken rest (ap (are_in_order sorting (last_in old.neighbours)) (sym split) ∙ order_all);
+    in_order = ap (are_in_order sorting (last_in lookahead)) buffered_then
+        ∙ ap (λ s. are_in_order sorting s rest) state_then ∙ order_behind sorting (last_in old.lookahead) taken rest (ap (are_in_order sorting (last_in old.lookahead)) (sym split) ∙ order_all);
     going = λ e. fault_then ∙ going;
   }
 
-  pub sorted_ahead : is_ahead ≡ true → is_some_left (ahead_of is_ahead reader neighbours) ≡ true
+  pub sorted_ahead : is_ahead ≡ true → is_some_left (ahead_of is_ahead reader lookahead) ≡ true
   sorted_ahead e = ap is_some_left buffered_then ∙ sym (ahead ∙ is.ahead) ∙ e
 
   pub was_ahead : old.is_ahead ≡ true
@@ -239,11 +239,11 @@ module _ {S Q : Type 0} (left : S → Option (List ℕ)) (end : S → Bool) (sor
   some_comes r more e =
       let format = bed_format sorting in
       let reader = sorted.reader in
-      let state = last_in sorted.neighbours in
-      let run = is_ahead_by sorted.is_ahead (run_of (name_in sorted.neighbours) (start_in sorted.neighbours) (lines_buffered reader)) r more e in
-      let is : run_of (name_in sorted.neighbours) (start_in sorted.neighbours) (lines_buffered reader) ≡ buffered_in sorted = run.1 ∙ sym e in
-      let said = order_is_said sorting state (name_in sorted.neighbours) (start_in sorted.neighbours) (lines_buffered reader) (buffered_in sorted) is placed.in_order in
-      let say = run_says sorting state (name_in sorted.neighbours) (start_in sorted.neighbours) (lines_buffered reader) (buffered_in sorted) is said in
+      let state = last_in sorted.lookahead in
+      let run = is_ahead_by sorted.is_ahead (run_of (name_in sorted.lookahead) (start_in sorted.lookahead) (lines_buffered reader)) r more e in
+      let is : run_of (name_in sorted.lookahead) (start_in sorted.lookahead) (lines_buffered reader) ≡ buffered_in sorted = run.1 ∙ sym e in
+      let said = order_is_said sorting state (name_in sorted.lookahead) (start_in sorted.lookahead) (lines_buffered reader) (buffered_in sorted) is placed.in_order in
+      let say = run_says sorting state (name_in sorted.lookahead) (start_in sorted.lookahead) (lines_buffered reader) (buffered_in sorted) is said in
       let all = say_all format state (lines_buffered reader) (buffered_in sorted) (lines_left left reader) (is_prefix left reader) say in
       subst (λ own. IfSome (option_map (good_behind format (input_of reader) own state) (lines_left left reader))
       (λ good. (rest : List (Member Feature)) × (good.members ≡ members_from (suc (lines_given reader)) (buffered_in sorted) ++ rest)))
@@ -259,7 +259,7 @@ module _ {S Q : Type 0} (left : S → Option (List ℕ)) (end : S → Bool) (sor
   sorted_comes = comes_by (buffered_in sorted) refl
 
 -- a line that says a record which fits begins the records that are buffered then
-module _ {Q : Type 0} (sorting : Sorting) (old new : Neighbours Q) (line : TextLine) (more : List TextLine) (r : Feature) (says : line_says sorting (last_in old) line.text ≡ Ok (Some r)) (holds : HoldsChrom old r.chrom new) where
+module _ {Q : Type 0} (sorting : Sorting) (old new : OrderedLookahead Q) (line : TextLine) (more : List TextLine) (r : Feature) (says : line_says sorting (last_in old) line.text ≡ Ok (Some r)) (holds : HoldsChrom old r.chrom new) where
   pub found_run : run_of (name_in new) (start_in new) (line ∷ more) ≡ r ∷ run_of (name_in new) r.start more
   found_run =
       let said = line_said sorting (last_in old) line.text r says in
@@ -285,16 +285,16 @@ module _ {Q : Type 0} (sorting : Sorting) (old new : Neighbours Q) (line : TextL
   found_some lines e = ap is_some_left (found_buffered lines e)
 
 -- a line that was taken as a record says one
-pub record Found {Q : Type 0} (sorting : Sorting) (old new : Neighbours Q) (text : List ℕ) : Type 0 where
+pub record Found {Q : Type 0} (sorting : Sorting) (old new : OrderedLookahead Q) (text : List ℕ) : Type 0 where
   pub r : Feature
   pub says : line_says sorting (last_in old) text ≡ Ok (Some r)
   pub holds : HoldsChrom old r.chrom new
 
-found_by : {Q : Type 0} (sorting : Sorting) (old new : Neighbours Q) (text : List ℕ) (said : Option Feature) → line_says sorting (last_in old) text ≡ Ok said → true ≡ is_some said → IfSome said (λ r. HoldsChrom old r.chrom new) → Found sorting old new text
+found_by : {Q : Type 0} (sorting : Sorting) (old new : OrderedLookahead Q) (text : List ℕ) (said : Option Feature) → line_says sorting (last_in old) text ≡ Ok said → true ≡ is_some said → IfSome said (λ r. HoldsChrom old r.chrom new) → Found sorting old new text
 found_by sorting old new text None says e holds = absurd (false≢true (sym e))
 found_by sorting old new text (Some r) says e holds = record { r = r; says = says; holds = holds }
 
-pub found_of : {Q : Type 0} (sorting : Sorting) (old new : Neighbours Q) (text : List ℕ) → LineTaken sorting text old true new → Found sorting old new text
+pub found_of : {Q : Type 0} (sorting : Sorting) (old new : OrderedLookahead Q) (text : List ℕ) → LineTaken sorting text old true new → Found sorting old new text
 found_of sorting old new text taken = found_by sorting old new text taken.said taken.says taken.is taken.ahead
 
 said_none : (said : Option Feature) → false ≡ is_some said → said ≡ None
@@ -302,5 +302,5 @@ said_none None e = refl
 said_none (Some r) e = absurd (false≢true e)
 
 -- one that wasn't says nothing
-pub skipped_of : {Q : Type 0} (sorting : Sorting) (old new : Neighbours Q) (text : List ℕ) → LineTaken sorting text old false new → line_says sorting (last_in old) text ≡ Ok None
+pub skipped_of : {Q : Type 0} (sorting : Sorting) (old new : OrderedLookahead Q) (text : List ℕ) → LineTaken sorting text old false new → line_says sorting (last_in old) text ≡ Ok None
 skipped_of sorting old new text taken = taken.says ∙ ap (λ o. Ok o) (said_none taken.said taken.is)

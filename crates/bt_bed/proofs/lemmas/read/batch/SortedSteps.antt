@@ -1,9 +1,9 @@
 -- Lemmas on how a reader of sorted records reads on.
 use Rattle.std.proofs.Common.{◌≡◌, ℕ, suc, Bool, true, false, List, [], ◌∷◌, Option, Some, None, Result, Ok, Err, refl, sym, ap, ◌∙◌, subst, inl, inr}
 use Rattle.std.specs.Prelude.{◌⊎◌, option_map}
-use Rattle.bt_lines.specs.model.Fault.{Told}
+use Rattle.bt_lines.specs.model.Fault.{FaultValue}
 use Rattle.bt_lines.specs.model.Lines.{TextLine}
-use Rattle.bt_lines.specs.calls.Names.{told}
+use Rattle.bt_lines.specs.calls.Names.{fault_value}
 use Rattle.bt_lines.specs.calls.Reader.{GivesEnd, GivesFault, HasRead, IsKept, MakesLine, buffered_in as lines_buffered, bytes_taken, fault_kept as line_fault, input_of, lines_given, source_of}
 use Rattle.bt_lines.specs.declared.fault.Fault.{Fault}
 use Rattle.bt_lines.specs.declared.reader.line_reader.LineReader.{LineReader}
@@ -22,40 +22,40 @@ use Rattle.bt_bed.specs.model.feature.Feature.{Feature}
 use Rattle.bt_bed.specs.model.input.GoodBed.{bed_format}
 use Rattle.bt_bed.specs.model.feature.LineKind.{fault_at_line}
 use Rattle.bt_bed.specs.model.order.Locus.{Locus}
-use Rattle.bt_bed.specs.inside.Neighbours.{KeepsLast, LineUnkept, LineWrong, last_in, name_in, start_in}
+use Rattle.bt_bed.specs.inside.OrderedLookahead.{KeepsLast, LineUnkept, LineWrong, last_in, name_in, start_in}
 use Rattle.bt_bed.specs.inside.FirstColumns.{IsRecordName}
 use Rattle.bt_bed.specs.calls.Run.{is_some_left, run_of}
 use Rattle.bt_bed.specs.calls.Reading.{AnswersFault, AreSaid, Fills, MemberReader, TellsOwnFailure}
 use Rattle.bt_bed.specs.model.order.Sorting.{Sorting}
 use Rattle.bt_bed.specs.inside.Ahead.{ahead_of}
 use Rattle.bt_bed.specs.calls.SortedReader.{FindsRecord, IsPlaced, LosesLine, SkipsLine, TakesFirst, TakesOne, are_in_order, buffered_in, view_in, view_with}
-use Rattle.bt_bed.specs.declared.read.neighbours.Neighbours.{Neighbours}
+use Rattle.bt_bed.specs.declared.read.lookahead.OrderedLookahead.{OrderedLookahead}
 use Rattle.bt_bed.specs.declared.read.sorted_reader.SortedReader.{SortedReader}
 
 module _ {S Q : Type 0} (left : S → Option (List ℕ)) (failed end : S → Bool) (sorting : Sorting) where
-  rests : (reader : LineReader S) (neighbours : Neighbours Q) → (view_with sorting None reader neighbours []).fault ≡ line_fault (view_with sorting None reader neighbours []).below
+  rests : (reader : LineReader S) (lookahead : OrderedLookahead Q) → (view_with sorting None reader lookahead []).fault ≡ line_fault (view_with sorting None reader lookahead []).below
   unfolding view_with
-  rests reader neighbours = refl
+  rests reader lookahead = refl
 
-  none_in : (reader : LineReader S) (neighbours : Neighbours Q) → (view_with sorting None reader neighbours []).buffered ≡ []
+  none_in : (reader : LineReader S) (lookahead : OrderedLookahead Q) → (view_with sorting None reader lookahead []).buffered ≡ []
   unfolding view_with
-  none_in reader neighbours = refl
+  none_in reader lookahead = refl
 
-  pub sorted_start : (reader : LineReader S) (neighbours : Neighbours Q) → Going left failed end (view_with sorting None reader neighbours []) (view_with sorting None reader neighbours [])
-  sorted_start reader neighbours = going_start left failed end (view_with sorting None reader neighbours []) (none_in reader neighbours) (rests reader neighbours)
+  pub sorted_start : (reader : LineReader S) (lookahead : OrderedLookahead Q) → Going left failed end (view_with sorting None reader lookahead []) (view_with sorting None reader lookahead [])
+  sorted_start reader lookahead = going_start left failed end (view_with sorting None reader lookahead []) (none_in reader lookahead) (rests reader lookahead)
 
   -- a reader of lines without a fault is still without one
-  pub still_going : (old now : LineReader S) (first neighbours : Neighbours Q) → Going left failed end (view_with sorting None old first []) (view_with sorting None now neighbours []) → line_fault old ≡ None → line_fault now ≡ None
+  pub still_going : (old now : LineReader S) (first lookahead : OrderedLookahead Q) → Going left failed end (view_with sorting None old first []) (view_with sorting None now lookahead []) → line_fault old ≡ None → line_fault now ≡ None
   unfolding view_with
-  still_going old now first neighbours g none = g.going none
+  still_going old now first lookahead g none = g.going none
 
   module _ (old : MemberReader S Feature (Option Locus)) (now : LineReader S) (mid new : SortedReader S Q) (makes : MakesLine left failed now mid.reader) (kept : IsKept left end now → IsKept left end mid.reader)
-      (g : Going left failed end old (view_with sorting None now mid.neighbours [])) (line : TextLine) (more : List TextLine) (first : lines_buffered mid.reader ≡ line ∷ more)
-      (keeps : KeepsLast mid.neighbours new.neighbours) where
+      (g : Going left failed end old (view_with sorting None now mid.lookahead [])) (line : TextLine) (more : List TextLine) (first : lines_buffered mid.reader ≡ line ∷ more)
+      (keeps : KeepsLast mid.lookahead new.lookahead) where
     number : line.number ≡ suc (lines_given mid.reader)
     number = next_number mid.reader line more first
 
-    follows : (own : Option Told) (records : List Feature) → Follows left failed end (view_with sorting None now mid.neighbours []) (view_with sorting own new.reader new.neighbours records)
+    follows : (own : Option FaultValue) (records : List Feature) → Follows left failed end (view_with sorting None now mid.lookahead []) (view_with sorting own new.reader new.lookahead records)
     unfolding view_with
     follows own records = record { state = keeps.last; format = refl }
 
@@ -66,13 +66,13 @@ module _ {S Q : Type 0} (left : S → Option (List ℕ)) (failed end : S → Boo
     kept_on one was = one.takes.kept (kept was)
 
     -- the line said nothing
-    pub sorted_more : SkipsLine left end sorting mid line new → Going left failed end old (view_with sorting None new.reader new.neighbours [])
+    pub sorted_more : SkipsLine left end sorting mid line new → Going left failed end old (view_with sorting None new.reader new.lookahead [])
     unfolding view_with
     sorted_more skips =
-        going_more left failed end old (view_with sorting None now mid.neighbours []) (view_with sorting None new.reader new.neighbours []) line g (came skips.takes) (kept_on skips.takes) skips.says refl refl (follows None [])
+        going_more left failed end old (view_with sorting None now mid.lookahead []) (view_with sorting None new.reader new.lookahead []) line g (came skips.takes) (kept_on skips.takes) skips.says refl refl (follows None [])
 
     -- it said a record
-    pub sorted_record : FindsRecord left end sorting mid line new → Fills left failed end old (Ok true) (view_with sorting None new.reader new.neighbours (buffered_in new))
+    pub sorted_record : FindsRecord left end sorting mid line new → Fills left failed end old (Ok true) (view_with sorting None new.reader new.lookahead (buffered_in new))
     unfolding view_with
     sorted_record finds =
         let made : MakesLine left failed now new.reader = subst (λ r. MakesLine left failed now r) (sym finds.same) makes in
@@ -80,49 +80,49 @@ module _ {S Q : Type 0} (left : S → Option (List ℕ)) (failed end : S → Boo
         record {
           answers = record {
             m = record { line = line.number; item = finds.r };
-            gives = going_member left failed end old (view_with sorting None now mid.neighbours []) (view_with sorting None new.reader new.neighbours (buffered_in new)) line more finds.r finds.more g made stays
+            gives = going_member left failed end old (view_with sorting None now mid.lookahead []) (view_with sorting None new.reader new.lookahead (buffered_in new)) line more finds.r finds.more g made stays
                 (ap lines_buffered finds.same ∙ first) (number ∙ ap (λ r. suc (lines_given r)) (sym finds.same)) finds.says finds.buffered refl (follows None (buffered_in new));
           };
           kept = λ was. stays (g.passed.kept was);
         }
 
-    lost_by : (fault : Told) → TakesOne left end mid.reader new.reader → LineWrong sorting (record { input = input_of mid.reader; line = line.number }) line.text mid.neighbours fault ⊎ LineUnkept sorting line.text mid.neighbours fault
-        → AnswersFault left failed end old fault (view_with sorting (Some fault) new.reader new.neighbours [])
+    lost_by : (fault : FaultValue) → TakesOne left end mid.reader new.reader → LineWrong sorting (record { input = input_of mid.reader; line = line.number }) line.text mid.lookahead fault ⊎ LineUnkept sorting line.text mid.lookahead fault
+        → AnswersFault left failed end old fault (view_with sorting (Some fault) new.reader new.lookahead [])
     unfolding view_with
     lost_by fault one (inl wrong) =
-        going_wrong left failed end old (view_with sorting None now mid.neighbours []) (view_with sorting (Some fault) new.reader new.neighbours []) line fault wrong.kind g (came one) refl refl (follows (Some fault) []) (kept_on one)
-        wrong.says (bed_of_line wrong.kind (says_of_line sorting (last_in mid.neighbours) line.text wrong.kind wrong.says))
+        going_wrong left failed end old (view_with sorting None now mid.lookahead []) (view_with sorting (Some fault) new.reader new.lookahead []) line fault wrong.kind g (came one) refl refl (follows (Some fault) []) (kept_on one)
+        wrong.says (bed_of_line wrong.kind (says_of_line sorting (last_in mid.lookahead) line.text wrong.kind wrong.says))
         (wrong.is ∙ ap (λ i. fault_at_line i line.number wrong.kind) (makes.bytes.1.same_input ∙ g.passed.bytes.1.same_input))
     lost_by fault one (inr unkept) =
-        going_unkept left failed end old (view_with sorting None now mid.neighbours []) (view_with sorting (Some fault) new.reader new.neighbours []) line fault unkept.r g (came one) refl refl (follows (Some fault) []) (kept_on one) unkept.says unkept.is
+        going_unkept left failed end old (view_with sorting None now mid.lookahead []) (view_with sorting (Some fault) new.reader new.lookahead []) line fault unkept.r g (came one) refl refl (follows (Some fault) []) (kept_on one) unkept.says unkept.is
 
     -- it wasn't taken
-    pub sorted_lost : (fault : Fault) → LosesLine left end sorting mid line (told fault) new → Fills left failed end old (Err fault) (view_with sorting (Some (told fault)) new.reader new.neighbours [])
+    pub sorted_lost : (fault : Fault) → LosesLine left end sorting mid line (fault_value fault) new → Fills left failed end old (Err fault) (view_with sorting (Some (fault_value fault)) new.reader new.lookahead [])
     unfolding view_with
     sorted_lost fault loses = record {
-      answers = lost_by (told fault) loses.takes loses.cause;
+      answers = lost_by (fault_value fault) loses.takes loses.cause;
       kept = λ was. kept_on loses.takes (g.passed.kept was);
     }
 
-  module _ (old : MemberReader S Feature (Option Locus)) (now new : LineReader S) (neighbours : Neighbours Q) (kept : IsKept left end now → IsKept left end new) (g : Going left failed end old (view_with sorting None now neighbours [])) where
-    alike : (own : Option Told) → (view_with sorting own new neighbours []).below ≡ (view_with sorting None now neighbours []).below → (view_with sorting own new neighbours []).fault ≡ (view_with sorting None now neighbours []).fault
-        → view_with sorting own new neighbours [] ≡ view_with sorting None now neighbours []
+  module _ (old : MemberReader S Feature (Option Locus)) (now new : LineReader S) (lookahead : OrderedLookahead Q) (kept : IsKept left end now → IsKept left end new) (g : Going left failed end old (view_with sorting None now lookahead [])) where
+    alike : (own : Option FaultValue) → (view_with sorting own new lookahead []).below ≡ (view_with sorting None now lookahead []).below → (view_with sorting own new lookahead []).fault ≡ (view_with sorting None now lookahead []).fault
+        → view_with sorting own new lookahead [] ≡ view_with sorting None now lookahead []
     unfolding view_with
     alike own reader fault = let both : new ≡ now = reader in rw (fault, both) refl
 
     -- the line couldn't be read
-    pub sorted_unread : (fault : Fault) → GivesFault left failed now (told fault) new → Fills left failed end old (Err fault) (view_with sorting (Some (told fault)) new neighbours [])
+    pub sorted_unread : (fault : Fault) → GivesFault left failed now (fault_value fault) new → Fills left failed end old (Err fault) (view_with sorting (Some (fault_value fault)) new lookahead [])
     unfolding view_with
     sorted_unread fault gives = record {
-      answers = going_unread left failed end old (view_with sorting None now neighbours []) (view_with sorting (Some (told fault)) new neighbours []) (told fault) g gives refl refl (record { state = refl; format = refl }) (alike (Some (told fault)));
+      answers = going_unread left failed end old (view_with sorting None now lookahead []) (view_with sorting (Some (fault_value fault)) new lookahead []) (fault_value fault) g gives refl refl (record { state = refl; format = refl }) (alike (Some (fault_value fault)));
       kept = λ was. kept (g.passed.kept was);
     }
 
     -- no line was left
-    pub sorted_end : GivesEnd left failed now new → Fills left failed end old (Ok false) (view_with sorting None new neighbours [])
+    pub sorted_end : GivesEnd left failed now new → Fills left failed end old (Ok false) (view_with sorting None new lookahead [])
     unfolding view_with
     sorted_end gives = record {
-      answers = going_end left failed end old (view_with sorting None now neighbours []) (view_with sorting None new neighbours []) g gives refl refl (record { state = refl; format = refl }) (alike None);
+      answers = going_end left failed end old (view_with sorting None now lookahead []) (view_with sorting None new lookahead []) g gives refl refl (record { state = refl; format = refl }) (alike None);
       kept = λ was. kept (g.passed.kept was);
     }
 
@@ -137,28 +137,28 @@ none_buffered sorted none = rw none refl
 
 module _ {S Q : Type 0} (left : S → Option (List ℕ)) (failed end : S → Bool) (sorting : Sorting) where
   -- a reader with no fault of its own and no record buffered
-  pub view_before : (sorted : SortedReader S Q) → sorted.is_ahead ≡ false → sorted.fault ≡ None → view_in sorting sorted ≡ view_with sorting None sorted.reader sorted.neighbours []
+  pub view_before : (sorted : SortedReader S Q) → sorted.is_ahead ≡ false → sorted.fault ≡ None → view_in sorting sorted ≡ view_with sorting None sorted.reader sorted.lookahead []
   view_before sorted none going =
-      ap (λ own. view_with sorting (option_map told own) sorted.reader sorted.neighbours (buffered_in sorted)) going
-      ∙ ap (view_with sorting None sorted.reader sorted.neighbours) (none_buffered sorted none)
+      ap (λ own. view_with sorting (option_map fault_value own) sorted.reader sorted.lookahead (buffered_in sorted)) going
+      ∙ ap (view_with sorting None sorted.reader sorted.lookahead) (none_buffered sorted none)
 
   -- the next line, which was made buffered, was taken
   module _ {mid new : SortedReader S Q} (rules : Sorting) (same : rules ≡ sorting) where
     there : (answer : Result Bool Fault) → TakesFirst left end rules mid answer new → TakesFirst left end sorting mid answer new
     there answer taken = subst (λ s. TakesFirst left end s mid answer new) same taken
 
-    module _ (old : MemberReader S Feature (Option Locus)) (now : LineReader S) (makes : MakesLine left failed now mid.reader) (kept : IsKept left end now → IsKept left end mid.reader) (g : Going left failed end old (view_with sorting None now mid.neighbours [])) where
-      pub taken_record : TakesFirst left end rules mid (Ok true) new → Fills left failed end old (Ok true) (view_with sorting None new.reader new.neighbours (buffered_in new))
+    module _ (old : MemberReader S Feature (Option Locus)) (now : LineReader S) (makes : MakesLine left failed now mid.reader) (kept : IsKept left end now → IsKept left end mid.reader) (g : Going left failed end old (view_with sorting None now mid.lookahead [])) where
+      pub taken_record : TakesFirst left end rules mid (Ok true) new → Fills left failed end old (Ok true) (view_with sorting None new.reader new.lookahead (buffered_in new))
       taken_record taken =
           let first = there (Ok true) taken in
           sorted_record left failed end sorting old now mid new makes kept g first.line first.more first.first first.keeps first.takes
 
-      pub taken_nothing : TakesFirst left end rules mid (Ok false) new → Going left failed end old (view_with sorting None new.reader new.neighbours [])
+      pub taken_nothing : TakesFirst left end rules mid (Ok false) new → Going left failed end old (view_with sorting None new.reader new.lookahead [])
       taken_nothing taken =
           let first = there (Ok false) taken in
           sorted_more left failed end sorting old now mid new makes kept g first.line first.more first.first first.keeps first.takes
 
-      pub taken_fault : (fault : Fault) → TakesFirst left end rules mid (Err fault) new → Fills left failed end old (Err fault) (view_with sorting (Some (told fault)) new.reader new.neighbours (buffered_in new))
+      pub taken_fault : (fault : Fault) → TakesFirst left end rules mid (Err fault) new → Fills left failed end old (Err fault) (view_with sorting (Some (fault_value fault)) new.reader new.lookahead (buffered_in new))
       taken_fault fault taken =
           let first = there (Err fault) taken in
           rw (none_buffered new first.takes.none) (sorted_lost left failed end sorting old now mid new makes kept g first.line first.more first.first first.keeps fault first.takes)
@@ -171,8 +171,8 @@ module _ {S Q : Type 0} (left : S → Option (List ℕ)) (failed end : S → Boo
     pub read_nothing : TakesFirst left end rules mid (Ok false) new → HasRead IsRead old new.reader
     read_nothing taken = read_on left end IsRead old mid.reader new.reader read taken.takes.takes
 
-    pub read_fault : (before : Option Told) (fault : Fault) → TakesFirst left end rules mid (Err fault) new → TellsOwnFailure {T = Bool} IsRead before old (Err fault) new.reader
-    read_fault before fault taken = lost_is_own Bool IsRead before old new.reader fault (read_on left end IsRead old mid.reader new.reader read taken.takes.takes) rules (record { input = input_of mid.reader; line = taken.line.number }) taken.line.text mid.neighbours taken.takes.cause
+    pub read_fault : (before : Option FaultValue) (fault : Fault) → TakesFirst left end rules mid (Err fault) new → TellsOwnFailure {T = Bool} IsRead before old (Err fault) new.reader
+    read_fault before fault taken = lost_is_own Bool IsRead before old new.reader fault (read_on left end IsRead old mid.reader new.reader read taken.takes.takes) rules (record { input = input_of mid.reader; line = taken.line.number }) taken.line.text mid.lookahead taken.takes.cause
 
 some_parts : (records : List Feature) → is_some_left records ≡ true → (r : Feature) × (more : List Feature) × (records ≡ r ∷ more)
 some_parts [] e = absurd (false≢true e)
@@ -181,29 +181,29 @@ some_parts (r ∷ more) e = (r, more, refl)
 module _ {S Q : Type 0} (sorted : SortedReader S Q) (some : sorted.is_ahead ≡ true) where
   parts : (r : Feature) × (more : List Feature) × (buffered_in sorted ≡ r ∷ more)
   unfolding buffered_in
-  parts = some_parts (ahead_of sorted.is_ahead sorted.reader sorted.neighbours) (sorted.ahead some)
+  parts = some_parts (ahead_of sorted.is_ahead sorted.reader sorted.lookahead) (sorted.ahead some)
 
-  run_is : run_of (name_in sorted.neighbours) (start_in sorted.neighbours) (lines_buffered sorted.reader) ≡ parts.0 ∷ parts.1
+  run_is : run_of (name_in sorted.lookahead) (start_in sorted.lookahead) (lines_buffered sorted.reader) ≡ parts.0 ∷ parts.1
   unfolding buffered_in
-  run_is = (is_ahead_by sorted.is_ahead (run_of (name_in sorted.neighbours) (start_in sorted.neighbours) (lines_buffered sorted.reader)) parts.0 parts.1 parts.2).1
+  run_is = (is_ahead_by sorted.is_ahead (run_of (name_in sorted.lookahead) (start_in sorted.lookahead) (lines_buffered sorted.reader)) parts.0 parts.1 parts.2).1
 
-  first_is : FirstOfRun (name_in sorted.neighbours) (start_in sorted.neighbours) (lines_buffered sorted.reader) parts.0 parts.1
-  first_is = first_of_run (name_in sorted.neighbours) (start_in sorted.neighbours) (lines_buffered sorted.reader) parts.0 parts.1 run_is
+  first_is : FirstOfRun (name_in sorted.lookahead) (start_in sorted.lookahead) (lines_buffered sorted.reader) parts.0 parts.1
+  first_is = first_of_run (name_in sorted.lookahead) (start_in sorted.lookahead) (lines_buffered sorted.reader) parts.0 parts.1 run_is
 
   -- the chromosome of what is buffered has a record's name
-  pub name_is_record : IsRecordName (name_in sorted.neighbours)
+  pub name_is_record : IsRecordName (name_in sorted.lookahead)
   name_is_record = subst IsRecordName first_is.chrom (said_record_name first_is.line.text parts.0 (sym first_is.says))
 
   module _ (left : S → Option (List ℕ)) (failed end : S → Bool) (sorting : Sorting) (placed : IsPlaced sorting (view_in sorting sorted)) where
-    said_first : AreSaid (bed_format sorting) (last_in sorted.neighbours) (parts.0 ∷ parts.1)
+    said_first : AreSaid (bed_format sorting) (last_in sorted.lookahead) (parts.0 ∷ parts.1)
     unfolding view_with
-    said_first = order_is_said sorting (last_in sorted.neighbours) (name_in sorted.neighbours) (start_in sorted.neighbours) (lines_buffered sorted.reader) (parts.0 ∷ parts.1) run_is (ap (are_in_order sorting (last_in sorted.neighbours)) (sym parts.2) ∙ placed.in_order)
+    said_first = order_is_said sorting (last_in sorted.lookahead) (name_in sorted.lookahead) (start_in sorted.lookahead) (lines_buffered sorted.reader) (parts.0 ∷ parts.1) run_is (ap (are_in_order sorting (last_in sorted.lookahead)) (sym parts.2) ∙ placed.in_order)
 
     -- the record ahead is given again
     pub sorted_again : Fills left failed end (view_in sorting sorted) (Ok true) (view_in sorting sorted)
     unfolding view_with
     sorted_again =
-        let says = says_again sorting (last_in sorted.neighbours) first_is.line.text said_first.0.0.text parts.0 said_first.0.1 first_is.says in
+        let says = says_again sorting (last_in sorted.lookahead) first_is.line.text said_first.0.0.text parts.0 said_first.0.1 first_is.says in
         record {
           answers = record {
             m = record { line = first_is.line.number; item = parts.0 };

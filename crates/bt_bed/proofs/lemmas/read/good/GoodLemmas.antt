@@ -2,7 +2,7 @@
 use Rattle.std.proofs.Common.{◌≡◌, ℕ, zero, suc, ◌+◌, ◌<◌, ◌≤◌, List, [], ◌∷◌, ◌++◌, take, length, Option, Some, None, Result, Ok, Err, refl, sym, ap, subst, arith}
 use Rattle.std.specs.Prelude.{All, IfSome}
 use Rattle.std.proofs.lemmas.List.Elements.{All-nil, All-cons, All-head, All-tail}
-use Rattle.bt_lines.specs.model.Fault.{Told}
+use Rattle.bt_lines.specs.model.Fault.{FaultValue}
 use Rattle.bt_lines.specs.model.Lines.{TextLine, AreNumbered}
 use Rattle.bt_lines.specs.declared.fault.Input.{Input}
 use Rattle.bt_lines.specs.declared.fault.Kind.{Kind}
@@ -83,7 +83,7 @@ no_front [] rest e = refl
 no_front (m ∷ ms) rest e = cc
 
 module _ {A State : Type 0} (format : Format A State) (input : Input) where
-  first_with : (count number : ℕ) (state : State) (said : Result (Option A) Kind) (whole taken : State → Good A) (past rest : List (Member A)) (fault : Option Told) → number ≤ count
+  first_with : (count number : ℕ) (state : State) (said : Result (Option A) Kind) (whole taken : State → Good A) (past rest : List (Member A)) (fault : Option FaultValue) → number ≤ count
       → ((now : State) (past : List (Member A)) → (whole now).members ≡ past ++ rest → (whole now).fault ≡ fault → All (λ m. m.line ≤ count) past → taken now ≡ record { members = past; fault = None })
       → (good_with format input number state said whole).members ≡ past ++ rest → (good_with format input number state said whole).fault ≡ fault
       → All (λ m. m.line ≤ count) past → IsBeyond count (record { members = rest; fault = fault })
@@ -103,7 +103,7 @@ module _ {A State : Type 0} (format : Format A State) (input : Input) where
       rw (h now ms more f (All-tail (λ (m : Member A). m.line ≤ count) m ms up)) (ap (λ (m : Member A). record { members = m ∷ ms; fault = None }) same)
 
   -- what is good of the first lines are the members up to the last of these, if the others are after it
-  pub first_from : (more count number : ℕ) (state : State) (lines : List TextLine) (past rest : List (Member A)) (fault : Option Told) → suc count ≡ number + more → AreNumbered number lines
+  pub first_from : (more count number : ℕ) (state : State) (lines : List TextLine) (past rest : List (Member A)) (fault : Option FaultValue) → suc count ≡ number + more → AreNumbered number lines
       → (good_from format input state lines).members ≡ past ++ rest → (good_from format input state lines).fault ≡ fault
       → All (λ m. m.line ≤ count) past → IsBeyond count (record { members = rest; fault = fault })
       → good_from format input state (take more lines) ≡ record { members = past; fault = None }

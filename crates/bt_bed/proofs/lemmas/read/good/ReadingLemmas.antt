@@ -3,7 +3,7 @@ use Rattle.std.proofs.Common.{◌≡◌, ℕ, suc, ◌-◌, ◌^◌, ◌<◌, �
 use Rattle.std.specs.Prelude.{◌⊎◌, IsSome, IfSome, option_map}
 use Rattle.std.proofs.lemmas.Bool.{false≢true}
 use Rattle.bt_lines.proofs.lemmas.reader.lines.ReaderLemmas.{not_told}
-use Rattle.bt_lines.specs.model.Fault.{Told, read_failed, no_memory}
+use Rattle.bt_lines.specs.model.Fault.{FaultValue, read_failed, no_memory}
 use Rattle.bt_lines.specs.calls.LentLine.{GivesFirst}
 use Rattle.bt_lines.specs.model.Lines.{TextLine, AreNumbered}
 use Rattle.bt_lines.specs.calls.Reader.{Hands, IsKept, MakesLine, SameLines, FailsToRead, GivesEnd, GivesFault, buffered_bytes, buffered_in, source_of, input_of, lines_given, end_told, has_ended, lines_left, room as line_room, fault_kept as line_fault}
@@ -111,7 +111,7 @@ module _ {S A State : Type 0} (left : S → Option (List ℕ)) (failed end : S �
   stays_same reader = record { bytes = ([], hands_none left reader.below); format = refl }
 
   -- a fault that is kept is returned
-  pub fault_again : (old : MemberReader S A State) (fault : Told) → old.fault ≡ Some fault → old.buffered ≡ [] → AnswersFault left failed end old fault old
+  pub fault_again : (old : MemberReader S A State) (fault : FaultValue) → old.fault ≡ Some fault → old.buffered ≡ [] → AnswersFault left failed end old fault old
   fault_again old fault kept none = record {
     kept = kept;
     was_none = none;
@@ -266,7 +266,7 @@ module _ {S A State : Type 0} (left : S → Option (List ℕ)) (failed end : S �
         }
 
     -- a line is at fault
-    wrong_cause : (now new : MemberReader S A State) (line : TextLine) (fault : Told) (kind : Kind) → Going old now → LineCame left failed now.below line new.below
+    wrong_cause : (now new : MemberReader S A State) (line : TextLine) (fault : FaultValue) (kind : Kind) → Going old now → LineCame left failed now.below line new.below
         → now.format.says now.state line ≡ Err kind → is_of_line kind ≡ true → fault ≡ fault_at_line (input_of old.below) line.number kind → LineIsWrong left failed old fault new
     wrong_cause now new line fault kind g gives says of_line is =
         let counted : line.number ≡ lines_given new.below = gives.number ∙ sym gives.counted in
@@ -298,7 +298,7 @@ module _ {S A State : Type 0} (left : S → Option (List ℕ)) (failed end : S �
     told_first (Some good) n line item e h = (item, h.0, h.1 ∙ ap (λ (k : ℕ). record { line = k; item = item } ∷ h.0) e)
 
     -- a member that couldn't be kept was good
-    unkept_cause : (now new : MemberReader S A State) (line : TextLine) (fault : Told) (item : A) → Going old now → LineCame left failed now.below line new.below
+    unkept_cause : (now new : MemberReader S A State) (line : TextLine) (fault : FaultValue) (item : A) → Going old now → LineCame left failed now.below line new.below
         → now.format.says now.state line ≡ Ok (Some item) → fault ≡ no_memory → RunsOut left failed old fault new
     unkept_cause now new line fault item g gives says is =
         let IsGood : Good A → Type 0 = λ good. (item : A) × (rest : List (Member A)) × (good.members ≡ record { line = lines_given new.below; item = item } ∷ rest) in
@@ -307,7 +307,7 @@ module _ {S A State : Type 0} (left : S → Option (List ℕ)) (failed end : S �
         let here : IfSome (good_coming left now) IsGood = rw (good_is now (g.rest ∙ gives.was_going.0)) (told_first _ (lines_given new.below) line.number item counted first) in
         record { is = is; checked = inr (record { first = remains_if (good_coming left old) (good_coming left now) IsGood g.good here; rises = omega (arith, g.passed.least, gives.counted); going = gives.goes; near = gives.near }); served = gives.served ∙ g.served }
 
-    lost_by : (now new : MemberReader S A State) (line : TextLine) (fault : Told) → Going old now → LineCame left failed now.below line new.below → new.fault ≡ Some fault → new.buffered ≡ [] → Follows now new → (IsKept left end now.below → IsKept left end new.below)
+    lost_by : (now new : MemberReader S A State) (line : TextLine) (fault : FaultValue) → Going old now → LineCame left failed now.below line new.below → new.fault ≡ Some fault → new.buffered ≡ [] → Follows now new → (IsKept left end now.below → IsKept left end new.below)
         → Cause left failed end old fault new → AnswersFault left failed end old fault new
     lost_by now new line fault g gives kept ahead follows sound cause = record {
       kept = kept;
@@ -323,19 +323,19 @@ module _ {S A State : Type 0} (left : S → Option (List ℕ)) (failed end : S �
     }
 
     -- a line was wrong
-    pub going_wrong : (now new : MemberReader S A State) (line : TextLine) (fault : Told) (kind : Kind) → Going old now → LineCame left failed now.below line new.below → new.fault ≡ Some fault → new.buffered ≡ [] → Follows now new → (IsKept left end now.below → IsKept left end new.below)
+    pub going_wrong : (now new : MemberReader S A State) (line : TextLine) (fault : FaultValue) (kind : Kind) → Going old now → LineCame left failed now.below line new.below → new.fault ≡ Some fault → new.buffered ≡ [] → Follows now new → (IsKept left end now.below → IsKept left end new.below)
         → now.format.says now.state line ≡ Err kind → is_of_line kind ≡ true → fault ≡ fault_at_line (input_of old.below) line.number kind → AnswersFault left failed end old fault new
     going_wrong now new line fault kind g gives kept ahead follows sound says of_line is =
         lost_by now new line fault g gives kept ahead follows sound (inl (wrong_cause now new line fault kind g gives says of_line is))
 
     -- a member had no room
-    pub going_unkept : (now new : MemberReader S A State) (line : TextLine) (fault : Told) (item : A) → Going old now → LineCame left failed now.below line new.below → new.fault ≡ Some fault → new.buffered ≡ [] → Follows now new → (IsKept left end now.below → IsKept left end new.below)
+    pub going_unkept : (now new : MemberReader S A State) (line : TextLine) (fault : FaultValue) (item : A) → Going old now → LineCame left failed now.below line new.below → new.fault ≡ Some fault → new.buffered ≡ [] → Follows now new → (IsKept left end now.below → IsKept left end new.below)
         → now.format.says now.state line ≡ Ok (Some item) → fault ≡ no_memory → AnswersFault left failed end old fault new
     going_unkept now new line fault item g gives kept ahead follows sound says is =
         lost_by now new line fault g gives kept ahead follows sound (inr (inr (unkept_cause now new line fault item g gives says is)))
 
     -- the line couldn't be read
-    read_cause : (now new : MemberReader S A State) (fault : Told) → Going old now → GivesFault left failed now.below fault new.below → line_fault now.below ≡ None → FailsToRead left failed now.below fault new.below ⊎ (fault ≡ no_memory) → Cause left failed end old fault new
+    read_cause : (now new : MemberReader S A State) (fault : FaultValue) → Going old now → GivesFault left failed now.below fault new.below → line_fault now.below ≡ None → FailsToRead left failed now.below fault new.below ⊎ (fault ≡ no_memory) → Cause left failed end old fault new
     read_cause now new fault g gives going (inl fails) =
         let said = rw (sym gives.counted) at (beyond now g going) in
         inr (inl (record {
@@ -351,7 +351,7 @@ module _ {S A State : Type 0} (left : S → Option (List ℕ)) (failed end : S �
         let said = rw (sym gives.counted) at (beyond now g going) in
         inr (inr (record { is = is; checked = inl (gives.kept ∙ ap Some is, said); served = gives.served is ∙ g.served }))
 
-    again_by : (now new : MemberReader S A State) (fault : Told) → Going old now → GivesFault left failed now.below fault new.below → new.fault ≡ Some fault → (new.below ≡ now.below → new.fault ≡ now.fault → new ≡ now) → (now ≡ old) ⊎ Begun old → (before : Told) → old.fault ≡ Some before
+    again_by : (now new : MemberReader S A State) (fault : FaultValue) → Going old now → GivesFault left failed now.below fault new.below → new.fault ≡ Some fault → (new.below ≡ now.below → new.fault ≡ now.fault → new ≡ now) → (now ≡ old) ⊎ Begun old → (before : FaultValue) → old.fault ≡ Some before
         → (fault ≡ before) × (new ≡ old)
     again_by now new fault g gives is track (inl same) before kept =
         let line_kept : line_fault now.below ≡ Some before = sym g.rest ∙ ap (λ r. r.fault) same ∙ kept in
@@ -360,7 +360,7 @@ module _ {S A State : Type 0} (left : S → Option (List ℕ)) (failed end : S �
     again_by now new fault g gives is track (inr begun) before kept =
         absurd (let apart : None ≡ Some before = sym begun.was_going ∙ kept in cc)
 
-    pub going_unread : (now new : MemberReader S A State) (fault : Told) → Going old now → GivesFault left failed now.below fault new.below → new.fault ≡ Some fault → new.buffered ≡ [] → Follows now new → (new.below ≡ now.below → new.fault ≡ now.fault → new ≡ now)
+    pub going_unread : (now new : MemberReader S A State) (fault : FaultValue) → Going old now → GivesFault left failed now.below fault new.below → new.fault ≡ Some fault → new.buffered ≡ [] → Follows now new → (new.below ≡ now.below → new.fault ≡ now.fault → new ≡ now)
         → AnswersFault left failed end old fault new
     going_unread now new fault g gives kept ahead follows track = record {
       kept = kept;

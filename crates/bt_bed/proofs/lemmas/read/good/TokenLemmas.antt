@@ -11,7 +11,7 @@ use Rattle.bt_lines.specs.calls.Reader.{TakenLines, lines_given}
 use Rattle.bt_lines.specs.declared.reader.buffered_lines.BufferedLines.{BufferedLines}
 use Rattle.bt_bed.specs.calls.Batch.{IsWhere, Passes, cursor_in, left}
 use Rattle.bt_bed.specs.model.feature.Feature.{Feature}
-use Rattle.bt_bed.specs.inside.Neighbours.{start_in as start_of}
+use Rattle.bt_bed.specs.inside.OrderedLookahead.{start_in as start_of}
 use Rattle.bt_bed.specs.calls.RawRecord.{record_in}
 use Rattle.bt_bed.specs.calls.Run.{is_some_left, last_start}
 use Rattle.bt_bed.specs.calls.SortedReader.{IsTaken, Lends, buffered_in, count_in}
@@ -75,6 +75,6 @@ module _ {S Q : Type 0} (sorted : SortedReader S Q) (first last : Batch) (record
   token_is = record {
     lines = subst (TakenLines sorted.reader consumed.lines) (sym count_is) lines_are;
     within = omega (arith, count_is, ap length all_is, length-append records (left last));
-    start = is.start ∙ passes.start ∙ ap (λ s. last_start s records) lends.start ∙ ap (last_start (start_of sorted.neighbours)) (sym taken_are);
+    start = is.start ∙ passes.start ∙ ap (λ s. last_start s records) lends.start ∙ ap (last_start (start_of sorted.lookahead)) (sym taken_are);
     ahead = is.ahead ∙ ap is_some_left (sym (ap (λ n. drop n (buffered_in sorted)) count_is ∙ ap (drop (length records)) all_is ∙ drop_at records (left last) (length records) refl));
   }

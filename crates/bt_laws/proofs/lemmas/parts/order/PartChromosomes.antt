@@ -14,7 +14,7 @@ use Rattle.bt_bed.specs.model.order.Genome.{Entry, genome_names}
 use Rattle.bt_bed.specs.model.feature.Interval.{Interval, last_from, last_of}
 use Rattle.bt_bed.specs.model.order.Rank.{AreDistinct, is_among, rank_order}
 use Rattle.bt_bed.specs.inside.RankTotal.{ranks_total}
-use Rattle.bt_bed.specs.model.order.Together.{has_records}
+use Rattle.bt_bed.specs.model.order.Contiguous.{has_records}
 use Rattle.bt_bed.proofs.lemmas.parse.NameLemmas.{name_eq, name_ne}
 use Rattle.bt_bed.proofs.lemmas.order.RankLemmas.{among_ranked}
 use Rattle.bt_runs.specs.model.Gaps.{is_over_at}

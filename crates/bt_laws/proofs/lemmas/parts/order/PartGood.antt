@@ -3,7 +3,7 @@ use Rattle.std.proofs.Common.{◌≡◌, ℕ, false, List, [], ◌∷◌, ◌++�
 use Rattle.std.specs.Prelude.{is_none}
 use Rattle.std.specs.List.{AllByRecursion}
 use Rattle.std.proofs.lemmas.List.{map-append}
-use Rattle.bt_lines.specs.model.Fault.{Told}
+use Rattle.bt_lines.specs.model.Fault.{FaultValue}
 use Rattle.bt_lines.specs.model.Lines.{TextLine, lines_from, text_lines}
 use Rattle.bt_lines.specs.declared.fault.Input.{Input}
 use Rattle.bt_lines.specs.declared.fault.Kind.{Kind}
@@ -16,12 +16,12 @@ pub record IsLike {A : Type 0} (g h : Good A) : Type 0 where
   pub items : items_in g ≡ items_in h
   pub fault : is_none g.fault ≡ is_none h.fault
 
-pub none_like : (f g : Option Told) → is_none f ≡ is_none g → f ≡ None → g ≡ None
+pub none_like : (f g : Option FaultValue) → is_none f ≡ is_none g → f ≡ None → g ≡ None
 none_like None None e d = refl
 none_like None (Some g) e d = cc
 none_like (Some f) g e d = cc
 
-put_by : {A : Type 0} → Option Told → Good A → Good A → Good A
+put_by : {A : Type 0} → Option FaultValue → Good A → Good A → Good A
 put_by None g h = record { members = g.members ++ h.members; fault = h.fault }
 put_by (Some fault) g h = g
 
@@ -30,12 +30,12 @@ put_behind : {A : Type 0} → Good A → Good A → Good A
 unfolding put_by
 put_behind g h = put_by g.fault g h
 
-member_by : {A : Type 0} (m : Member A) (fault : Option Told) (g h : Good A) → with_member m (put_by fault g h) ≡ put_by fault (with_member m g) h
+member_by : {A : Type 0} (m : Member A) (fault : Option FaultValue) (g h : Good A) → with_member m (put_by fault g h) ≡ put_by fault (with_member m g) h
 unfolding put_by
 member_by m None g h = refl
 member_by m (Some fault) g h = refl
 
-abbrev pub IsJointBy : {A : Type 0} → Option Told → Good A → Good A → Good A → Type 0
+abbrev pub IsJointBy : {A : Type 0} → Option FaultValue → Good A → Good A → Good A → Type 0
 IsJointBy None one two whole = (items_in whole ≡ items_in one ++ items_in two) × (is_none whole.fault ≡ is_none two.fault)
 IsJointBy (Some fault) one two whole = (items_in whole ≡ items_in one) × (is_none whole.fault ≡ false)
 
@@ -43,7 +43,7 @@ IsJointBy (Some fault) one two whole = (items_in whole ≡ items_in one) × (is_
 abbrev pub IsJoint : {A : Type 0} → Good A → Good A → Good A → Type 0
 IsJoint one two whole = IsJointBy one.fault one two whole
 
-joint_by : {A : Type 0} (fault : Option Told) (one two like : Good A) → one.fault ≡ fault → IsLike two like → IsJointBy fault one like (put_by fault one two)
+joint_by : {A : Type 0} (fault : Option FaultValue) (one two like : Good A) → one.fault ≡ fault → IsLike two like → IsJointBy fault one like (put_by fault one two)
 unfolding put_by
 joint_by None one two like e is = (map-append (λ m. m.item) one.members two.members ∙ ap (λ l. items_in one ++ l) is.items, is.fault)
 joint_by (Some fault) one two like e is = (refl, ap is_none e)

@@ -5,7 +5,7 @@ use Rattle.std.specs.List.{AllByRecursion, list_all, list_any}
 use Rattle.std.specs.Option.{option_or}
 use Rattle.std.specs.declared.cmp.Ordering.TheVariants.{Less}
 use Rattle.std.proofs.lemmas.Bool.{or_left, or_right}
-use Rattle.bt_lines.specs.model.Fault.{Told}
+use Rattle.bt_lines.specs.model.Fault.{FaultValue}
 use Rattle.bt_lines.specs.model.Handed.{Handed}
 use Rattle.bt_lines.specs.model.Lines.{lines_from, text_lines}
 use Rattle.bt_lines.specs.declared.fault.Input.{Input}
@@ -15,7 +15,7 @@ use Rattle.bt_bed.specs.model.order.Genome.{Entry, genome_names}
 use Rattle.bt_bed.specs.model.input.Good.{Good, good, items_in}
 use Rattle.bt_bed.specs.model.input.GoodBed.{bed_format}
 use Rattle.bt_bed.specs.model.order.Locus.{is_below_at}
-use Rattle.bt_bed.specs.model.input.Meeting.{meet}
+use Rattle.bt_bed.specs.model.input.TwoInputReport.{join_report}
 use Rattle.bt_bed.specs.model.order.Rank.{AreDistinct, is_among, rank_order}
 use Rattle.bt_bed.specs.inside.RankTotal.{ranks_total}
 use Rattle.bt_bed.specs.model.order.Sorting.{sorting_of}
@@ -53,8 +53,8 @@ any_same t u [] h = refl
 any_same t u (x ∷ xs) h = ap₂ (λ a b. a || b) h.0 (any_same t u xs h.1)
 
 -- rules that say the same, but for what they decide, which is the same of these members
-meet_same : {A : Type 0} (t u : A → Bool) (lines : A → List ℕ) (told last : Option Told) (xs : List A) (fault : Option Told) → AllByRecursion (λ x. t x ≡ u x) xs
-    → meet (record { decided = t; lines = lines; fault = told; last = last }) xs fault ≡ meet (record { decided = u; lines = lines; fault = told; last = last }) xs fault
+meet_same : {A : Type 0} (t u : A → Bool) (lines : A → List ℕ) (told last : Option FaultValue) (xs : List A) (fault : Option FaultValue) → AllByRecursion (λ x. t x ≡ u x) xs
+    → join_report (record { decided = t; lines = lines; fault = told; last = last }) xs fault ≡ join_report (record { decided = u; lines = lines; fault = told; last = last }) xs fault
 meet_same t u lines told last xs fault h =
     ap₂ (λ b (ls : List ℕ). cond b (record { lines = flat_map lines xs; fault = option_or fault last }) (record { lines = ls; fault = told })) (all_same t u xs h) (ap (flat_map lines) (take_same t u xs h))
 
@@ -108,7 +108,7 @@ module _ (mine yours : List (List ℕ)) (agree : Agree (rank_order mine) (rank_o
   decided_same : (a : Feature) (bs : List Feature) → In a → AllByRecursion In bs → decided (rank_order mine) a bs ≡ decided (rank_order yours) a bs
   decided_same a bs one h = any_same (decides (rank_order mine) a) (decides (rank_order yours) a) bs (all_so _ _ bs (λ b two. decides_same a b one two) h)
 
-  sweep_same : (given : List Feature) (fa : Option Told) (bs : List Feature) (fb : Option Told) → AllByRecursion In given → AllByRecursion In bs
+  sweep_same : (given : List Feature) (fa : Option FaultValue) (bs : List Feature) (fb : Option FaultValue) → AllByRecursion In given → AllByRecursion In bs
       → sweep_report (rank_order mine) shape rule given fa bs fb ≡ sweep_report (rank_order yours) shape rule given fa bs fb
   sweep_same given fa bs fb one two =
       ap met_report (meet_same (sweep_rule (rank_order mine) shape rule bs fb).decided (sweep_rule (rank_order yours) shape rule bs fb).decided (sweep_rule (rank_order mine) shape rule bs fb).lines fb fb given fa

@@ -7,13 +7,13 @@ use Rattle.std.proofs.lemmas.Bool.{or_left}
 use Rattle.std.proofs.lemmas.Grind.{flat_map-append}
 use Rattle.bt_laws.proofs.lemmas.parts.order.PartGood.{none_like}
 use Rattle.bt_seq.proofs.lemmas.mask.steps.LineStepLemmas.{some_list}
-use Rattle.bt_lines.specs.model.Fault.{Told}
+use Rattle.bt_lines.specs.model.Fault.{FaultValue}
 use Rattle.bt_lines.specs.model.Lines.{text_lines}
 use Rattle.bt_lines.specs.declared.fault.Input.TheVariants.{First, Second}
 use Rattle.bt_lines.specs.declared.fault.Kind.TheVariants.{NoSequence}
 use Rattle.bt_bed.specs.model.feature.Feature.{Feature}
 use Rattle.bt_bed.specs.model.input.Good.{Good, items_in, or_else}
-use Rattle.bt_bed.specs.model.input.Meeting.{Rule, meet, written}
+use Rattle.bt_bed.specs.model.input.TwoInputReport.{Rule, join_report, written}
 use Rattle.bt_bed.proofs.lemmas.laws.MeetingLemmas.{all_written, met_fault_all, met_lines, written_at, written_past}
 use Rattle.bt_seq.proofs.lemmas.laws.LeftLemmas.{leave}
 use Rattle.bt_seq.proofs.lemmas.laws.MaskFrontLemmas.{decided_by_tags, unnamed_own}
@@ -38,7 +38,7 @@ use Rattle.bt_laws.proofs.lemmas.parts.report.PartSweep.{all_true, take_front, u
 
 -- ---- written lines
 
-module _ (mine yours : Rule SequenceLine ℕ Told) (move : SequenceLine → SequenceLine) where
+module _ (mine yours : Rule SequenceLine ℕ FaultValue) (move : SequenceLine → SequenceLine) where
   -- lines that were moved, by a rule that says the same of them
   moved_at : (x : SequenceLine) (xs : List SequenceLine) (b : Bool) → mine.decided (move x) ≡ b → yours.decided x ≡ b → mine.lines (move x) ≡ yours.lines x → written mine (map move xs) ≡ written yours xs
       → written mine (move x ∷ map move xs) ≡ written yours (x ∷ xs)
@@ -49,7 +49,7 @@ module _ (mine yours : Rule SequenceLine ℕ Told) (move : SequenceLine → Sequ
   written_moved [] h = refl
   written_moved (x ∷ xs) h = moved_at x xs (yours.decided x) h.0.0 refl h.0.1 (written_moved xs h.1)
 
-none_written : (rule : Rule SequenceLine ℕ Told) (xs : List SequenceLine) → AllByRecursion (λ x. rule.decided x ≡ false) xs → written rule xs ≡ []
+none_written : (rule : Rule SequenceLine ℕ FaultValue) (xs : List SequenceLine) → AllByRecursion (λ x. rule.decided x ≡ false) xs → written rule xs ≡ []
 none_written rule [] h = refl
 none_written rule (x ∷ xs) h = written_at rule x xs false h.0
 
@@ -70,7 +70,7 @@ module _ (how : MaskHow) (full : Bool) where
   R text = block_records how full text
 
   -- the rule for two texts
-  abbrev rule_on : Texts → Rule SequenceLine ℕ Told
+  abbrev rule_on : Texts → Rule SequenceLine ℕ FaultValue
   rule_on texts = mask_rule how (N texts.first) (B texts.second)
 
   -- a record has no sequence, and no line before the first header is at fault
@@ -96,7 +96,7 @@ module _ (how : MaskHow) (full : Bool) where
   -- and this is told
   pub lacks_kind : (texts : Texts) → Lacks texts → option_map (λ fault. fault.kind) (report_on texts).fault ≡ Some NoSequence
   lacks_kind texts lacks =
-      ap (option_map (λ (fault : Told). fault.kind))
+      ap (option_map (λ (fault : FaultValue). fault.kind))
       (met_fault_all (rule_on texts) (items_in (F texts.first)) (F texts.first).fault (lacks_decided texts lacks)
       ∙ ap₂ (λ a b. option_or a (or_else b (B texts.second).fault)) lacks.lines (told_lost (N texts.first) (B texts.second).members lacks.lost).1)
 
@@ -148,7 +148,7 @@ module _ (how : MaskHow) (full : Bool) where
 
     -- ---- text stands before its first header
 
-    module _ (fault : Told) (e : (F one.first).fault ≡ Some fault) where
+    module _ (fault : FaultValue) (e : (F one.first).fault ≡ Some fault) where
       same_lines : F (one.first ++ two.first) ≡ F one.first
       same_lines = subst (λ f. AreBothBy full First f (F one.first) (F two.first) (F (one.first ++ two.first))) e (fasta_both full First one.first two.first are.first are.begins)
 
@@ -164,7 +164,7 @@ module _ (how : MaskHow) (full : Bool) where
               (ap (λ own. own_records own records) is ∙ unnamed_own records ∙ sym (unnamed_own []) ∙ sym (ap (λ own. own_records own []) is))
           by_names (n ∷ ns) is u = cc
 
-      unnamed_output : (names : List (List ℕ)) (second : Good Feature) → (meet (mask_rule how names second) (items_in (F one.first)) (F one.first).fault).lines ≡ flat_map (masked_line how []) (items_in (F one.first))
+      unnamed_output : (names : List (List ℕ)) (second : Good Feature) → (join_report (mask_rule how names second) (items_in (F one.first)) (F one.first).fault).lines ≡ flat_map (masked_line how []) (items_in (F one.first))
       unnamed_output names second =
           met_lines (mask_rule how names second) (items_in (F one.first)) (F one.first).fault
           ∙ sym (all_written (mask_rule how names second) (items_in (F one.first))
@@ -175,13 +175,13 @@ module _ (how : MaskHow) (full : Bool) where
       stops_unnamed : (report_on one).output ≡ (report_on both).output
       stops_unnamed =
           unnamed_output (N one.first) (B one.second)
-          ∙ sym (ap (λ (g : Good SequenceLine). (meet (mask_rule how (names_of (items_in g)) (B (one.second ++ two.second))) (items_in g) g.fault).lines) same_lines ∙ unnamed_output (N one.first) (B (one.second ++ two.second)))
+          ∙ sym (ap (λ (g : Good SequenceLine). (join_report (mask_rule how (names_of (items_in g)) (B (one.second ++ two.second))) (items_in g) g.fault).lines) same_lines ∙ unnamed_output (N one.first) (B (one.second ++ two.second)))
 
     -- ---- its records have sequences
 
     module _ (lines : (F one.first).fault ≡ None) (rest : List (List ℕ)) (kept : leave (Some (N one.first)) None (R one.second) ≡ Some rest) where
       -- records of the first part alone decide no line of the second
-      undecided : (fault : Told) (second : Good Feature) → second.fault ≡ Some fault → items_in second ≡ R one.second → (names : List (List ℕ))
+      undecided : (fault : FaultValue) (second : Good Feature) → second.fault ≡ Some fault → items_in second ≡ R one.second → (names : List (List ℕ))
           → AllByRecursion (λ line. (mask_rule how names second).decided line ≡ false) (map (line_after (N one.first)) (items_in (F two.first)))
       undecided fault second e same names = all_map _ (line_after (N one.first)) (items_in (F two.first)) (all_so _ _ (items_in (F two.first)) (λ line u. each line u) named_two)
         where
@@ -201,7 +201,7 @@ module _ (how : MaskHow) (full : Bool) where
               ∙ decided_by_tags (line_after (N one.first) line) (R one.second) ∙ by_names line line.names refl u
 
       -- a record of it is at fault
-      stops_faulty : (fault : Told) → (B one.second).fault ≡ Some fault → (report_on one).output ≡ (report_on both).output
+      stops_faulty : (fault : FaultValue) → (B one.second).fault ≡ Some fault → (report_on one).output ≡ (report_on both).output
       stops_faulty fault e =
           let same : B (one.second ++ two.second) ≡ B one.second = faulty_same Second one.second two.second are.second fault e in
           met_lines (rule_on one) (items_in (F one.first)) (F one.first).fault
@@ -245,7 +245,7 @@ module _ (how : MaskHow) (full : Bool) where
         both_lines lacks = lacks_output both (both_lack lacks) ∙ all_lines ∙ sym (ap₂ (λ a b. a ++ b) first_output (lacks_output two lacks))
 
         -- a record of the second part is at fault, or none
-        abbrev W : Rule SequenceLine ℕ Told
+        abbrev W : Rule SequenceLine ℕ FaultValue
         W = rule_on both
 
         front_of : (rest : List ℕ) × (flat_map W.lines (items_in (F one.first)) ≡ written W (items_in (F one.first)) ++ rest)
@@ -301,12 +301,12 @@ module _ (how : MaskHow) (full : Bool) where
               ap (λ records. masked_line how records (line_after (N one.first) line)) joint.0 ∙ line_second how (N one.first) rest (R one.second) (R two.second) kept lost line u,
             )
 
-        some_fault : (f g : Option Told) (fault : Told) → is_none f ≡ is_none g → g ≡ Some fault → (told : Told) × (f ≡ Some told)
+        some_fault : (f g : Option FaultValue) (fault : FaultValue) → is_none f ≡ is_none g → g ≡ Some fault → (told : FaultValue) × (f ≡ Some told)
         some_fault None g fault e is = let apart : true ≡ false = e ∙ ap is_none is in absurd (let it : ⊥ = cc in it)
         some_fault (Some told) g fault e is = (told, refl)
 
         -- without any of them
-        before_second : (fault : Told) → (B two.second).fault ≡ Some fault → R two.second ≡ [] → (rest : List ℕ) × ((report_on one).output ++ (report_on two).output ≡ (report_on both).output ++ rest)
+        before_second : (fault : FaultValue) → (B two.second).fault ≡ Some fault → R two.second ≡ [] → (rest : List ℕ) × ((report_on one).output ++ (report_on two).output ≡ (report_on both).output ++ rest)
         before_second fault e is = (
           front_of.0,
           ap (λ l. (report_on one).output ++ l)
@@ -326,7 +326,7 @@ module _ (how : MaskHow) (full : Bool) where
             sound_output how (F (one.first ++ two.first)) (B (one.second ++ two.second)) (none_like (B two.second).fault (B (one.second ++ two.second)).fault (sym joint.1) e)
             ∙ all_lines ∙ sym (ap₂ (λ a b. a ++ b) first_output (sound_output how (F two.first) (B two.second) e))
 
-        either : (g : Option Told) → (B two.second).fault ≡ g → (ts : List Feature) → R two.second ≡ ts → (rest : List ℕ) × ((report_on one).output ++ (report_on two).output ≡ (report_on both).output ++ rest)
+        either : (g : Option FaultValue) → (B two.second).fault ≡ g → (ts : List Feature) → R two.second ≡ ts → (rest : List ℕ) × ((report_on one).output ++ (report_on two).output ≡ (report_on both).output ++ rest)
         either None e ts is = ([], sym (no_fault e) ∙ sym (append-nil (report_on both).output))
         either (Some fault) e (r ∷ rs) is = ([], sym (past_first r rs is) ∙ sym (append-nil (report_on both).output))
         either (Some fault) e [] is = before_second fault e is
@@ -346,7 +346,7 @@ module _ (how : MaskHow) (full : Bool) where
     pub faulty_first : ((report_on one).fault ≡ None → ⊥) → StopsOrGoes
     faulty_first some = by_lines (F one.first).fault refl
       where
-        by_records : (g : Option Told) → (B one.second).fault ≡ g → (F one.first).fault ≡ None → (rest : List (List ℕ)) → leave (Some (N one.first)) None (R one.second) ≡ Some rest → StopsOrGoes
+        by_records : (g : Option FaultValue) → (B one.second).fault ≡ g → (F one.first).fault ≡ None → (rest : List (List ℕ)) → leave (Some (N one.first)) None (R one.second) ≡ Some rest → StopsOrGoes
         by_records None e lines rest kept = absurd (some (sound_report how (F one.first) (B one.second) (record { lines = lines; records = e; owned = ap is_some kept })))
         by_records (Some fault) e lines rest kept = inl ([], stops_faulty lines rest kept fault e ∙ sym (append-nil (report_on both).output))
 
@@ -354,7 +354,7 @@ module _ (how : MaskHow) (full : Bool) where
         by_left None e lines = let lacks : Lacks one = record { lines = lines; lost = e } in inr (whole_lacks lacks, goes_on lacks)
         by_left (Some rest) e lines = by_records (B one.second).fault refl lines rest e
 
-        by_lines : (g : Option Told) → (F one.first).fault ≡ g → StopsOrGoes
+        by_lines : (g : Option FaultValue) → (F one.first).fault ≡ g → StopsOrGoes
         by_lines None e = by_left (leave (Some (N one.first)) None (R one.second)) refl e
         by_lines (Some fault) e = inl ([], stops_unnamed fault e ∙ sym (append-nil (report_on both).output))
 

@@ -2,7 +2,7 @@
 use Rattle.std.proofs.Common.{◌≡◌, ℕ, Bool, ◌⊎◌, List, [], ◌∷◌, ◌++◌, map, append-nil, append_assoc, Option, Some, None, inl, inr, refl, sym, ap, ap₂, ◌∙◌, subst}
 use Rattle.std.specs.Prelude.{IsTrue, flat_map}
 use Rattle.std.specs.List.{AllByRecursion}
-use Rattle.bt_lines.specs.model.Fault.{Told}
+use Rattle.bt_lines.specs.model.Fault.{FaultValue}
 use Rattle.bt_lines.specs.model.Lines.{lines_from}
 use Rattle.bt_bed.specs.model.input.Good.{good_from}
 use Rattle.bt_seq.specs.declared.mask.mask_how.MaskHow.{MaskHow}
@@ -88,7 +88,7 @@ module _ (how : MaskHow) (full : Bool) where
     two : AreTwo how full t (joined_texts (u ∷ ts))
     two = are_two t u ts own.fit
 
-    faulty : (fault : Option Told) (outputs : List ℕ) → (fault ≡ None → ⊥) → (T t).output ++ unless_fault fault outputs ≡ (T t).output
+    faulty : (fault : Option FaultValue) (outputs : List ℕ) → (fault ≡ None → ⊥) → (T t).output ++ unless_fault fault outputs ≡ (T t).output
     faulty None outputs some = absurd (some refl)
     faulty (Some fault) outputs some = append-nil (T t).output
 
@@ -113,7 +113,7 @@ module _ (how : MaskHow) (full : Bool) where
           )
     ]
 
-    end_by : (fault : Option Told) → (T t).fault ≡ fault → Ends (u ∷ ts) → Ends (t ∷ u ∷ ts)
+    end_by : (fault : Option FaultValue) → (T t).fault ≡ fault → Ends (u ∷ ts) → Ends (t ∷ u ∷ ts)
     end_by None e ends = end_sound e ends
     end_by (Some fault) e ends = end_faulty (λ none. let apart : Some fault ≡ None = sym e ∙ none in cc)
 

@@ -3,7 +3,7 @@ use Rattle.std.proofs.Common.{◌≡◌, ℕ, Bool, true, false, List, [], ◌�
 use Rattle.std.specs.Prelude.{IsTrue, flat_map, is_some}
 use Rattle.bt_laws.proofs.lemmas.parts.order.PartGood.{none_like}
 use Rattle.bt_seq.proofs.lemmas.mask.steps.LineStepLemmas.{some_list}
-use Rattle.bt_lines.specs.model.Fault.{Told}
+use Rattle.bt_lines.specs.model.Fault.{FaultValue}
 use Rattle.bt_lines.specs.model.Lines.{text_lines}
 use Rattle.bt_lines.specs.declared.fault.Input.TheVariants.{First, Second}
 use Rattle.bt_bed.specs.model.feature.Feature.{Feature}
@@ -53,7 +53,7 @@ module _ (how : MaskHow) (full : Bool) where
   joined_two one two = record { first = one.first ++ two.first; second = one.second ++ two.second }
 
   module _ (one two : Texts) (are : AreTwo one two) where
-    sound_lines : (fault : Option Told) → (fasta_of one.first).fault ≡ fault → fault ≡ None
+    sound_lines : (fault : Option FaultValue) → (fasta_of one.first).fault ≡ fault → fault ≡ None
         → (items_in (fasta_of (one.first ++ two.first)) ≡ items_in (fasta_of one.first) ++ map (line_after (fasta_names one.first)) (items_in (fasta_of two.first))) × ((fasta_of (one.first ++ two.first)).fault ≡ None)
     sound_lines None is e = subst (λ f. AreBothBy full First f (fasta_of one.first) (fasta_of two.first) (fasta_of (one.first ++ two.first))) is (fasta_both full First one.first two.first are.first are.begins)
     sound_lines (Some f) is e = cc
@@ -66,7 +66,7 @@ module _ (how : MaskHow) (full : Bool) where
     pub names_of_both : (fasta_of one.first).fault ≡ None → fasta_names (one.first ++ two.first) ≡ fasta_names one.first ++ fasta_names two.first
     names_of_both e = ap names_of (lines_of_both e).0 ∙ names_both full First (items_in (fasta_of one.first)) (items_in (fasta_of two.first))
 
-    first_lines_sound : (fault : Option Told) → (fasta_of one.first).fault ≡ fault → (fasta_of (one.first ++ two.first)).fault ≡ None → fault ≡ None
+    first_lines_sound : (fault : Option FaultValue) → (fasta_of one.first).fault ≡ fault → (fasta_of (one.first ++ two.first)).fault ≡ None → fault ≡ None
     first_lines_sound None is e = refl
     first_lines_sound (Some f) is e =
         let same : fasta_of (one.first ++ two.first) ≡ fasta_of one.first = subst (λ f. AreBothBy full First f (fasta_of one.first) (fasta_of two.first) (fasta_of (one.first ++ two.first))) is (fasta_both full First one.first two.first are.first are.begins) in

@@ -4,7 +4,7 @@ use Rattle.std.specs.Prelude.{flat_map, is_some}
 use Rattle.std.specs.List.{AllByRecursion, list_all}
 use Rattle.std.specs.Option.{option_or}
 use Rattle.std.proofs.lemmas.Grind.{flat_map-append}
-use Rattle.bt_lines.specs.model.Fault.{Told}
+use Rattle.bt_lines.specs.model.Fault.{FaultValue}
 use Rattle.bt_lines.specs.model.Lines.{end_bytes, text_lines}
 use Rattle.bt_lines.specs.declared.fault.Input.TheVariants.{First, Second}
 use Rattle.bt_lines.specs.declared.fault.Kind.TheVariants.{NoSequence}
@@ -12,7 +12,7 @@ use Rattle.bt_bed.specs.model.feature.Feature.{Feature}
 use Rattle.bt_bed.specs.model.input.Good.{Good, Member, good, items_in, or_else}
 use Rattle.bt_bed.specs.model.input.GoodBlocks.{block_format}
 use Rattle.bt_bed.specs.model.feature.LineKind.{fault_at_line}
-use Rattle.bt_bed.specs.model.input.Meeting.{Rule, meet}
+use Rattle.bt_bed.specs.model.input.TwoInputReport.{Rule, join_report}
 use Rattle.bt_bed.proofs.lemmas.laws.MeetingLemmas.{met_fault_all, met_fault_stop}
 use Rattle.bt_seq.proofs.lemmas.laws.LeftLemmas.{leave, leave_all}
 use Rattle.bt_seq.proofs.lemmas.laws.MaskMetLemmas.{faultless_masked, first_is_told, lack_none, items}
@@ -42,37 +42,37 @@ module _ (how : MaskHow) where
   mask_is full texts = ap₂ mask_good (good_whole (sequence_format full) First texts.first) (good_whole block_format Second texts.second)
 
   -- the rule of records and their fault
-  abbrev pub rule_of : List (List ℕ) → List (Member Feature) → Option Told → Rule SequenceLine ℕ Told
+  abbrev pub rule_of : List (List ℕ) → List (Member Feature) → Option FaultValue → Rule SequenceLine ℕ FaultValue
   rule_of names members fault = mask_rule how names (record { members = members; fault = fault })
 
   pub all_decided : (names : List (List ℕ)) (members : List (Member Feature)) (lines : List SequenceLine) → list_all (rule_of names members None).decided lines ≡ true
   all_decided names members [] = refl
   all_decided names members (l ∷ ls) = all_decided names members ls
 
-  never_none : (fault other : Option Told) (f : Told) → option_or fault (or_else other (Some f)) ≡ None → ⊥
+  never_none : (fault other : Option FaultValue) (f : FaultValue) → option_or fault (or_else other (Some f)) ≡ None → ⊥
   never_none None None f e = cc
   never_none None (Some g) f e = cc
   never_none (Some h) other f e = cc
 
-  both_none : (fault other : Option Told) → option_or fault (or_else other None) ≡ None → (fault ≡ None) × (other ≡ None)
+  both_none : (fault other : Option FaultValue) → option_or fault (or_else other None) ≡ None → (fault ≡ None) × (other ≡ None)
   both_none None None e = (refl, refl)
   both_none None (Some g) e = cc
   both_none (Some h) other e = cc
 
-  some_by : (names : List (List ℕ)) (lines : List SequenceLine) (fault : Option Told) (members : List (Member Feature)) (f : Told) (b : Bool) → list_all (rule_of names members (Some f)).decided lines ≡ b
-      → (meet (rule_of names members (Some f)) lines fault).fault ≡ None → ⊥
+  some_by : (names : List (List ℕ)) (lines : List SequenceLine) (fault : Option FaultValue) (members : List (Member Feature)) (f : FaultValue) (b : Bool) → list_all (rule_of names members (Some f)).decided lines ≡ b
+      → (join_report (rule_of names members (Some f)) lines fault).fault ≡ None → ⊥
   some_by names lines fault members f true e none = never_none fault (no_sequence names members) f (sym (met_fault_all (rule_of names members (Some f)) lines fault e) ∙ none)
   some_by names lines fault members f false e none = let told : Some f ≡ None = sym (met_fault_stop (rule_of names members (Some f)) lines fault e) ∙ none in cc
 
-  sound_by : (names : List (List ℕ)) (lines : List SequenceLine) (fault : Option Told) (members : List (Member Feature)) (second : Option Told)
-      → (meet (rule_of names members second) lines fault).fault ≡ None → (fault ≡ None) × (second ≡ None) × (no_sequence names members ≡ None)
+  sound_by : (names : List (List ℕ)) (lines : List SequenceLine) (fault : Option FaultValue) (members : List (Member Feature)) (second : Option FaultValue)
+      → (join_report (rule_of names members second) lines fault).fault ≡ None → (fault ≡ None) × (second ≡ None) × (no_sequence names members ≡ None)
   sound_by names lines fault members None e =
       let both = both_none fault (no_sequence names members) (sym (met_fault_all (rule_of names members None) lines fault (all_decided names members lines)) ∙ e) in
       (both.0, refl, both.1)
   sound_by names lines fault members (Some f) e = absurd (some_by names lines fault members f (list_all (rule_of names members (Some f)).decided lines) refl e)
 
-  none_by : (names : List (List ℕ)) (lines : List SequenceLine) (fault : Option Told) (members : List (Member Feature)) (second : Option Told)
-      → fault ≡ None → second ≡ None → no_sequence names members ≡ None → (meet (rule_of names members second) lines fault).fault ≡ None
+  none_by : (names : List (List ℕ)) (lines : List SequenceLine) (fault : Option FaultValue) (members : List (Member Feature)) (second : Option FaultValue)
+      → fault ≡ None → second ≡ None → no_sequence names members ≡ None → (join_report (rule_of names members second) lines fault).fault ≡ None
   none_by names lines fault members None e d o =
       met_fault_all (rule_of names members None) lines fault (all_decided names members lines) ∙ ap₂ (λ f g. option_or f (or_else g None)) e o
   none_by names lines fault members (Some f) e d o = cc

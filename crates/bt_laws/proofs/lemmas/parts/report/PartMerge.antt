@@ -10,11 +10,11 @@ use Rattle.bt_bed.specs.model.feature.Interval.{AreNonEmpty, Interval, last_from
 use Rattle.bt_bed.specs.model.feature.IntervalLine.{interval_lines, interval_line}
 use Rattle.bt_bed.specs.model.order.Locus.{ArePlaced}
 use Rattle.bt_bed.specs.model.order.Order.{Order, IsTotal}
-use Rattle.bt_bed.specs.model.order.Together.{has_records}
+use Rattle.bt_bed.specs.model.order.Contiguous.{has_records}
 use Rattle.bt_bed.proofs.lemmas.order.TogetherLemmas.{placed_together}
 use Rattle.bt_runs.specs.model.Counted.{counted, is_counted}
 use Rattle.bt_runs.specs.model.Merged.{chromosomes, merged, runs_of, runs_on, without}
-use Rattle.bt_runs.specs.model.MergedRuns.{AreTaken, is_passed, merged_runs, passed_by, settled_runs}
+use Rattle.bt_runs.specs.model.MergedRuns.{AreTaken, is_closed, merged_runs, passed_by, settled_runs}
 use Rattle.bt_runs.specs.model.RunOrder.{ordered_runs}
 use Rattle.bt_runs.specs.declared.merge.merge_strand.MergeStrand.{MergeStrand}
 use Rattle.bt_runs.proofs.lemmas.order.ChromosomeLemmas.{among_chromosomes}
@@ -75,11 +75,11 @@ module _ (gap : ℕ) where
       (flat_map_same (λ name. runs_on name gap (xs ++ ys)) (λ name. runs_on name gap ys) (chromosomes ys) (all_so _ _ (chromosomes ys) (λ n e. runs_same n (xs ++ ys) ys (spans_second n xs ys e)) (named_all (λ n. has_records n xs ≡ false) ys away.second)))
 
   -- runs on other chromosomes are passed
-  pub passed_all : (last : Interval) (names : List (List ℕ)) (xs : List Interval) → AllByRecursion (λ n. bytes_eq n last.chrom ≡ false) names → filter (is_passed gap last) (merged names gap xs) ≡ merged names gap xs
+  pub passed_all : (last : Interval) (names : List (List ℕ)) (xs : List Interval) → AllByRecursion (λ n. bytes_eq n last.chrom ≡ false) names → filter (is_closed gap last) (merged names gap xs) ≡ merged names gap xs
   unfolding merged
   passed_all last [] xs h = refl
   passed_all last (n ∷ names) xs h =
-      filter-append (is_passed gap last) (runs_on n gap xs) (flat_map (λ name. runs_on name gap xs) names)
+      filter-append (is_closed gap last) (runs_on n gap xs) (flat_map (λ name. runs_on name gap xs) names)
       ∙ ap₂ (λ a b. a ++ b) (placed_elsewhere gap last n (runs_of gap (spans_on n xs)) h.0) (passed_all last names xs h.1)
 
   module _ (strand : MergeStrand) where
@@ -89,7 +89,7 @@ module _ (gap : ℕ) where
         ∙ merged_both (counted strand ones) (counted strand twos) (away_some (λ r. is_counted strand r.strand) ones twos away)
 
     -- a record of the second part passes all runs of the first
-    pub passed_first : (last : Interval) (ones : List Feature) → has_records last.chrom (intervals_of ones) ≡ false → filter (is_passed gap last) (merged_runs gap strand ones) ≡ merged_runs gap strand ones
+    pub passed_first : (last : Interval) (ones : List Feature) → has_records last.chrom (intervals_of ones) ≡ false → filter (is_closed gap last) (merged_runs gap strand ones) ≡ merged_runs gap strand ones
     passed_first last ones e =
         passed_all last (chromosomes (counted strand ones)) (counted strand ones)
         (named_all (λ n. bytes_eq n last.chrom ≡ false) (counted strand ones) (has_none last.chrom (counted strand ones) (fewer (λ r. is_counted strand r.strand) last.chrom ones e)))
@@ -99,9 +99,9 @@ module _ (gap : ℕ) where
     passed_both ones s twos away =
         let last = last_from (interval_of s) (intervals_of twos) in
         ap (passed_by gap (merged_runs gap strand (ones ++ s ∷ twos))) (ap last_of (map-append interval_of ones (s ∷ twos)) ∙ last_behind (intervals_of ones) (interval_of s) (intervals_of twos))
-        ∙ ap (filter (is_passed gap last)) (runs_both ones (s ∷ twos) away)
-        ∙ filter-append (is_passed gap last) (merged_runs gap strand ones) (merged_runs gap strand (s ∷ twos))
-        ∙ ap (λ l. l ++ filter (is_passed gap last) (merged_runs gap strand (s ∷ twos))) (passed_first last ones (last_is (λ r. has_records r.chrom (intervals_of ones) ≡ false) (interval_of s) (intervals_of twos) away.second))
+        ∙ ap (filter (is_closed gap last)) (runs_both ones (s ∷ twos) away)
+        ∙ filter-append (is_closed gap last) (merged_runs gap strand ones) (merged_runs gap strand (s ∷ twos))
+        ∙ ap (λ l. l ++ filter (is_closed gap last) (merged_runs gap strand (s ∷ twos))) (passed_first last ones (last_is (λ r. has_records r.chrom (intervals_of ones) ≡ false) (interval_of s) (intervals_of twos) away.second))
 
     settled_is : (records : List Feature) → settled_runs gap strand records ≡ passed_by gap (merged_runs gap strand records) (last_of (intervals_of records))
     unfolding settled_runs

@@ -2,7 +2,7 @@
 use Rattle.std.proofs.Common.{◌≡◌, ℕ, true, false, List, [], ◌∷◌, ◌++◌, map, append-nil, append_assoc, Option, Some, None, refl, sym, ap, ap₂, ◌∙◌, subst}
 use Rattle.std.specs.Prelude.{flat_map, is_none}
 use Rattle.std.proofs.lemmas.Grind.{flat_map-append}
-use Rattle.bt_lines.specs.model.Fault.{Told}
+use Rattle.bt_lines.specs.model.Fault.{FaultValue}
 use Rattle.bt_bed.specs.model.input.Good.{Good, items_in}
 use Rattle.bt_laws.specs.parts.Parts.{AddUp, StopWithin, fronts_begin, outputs_to_fault, unless_fault}
 use Rattle.bt_tool.specs.model.report.RecordReport.{Report, good_report, report_by}
@@ -27,7 +27,7 @@ stop_none whole output = ([], sym (append-nil whole.output ∙ output))
 pub add_one : (part : Report) → AddUp (part ∷ []) part
 add_one part = record { faultless = (λ e. (e, tt), λ all. all.0); output = λ e. sym (append-nil part.output) }
 
-one_stop : (fault : Option Told) (output : List ℕ) → (rest : List ℕ) × (output ++ unless_fault fault [] ≡ output ++ rest)
+one_stop : (fault : Option FaultValue) (output : List ℕ) → (rest : List ℕ) × (output ++ unless_fault fault [] ≡ output ++ rest)
 one_stop None output = ([], refl)
 one_stop (Some fault) output = ([], refl)
 
@@ -45,7 +45,7 @@ add_more part parts rest whole more adds = record {
       adds.output both.0 both.1 ∙ ap (λ l. part.output ++ l) (more.output both.1);
 }
 
-stop_by : (fault : Option Told) (first whole output outputs left : List ℕ) → outputs ≡ output ++ left
+stop_by : (fault : Option FaultValue) (first whole output outputs left : List ℕ) → outputs ≡ output ++ left
     → (rest : List ℕ) × (first ++ unless_fault fault output ≡ whole ++ rest) → (rest : List ℕ) × (first ++ unless_fault fault outputs ≡ whole ++ rest)
 stop_by None first whole output outputs left more stops = (
   stops.0 ++ left,
@@ -62,30 +62,30 @@ pub record Splits {A : Type 0} (one two whole : Written A) (ones twos : List A) 
   pub first : whole.settled ones ≡ one.settled ones
   pub begin : (rest : List ℕ) × (one.whole ones ++ two.settled twos ≡ whole.settled (ones ++ twos) ++ rest)
 
-abbrev pub Together : {A : Type 0} → Option Told → Option Told → Option Told → List A → List A → List A → Type 0
-Together None g h ones twos all = (all ≡ ones ++ twos) × (is_none h ≡ is_none g)
-Together (Some f) g h ones twos all = (all ≡ ones) × (is_none h ≡ false)
+abbrev pub Contiguous : {A : Type 0} → Option FaultValue → Option FaultValue → Option FaultValue → List A → List A → List A → Type 0
+Contiguous None g h ones twos all = (all ≡ ones ++ twos) × (is_none h ≡ is_none g)
+Contiguous (Some f) g h ones twos all = (all ≡ ones) × (is_none h ≡ false)
 
 -- without a fault in the whole there is none in the parts, and the other way round
-pub together_parts : {A : Type 0} (f g h : Option Told) (ones twos all : List A) → Together f g h ones twos all → h ≡ None → (f ≡ None) × (g ≡ None)
+pub together_parts : {A : Type 0} (f g h : Option FaultValue) (ones twos all : List A) → Contiguous f g h ones twos all → h ≡ None → (f ≡ None) × (g ≡ None)
 together_parts None None h ones twos all is e = (refl, refl)
 together_parts None (Some g) None ones twos all is e = let apart : true ≡ false = is.1 in absurd (cc)
 together_parts None (Some g) (Some h) ones twos all is e = cc
 together_parts (Some f) g None ones twos all is e = let apart : true ≡ false = is.1 in absurd (cc)
 together_parts (Some f) g (Some h) ones twos all is e = cc
 
-pub together_both : {A : Type 0} (f g h : Option Told) (ones twos all : List A) → Together f g h ones twos all → f ≡ None → g ≡ None → h ≡ None
+pub together_both : {A : Type 0} (f g h : Option FaultValue) (ones twos all : List A) → Contiguous f g h ones twos all → f ≡ None → g ≡ None → h ≡ None
 together_both None None None ones twos all is e d = refl
 together_both None None (Some h) ones twos all is e d = let apart : false ≡ true = is.1 in absurd (cc)
 together_both None (Some g) h ones twos all is e d = cc
 together_both (Some f) g h ones twos all is e d = cc
 
-pub together_all : {A : Type 0} (f g h : Option Told) (ones twos all : List A) → Together f g h ones twos all → f ≡ None → all ≡ ones ++ twos
+pub together_all : {A : Type 0} (f g h : Option FaultValue) (ones twos all : List A) → Contiguous f g h ones twos all → f ≡ None → all ≡ ones ++ twos
 together_all None g h ones twos all is e = is.0
 together_all (Some f) g h ones twos all is e = cc
 
 module _ {A : Type 0} (one two whole : Written A) (ones twos all : List A) (splits : Splits one two whole ones twos) where
-  pub adds_by : (f g h : Option Told) → Together f g h ones twos all → Adds (report_by one ones f) (report_by two twos g) (report_by whole all h)
+  pub adds_by : (f g h : Option FaultValue) → Contiguous f g h ones twos all → Adds (report_by one ones f) (report_by two twos g) (report_by whole all h)
   adds_by None None None is = record { parts = λ e. (refl, refl); both = λ e d. refl; output = λ e d. ap whole.whole is.0 ∙ splits.all }
   adds_by None None (Some h) is = let apart = is.1 in record { parts = λ e. cc; both = λ e d. cc; output = λ e d. cc }
   adds_by None (Some g) None is = let apart = is.1 in record { parts = λ e. cc; both = λ e d. cc; output = λ e d. cc }
@@ -93,7 +93,7 @@ module _ {A : Type 0} (one two whole : Written A) (ones twos all : List A) (spli
   adds_by (Some f) g None is = let apart = is.1 in record { parts = λ e. cc; both = λ e d. cc; output = λ e d. cc }
   adds_by (Some f) g (Some h) is = record { parts = λ e. cc; both = λ e d. cc; output = λ e d. cc }
 
-  pub stops_by : (f g h : Option Told) → Together f g h ones twos all → Stops (report_by one ones f) (report_by two twos g) (report_by whole all h)
+  pub stops_by : (f g h : Option FaultValue) → Contiguous f g h ones twos all → Stops (report_by one ones f) (report_by two twos g) (report_by whole all h)
   stops_by None None None is = ([], sym (append-nil (whole.whole all) ∙ ap whole.whole is.0 ∙ splits.all))
   stops_by None None (Some h) is = let apart : false ≡ true = is.1 in absurd (cc)
   stops_by None (Some g) None is = let apart : true ≡ false = is.1 in absurd (cc)
@@ -101,7 +101,7 @@ module _ {A : Type 0} (one two whole : Written A) (ones twos all : List A) (spli
   stops_by (Some f) g None is = let apart : true ≡ false = is.1 in absurd (cc)
   stops_by (Some f) g (Some h) is = ([], ap (λ l. l ++ []) (sym (ap whole.settled is.0 ∙ splits.first)))
 
-pub together : {A : Type 0} (f : Option Told) (one two whole : Good A) → IsJointBy f one two whole → Together f two.fault whole.fault (items_in one) (items_in two) (items_in whole)
+pub together : {A : Type 0} (f : Option FaultValue) (one two whole : Good A) → IsJointBy f one two whole → Contiguous f two.fault whole.fault (items_in one) (items_in two) (items_in whole)
 together None one two whole is = is
 together (Some f) one two whole is = is
 

@@ -5,7 +5,7 @@ use Rattle.std.specs.List.{AllByRecursion}
 use Rattle.std.proofs.lemmas.Bool.{or_left, or_right}
 use Rattle.std.proofs.lemmas.List.{map-append}
 use Rattle.std.proofs.lemmas.List.Elements.{filter-append}
-use Rattle.bt_lines.specs.model.Fault.{Told}
+use Rattle.bt_lines.specs.model.Fault.{FaultValue}
 use Rattle.bt_lines.specs.model.Handed.{Handed, cut_fault, lines_handed, whole_text}
 use Rattle.bt_lines.specs.model.Lines.{lines_from, text_lines}
 use Rattle.bt_lines.specs.declared.fault.Input.TheVariants.{First, Genome}
@@ -20,7 +20,7 @@ use Rattle.bt_bed.specs.model.order.Order.{IsTotal, Order}
 use Rattle.bt_bed.specs.model.order.Rank.{AreDistinct, is_among, rank_order}
 use Rattle.bt_bed.specs.inside.RankTotal.{ranks_total}
 use Rattle.bt_bed.specs.model.order.Sorting.{sorting_of}
-use Rattle.bt_bed.specs.model.order.Together.{has_records}
+use Rattle.bt_bed.specs.model.order.Contiguous.{has_records}
 use Rattle.bt_bed.specs.declared.record.strand.Strand.{Strand}
 use Rattle.bt_bed.proofs.lemmas.laws.GoodBedLemmas.{non_empty_from, placed_lines}
 use Rattle.bt_bed.proofs.lemmas.order.GenomeLemmas.{distinct_genome}
@@ -242,12 +242,12 @@ module _ (d : ℕ) where
 -- ---- any command that writes so
 
 -- a genome file has each chromosome once
-cut_none : (fault : Option Told) (result : Result (List Entry) Told) (entries : List Entry) → genome_cut fault result ≡ Ok entries → result ≡ Ok entries
+cut_none : (fault : Option FaultValue) (result : Result (List Entry) FaultValue) (entries : List Entry) → genome_cut fault result ≡ Ok entries → result ≡ Ok entries
 cut_none None result entries e = e
 cut_none (Some fault) (Ok more) entries e = cc
 cut_none (Some fault) (Err first) entries e = cc
 
-file_is : (result : Result (List Entry) Told) (entries : List Entry) → of_file result ≡ Ok (Some entries) → result ≡ Ok entries
+file_is : (result : Result (List Entry) FaultValue) (entries : List Entry) → of_file result ≡ Ok (Some entries) → result ≡ Ok entries
 file_is (Ok more) entries e = cc
 file_is (Err fault) entries e = cc
 

@@ -11,11 +11,11 @@ use Rattle.bt_bed.specs.model.feature.Feature.{Feature, interval_of, intervals_o
 use Rattle.bt_bed.specs.model.feature.Interval.{Interval, last_from, last_of, placed_on, spans_on}
 use Rattle.bt_bed.specs.model.feature.IntervalLine.{interval_line, interval_lines}
 use Rattle.bt_bed.specs.model.feature.Strands.{is_strand}
-use Rattle.bt_bed.specs.model.order.Together.{has_records}
+use Rattle.bt_bed.specs.model.order.Contiguous.{has_records}
 use Rattle.bt_bed.specs.declared.record.strand.Strand.{Strand}
 use Rattle.bt_runs.specs.model.Counted.{counted, is_counted}
 use Rattle.bt_runs.specs.model.Merged.{chromosomes, merged, runs_of, runs_on}
-use Rattle.bt_runs.specs.model.MergedRuns.{is_passed, merged_runs}
+use Rattle.bt_runs.specs.model.MergedRuns.{is_closed, merged_runs}
 use Rattle.bt_runs.specs.model.StrandRuns.{StrandRun, begun_by, is_in, listed_behind, passed_front, places_of, runs_of_strand, settled_strand_runs, strand_runs}
 use Rattle.bt_runs.specs.model.StrandRuns.{kept_strand_runs}
 use Rattle.bt_runs.specs.declared.merge.merge_strand.MergeStrand.TheVariants.{One}
@@ -132,7 +132,7 @@ module _ (gap : ℕ) where
   unfolding settled_strand_runs
   settled_both ones s twos away =
       let last = last_from (interval_of s) (intervals_of twos) in
-      let test : StrandRun → Bool = λ item. is_passed gap last item.run in
+      let test : StrandRun → Bool = λ item. is_closed gap last item.run in
       ap (passed_front gap (strand_runs gap (ones ++ s ∷ twos))) (ap last_of (map-append interval_of ones (s ∷ twos)) ∙ last_behind (intervals_of ones) (interval_of s) (intervals_of twos))
       ∙ ap (take_while test) (strand_runs_both ones (s ∷ twos) away)
       ∙ take_front test (strand_runs gap ones) (strand_runs gap (s ∷ twos))

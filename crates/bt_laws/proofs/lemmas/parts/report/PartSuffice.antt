@@ -2,7 +2,7 @@
 use Rattle.std.proofs.Common.{◌≡◌, ℕ, Bool, true, false, cond, List, [], ◌∷◌, ◌++◌, map, Option, Some, None, Result, Ok, Err, refl, sym, ap, ◌∙◌}
 use Rattle.std.specs.Prelude.{IsTrue}
 use Rattle.std.specs.List.{AllByRecursion}
-use Rattle.bt_lines.specs.model.Fault.{Told}
+use Rattle.bt_lines.specs.model.Fault.{FaultValue}
 use Rattle.bt_lines.specs.model.Handed.{Handed, whole_text}
 use Rattle.bt_lines.specs.model.Lines.{TextLine, text_lines}
 use Rattle.bt_lines.specs.declared.fault.Input.{Input}
@@ -84,7 +84,7 @@ add_suffices parts whole add all = let none = add.faultless.1 all in (none, add.
 module _ (W : List Entry → Written Feature) (command : Command)
     (is : (entries : List Entry) (text : List ℕ) → report_on command (Ok (Some entries)) (whole_text text) None ≡ good_report (W entries) (good (bed_format (sorting_of (rank_order (genome_names entries)))) First (text_lines text)))
     (add : (genome : Handed) (shards : List Shard) → AreShards genome shards → ShardsAddUp command genome shards) where
-  report_fault : (written : Written Feature) (rs : List Feature) (fault : Option Told) → (report_by written rs fault).fault ≡ fault
+  report_fault : (written : Written Feature) (rs : List Feature) (fault : Option FaultValue) → (report_by written rs fault).fault ≡ fault
   report_fault written rs None = refl
   report_fault written rs (Some fault) = refl
 

@@ -11,10 +11,10 @@ use Rattle.std.proofs.lemmas.List.Elements.{filter-append}
 use Rattle.std.proofs.lemmas.List.Sums.{take_while-cons}
 use Rattle.bt_laws.proofs.lemmas.parts.order.PartOwners.{or_true}
 use Rattle.bt_sweep.proofs.lemmas.laws.DecidingLemmas.{later_at}
-use Rattle.bt_lines.specs.model.Fault.{Told}
+use Rattle.bt_lines.specs.model.Fault.{FaultValue}
 use Rattle.bt_bed.specs.model.feature.Feature.{Feature}
 use Rattle.bt_bed.specs.model.order.Locus.{is_below_at}
-use Rattle.bt_bed.specs.model.input.Meeting.{Rule, meet, written}
+use Rattle.bt_bed.specs.model.input.TwoInputReport.{Rule, join_report, written}
 use Rattle.bt_bed.specs.model.order.Order.{Order, IsTotal}
 use Rattle.bt_bed.proofs.lemmas.laws.MeetingLemmas.{all_written, met_fault_all, met_fault_stop, met_lines, written_past}
 use Rattle.bt_sweep.specs.model.Deciding.{decided, decides}
@@ -29,7 +29,7 @@ use Rattle.bt_tool.specs.model.report.RecordReport.{Report}
 use Rattle.bt_tool.specs.model.report.SweepReport.{met_report}
 use Rattle.bt_laws.proofs.lemmas.parts.text.PartBed.{Earlier}
 use Rattle.bt_laws.proofs.lemmas.parts.text.PartLists.{all_any, all_so, all_swapped, filter_none, flat_map_same}
-use Rattle.bt_laws.proofs.lemmas.parts.report.PartReports.{Adds, Stops, Together, together_all, together_both, together_parts}
+use Rattle.bt_laws.proofs.lemmas.parts.report.PartReports.{Adds, Stops, Contiguous, together_all, together_both, together_parts}
 
 -- ---- lists up to the first that fails a test
 
@@ -77,12 +77,12 @@ all_kept : {A : Type 0} (P : A → Type 0) (t : A → Bool) (xs : List A) → Al
 all_kept P t [] h = tt
 all_kept P t (x ∷ xs) h = subst (AllByRecursion P) (sym (take_while-cons t x xs)) (kept_by P x (take_while t xs) (t x) h.0 (all_kept P t xs h.1))
 
-pub written_same : {A : Type 0} (mine yours : Rule A ℕ Told) (xs : List A) → AllByRecursion (λ x. (mine.decided x ≡ yours.decided x) × (mine.lines x ≡ yours.lines x)) xs → written mine xs ≡ written yours xs
+pub written_same : {A : Type 0} (mine yours : Rule A ℕ FaultValue) (xs : List A) → AllByRecursion (λ x. (mine.decided x ≡ yours.decided x) × (mine.lines x ≡ yours.lines x)) xs → written mine xs ≡ written yours xs
 written_same mine yours xs h =
     ap (flat_map mine.lines) (take_same mine.decided yours.decided xs (all_so _ _ xs (λ x k. k.0) h))
     ∙ flat_map_same mine.lines yours.lines (take_while yours.decided xs) (all_kept _ yours.decided xs (all_so _ _ xs (λ x k. k.1) h))
 
-pub written_before : {A : Type 0} (rule : Rule A ℕ Told) (xs ys : List A) → AllByRecursion (λ y. rule.decided y ≡ false) ys → written rule (xs ++ ys) ≡ written rule xs
+pub written_before : {A : Type 0} (rule : Rule A ℕ FaultValue) (xs ys : List A) → AllByRecursion (λ y. rule.decided y ≡ false) ys → written rule (xs ++ ys) ≡ written rule xs
 written_before rule xs ys h = ap (flat_map rule.lines) (take_before rule.decided xs ys h)
 
 -- ---- what decides, and what hits
@@ -127,50 +127,50 @@ module _ (shape : Shape) (rule : HitRule) where
 
 -- ---- the faults of a meeting
 
-some_told : (fa : Option Told) (f : Told) → option_or fa (Some f) ≡ None → ⊥
+some_told : (fa : Option FaultValue) (f : FaultValue) → option_or fa (Some f) ≡ None → ⊥
 some_told None f e = cc
 some_told (Some g) f e = cc
 
-or_none : (fa : Option Told) → option_or fa None ≡ fa
+or_none : (fa : Option FaultValue) → option_or fa None ≡ fa
 or_none None = refl
 or_none (Some f) = refl
 
-unless_some : (f : Option Told) (output : List ℕ) → (f ≡ None → ⊥) → unless_fault f output ≡ []
+unless_some : (f : Option FaultValue) (output : List ℕ) → (f ≡ None → ⊥) → unless_fault f output ≡ []
 unless_some None output h = absurd (h refl)
 unless_some (Some f) output h = refl
 
-pub unless_none : (f : Option Told) (output : List ℕ) → f ≡ None → unless_fault f output ≡ output
+pub unless_none : (f : Option FaultValue) (output : List ℕ) → f ≡ None → unless_fault f output ≡ output
 unless_none None output h = refl
 unless_none (Some f) output h = cc
 
 module _ (order : Order) (shape : Shape) (rule : HitRule) where
   -- the report on records and their faults
-  abbrev pub sweep_report : List Feature → Option Told → List Feature → Option Told → Report
-  sweep_report given fa bs fb = met_report (meet (sweep_rule order shape rule bs fb) given fa)
+  abbrev pub sweep_report : List Feature → Option FaultValue → List Feature → Option FaultValue → Report
+  sweep_report given fa bs fb = met_report (join_report (sweep_rule order shape rule bs fb) given fa)
 
   decided_none : (bs given : List Feature) → list_all (sweep_rule order shape rule bs None).decided given ≡ true
   decided_none bs [] = refl
   decided_none bs (a ∷ given) = decided_none bs given
 
-  fault_none : (given : List Feature) (fa : Option Told) (bs : List Feature) → (sweep_report given fa bs None).fault ≡ fa
+  fault_none : (given : List Feature) (fa : Option FaultValue) (bs : List Feature) → (sweep_report given fa bs None).fault ≡ fa
   fault_none given fa bs = met_fault_all (sweep_rule order shape rule bs None) given fa (decided_none bs given) ∙ or_none fa
 
-  some_by : (given : List Feature) (fa : Option Told) (bs : List Feature) (f : Told) (b : Bool) → list_all (sweep_rule order shape rule bs (Some f)).decided given ≡ b → (sweep_report given fa bs (Some f)).fault ≡ None → ⊥
+  some_by : (given : List Feature) (fa : Option FaultValue) (bs : List Feature) (f : FaultValue) (b : Bool) → list_all (sweep_rule order shape rule bs (Some f)).decided given ≡ b → (sweep_report given fa bs (Some f)).fault ≡ None → ⊥
   some_by given fa bs f true e none = some_told fa f (sym (met_fault_all (sweep_rule order shape rule bs (Some f)) given fa e) ∙ none)
   some_by given fa bs f false e none = let told : Some f ≡ None = sym (met_fault_stop (sweep_rule order shape rule bs (Some f)) given fa e) ∙ none in cc
 
-  pub report_none : (given : List Feature) (fa : Option Told) (bs : List Feature) (fb : Option Told) → (sweep_report given fa bs fb).fault ≡ None → (fa ≡ None) × (fb ≡ None)
+  pub report_none : (given : List Feature) (fa : Option FaultValue) (bs : List Feature) (fb : Option FaultValue) → (sweep_report given fa bs fb).fault ≡ None → (fa ≡ None) × (fb ≡ None)
   report_none given fa bs None e = (sym (fault_none given fa bs) ∙ e, refl)
   report_none given fa bs (Some f) e = absurd (some_by given fa bs f (list_all (sweep_rule order shape rule bs (Some f)).decided given) refl e)
 
-  pub none_report : (given : List Feature) (fa : Option Told) (bs : List Feature) (fb : Option Told) → fa ≡ None → fb ≡ None → (sweep_report given fa bs fb).fault ≡ None
+  pub none_report : (given : List Feature) (fa : Option FaultValue) (bs : List Feature) (fb : Option FaultValue) → fa ≡ None → fb ≡ None → (sweep_report given fa bs fb).fault ≡ None
   none_report given fa bs None e d = fault_none given fa bs ∙ e
   none_report given fa bs (Some f) e d = cc
 
-  lines_none : (given : List Feature) (fa : Option Told) (bs : List Feature) → (sweep_report given fa bs None).output ≡ intersect shape rule given bs
+  lines_none : (given : List Feature) (fa : Option FaultValue) (bs : List Feature) → (sweep_report given fa bs None).output ≡ intersect shape rule given bs
   lines_none given fa bs = met_lines (sweep_rule order shape rule bs None) given fa ∙ sym (all_written (sweep_rule order shape rule bs None) given (decided_none bs given))
 
-  output_none : (given : List Feature) (fa : Option Told) (bs : List Feature) (fb : Option Told) → fb ≡ None → (sweep_report given fa bs fb).output ≡ intersect shape rule given bs
+  output_none : (given : List Feature) (fa : Option FaultValue) (bs : List Feature) (fb : Option FaultValue) → fb ≡ None → (sweep_report given fa bs fb).output ≡ intersect shape rule given bs
   output_none given fa bs None e = lines_none given fa bs
   output_none given fa bs (Some f) e = cc
 
@@ -210,7 +210,7 @@ module _ (order : Order) (total : IsTotal order) (shape : Shape) (rule : HitRule
       from [] known early = tt
       from (a ∷ given) known early = (one a known.0 early.0, from given known.1 early.1)
 
-  module _ (fa1 fa2 fa fb1 fb2 fb : Option Told) (all bs : List Feature) (ja : Together fa1 fa2 fa aones atwos all) (jb : Together fb1 fb2 fb bones btwos bs) where
+  module _ (fa1 fa2 fa fb1 fb2 fb : Option FaultValue) (all bs : List Feature) (ja : Contiguous fa1 fa2 fa aones atwos all) (jb : Contiguous fb1 fb2 fb bones btwos bs) where
     abbrev One : Report
     One = sweep_report order shape rule aones fa1 bones fb1
 
@@ -241,12 +241,12 @@ module _ (order : Order) (total : IsTotal order) (shape : Shape) (rule : HitRule
     }
 
   -- where the second input of the first part is at fault, nothing behind it is written
-  module _ (f : Told) (fa1 fa2 fa fb2 fb : Option Told) (all bs : List Feature) (ja : Together fa1 fa2 fa aones atwos all) (jb : Together (Some f) fb2 fb bones btwos bs) where
+  module _ (f : FaultValue) (fa1 fa2 fa fb2 fb : Option FaultValue) (all bs : List Feature) (ja : Contiguous fa1 fa2 fa aones atwos all) (jb : Contiguous (Some f) fb2 fb bones btwos bs) where
     same_rule : (xs : List Feature) → written (sweep_rule order shape rule bs fb) xs ≡ written (sweep_rule order shape rule bones (Some f)) xs
     same_rule xs = written_same (sweep_rule order shape rule bs fb) (sweep_rule order shape rule bones (Some f)) xs
         (all_any _ xs (λ a. (ap₂ (λ b r. b || decided order a r) jb.1 jb.0, ap (lines_for shape rule a) jb.0)))
 
-    written_one : (fa1 : Option Told) → Together fa1 fa2 fa aones atwos all → written (sweep_rule order shape rule bones (Some f)) all ≡ written (sweep_rule order shape rule bones (Some f)) aones
+    written_one : (fa1 : Option FaultValue) → Contiguous fa1 fa2 fa aones atwos all → written (sweep_rule order shape rule bones (Some f)) all ≡ written (sweep_rule order shape rule bones (Some f)) aones
     written_one None j =
         ap (written (sweep_rule order shape rule bones (Some f))) j.0
         ∙ written_before (sweep_rule order shape rule bones (Some f)) aones atwos (all_so _ _ atwos (λ a h. any_false (decides order a) bones h) none_second)
@@ -261,8 +261,8 @@ module _ (order : Order) (total : IsTotal order) (shape : Shape) (rule : HitRule
               ∙ ap (λ l. l ++ []) (met_lines (sweep_rule order shape rule bones (Some f)) aones fa1 ∙ sym (written_one fa1 ja) ∙ sym (same_rule all) ∙ sym (met_lines (sweep_rule order shape rule bs fb) all fa)),
         )
 
-  module _ (fa1 fa2 fa fb2 fb : Option Told) (all bs : List Feature) (ja : Together fa1 fa2 fa aones atwos all) (jb : Together None fb2 fb bones btwos bs) where
-    abbrev Rule-of-both : Rule Feature ℕ Told
+  module _ (fa1 fa2 fa fb2 fb : Option FaultValue) (all bs : List Feature) (ja : Contiguous fa1 fa2 fa aones atwos all) (jb : Contiguous None fb2 fb bones btwos bs) where
+    abbrev Rule-of-both : Rule Feature ℕ FaultValue
     Rule-of-both = sweep_rule order shape rule bs fb
 
     abbrev first_report : Report
@@ -310,13 +310,13 @@ module _ (order : Order) (total : IsTotal order) (shape : Shape) (rule : HitRule
     or_decided : (a : Feature) → decided order a (bones ++ btwos) ≡ true → Rule-of-both.decided a ≡ true
     or_decided a e = ap (λ d. is_none fb || d) (ap (decided order a) jb.0 ∙ e) ∙ or_true (is_none fb)
 
-    either : (g : Option Told) → fb2 ≡ g → (ts : List Feature) → btwos ≡ ts → all ≡ aones ++ atwos → (rest : List ℕ) × (first_report.output ++ second_report.output ≡ (sweep_report order shape rule all fa bs fb).output ++ rest)
+    either : (g : Option FaultValue) → fb2 ≡ g → (ts : List Feature) → btwos ≡ ts → all ≡ aones ++ atwos → (rest : List ℕ) × (first_report.output ++ second_report.output ≡ (sweep_report order shape rule all fa bs fb).output ++ rest)
     either None e ts d is = past_first (all_any _ aones (λ a. ap (λ b. b || decided order a bs) (jb.1 ∙ ap is_none e))) is
     either (Some g) e (b ∷ rest) d is = past_first (all_so _ _ aones (λ a h. or_decided a h) (first_decided b rest d)) is
     either (Some g) e [] d is = before_second
         (all_so _ _ atwos (λ a h. ap₂ (λ b c. b || c) (jb.1 ∙ ap is_none e) (ap (decided order a) jb.0 ∙ any_behind (decides order a) bones btwos h ∙ ap (list_any (decides order a)) d)) none_second) is
 
-    stops_by : (g : Option Told) → fa1 ≡ g → Stops first_report second_report (sweep_report order shape rule all fa bs fb)
+    stops_by : (g : Option FaultValue) → fa1 ≡ g → Stops first_report second_report (sweep_report order shape rule all fa bs fb)
     stops_by None e =
         let more = either fb2 refl btwos refl (together_all fa1 fa2 fa aones atwos all ja e) in
         (more.0, ap (λ l. first_report.output ++ l) (unless_none first_report.fault second_report.output (none_report order shape rule aones fa1 bones None e refl)) ∙ more.1)
@@ -326,11 +326,11 @@ module _ (order : Order) (total : IsTotal order) (shape : Shape) (rule : HitRule
           ∙ front.1 ∙ ap (λ l. l ++ front.0) (sym (met_lines Rule-of-both all fa ∙ ap (written Rule-of-both) (only_first fa1 ja e))),
     )
       where
-        only_first : (f : Option Told) → Together f fa2 fa aones atwos all → f ≡ Some g → all ≡ aones
+        only_first : (f : Option FaultValue) → Contiguous f fa2 fa aones atwos all → f ≡ Some g → all ≡ aones
         only_first None j e = cc
         only_first (Some f) j e = j.0
 
-  pub sweep_stops : (fa1 fa2 fa fb1 fb2 fb : Option Told) (all bs : List Feature) → Together fa1 fa2 fa aones atwos all → Together fb1 fb2 fb bones btwos bs
+  pub sweep_stops : (fa1 fa2 fa fb1 fb2 fb : Option FaultValue) (all bs : List Feature) → Contiguous fa1 fa2 fa aones atwos all → Contiguous fb1 fb2 fb bones btwos bs
       → Stops (sweep_report order shape rule aones fa1 bones fb1) (sweep_report order shape rule atwos fa2 btwos fb2) (sweep_report order shape rule all fa bs fb)
   sweep_stops fa1 fa2 fa None fb2 fb all bs ja jb = stops_by fa1 fa2 fa fb2 fb all bs ja jb fa1 refl
   sweep_stops fa1 fa2 fa (Some f) fb2 fb all bs ja jb = stops_second f fa1 fa2 fa fb2 fb all bs ja jb

@@ -3,7 +3,7 @@ use Rattle.std.proofs.Common.{◌≡◌, ℕ, Bool, true, false, cond, List, [],
 use Rattle.std.specs.Prelude.{⊤, is_none, nat_lt, option_map}
 use Rattle.std.specs.List.{AllByRecursion}
 use Rattle.std.proofs.lemmas.List.{map-append}
-use Rattle.bt_lines.specs.model.Fault.{Told}
+use Rattle.bt_lines.specs.model.Fault.{FaultValue}
 use Rattle.bt_lines.specs.model.Lines.{TextLine, lines_from, text_lines}
 use Rattle.bt_lines.specs.declared.fault.Input.{Input}
 use Rattle.bt_lines.specs.declared.fault.Kind.{Kind}
@@ -151,7 +151,7 @@ module _ (input : Input) where
       ap (λ (w : Good Feature). is_none w.fault) is ∙ like.fault,
     )
 
-    put_none : (fault : Option Told) (g h : Good Feature) → fault ≡ None → put_on block_format fault g h ≡ record { members = g.members ++ h.members; fault = h.fault }
+    put_none : (fault : Option FaultValue) (g h : Good Feature) → fault ≡ None → put_on block_format fault g h ≡ record { members = g.members ++ h.members; fault = h.fault }
     put_none None g h e = refl
     put_none (Some fault) g h e = cc
 
@@ -167,7 +167,7 @@ module _ (input : Input) where
         (whole_is ∙ put_none First-good.fault First-good (good_from block_format input Last Lines-behind) none
         ∙ ap (λ (g : Good Feature). record { members = First-good.members ++ g.members; fault = g.fault }) (fresh_from Last Lines-behind (elsewhere h)))
 
-    none_by : (fault : Option Told) (g h : Good Feature) → g.fault ≡ fault → (put_on block_format fault g h).fault ≡ None → (fault ≡ None) × (h.fault ≡ None)
+    none_by : (fault : Option FaultValue) (g h : Good Feature) → g.fault ≡ fault → (put_on block_format fault g h).fault ≡ None → (fault ≡ None) × (h.fault ≡ None)
     none_by None g h is e = (refl, e)
     none_by (Some fault) g h is e = let apart : Some fault ≡ None = sym is ∙ e in cc
 
@@ -182,10 +182,10 @@ module _ (input : Input) where
         (both.0, none_like Whole-good.fault Second-good.fault joint.1 none, joint.0)
 
     -- a fault of the first text is that of both
-    pub faulty_same : (fault : Told) → First-good.fault ≡ Some fault → Whole-good ≡ First-good
+    pub faulty_same : (fault : FaultValue) → First-good.fault ≡ Some fault → Whole-good ≡ First-good
     faulty_same fault e = whole_is ∙ ap (λ f. put_on block_format f First-good (good_from block_format input Last Lines-behind)) e
 
-    front_by : (fault : Option Told) (g h : Good Feature) → (more : List Feature) × (items_in (put_on block_format fault g h) ≡ items_in g ++ more)
+    front_by : (fault : Option FaultValue) (g h : Good Feature) → (more : List Feature) × (items_in (put_on block_format fault g h) ≡ items_in g ++ more)
     front_by None g h = (items_in h, map-append (λ m. m.item) g.members h.members)
     front_by (Some fault) g h = ([], sym (append-nil (items_in g)))
 

@@ -2,7 +2,7 @@
 use Rattle.std.proofs.Common.{◌≡◌, ℕ, Bool, List, [], ◌∷◌, ◌++◌, append-nil, Option, Some, None, refl, sym, ap, ◌∙◌}
 use Rattle.std.specs.List.{AllByRecursion}
 use Rattle.std.proofs.lemmas.Grind.{flat_map-append}
-use Rattle.bt_lines.specs.model.Fault.{Told}
+use Rattle.bt_lines.specs.model.Fault.{FaultValue}
 use Rattle.bt_lines.specs.model.Lines.{TextLine, lines_from, text_lines}
 use Rattle.bt_lines.specs.declared.fault.Input.TheVariants.{First}
 use Rattle.bt_bed.specs.model.input.Good.{Good, good, good_from, items_in}
@@ -25,7 +25,7 @@ module _ (split cigar : Bool) where
   lines_written : Written Alignment
   lines_written = record { whole = alignment_lines split cigar; settled = alignment_lines split cigar }
 
-  same_report : (members : List Alignment) (fault : Option Told) → report_by lines_written members fault ≡ record { output = alignment_lines split cigar members; fault = fault }
+  same_report : (members : List Alignment) (fault : Option FaultValue) → report_by lines_written members fault ≡ record { output = alignment_lines split cigar members; fault = fault }
   unfolding lines_written
   same_report members None = refl
   same_report members (Some fault) = refl

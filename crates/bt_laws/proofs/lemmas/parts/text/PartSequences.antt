@@ -5,7 +5,7 @@ use Rattle.std.specs.List.{AllByRecursion}
 use Rattle.std.specs.Io.BufRead.{ends_with_byte, strip_last}
 use Rattle.std.proofs.lemmas.Bool.{eqb-true}
 use Rattle.std.proofs.lemmas.List.{map-append}
-use Rattle.bt_lines.specs.model.Fault.{Told}
+use Rattle.bt_lines.specs.model.Fault.{FaultValue}
 use Rattle.bt_lines.specs.model.Lines.{TextLine, fed_line, last_line, lines_from, text_lines}
 use Rattle.bt_lines.specs.declared.fault.Input.{Input}
 use Rattle.bt_lines.specs.declared.fault.Kind.{Kind}
@@ -27,11 +27,11 @@ module _ {A State : Type 0} (format : Format A State) where
   reached state (x ∷ xs) = reached (format.after state x) xs
 
   -- what is good of lines, and behind them this
-  abbrev pub put_on : Option Told → Good A → Good A → Good A
+  abbrev pub put_on : Option FaultValue → Good A → Good A → Good A
   put_on None g h = record { members = g.members ++ h.members; fault = h.fault }
   put_on (Some fault) g h = g
 
-  member_on : (m : Member A) (fault : Option Told) (g h : Good A) → with_member m (put_on fault g h) ≡ put_on fault (with_member m g) h
+  member_on : (m : Member A) (fault : Option FaultValue) (g h : Good A) → with_member m (put_on fault g h) ≡ put_on fault (with_member m g) h
   member_on m None g h = refl
   member_on m (Some fault) g h = refl
 
@@ -151,7 +151,7 @@ module _ (full : Bool) (input : Input) where
       (says_header Fasta.begin l h) (says_header r l h) refl (moved_from r.names (Fasta.after Fasta.begin it) ls refl) r
 
   -- where a line is at fault, no line before it has a sequence
-  unnamed_with : (s : Reached) (l : TextLine) (rest : Reached → Good SequenceLine) (fault : Told)
+  unnamed_with : (s : Reached) (l : TextLine) (rest : Reached → Good SequenceLine) (fault : FaultValue)
       → ((now : Reached) → (rest now).fault ≡ Some fault → AllByRecursion (λ line. is_unnamed line.names ≡ true) (items_in (rest now)))
       → ((now : Reached) → is_unnamed now.names ≡ false → (rest now).fault ≡ None)
       → (h m u : Bool) → is_unnamed s.names ≡ u
@@ -166,7 +166,7 @@ module _ (full : Bool) (input : Input) where
       absurd (let apart : None ≡ Some fault = sym none ∙ e in cc)
   unnamed_with s l rest fault next sound false false u is e = tt
 
-  pub unnamed_from : (s : Reached) (ls : List TextLine) (fault : Told) → (good_from Fasta input s ls).fault ≡ Some fault → AllByRecursion (λ line. is_unnamed line.names ≡ true) (items_in (good_from Fasta input s ls))
+  pub unnamed_from : (s : Reached) (ls : List TextLine) (fault : FaultValue) → (good_from Fasta input s ls).fault ≡ Some fault → AllByRecursion (λ line. is_unnamed line.names ≡ true) (items_in (good_from Fasta input s ls))
   unfolding good_from
   unnamed_from s [] fault e = tt
   unnamed_from s (l ∷ ls) fault e =
@@ -294,12 +294,12 @@ module _ (full : Bool) (input : Input) where
       same_said state l m t d = ap₂ (λ text ending. line_says full state (record { number = l.number; text = text; ending = ending })) t d
 
   -- what is good of both texts: the first is at fault, or the lines of the second come behind its sequences
-  abbrev pub AreBothBy : Option Told → Good SequenceLine → Good SequenceLine → Good SequenceLine → Type 0
+  abbrev pub AreBothBy : Option FaultValue → Good SequenceLine → Good SequenceLine → Good SequenceLine → Type 0
   AreBothBy None one two whole =
       (items_in whole ≡ items_in one ++ map (line_after (names_of (items_in one))) (items_in two)) × (whole.fault ≡ None)
   AreBothBy (Some fault) one two whole = whole ≡ one
 
-  both_by : (fault : Option Told) (one two behind : Good SequenceLine) → AreMoved (names_of (items_in one)) behind two → AreBothBy fault one two (put_on Fasta fault one behind)
+  both_by : (fault : Option FaultValue) (one two behind : Good SequenceLine) → AreMoved (names_of (items_in one)) behind two → AreBothBy fault one two (put_on Fasta fault one behind)
   both_by None one two behind moved = (map-append (λ m. m.item) one.members behind.members ∙ ap (λ l. items_in one ++ l) moved.items, moved.none)
   both_by (Some fault) one two behind moved = refl
 

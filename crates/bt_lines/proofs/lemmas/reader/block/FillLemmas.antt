@@ -8,10 +8,10 @@ use Rattle.bt_lines.proofs.lemmas.reader.block.ReadsLemmas.{has_read_then}
 use Rattle.bt_lines.proofs.lemmas.reader.lines.StateLemmas.{some_state}
 use Rattle.bt_lines.proofs.lemmas.reader.lines.StepLemmas.{none_told, some_length}
 use Rattle.bt_lines.proofs.lemmas.reader.lines.TextLemmas.{line_feeds-append}
-use Rattle.bt_lines.specs.model.Fault.{Told}
+use Rattle.bt_lines.specs.model.Fault.{FaultValue}
 use Rattle.bt_lines.specs.calls.LentLine.{GivesFirst}
 use Rattle.bt_lines.specs.model.Lines.{TextLine, line_feeds, lines_from}
-use Rattle.bt_lines.specs.calls.Names.{told}
+use Rattle.bt_lines.specs.calls.Names.{fault_value}
 use Rattle.bt_lines.specs.inside.ReadBuffer.{complete, unread}
 use Rattle.bt_lines.specs.calls.Reader.{CutsFirst, FillsLines, HasRead, TellsOwnFailure, GivesLine, MakesLine, SameLines, Stepped, StepsTo, buffered_bytes, bytes_left, bytes_taken, end_told, fault_kept, feeds_taken, has_ended, held, input_of, left_at, lines_given, lines_left, source_of}
 use Rattle.bt_lines.specs.inside.ReaderState.{ended_at, fault_at, lends_at, open_at, taken_at, text_at}
@@ -45,7 +45,7 @@ text_none ReadFailed lines text e = absurd (false≢true e)
 text_none TooLong lines text e = absurd (false≢true e)
 text_none NoMemory lines text e = absurd (false≢true e)
 
-some_told : (fault : Fault) (kept : Option Told) → kept ≡ Some (told fault) → kept ≡ None → ⊥
+some_told : (fault : Fault) (kept : Option FaultValue) → kept ≡ Some (fault_value fault) → kept ≡ None → ⊥
 some_told fault kept e f = false≢true (ap is_some (sym f ∙ e))
 
 none_left_at : (told : Bool) (held : List ℕ) (n : ℕ) (a : Option (List ℕ)) → told ≡ true → held ≡ [] → IfSome (option_map (lines_from n) (left_at told held a)) (λ lines. lines ≡ [])

@@ -1,7 +1,7 @@
 -- Lemmas on what the reads of a source gave.
 use Rattle.std.proofs.Common.{◌∙◌, ◌≡◌, ℕ, ◌+◌, inl, inr, Option, Some, None, sym, ap, add-zero, add_assoc, arith}
 use Rattle.bt_lines.specs.calls.Device.{ReadsCounted, ReadsFail, ReadsOn, begun, gave}
-use Rattle.bt_lines.specs.model.Fault.{Told, no_memory, read_failed}
+use Rattle.bt_lines.specs.model.Fault.{FaultValue, no_memory, read_failed}
 use Rattle.bt_lines.specs.declared.fault.Input.{Input}
 use Rattle.bt_lines.specs.declared.fault.Kind.TheVariants.{NoMemory as OutOfMemory, ReadFailed}
 use Rattle.bt_lines.specs.calls.Reader.{HasRead, IsUnread, TellsReads, bytes_taken, source_of}
@@ -40,10 +40,10 @@ module _ {S : Type 0} (IsRead : S → Option ℕ → S → Type 0) where
 
 -- out of memory is no failed read
 pub memory_no_read : (input : Input) (line : ℕ) → no_memory ≡ read_failed input line → ⊥
-memory_no_read input line e = let apart : OutOfMemory ≡ ReadFailed = ap (λ (f : Told). f.kind) e in cc
+memory_no_read input line e = let apart : OutOfMemory ≡ ReadFailed = ap (λ (f : FaultValue). f.kind) e in cc
 
 -- only one fault is reported
-pub some_is : (one other : Told) → Some one ≡ Some other → one ≡ other
+pub some_is : (one other : FaultValue) → Some one ≡ Some other → one ≡ other
 some_is one other e = cc
 
 -- ---- a reader of lines
@@ -77,18 +77,18 @@ module _ {S : Type 0} (IsRead : S → Option ℕ → S → Type 0) (a b c : Line
 
 module _ {S : Type 0} (IsRead : S → Option ℕ → S → Type 0) (old new : LineReader S) where
   -- a failed read is reported only if one failed
-  pub tells_unread : (fault : Told) (input : Input) (line : ℕ) → fault ≡ read_failed input line → IsUnread IsRead old new → TellsReads IsRead old (Some fault) new
+  pub tells_unread : (fault : FaultValue) (input : Input) (line : ℕ) → fault ≡ read_failed input line → IsUnread IsRead old new → TellsReads IsRead old (Some fault) new
   tells_unread fault input line is unread = record { unread = λ other at e. unread; read = λ never. absurd (never input line (ap Some is)) }
 
   -- no failed read is reported, and all succeeded
-  pub tells_read : (fault : Option Told) → ((input : Input) (line : ℕ) → fault ≡ Some (read_failed input line) → ⊥) → HasRead IsRead old new → TellsReads IsRead old fault new
+  pub tells_read : (fault : Option FaultValue) → ((input : Input) (line : ℕ) → fault ≡ Some (read_failed input line) → ⊥) → HasRead IsRead old new → TellsReads IsRead old fault new
   tells_read fault never read = record { unread = λ input line e. absurd (never input line e); read = λ none. read }
 
-  pub tells_no_memory : (fault : Told) → fault ≡ no_memory → HasRead IsRead old new → TellsReads IsRead old (Some fault) new
+  pub tells_no_memory : (fault : FaultValue) → fault ≡ no_memory → HasRead IsRead old new → TellsReads IsRead old (Some fault) new
   tells_no_memory fault is = tells_read (Some fault) (λ input line e. memory_no_read input line (sym is ∙ some_is fault (read_failed input line) e))
 
 -- of reads, and then others
-pub tells_then : {S : Type 0} (IsRead : S → Option ℕ → S → Type 0) (a b c : LineReader S) (fault : Option Told) → HasRead IsRead a b → TellsReads IsRead b fault c → TellsReads IsRead a fault c
+pub tells_then : {S : Type 0} (IsRead : S → Option ℕ → S → Type 0) (a b c : LineReader S) (fault : Option FaultValue) → HasRead IsRead a b → TellsReads IsRead b fault c → TellsReads IsRead a fault c
 tells_then IsRead a b c fault one two = record {
   unread = λ input line e. unread_then IsRead a b c one (two.unread input line e);
   read = λ never. has_read_then IsRead a b c one (two.read never);

@@ -12,13 +12,13 @@ use Rattle.bt_lines.proofs.lemmas.reader.lines.LinesLemmas.{lines_from-fed, line
 use Rattle.bt_lines.proofs.lemmas.reader.lines.TextLemmas.{line_feeds-append, line_feeds-none, line_feeds-fed, bytes_behind_first}
 use Rattle.bt_lines.specs.inside.ReadBuffer.{complete, unread}
 use Rattle.bt_lines.specs.model.Lines.{TextLine, fed_line, last_line, lines_from, line_feeds, bytes_in, spelled}
-use Rattle.bt_lines.specs.model.Fault.{Told, read_failed, no_memory}
+use Rattle.bt_lines.specs.model.Fault.{FaultValue, read_failed, no_memory}
 use Rattle.bt_lines.specs.inside.ReaderState.{ended_at, fault_at, going_at, open_at, taken_at, told_at}
 use Rattle.bt_lines.specs.inside.Shape.{held_at}
 use Rattle.bt_lines.specs.inside.Spill.{Buffers, closed}
 use Rattle.bt_lines.specs.calls.Output.{block_size}
 use Rattle.bt_lines.specs.calls.LentLine.{GivesFirst, NoLineFeed}
-use Rattle.bt_lines.specs.calls.Names.{told}
+use Rattle.bt_lines.specs.calls.Names.{fault_value}
 use Rattle.bt_lines.specs.calls.Reader.{FillsLines, IsKept, IsSound, MakesLine, SameLines, buffered_bytes, is_going, Hands, IsNear, FailsToRead, end_told, GivesLine, line_at, source_of, input_of, lines_given, bytes_taken, held, fault_kept, has_ended, bytes_left, feeds_taken}
 use Rattle.bt_lines.specs.declared.fault.Fault.{Fault}
 use Rattle.bt_lines.specs.declared.fault.Input.{Input}
@@ -341,7 +341,7 @@ module _ {S : Type 0} (left : S → Option (List ℕ)) (failed end : S → Bool)
 -- ---- a line that couldn't be given
 
 -- no fault is none
-some_fault : (fault : Told) → None ≡ Some fault → ⊥
+some_fault : (fault : FaultValue) → None ≡ Some fault → ⊥
 some_fault fault e = false≢true (ap is_some e)
 
 -- a failed read has a place
@@ -361,7 +361,7 @@ module _ {S : Type 0} (left : S → Option (List ℕ)) (failed end : S → Bool)
     (same : input_of new ≡ input_of old) (same_lines : lines_given new ≡ lines_given old) (consumed : Consumes (left (source_of old)) (left (source_of new)) bytes)
     (counted : bytes_taken new ≡ bytes_taken old + length bytes) (joined : held old ++ bytes ≡ text ++ behind) (clear : NoLineFeed text)
     (short : length behind ≤ block_size) (holds : bytes_taken new < 2 ^ 63 → lines_given old + line_feeds (held new) ≡ lines_given old + line_feeds (held old) + line_feeds bytes)
-    (kept : fault_kept new ≡ Some (told fault)) (untold : end_told new ≡ false) (empty : buffered_bytes old ≡ []) where
+    (kept : fault_kept new ≡ Some (fault_value fault)) (untold : end_told new ≡ false) (empty : buffered_bytes old ≡ []) where
   cut_counts : bytes_taken new < 2 ^ 63 → lines_given new + line_feeds (held new) ≡ lines_given old + line_feeds (held old) + line_feeds bytes
   cut_counts below =
       rw same_lines (holds below)
@@ -389,8 +389,8 @@ module _ {S : Type 0} (left : S → Option (List ℕ)) (failed end : S → Bool)
   cut_given e =
       (omega (arith, same_lines, line_feeds-append (held old) (take (2 ^ 63 - 1 - bytes_taken old) bytes), ap line_feeds e, line_feeds-none text clear))
 
-  pub stepped_cut : (told fault ≡ read_failed (input_of old) (suc (lines_given old)) → text ≡ held old ++ take (2 ^ 63 - 1 - bytes_taken old) bytes)
-      → FailsToRead left failed old (told fault) new ⊎ (told fault ≡ no_memory) → (told fault ≡ no_memory → failed (source_of new) ≡ failed (source_of old))
+  pub stepped_cut : (fault_value fault ≡ read_failed (input_of old) (suc (lines_given old)) → text ≡ held old ++ take (2 ^ 63 - 1 - bytes_taken old) bytes)
+      → FailsToRead left failed old (fault_value fault) new ⊎ (fault_value fault ≡ no_memory) → (fault_value fault ≡ no_memory → failed (source_of new) ≡ failed (source_of old))
       → FillsLines left failed end old (Err fault) new
   stepped_cut cut cause served = record {
     answers = record {
@@ -409,7 +409,7 @@ module _ {S : Type 0} (left : S → Option (List ℕ)) (failed end : S → Bool)
     unread = λ h. absurd (omega (arith, h, ap length empty));
     kept = λ h. record {
       end = λ e. absurd (false≢true (sym untold ∙ e));
-      within = λ e. absurd (some_fault (told fault) (sym e ∙ kept));
+      within = λ e. absurd (some_fault (fault_value fault) (sym e ∙ kept));
     };
   }
 
@@ -495,12 +495,12 @@ module _ {S : Type 0} (left : S → Option (List ℕ)) (failed end : S → Bool)
   joined_all all bytes e = ap (λ l. l ++ bytes) old_holds ∙ e
 
   module _ (fault : Fault) where
-    is_read_failed : told fault ≡ read_failed (input_of new) (suc (lines_given new)) → told fault ≡ read_failed old.input (suc old.lines)
+    is_read_failed : fault_value fault ≡ read_failed (input_of new) (suc (lines_given new)) → fault_value fault ≡ read_failed old.input (suc old.lines)
     unfolding input_of lines_given
     is_read_failed at = at ∙ ap (λ i. read_failed i (suc new.lines)) same ∙ ap (λ n. read_failed old.input (suc n)) same_lines
 
     -- the source failed
-    pub failed_step : stop ≡ Failed → told fault ≡ read_failed (input_of new) (suc (lines_given new)) → new.state ≡ ReadFailed → FillsLines left failed end old (Err fault) new
+    pub failed_step : stop ≡ Failed → fault_value fault ≡ read_failed (input_of new) (suc (lines_given new)) → new.state ≡ ReadFailed → FillsLines left failed end old (Err fault) new
     unfolding source_of input_of lines_given bytes_taken held fault_kept end_told
     failed_step is at state =
         let b = rw is at buffers in
@@ -520,7 +520,7 @@ module _ {S : Type 0} (left : S → Option (List ℕ)) (failed end : S → Bool)
         (λ e. absurd (some_place (sym is_fault ∙ e)))
 
     -- the text is too long
-    pub long_step : stop ≡ StopTooLong → told fault ≡ read_failed (input_of new) (suc (lines_given new)) → new.state ≡ TooLong → FillsLines left failed end old (Err fault) new
+    pub long_step : stop ≡ StopTooLong → fault_value fault ≡ read_failed (input_of new) (suc (lines_given new)) → new.state ≡ TooLong → FillsLines left failed end old (Err fault) new
     unfolding source_of input_of lines_given bytes_taken held fault_kept end_told
     long_step is at state =
         let b = rw is at buffers in
@@ -539,7 +539,7 @@ module _ {S : Type 0} (left : S → Option (List ℕ)) (failed end : S → Bool)
         (λ e. absurd (some_place (sym is_fault ∙ e)))
 
     -- the line couldn't grow
-    pub refused_step : stop ≡ StopNoMemory → told fault ≡ no_memory → new.state ≡ NoMemory → FillsLines left failed end old (Err fault) new
+    pub refused_step : stop ≡ StopNoMemory → fault_value fault ≡ no_memory → new.state ≡ NoMemory → FillsLines left failed end old (Err fault) new
     unfolding source_of input_of lines_given bytes_taken held fault_kept end_told
     refused_step is is_fault state =
         let b = rw is at buffers in

@@ -3,7 +3,7 @@ use Rattle.std.proofs.Common.{◌≡◌, ℕ, nat_eq, Bool, true, false, cond, n
 use Rattle.std.proofs.lemmas.Bool.Decides.{nat_tests}
 use Rattle.std.specs.Prelude.{IsErr, IsOk}
 use Rattle.bt_bed.specs.model.feature.Feature.{Feature}
-use Rattle.bt_lines.specs.calls.Names.{told}
+use Rattle.bt_lines.specs.calls.Names.{fault_value}
 use Rattle.bt_lines.specs.calls.Output.{Output}
 use Rattle.bt_lines.proofs.lemmas.writer.PuttingLemmas.{grown_none}
 use Rattle.bt_lines.specs.model.Lines.{end_bytes}
@@ -41,7 +41,7 @@ pub wrote_given : {A : Type 0} (r : Result A Fault) (old new : Masking) (line : 
 wrote_given (Ok done) old new line out grown none adds next stops =
     (next refl, subst (λ (l : List ℕ). Grown out l grown) (plain_bytes old line none) adds)
 wrote_given (Err fault) old new line out grown none adds next stops =
-    (stops refl, inl (subst (λ (l : List ℕ). FailsToAdd out l (told fault) grown) (plain_bytes old line none) adds))
+    (stops refl, inl (subst (λ (l : List ℕ). FailsToAdd out l (fault_value fault) grown) (plain_bytes old line none) adds))
 
 -- it was kept and then written
 pub wrote_kept : {A : Type 0} (r : Result A Fault) (old kept new : Masking) (line : Waiting) (out grown : Output)
@@ -80,7 +80,7 @@ written_now (Err fault) old new number line out grown fine now w =
       inr (
         fine,
         elim w.1 [
-          | inl adds ↦ inl (subst (λ b. FailsToAdd out (cond b (line_bytes moved line) []) (told fault) grown) (sym now) adds)
+          | inl adds ↦ inl (subst (λ b. FailsToAdd out (cond b (line_bytes moved line) []) (fault_value fault) grown) (sym now) adds)
           | inr memory ↦ inr (
             memory.0,
             memory.1,

@@ -8,7 +8,7 @@ use Rattle.bt_bed.specs.declared.record.taken.Taken.TheVariants.{Yes, No}
 use Rattle.bt_lines.proofs.lemmas.writer.PuttingLemmas.{grown_more, grown_none}
 use Rattle.bt_lines.specs.calls.Buffered.{PassesLine, lines_in}
 use Rattle.bt_lines.specs.model.Lines.{TextLine, spelled}
-use Rattle.bt_lines.specs.calls.Names.{told}
+use Rattle.bt_lines.specs.calls.Names.{fault_value}
 use Rattle.bt_lines.specs.calls.Output.{Output}
 use Rattle.bt_lines.specs.calls.Putting.{Grown}
 use Rattle.bt_lines.specs.declared.reader.buffered_lines.BufferedLines.{BufferedLines}
@@ -315,7 +315,7 @@ module _ {C : Type 0} (gives : C → List Feature → C → Type 0) (line_at : C
           )
 
       fails_by : (fault : Fault) (new : Masking) (grown : Output) → Waits (Err fault) new grown → NoneWaits (Err fault) new grown → (o : Option SequenceLine) → stage.waiting ≡ o
-          → (new.want ≡ Nothing) × FailsAtRecord how full o stage r number out (told fault) grown
+          → (new.want ≡ Nothing) × FailsAtRecord how full o stage r number out (fault_value fault) grown
       fails_by fault new grown waits none None e = none how full stage stands e is_next
       fails_by fault new grown waits none (Some a) e = waits how full stage a stands e is_next
 
@@ -339,7 +339,7 @@ module _ {C : Type 0} (gives : C → List Feature → C → Type 0) (line_at : C
                 refl,
                 sym stands.want_is ∙ wants,
                 given,
-                subst (λ (n : ℕ). FailsAtRecord how full stage.waiting stage r n out (told fault) grown) number_is f.1,
+                subst (λ (n : ℕ). FailsAtRecord how full stage.waiting stage r n out (fault_value fault) grown) number_is f.1,
               );
             },
           )

@@ -8,7 +8,7 @@ use Rattle.bt_bed.specs.model.feature.Feature.{Feature}
 use Rattle.bt_bed.specs.model.input.GoodBlocks.{AreInBlocks}
 use Rattle.bt_bed.specs.model.feature.LineKind.{fault_at_line}
 use Rattle.bt_lines.specs.model.Lines.{end_bytes}
-use Rattle.bt_lines.specs.calls.Names.{told}
+use Rattle.bt_lines.specs.calls.Names.{fault_value}
 use Rattle.bt_lines.specs.model.Number.{max_number}
 use Rattle.bt_lines.specs.calls.Output.{Output}
 use Rattle.bt_lines.specs.calls.Putting.{FailsToAdd, Grown}
@@ -246,7 +246,7 @@ module _ (how : MaskHow) (full : Bool) (stage : MaskStage) (line : SequenceLine)
         elim t.1 [
           | inl wrote ↦ inl (record {
             decides = decided_is ∙ wrote.0;
-            fails = subst (λ (l : List ℕ). FailsToAdd out l (told fault) grown) bytes_are wrote.1;
+            fails = subst (λ (l : List ℕ). FailsToAdd out l (fault_value fault) grown) bytes_are wrote.1;
             settled = masked_before how line stage.taken r (decided_is ∙ wrote.0);
           })
           | inr held ↦ inr (record {
@@ -287,7 +287,7 @@ module _ (how : MaskHow) (full : Bool) (stage : MaskStage) (line : SequenceLine)
     subst (λ (x : Masking). MaskStandsAt how full (with_bed_ended stage) x) (sym w.0) ended_stands,
     subst (λ (l : List ℕ). Grown out l grown) bytes_are w.1,
   )
-  ends_bed (Err fault) out new grown w = (w.0, subst (λ (l : List ℕ). FailsToAdd out l (told fault) grown) bytes_are w.1)
+  ends_bed (Err fault) out new grown w = (w.0, subst (λ (l : List ℕ). FailsToAdd out l (fault_value fault) grown) bytes_are w.1)
 
 -- what is decided by the records taken and the one ahead is decided by those taken, once it is
 -- taken too
@@ -370,7 +370,7 @@ module _ (how : MaskHow) (full : Bool) (stage : MaskStage) (none : stage.waiting
           same_output = refl;
         }
 
-    pub lacks_sequence : (number : ℕ) (out : Output) (fault : Fault) → owner_of old.matched r.chrom ≡ Nobody → told fault ≡ fault_at_line Second number NoSequence → LacksSequence how full stage r number out (told fault) out
+    pub lacks_sequence : (number : ℕ) (out : Output) (fault : Fault) → owner_of old.matched r.chrom ≡ Nobody → fault_value fault ≡ fault_at_line Second number NoSequence → LacksSequence how full stage r number out (fault_value fault) out
     lacks_sequence number out fault nobody is = record {
       owned_before = stands.owned;
       unowned = nobody_left left_now (sym nobody ∙ owner_now);

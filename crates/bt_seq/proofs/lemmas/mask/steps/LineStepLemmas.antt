@@ -7,7 +7,7 @@ use Rattle.std.proofs.lemmas.List.{length-map}
 use Rattle.std.proofs.lemmas.Bool.{not-true, not-false, or_parts}
 use Rattle.bt_bed.specs.model.feature.Feature.{Feature}
 use Rattle.bt_lines.specs.model.Lines.{TextLine, end_bytes}
-use Rattle.bt_lines.specs.calls.Names.{told}
+use Rattle.bt_lines.specs.calls.Names.{fault_value}
 use Rattle.bt_lines.specs.calls.Output.{Output}
 use Rattle.bt_lines.specs.calls.Putting.{FailsToAdd, Grown}
 use Rattle.bt_lines.specs.declared.fault.Fault.{Fault}
@@ -461,7 +461,7 @@ module _ (how : MaskHow) (full : Bool) (stage : MaskStage) (old : Masking) (s : 
       settled = settled g.item (moved_to old line.text) g.moved;
     }
 
-    fails : (A : Type 0) (fault : Fault) → Goes line → TakesLine {A = A} old line.number kept out (Err fault) new grown → (new.want ≡ Nothing) × (RefusesLine how full stage line out (told fault) grown ⊎ FailsWithLine how full stage line out (told fault) grown)
+    fails : (A : Type 0) (fault : Fault) → Goes line → TakesLine {A = A} old line.number kept out (Err fault) new grown → (new.want ≡ Nothing) × (RefusesLine how full stage line out (fault_value fault) grown ⊎ FailsWithLine how full stage line out (fault_value fault) grown)
     fails A fault g t = (
       t.0,
       elim t.1 [
@@ -470,7 +470,7 @@ module _ (how : MaskHow) (full : Bool) (stage : MaskStage) (old : Masking) (s : 
           item = g.item;
           says = g.says;
           fails = elim other.1 [
-            | inl add ↦ inl (subst (λ (l : List ℕ). FailsToAdd out l (told fault) grown)
+            | inl add ↦ inl (subst (λ (l : List ℕ). FailsToAdd out l (fault_value fault) grown)
                 (ap (λ (k : Waiting). bytes_at_once (moved_to old line.text) k) (sym g.kept) ∙ bytes_now g.item (moved_to old line.text) g.moved) add)
             | inr memory ↦ inr (
               memory.0,
@@ -484,7 +484,7 @@ module _ (how : MaskHow) (full : Bool) (stage : MaskStage) (old : Masking) (s : 
       ],
     )
 
-    refuses : (A : Type 0) (fault : Fault) → Strays line → TakesLine {A = A} old line.number kept out (Err fault) new grown → (new.want ≡ Nothing) × (RefusesLine how full stage line out (told fault) grown ⊎ FailsWithLine how full stage line out (told fault) grown)
+    refuses : (A : Type 0) (fault : Fault) → Strays line → TakesLine {A = A} old line.number kept out (Err fault) new grown → (new.want ≡ Nothing) × (RefusesLine how full stage line out (fault_value fault) grown ⊎ FailsWithLine how full stage line out (fault_value fault) grown)
     refuses A fault g t = (
       t.0,
       elim t.1 [

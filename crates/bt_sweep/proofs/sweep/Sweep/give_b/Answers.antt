@@ -1,7 +1,7 @@
 use Rattle.std.proofs.Common.{◌≡◌, Option, Some, Ok, Err, ap, refl, subst, sym, ◌∙◌}
 use Rattle.std.proofs.lemmas.Bool.{false≢true}
 use Rattle.std.proofs.lemmas.Result.{err_from_is_err_and}
-use Rattle.bt_lines.specs.calls.Names.{told}
+use Rattle.bt_lines.specs.calls.Names.{fault_value}
 use Rattle.bt_bed.specs.calls.Bed.{feature_lent}
 use Rattle.bt_bed.specs.model.feature.Feature.{Feature}
 use Rattle.bt_lines.specs.calls.Putting.{FailsToAdd, Grown}
@@ -38,7 +38,7 @@ returns-in_err-put-in-Past-clause-gives g c = λ shape rule limit stage a st wai
     let reach = subst (λ (f : Feature). IsReach Past order f (feature_lent c.args.b.now)) same c.in-Past.ensures in
     let e = err_from_is_err_and c.from_residual-in_err-put-in-Past.result c.from_residual-in_err-put-in-Past.ensures.1 in
     rw (e.1, e.2)
-    (cuts_b order (g.met.O.ChromOrder.total c.args.self.now.order.now) shape rule limit stage a old st waits (feature_lent c.args.b.now) c.args.line c.args.out.now.output c.put.new.out.output mid c.put.new.self c.take_current.ensures.taken c.in_err-put-in-Past.field-0.0 placed reach c.in_err-put-in-Past.ensures.stops (subst (λ (f : Feature). AreRising mid.held → FailsToAdd c.args.out.now.output (lines_for mid.shape mid.rule f mid.held) (told c.in_err-put-in-Past.field-0.0) c.put.new.out.output) same c.in_err-put-in-Past.ensures.puts))
+    (cuts_b order (g.met.O.ChromOrder.total c.args.self.now.order.now) shape rule limit stage a old st waits (feature_lent c.args.b.now) c.args.line c.args.out.now.output c.put.new.out.output mid c.put.new.self c.take_current.ensures.taken c.in_err-put-in-Past.field-0.0 placed reach c.in_err-put-in-Past.ensures.stops (subst (λ (f : Feature). AreRising mid.held → FailsToAdd c.args.out.now.output (lines_for mid.shape mid.rule f mid.held) (fault_value c.in_err-put-in-Past.field-0.0) c.put.new.out.output) same c.in_err-put-in-Past.ensures.puts))
 
 pub returns-in_ok-put-in-Past-clause-gives : goal.returns-in_ok-put-in-Past-clause-gives
 returns-in_ok-put-in-Past-clause-gives g c = λ shape rule limit stage a st waits placed.

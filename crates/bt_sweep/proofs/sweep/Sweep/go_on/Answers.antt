@@ -1,7 +1,7 @@
 use Rattle.std.proofs.Common.{◌≡◌, [], ◌∷◌, Option, None, ap, subst, sym, ◌∙◌}
 use Rattle.std.proofs.lemmas.Bool.{false≢true}
 use Rattle.std.proofs.lemmas.Result.{err_from_is_err_and}
-use Rattle.bt_lines.specs.calls.Names.{told}
+use Rattle.bt_lines.specs.calls.Names.{fault_value}
 use Rattle.bt_bed.specs.model.feature.Feature.{Feature}
 use Rattle.bt_sweep.specs.inside.Relating.{EndsWhile}
 use Rattle.bt_sweep.specs.calls.SweepState.{Sweeping}
@@ -39,7 +39,7 @@ returns-in_err-waiting-clause-advances g c =
     (keeps_entered order (g.met.O.ChromOrder.total c.args.self.now.order.now) old c.requires.none first mid c.enter.ensures.entered) phase
     g.A.Cursor.gives g.A.Cursor.has_ended g.B.Cursor.gives g.B.Cursor.has_ended (EndsWhile g.B.Cursor.has_ended c.enter.new.self.phase) g.B.Cursor.line
     g.A.Cursor.gives g.A.Cursor.has_ended c.args.a.now c.decide-decided.new.a.cursor c.next.new.self.cursor c.decide-decided.new.a.cursor c.args.b.now c.decide-decided.new.b c.args.out.now.output c.decide-decided.new.out.output (state_of c.decide-decided.new.self)
-    (told c.in_err-waiting.field-0.0) b (g.met.A.Cursor.gives_more _ _ _ (first ∷ []) b.firsts given b.gives_firsts))
+    (fault_value c.in_err-waiting.field-0.0) b (g.met.A.Cursor.gives_more _ _ _ (first ∷ []) b.firsts given b.gives_firsts))
 
 pub returns-in_default-2-clause-advances : goal.returns-in_default-2-clause-advances
 returns-in_default-2-clause-advances g c =

@@ -2,7 +2,7 @@ use Rattle.std.proofs.Common.{◌≡◌, List, [], ◌∷◌, Option, Some, None
 use Rattle.std.specs.Prelude.{All, is_some, ⊤}
 use Rattle.std.proofs.lemmas.Bool.{false≢true}
 use Rattle.std.proofs.lemmas.Result.{err_from_is_err_and}
-use Rattle.bt_lines.specs.calls.Names.{told}
+use Rattle.bt_lines.specs.calls.Names.{fault_value}
 use Rattle.bt_bed.specs.calls.Bed.{feature_lent}
 use Rattle.bt_bed.specs.model.feature.Feature.{Feature}
 use Rattle.bt_bed.specs.calls.Single.{GivesSingle, HasNone, single_left}
@@ -38,7 +38,7 @@ returns-in_err-decide-clause-decides g c =
     rw (e.1, e.2)
     (fails_from order old mid first [] (pre_current order old first some mid taken) (keeps_current order old first some mid taken) phase GivesSingle HasNone g.B.Cursor.gives g.B.Cursor.has_ended (EndsWhile g.B.Cursor.has_ended c.take_current.new.self.phase) g.B.Cursor.line
     NoneGiven (λ u. ⊤) tt tt c.new-none.result.cursor c.decide.new.a.cursor c.args.b.now c.decide.new.b c.args.out.now.output c.decide.new.out.output (state_of c.decide.new.self)
-    (told c.in_err-decide.field-0.0) b (single_none c.new-none.result.cursor c.decide.new.a.cursor b.firsts (ap single_left c.new-none.ensures.cursor ∙ c.none.ensures.left) b.gives_firsts))
+    (fault_value c.in_err-decide.field-0.0) b (single_none c.new-none.result.cursor c.decide.new.a.cursor b.firsts (ap single_left c.new-none.ensures.cursor ∙ c.none.ensures.left) b.gives_firsts))
 
 pub returns-in_default-2-clause-decides : goal.returns-in_default-2-clause-decides
 returns-in_default-2-clause-decides g c =

@@ -3,14 +3,14 @@ use Rattle.std.proofs.Common.{◌≡◌, ℕ, suc, ◌+◌, ◌-◌, ◌^◌, �
 use Rattle.std.specs.Prelude.{All, IfSome, option_map}
 use Rattle.std.proofs.lemmas.List.{drop-drop}
 use Rattle.std.proofs.Math.Seq.{take-append-add}
-use Rattle.bt_lines.specs.model.Fault.{Told}
+use Rattle.bt_lines.specs.model.Fault.{FaultValue}
 use Rattle.bt_lines.specs.model.Lines.{AreNumbered, TextLine, bytes_in, line_feeds, lines_from}
 use Rattle.bt_lines.specs.calls.Output.{block_size}
 use Rattle.bt_lines.specs.calls.Reader.{CutsOff, Hands, bytes_taken, end_told, lines_given}
 use Rattle.bt_lines.specs.declared.reader.line_reader.LineReader.{LineReader}
 use Rattle.bt_lines.proofs.lemmas.reader.lines.ReaderLemmas.{hands_both}
 use Rattle.bt_lines.proofs.lemmas.reader.lines.TextLemmas.{line_feeds-append, lines_are_numbered}
-use Rattle.bt_lines.specs.calls.Names.{told}
+use Rattle.bt_lines.specs.calls.Names.{fault_value}
 use Rattle.bt_bed.specs.model.input.Good.{Good, Member, ends_with}
 use Rattle.bt_bed.specs.model.input.GoodLines.{IsBeyond}
 use Rattle.bt_tool.specs.inside.feed.Passed.{ComeFirst}
@@ -20,7 +20,7 @@ come_none None = tt
 come_none (Some good) = (refl, refl)
 
 -- nothing is to come but a fault, if there is one
-pub whole_with : {A : Type 0} (old now : Option (Good A)) (past : List (Member A)) (fault : Option Told) → ComeFirst old past now
+pub whole_with : {A : Type 0} (old now : Option (Good A)) (past : List (Member A)) (fault : Option FaultValue) → ComeFirst old past now
     → IfSome now (λ good. good ≡ ends_with fault)
     → IfSome old (λ good. (good.members ≡ past) × (good.fault ≡ fault))
 whole_with None now past fault c e = tt

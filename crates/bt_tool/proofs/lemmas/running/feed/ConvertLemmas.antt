@@ -6,7 +6,7 @@ use Rattle.std.proofs.lemmas.List.{map-append}
 use Rattle.std.proofs.KnownBytes.{Appends-nil}
 use Rattle.std.proofs.lemmas.Bool.{false≢true}
 use Rattle.bt_lines.proofs.lemmas.reader.block.ReadsLemmas.{some_is}
-use Rattle.bt_lines.specs.model.Fault.{Told, read_failed}
+use Rattle.bt_lines.specs.model.Fault.{FaultValue, read_failed}
 use Rattle.bt_lines.specs.model.Lines.{TextLine, text_lines}
 use Rattle.bt_lines.specs.calls.Output.{Output, HoldsBlock}
 use Rattle.bt_lines.specs.calls.Putting.{Grown, WorksAsBefore}
@@ -68,7 +68,7 @@ module _ {S : Type 0} (split cigar : Bool) (left : S → Option (List ℕ)) (fai
     going_start fresh block = record { past = []; fed = fed_none lines_of left failed end (sam_reader old) out fresh fresh.going refl block; sound = fresh.sound }
 
     module _ (now : LineReader S) (grown : Output) (g : Going old out now grown) where
-      abbrev UpTo : Told → MemberReader S Alignment ⊤ → Output → Type 0
+      abbrev UpTo : FaultValue → MemberReader S Alignment ⊤ → Output → Type 0
       UpTo fault new later = FeedsUpTo lines_of (IsOneOf is_sam_kind) Any left failed end (sam_reader old) out fault new later
 
       abbrev steps : Steps left failed end (sam_reader now) (sam_reader now)
@@ -85,12 +85,12 @@ module _ {S : Type 0} (split cigar : Bool) (left : S → Option (List ℕ)) (fai
             clear = λ e. e;
           }) tt tt
 
-      up_to : (new : MemberReader S Alignment ⊤) (fault : Told) → IsStopped left failed end (sam_reader now) fault new → UpTo fault new grown
+      up_to : (new : MemberReader S Alignment ⊤) (fault : FaultValue) → IsStopped left failed end (sam_reader now) fault new → UpTo fault new grown
       up_to new fault stopped =
           fed_up_to lines_of (IsOneOf is_sam_kind) Any left failed end (sam_reader old) out g.past (sam_reader now) grown g.fed (λ state line kind says. wrong_kinds line.text kind says) new fault stopped tt
 
       -- the reader reported a fault
-      pub stops_reading : (new : LineReader S) (fault : Told) → GivesFault left failed now fault new → (IsSound left end now → IsSound left end new) → UpTo fault (sam_reader new) grown
+      pub stops_reading : (new : LineReader S) (fault : FaultValue) → GivesFault left failed now fault new → (IsSound left end now → IsSound left end new) → UpTo fault (sam_reader new) grown
       stops_reading new fault gives sound =
           up_to (sam_reader new) fault (record {
             answers = going_unread left failed end (sam_reader now) (sam_reader now) (sam_reader new) fault steps gives gives.kept refl (record { state = refl; format = refl }) (λ same fault. ap sam_reader same);
@@ -102,11 +102,11 @@ module _ {S : Type 0} (split cigar : Bool) (left : S → Option (List ℕ)) (fai
         kept : IsKept left end now → IsKept left end new
         kept was = kept_of left end new (sound g.sound)
 
-        abbrev pub stopped_at : Told → MemberReader S Alignment ⊤
+        abbrev pub stopped_at : FaultValue → MemberReader S Alignment ⊤
         stopped_at fault = record { format = sam_format; below = new; state = tt; buffered = []; fault = Some fault }
 
         -- it is at fault
-        pub stops_at_line : (fault : Told) (later : Output) → LineRefused (input_of old) line grown fault later → UpTo fault (stopped_at fault) later
+        pub stops_at_line : (fault : FaultValue) (later : Output) → LineRefused (input_of old) line grown fault later → UpTo fault (stopped_at fault) later
         stops_at_line fault later refused =
             let of_sam = wrong_kinds line.text refused.kind refused.says in
             subst (λ o. UpTo fault (stopped_at fault) o) (sym refused.unchanged)
@@ -123,7 +123,7 @@ module _ {S : Type 0} (split cigar : Bool) (left : S → Option (List ℕ)) (fai
         with_it a says = passes_some left failed end (sam_reader old) (sam_reader now) g.past g.fed.passes (sam_reader new) line gives kept refl refl gives.goes a says refl
 
         -- the lines of its alignment couldn't be written
-        pub stops_writing : (converting : Converting) → converting.split ≡ split → converting.with_cigar ≡ cigar → (fault : Told) (later : Output) → (unwritten : LineUnwritten converting line grown fault later)
+        pub stops_writing : (converting : Converting) → converting.split ≡ split → converting.with_cigar ≡ cigar → (fault : FaultValue) (later : Output) → (unwritten : LineUnwritten converting line grown fault later)
             → UpTo fault (sam_reader new) later
         stops_writing converting same same_cigar fault later unwritten =
             let a = unwritten.said in
@@ -163,7 +163,7 @@ module _ {S : Type 0} (split cigar : Bool) (left : S → Option (List ℕ)) (fai
             (subst (λ s. Grown grown (lines_if s cigar written.said) later) same (subst (λ c. Grown grown (lines_if converting.split c written.said) later) same_cigar written.writes))
 
 -- a line that was refused is no failed read
-pub refused_no_read : (input : Input) (line : TextLine) (out : Output) (fault : Told) (grown : Output) → LineRefused input line out fault grown → (other : Input) (at : ℕ) → Some fault ≡ Some (read_failed other at) → ⊥
+pub refused_no_read : (input : Input) (line : TextLine) (out : Output) (fault : FaultValue) (grown : Output) → LineRefused input line out fault grown → (other : Input) (at : ℕ) → Some fault ≡ Some (read_failed other at) → ⊥
 refused_no_read input line out fault grown refused other at e =
     line_no_read input line.number refused.kind other at (kinds_of_lines refused.kind (wrong_kinds line.text refused.kind refused.says)) (sym refused.is ∙ some_is fault (read_failed other at) e)
 
@@ -172,7 +172,7 @@ abbrev bamtobed_written : Bool → Bool → Written Alignment
 bamtobed_written split cigar = record { whole = alignment_lines split cigar; settled = alignment_lines split cigar }
 
 -- that is its report
-reported : (split cigar : Bool) (members : List Alignment) (fault : Option Told)
+reported : (split cigar : Bool) (members : List Alignment) (fault : Option FaultValue)
     → report_by (bamtobed_written split cigar) members fault ≡ record { output = alignment_lines split cigar members; fault = fault }
 reported split cigar members None = refl
 reported split cigar members (Some fault) = refl
@@ -194,10 +194,10 @@ module _ {S : Type 0} (split cigar : Bool) (left : S → Option (List ℕ)) (fai
   more_lines past more h = (alignment_lines split cigar more, flat_map-append (bed_lines split cigar) past more)
 
   module _ (converting : Converting) (same : converting ≡ record { split = split; with_cigar = cigar; fault = None }) (out : Output) (new : MemberReader S Alignment ⊤) (last : S) (ended : source_of new.below ≡ last) (grown : Output) where
-    abbrev Writes : Option Told → Type 0
+    abbrev Writes : Option FaultValue → Type 0
     Writes fault = WritesAlone left failed (of_bamtobed split cigar) first out fault last grown
 
-    as_reported : (fault : Option Told) → WritesAlone left failed (of_members (IsOneOf is_sam_kind) (bamtobed_written split cigar) sam_format) first out fault last grown → Writes fault
+    as_reported : (fault : Option FaultValue) → WritesAlone left failed (of_members (IsOneOf is_sam_kind) (bamtobed_written split cigar) sam_format) first out fault last grown → Writes fault
     as_reported fault =
         alone_writes left failed (λ source. true) left failed (of_members (IsOneOf is_sam_kind) (bamtobed_written split cigar) sam_format) (of_bamtobed split cigar)
         (λ one two. reported split cigar _ _) (λ two lines. refl) first None out fault last grown (λ t tells. tells)
@@ -211,14 +211,14 @@ module _ {S : Type 0} (split cigar : Bool) (left : S → Option (List ℕ)) (fai
         (λ past. ⊤) grown is grown (goes_same grown) [] (sym (append-nil _)) (Appends-nil grown.put) refl)
 
     -- or it was read up to a fault
-    pub writes_up_to : (fault : Told) → FeedsUpTo (alignment_lines converting.split converting.with_cigar) (IsOneOf is_sam_kind) (λ past. ⊤) left failed end (sam_reader reader) out fault new grown → Writes (Some fault)
+    pub writes_up_to : (fault : FaultValue) → FeedsUpTo (alignment_lines converting.split converting.with_cigar) (IsOneOf is_sam_kind) (λ past. ⊤) left failed end (sam_reader reader) out fault new grown → Writes (Some fault)
     writes_up_to fault fed =
         as_reported (Some fault)
         (drives_fault (bamtobed_written split cigar) (IsOneOf is_sam_kind) (λ past. ⊤) (λ past. ⊤) more_lines more_lines left failed end sam_format (λ text. tt) (sam_reader reader) first out starts_reader new last ended
         fault grown (subst (λ (m : Converting). FeedsUpTo (alignment_lines m.split m.with_cigar) (IsOneOf is_sam_kind) (λ past. ⊤) left failed end (sam_reader reader) out fault new grown) same fed))
 
     -- a failed read that is reported is of a read that failed then
-    pub own_up_to : (IsRead : S → Option ℕ → S → Type 0) → KeepsOwnFault IsRead reader new → (fault : Told) → FeedsUpTo (alignment_lines converting.split converting.with_cigar) (IsOneOf is_sam_kind) (λ past. ⊤) left failed end (sam_reader reader) out fault new grown
+    pub own_up_to : (IsRead : S → Option ℕ → S → Type 0) → KeepsOwnFault IsRead reader new → (fault : FaultValue) → FeedsUpTo (alignment_lines converting.split converting.with_cigar) (IsOneOf is_sam_kind) (λ past. ⊤) left failed end (sam_reader reader) out fault new grown
         → TellsOwnReads ⊥ (IsOwnFailure IsRead first last) ⊥ (Some fault)
     own_up_to IsRead own fault fed =
         feeds_own left failed end IsRead sam_format first (sam_reader reader) starts_reader new last ended own (alignment_lines converting.split converting.with_cigar) (IsOneOf is_sam_kind) (λ kind. false≢true kind) (λ past. ⊤) out fault grown fed

@@ -5,10 +5,10 @@ use Rattle.std.proofs.lemmas.List.{map-append}
 use Rattle.std.specs.Io.KnownBytes.{Appends, Consumes}
 use Rattle.bt_lines.proofs.lemmas.reader.block.ReadsLemmas.{some_is}
 use Rattle.bt_lines.proofs.lemmas.writer.OutputLemmas.{grows_both}
-use Rattle.bt_lines.specs.model.Fault.{Told, write_failed, no_memory}
+use Rattle.bt_lines.specs.model.Fault.{FaultValue, write_failed, no_memory}
 use Rattle.bt_lines.specs.model.Handed.{Handed, whole_text}
 use Rattle.bt_lines.specs.model.Lines.{text_lines}
-use Rattle.bt_lines.specs.calls.Output.{Output, IsFrontOf}
+use Rattle.bt_lines.specs.calls.Output.{Output, IsPrefixOf}
 use Rattle.bt_lines.specs.calls.Reader.{Hands, IsSound, source_of, input_of, bytes_taken, feeds_taken, lines_given}
 use Rattle.bt_lines.specs.declared.reader.line_reader.LineReader.{LineReader}
 use Rattle.bt_lines.specs.declared.fault.Input.TheVariants.{First}
@@ -26,7 +26,7 @@ use Rattle.bt_bed.specs.model.order.Locus.{ArePlaced}
 use Rattle.bt_bed.specs.calls.Reading.{MemberReader, good_coming}
 use Rattle.bt_bed.specs.calls.SortedReader.{view_with}
 use Rattle.bt_bed.specs.calls.Records.{below, buffered_in, fault_kept, order_in, view_of}
-use Rattle.bt_lines.specs.calls.Names.{told}
+use Rattle.bt_lines.specs.calls.Names.{fault_value}
 use Rattle.bt_lines.specs.calls.Putting.{CutsRest, PutsRest}
 use Rattle.bt_lines.specs.declared.fault.Fault.{Fault}
 use Rattle.bt_runs.specs.calls.Engine.{FailsToPutLeft, Finishes, RepeatsAtEnd}
@@ -34,7 +34,7 @@ use Rattle.bt_bed.specs.model.order.Sorting.{sorting_of}
 use Rattle.bt_bed.specs.declared.order.ChromOrder.{Ghosts}
 use Rattle.bt_bed.specs.declared.read.records.Records.{Records}
 use Rattle.bt_bed.proofs.lemmas.laws.GoodBedLemmas.{placed_good, non_empty_good}
-use Rattle.bt_tool.specs.calls.run.Telling.{IsFaultButWrite, IsReported, IsWithin, ReadsNoFurther, TellsDevice, TellsInput}
+use Rattle.bt_tool.specs.calls.run.FaultSource.{IsFaultButWrite, IsReported, IsWithin, ReadsNoFurther, TellsDevice, TellsInput}
 use Rattle.bt_tool.specs.model.report.Behaviour.{of_members}
 use Rattle.bt_tool.specs.model.report.Inputs.{Holds, HoldsIf}
 use Rattle.bt_tool.specs.calls.run.Writing.{WritesAlone}
@@ -69,7 +69,7 @@ module _ {S O : Type 0} {ghosts : Ghosts O} where
   }
 
 -- what the end of an engine did
-module _ {E : Type 0} (MayTake : E → List Feature → Type 0) (Stands : E → List Feature → E → Type 0) (engine_fault : E → Option Told) (settled whole : E → List Feature → List ℕ) (first last : E) (past : List Feature) (out : Output) (grown : Output) where
+module _ {E : Type 0} (MayTake : E → List Feature → Type 0) (Stands : E → List Feature → E → Type 0) (engine_fault : E → Option FaultValue) (settled whole : E → List Feature → List ℕ) (first last : E) (past : List Feature) (out : Output) (grown : Output) where
   pub finish_put : {A : Type 0} {done : A} → Stands first past last → MayTake first past → Finishes MayTake Stands engine_fault settled whole last out (Ok done) grown
       → PutsRest (settled first past) (whole first past) out grown
   finish_put stands takes finished = finished.answers.puts first past stands takes
@@ -82,20 +82,20 @@ module _ {E : Type 0} (MayTake : E → List Feature → Type 0) (Stands : E → 
   finish_goes finished = goes_works out grown finished.grows finished.answers.works
 
   -- the lines that were left couldn't be put
-  pub record CutAtEnd (fault : Told) : Type 0 where
+  pub record CutAtEnd (fault : FaultValue) : Type 0 where
     pub is : fault ≡ write_failed
     pub cuts : CutsRest (settled first past) (whole first past) out grown
     pub failed : grown.has_failed ≡ true
     pub sink_failed : grown.sink_has_failed ≡ true
 
-  cut_at_end : (fault : Told) → Stands first past last → MayTake first past → engine_fault last ≡ None
+  cut_at_end : (fault : FaultValue) → Stands first past last → MayTake first past → engine_fault last ≡ None
       → RepeatsAtEnd MayTake Stands engine_fault settled whole last out fault grown ⊎ FailsToPutLeft MayTake Stands engine_fault settled whole last out fault grown → CutAtEnd fault
   cut_at_end fault stands takes going (inl again) = absurd (let apart : None ≡ Some fault = sym going ∙ again.is in cc)
   cut_at_end fault stands takes going (inr fails) = record { is = fails.is; cuts = fails.cuts first past stands takes; failed = fails.failed; sink_failed = fails.sink_failed }
 
   pub finish_cut : {A : Type 0} (fault : Fault) → Stands first past last → MayTake first past → Finishes MayTake Stands engine_fault settled whole last out {A = A} (Err fault) grown
-      → CutAtEnd (told fault)
-  finish_cut fault stands takes finished = cut_at_end (told fault) stands takes (finished.going first past stands) finished.answers
+      → CutAtEnd (fault_value fault)
+  finish_cut fault stands takes finished = cut_at_end (fault_value fault) stands takes (finished.going first past stands) finished.answers
 
 -- the good records of a text are in order
 pub records_sorted : (Taken : List Feature → Type 0) (order : Order) → IsTotal order → ((past : List Feature) → ArePlaced order (intervals_of past) → AreNonEmpty (intervals_of past) → Taken past)
@@ -119,12 +119,12 @@ module _ {S A State : Type 0} (written : Written A) (kinds : Kind → Type 0) (S
   of_text = at_whole left failed end format First first old starts new last ended
 
   -- the report, by these members and the fault
-  report_of : (handed : Handed) (past : List (Member A)) (fault : Option Told) → ((good_of handed).members ≡ past) × ((good_of handed).fault ≡ fault)
+  report_of : (handed : Handed) (past : List (Member A)) (fault : Option FaultValue) → ((good_of handed).members ≡ past) × ((good_of handed).fault ≡ fault)
       → report handed ≡ report_by written (member_items past) fault
   report_of handed past fault says =
       ap (λ ms. report_by written (member_items ms) (good_of handed).fault) says.0 ∙ ap (report_by written (member_items past)) says.1
 
-  begins_by : (items past rest : List A) (fault : Option Told) → items ≡ past ++ rest → Taken items → (more : List ℕ) × ((report_by written items fault).output ≡ written.settled past ++ more)
+  begins_by : (items past rest : List A) (fault : Option FaultValue) → items ≡ past ++ rest → Taken items → (more : List ℕ) × ((report_by written items fault).output ≡ written.settled past ++ more)
   begins_by items past rest None e t = let b = begins past rest (subst Taken e t) in (b.0, ap written.whole e ∙ b.1)
   begins_by items past rest (Some fault) e t = let b = stays past rest (subst Taken e t) in (b.0, ap written.settled e ∙ b.1)
 
@@ -166,7 +166,7 @@ module _ {S A State : Type 0} (written : Written A) (kinds : Kind → Type 0) (S
         beside = λ within. tt;
       })
 
-  module _ (fault : Told) (grown : Output) where
+  module _ (fault : FaultValue) (grown : Output) where
     abbrev Cause : List (Member A) → Type 0
     Cause past = StopCause written.settled kinds Sorted left failed end old out past fault new grown
 
@@ -218,11 +218,11 @@ module _ {S A State : Type 0} (written : Written A) (kinds : Kind → Type 0) (S
     }
 
   module _ (Stands : List A → Type 0) (grown : Output) (fed : FeedsAll written.settled kinds Sorted left failed end Stands old out new grown) (finished : Output) (goes : GoesOn grown finished) where
-    abbrev Ends : Option Told → Type 0
+    abbrev Ends : Option FaultValue → Type 0
     Ends fault = WritesAlone left failed (of_members kinds written format) first out fault last finished
 
     -- the report if all records were taken
-    report_all : (other : Option Told) (handed : Handed) → Came left failed first last other handed → report handed ≡ report_by written (member_items fed.past) None
+    report_all : (other : Option FaultValue) (handed : Handed) → Came left failed first last other handed → report handed ≡ report_by written (member_items fed.past) None
     report_all other handed came =
         report_of handed fed.past None
         (came_whole left failed end format First first old starts new last ended other handed came fed.took.bytes fed.served fed.within (λ good. (good.members ≡ fed.past) × (good.fault ≡ None)) fed.whole)
@@ -230,7 +230,7 @@ module _ {S A State : Type 0} (written : Written A) (kinds : Kind → Type 0) (S
     report_whole : (one : Handed) → Holds left first one → report one ≡ report_by written (member_items fed.past) None
     report_whole one holds = rw holds.is (report_of (whole_text holds.text) fed.past None (of_text holds.text holds.known (λ good. (good.members ≡ fed.past) × (good.fault ≡ None)) fed.whole))
 
-    near_end : (fault : Option Told) → (IsFaultButWrite fault → ⊥) → (one : Handed) (two : Option Handed) (before taken : List ℕ) → Holds left first one → HoldsIf left None two → out.put ≡ Some before → out.took ≡ Some taken
+    near_end : (fault : Option FaultValue) → (IsFaultButWrite fault → ⊥) → (one : Handed) (two : Option Handed) (before taken : List ℕ) → Holds left first one → HoldsIf left None two → out.put ≡ Some before → out.took ≡ Some taken
         → ReadsNoFurther (λ n. IsWithin true one.text n → ⊤) (members_settle written format) one.text (left last) before finished.took (finished.has_failed ≡ true) (IsFaultButWrite fault) finished.put
     near_end fault never one two before taken holds others put known =
         near_by one before taken holds put known fed.took.bytes fed.took.before fed.took.read finished
@@ -240,7 +240,7 @@ module _ {S A State : Type 0} (written : Written A) (kinds : Kind → Type 0) (S
     drives_all rest is appends works =
         let put_all : (before : List ℕ) → out.put ≡ Some before → finished.put ≡ Some (before ++ written.whole (member_items fed.past)) =
         λ before put. text_grows grown.put finished.put before (written.settled (member_items fed.past)) rest (written.whole (member_items fed.past)) is appends (fed.puts before put) in
-        let ends : (other : Option Told) (handed : Handed) (before : List ℕ) → Came left failed first last other handed → out.put ≡ Some before → IsReported (report handed) before None finished =
+        let ends : (other : Option FaultValue) (handed : Handed) (before : List ℕ) → Came left failed first last other handed → out.put ≡ Some before → IsReported (report handed) before None finished =
         λ other handed before came put.
         let all = report_all other handed came in
         (sym (ap (λ r. r.fault) all), put_all before put ∙ ap (λ r. Some (before ++ r.output)) (sym all)) in
@@ -256,8 +256,8 @@ module _ {S A State : Type 0} (written : Written A) (kinds : Kind → Type 0) (S
           named = λ told e. cc;
         }
 
-    pub drives_cut : (fault : Told) → fault ≡ write_failed → (rest : List ℕ) → written.whole (member_items fed.past) ≡ written.settled (member_items fed.past) ++ rest
-        → IsFrontOf finished.took grown.put rest → finished.sink_has_failed ≡ true → Ends (Some fault)
+    pub drives_cut : (fault : FaultValue) → fault ≡ write_failed → (rest : List ℕ) → written.whole (member_items fed.past) ≡ written.settled (member_items fed.past) ++ rest
+        → IsPrefixOf finished.took grown.put rest → finished.sink_has_failed ≡ true → Ends (Some fault)
     drives_cut fault is rest whole front sink = record {
       whole = λ one two before reads others put write memory. absurd (write (ap Some is));
       told = λ one two before holds others put of_input. absurd (of_input.no_write (ap Some is));

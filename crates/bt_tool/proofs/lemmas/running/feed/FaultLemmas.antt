@@ -1,19 +1,19 @@
 -- Lemmas that tell faults apart.
 use Rattle.std.proofs.Common.{◌≡◌, ℕ, Bool, true, List, Option, None, Some, ap, inl, inr, subst, sym}
 use Rattle.std.proofs.lemmas.Bool.{false≢true}
-use Rattle.bt_lines.specs.model.Fault.{Told, write_failed, no_memory, read_failed}
+use Rattle.bt_lines.specs.model.Fault.{FaultValue, write_failed, no_memory, read_failed}
 use Rattle.bt_lines.specs.declared.fault.Input.{Input}
 use Rattle.bt_lines.specs.declared.fault.Kind.{Kind}
 use Rattle.bt_lines.specs.declared.fault.Kind.TheVariants.{ReadFailed, WriteFailed, NoMemory}
 use Rattle.bt_lines.specs.declared.fault.Place.{Place}
 use Rattle.bt_bed.specs.model.feature.LineKind.{fault_at_line, is_of_line}
-use Rattle.bt_tool.specs.calls.run.Telling.{TellsInput}
+use Rattle.bt_tool.specs.calls.run.FaultSource.{TellsInput}
 
 -- a fault of a line is no failed read
 pub line_no_read : (input : Input) (line : ℕ) (kind : Kind) (other : Input) (at : ℕ) → is_of_line kind ≡ true
     → fault_at_line input line kind ≡ read_failed other at → ⊥
 line_no_read input line kind other at of_line e =
-    let same : kind ≡ ReadFailed = ap (λ (f : Told). f.kind) e in
+    let same : kind ≡ ReadFailed = ap (λ (f : FaultValue). f.kind) e in
     false≢true (subst (λ k. is_of_line k ≡ true) same of_line)
 
 some_no_none : (place : Place) → Some place ≡ None → ⊥
@@ -22,13 +22,13 @@ some_no_none place e = cc
 -- a fault with a place is no failed write
 pub placed_no_write : (input : Input) (line : ℕ) (kind : Kind) → fault_at_line input line kind ≡ write_failed → ⊥
 placed_no_write input line kind e =
-    some_no_none (record { input = input; line = line }) (ap (λ (f : Told). f.place) e)
+    some_no_none (record { input = input; line = line }) (ap (λ (f : FaultValue). f.place) e)
 
 pub memory_no_write : no_memory ≡ write_failed → ⊥
-memory_no_write e = let apart : NoMemory ≡ WriteFailed = ap (λ (f : Told). f.kind) e in cc
+memory_no_write e = let apart : NoMemory ≡ WriteFailed = ap (λ (f : FaultValue). f.kind) e in cc
 
 pub write_no_read : (input : Input) (line : ℕ) → write_failed ≡ read_failed input line → ⊥
-write_no_read input line e = let apart : WriteFailed ≡ ReadFailed = ap (λ (f : Told). f.kind) e in cc
+write_no_read input line e = let apart : WriteFailed ≡ ReadFailed = ap (λ (f : FaultValue). f.kind) e in cc
 
 -- a fault of an input isn't a failed write
 pub tells_no_write : {S : Type 0} (left : S → Option (List ℕ)) (failed : S → Bool) (kinds : Kind → Type 0) (input : Input) (before after : S) → TellsInput left failed kinds input before after write_failed → ⊥

@@ -6,14 +6,14 @@ use Rattle.std.proofs.lemmas.List.Elements.{All-cons, All-head, All-nil, All-tai
 use Rattle.std.specs.Io.KnownBytes.{Appends}
 use Rattle.bt_lines.proofs.lemmas.writer.PuttingLemmas.{grows_nothing}
 use Rattle.bt_lines.proofs.lemmas.writer.OutputLemmas.{grows_both}
-use Rattle.bt_lines.specs.model.Fault.{Told, write_failed, no_memory}
+use Rattle.bt_lines.specs.model.Fault.{FaultValue, write_failed, no_memory}
 use Rattle.bt_lines.specs.model.Lines.{TextLine}
-use Rattle.bt_lines.specs.calls.Output.{Output, HoldsBlock, IsFrontOf, Grows, block_size}
+use Rattle.bt_lines.specs.calls.Output.{Output, HoldsBlock, IsPrefixOf, Grows, block_size}
 use Rattle.bt_lines.specs.calls.Putting.{WorksAsBefore, PutsRest, CutsRest}
 use Rattle.bt_lines.specs.calls.Reader.{Hands, fault_kept as line_fault, lines_given}
 use Rattle.bt_lines.specs.declared.fault.Kind.{Kind}
 use Rattle.bt_lines.specs.declared.fault.Fault.{Fault}
-use Rattle.bt_lines.specs.calls.Names.{told}
+use Rattle.bt_lines.specs.calls.Names.{fault_value}
 use Rattle.bt_bed.specs.model.feature.Feature.{Feature, interval_of, intervals_of}
 use Rattle.bt_bed.specs.model.input.Good.{Format, Member}
 use Rattle.bt_bed.specs.model.input.GoodBed.{bed_format}
@@ -29,7 +29,7 @@ use Rattle.bt_bed.specs.calls.Records.{below, buffered_in, last_locus, order_in,
 use Rattle.bt_bed.specs.declared.order.ChromOrder.{Ghosts}
 use Rattle.bt_bed.specs.declared.read.records.Records.{Records}
 use Rattle.bt_runs.specs.calls.Engine.{Feeds as EngineFeeds, NotTaken, TakesEach}
-use Rattle.bt_tool.specs.calls.run.Telling.{IsPutTo}
+use Rattle.bt_tool.specs.calls.run.FaultSource.{IsPutTo}
 use Rattle.bt_tool.specs.inside.feed.Feeding.{AreInOrder, GoesOn, IsFresh, PutsLines, Took, TookButBlock, FeedsAll, FeedsUpTo}
 use Rattle.bt_tool.specs.inside.feed.FeedsBuffered.{FailsAmong, FeedsBuffered, TakesBuffered}
 use Rattle.bt_tool.specs.inside.feed.Passed.{HasTaken, IsFilled, IsOver, IsReadFor, IsStopped, Passes, member_items}
@@ -38,10 +38,10 @@ use Rattle.bt_tool.proofs.lemmas.running.members.MemberLemmas.{bytes_more, items
 use Rattle.bt_tool.proofs.lemmas.running.members.PassedLemmas.{line_going, said_in_order}
 
 -- a sink that took a prefix of the lines took a prefix of all
-pub front_all : (took : Option (List ℕ)) (put : Option (List ℕ)) (before done lines whole : List ℕ) → whole ≡ done ++ lines → put ≡ Some (before ++ done) → IsFrontOf took put lines → IsFrontOf took (Some (before ++ whole)) []
+pub front_all : (took : Option (List ℕ)) (put : Option (List ℕ)) (before done lines whole : List ℕ) → whole ≡ done ++ lines → put ≡ Some (before ++ done) → IsPrefixOf took put lines → IsPrefixOf took (Some (before ++ whole)) []
 front_all None put before done lines whole e p f = tt
 front_all (Some took) put before done lines whole e p f =
-    let at : IsFrontOf (Some took) (Some (before ++ done)) lines = subst (λ x. IsFrontOf (Some took) x lines) p f in
+    let at : IsPrefixOf (Some took) (Some (before ++ done)) lines = subst (λ x. IsPrefixOf (Some took) x lines) p f in
     (at.0, at.1 ∙ append_assoc before done lines ∙ ap (λ l. before ++ l) (sym e) ∙ sym (append-nil (before ++ whole)))
 
 pub works_both : (old mid new : Output) → WorksAsBefore old mid → WorksAsBefore mid new → WorksAsBefore old new
@@ -145,7 +145,7 @@ fed_none settled left failed end old out fresh clear nothing block = record {
 
 module _ {S A State : Type 0} (settled : List A → List ℕ) (Kinds : Kind → Type 0) (Sorted : List A → Type 0) (left : S → Option (List ℕ)) (failed end : S → Bool) (old : MemberReader S A State) (out : Output)
     (past : List (Member A)) (now : MemberReader S A State) (grown : Output) (g : Fed settled left failed end old out past now grown) where
-  abbrev UpTo : Told → MemberReader S A State → Output → Type 0
+  abbrev UpTo : FaultValue → MemberReader S A State → Output → Type 0
   UpTo fault new later = FeedsUpTo settled Kinds Sorted left failed end old out fault new later
 
   -- one more member is buffered
@@ -180,7 +180,7 @@ module _ {S A State : Type 0} (settled : List A → List ℕ) (Kinds : Kind → 
 
   -- or at a fault
   pub fed_up_to : ((state : State) (line : TextLine) (kind : Kind) → old.format.says state line ≡ Err kind → Kinds kind)
-      → (new : MemberReader S A State) (fault : Told) → IsStopped left failed end now fault new → Sorted (member_items past) → UpTo fault new grown
+      → (new : MemberReader S A State) (fault : FaultValue) → IsStopped left failed end now fault new → Sorted (member_items past) → UpTo fault new grown
   unfolding taken
   fed_up_to of_format new fault stopped sorted =
       let stops = passes_stop left failed end old past now g.passes Kinds of_format new fault stopped in
@@ -211,8 +211,8 @@ module _ {S A State : Type 0} (settled : List A → List ℕ) (Kinds : Kind → 
   begins_given = begins_with (good_coming left old) (good_coming left new) given passes.come
 
   -- what is settled with it couldn't be written
-  pub fails_writing : (fault : Told) (later : Output) (lines : List ℕ) → settled (member_items before ++ a ∷ []) ≡ settled (member_items before) ++ lines → fault ≡ write_failed
-      → IsFrontOf later.took through.put lines → later.has_failed ≡ true → later.sink_has_failed ≡ true → Grows through.took later.took → FeedsUpTo settled Kinds Sorted left failed end old out fault new later
+  pub fails_writing : (fault : FaultValue) (later : Output) (lines : List ℕ) → settled (member_items before ++ a ∷ []) ≡ settled (member_items before) ++ lines → fault ≡ write_failed
+      → IsPrefixOf later.took through.put lines → later.has_failed ≡ true → later.sink_has_failed ≡ true → Grows through.took later.took → FeedsUpTo settled Kinds Sorted left failed end old out fault new later
   fails_writing fault later lines more is front fails sink grows = record {
     past = given;
     took = record {
@@ -237,7 +237,7 @@ module _ {S A State : Type 0} (settled : List A → List ℕ) (Kinds : Kind → 
   }
 
   -- what is settled with it was put, but memory ran out with it
-  pub fails_growing : (fault : Told) (later : Output) (lines : List ℕ) → settled (member_items before ++ a ∷ []) ≡ settled (member_items before) ++ lines → fault ≡ no_memory
+  pub fails_growing : (fault : FaultValue) (later : Output) (lines : List ℕ) → settled (member_items before ++ a ∷ []) ≡ settled (member_items before) ++ lines → fault ≡ no_memory
       → Appends through.put later.put lines → WorksAsBefore through later → Grows through.took later.took → FeedsUpTo settled Kinds Sorted left failed end old out fault new later
   fails_growing fault later lines more is appends works grows =
       let puts : PutsLines out (settled (member_items given)) later =
@@ -284,7 +284,7 @@ order_front order front rest sorted =
       full_front (intervals_of front) (intervals_of rest) (subst AreNonEmpty parts sorted.1),
     )
 
-module _ {E : Type 0} (MayTake : E → List Feature → Type 0) (Stands : E → List Feature → E → Type 0) (engine_fault : E → Option Told) (settled : E → List Feature → List ℕ) (Quiet : E → List Feature → Feature → Type 0) (first : E) (out : Output)
+module _ {E : Type 0} (MayTake : E → List Feature → Type 0) (Stands : E → List Feature → E → Type 0) (engine_fault : E → Option FaultValue) (settled : E → List Feature → List ℕ) (Quiet : E → List Feature → Feature → Type 0) (first : E) (out : Output)
     (order : Order) (takes : (past : List Feature) → ArePlaced order (intervals_of past) → AreNonEmpty (intervals_of past) → MayTake first past) where
   abbrev At : List Feature → E → Output → Type 0
   At = EngineAt Stands settled first out
@@ -314,7 +314,7 @@ module _ {E : Type 0} (MayTake : E → List Feature → Type 0) (Stands : E → 
 
 -- ---- the run
 
-module _ {S O E : Type 0} {ghosts : Ghosts O} (MayTake : E → List Feature → Type 0) (Stands : E → List Feature → E → Type 0) (engine_fault : E → Option Told) (settled : E → List Feature → List ℕ) (first : E)
+module _ {S O E : Type 0} {ghosts : Ghosts O} (MayTake : E → List Feature → Type 0) (Stands : E → List Feature → E → Type 0) (engine_fault : E → Option FaultValue) (settled : E → List Feature → List ℕ) (first : E)
     (left : S → Option (List ℕ)) (failed end : S → Bool) (old : Records S O ghosts) (out : Output) where
   -- the records so far were taken
   pub record Going (now : Records S O ghosts) (engine : E) (grown : Output) : Type 0 where
@@ -335,7 +335,7 @@ module _ {S O E : Type 0} {ghosts : Ghosts O} (MayTake : E → List Feature → 
   module _ (is_bed : (view_of old).format ≡ bed_format (sorting_of (order_in old))) (total : IsTotal (order_in old)) (none_last : last_locus old ≡ None)
       (takes : (past : List Feature) → ArePlaced (order_in old) (intervals_of past) → AreNonEmpty (intervals_of past) → MayTake first past)
       (now : Records S O ghosts) (engine : E) (grown : Output) (g : Going now engine grown) where
-    abbrev StopsUpTo : Told → Records S O ghosts → Output → Type 0
+    abbrev StopsUpTo : FaultValue → Records S O ghosts → Output → Type 0
     StopsUpTo fault new later = FeedsUpTo (settled first) (IsBedKind (order_in old)) (AreInOrder (order_in old)) left failed end (view_of old) out fault (view_of new) later
 
     in_order : (past : List (Member Feature)) (new : MemberReader S Feature (Option Locus)) → Passes left failed end (view_of old) past new → AreInOrder (order_in old) (member_items past)
@@ -360,7 +360,7 @@ module _ {S O E : Type 0} {ghosts : Ghosts O} (MayTake : E → List Feature → 
         (in_order g.past (view_of now) g.fed.passes) g.stands
 
     -- the reader reported a fault
-    pub stops_reading : (new : Records S O ghosts) (fault : Told) → IsStopped left failed end (view_of now) fault (view_of new) → StopsUpTo fault new grown
+    pub stops_reading : (new : Records S O ghosts) (fault : FaultValue) → IsStopped left failed end (view_of now) fault (view_of new) → StopsUpTo fault new grown
     stops_reading new fault stopped =
         fed_up_to (settled first) (IsBedKind (order_in old)) (AreInOrder (order_in old)) left failed end (view_of old) out g.past (view_of now) grown g.fed
         (λ state line kind says. wrong_of_bed (order_in old) state line.text kind (ap (λ (f : Format Feature (Option Locus)). f.says state line) (sym is_bed) ∙ says))
@@ -415,24 +415,24 @@ module _ {S O E : Type 0} {ghosts : Ghosts O} (MayTake : E → List Feature → 
       read : IsReadFor left failed end (view_of old) before given (view_of new)
       read = read_before left failed end (view_of old) g.past (view_of now) g.fed.passes f.records f.r (view_of new) f.takes
 
-      not_taken : MayTake first (member_items before ++ f.r ∷ []) → engine_fault f.mid ≡ None → Grows (f.through).took later.took → NotTaken MayTake Stands engine_fault settled f.mid f.r f.through (told fault) fed later → StopsUpTo (told fault) new later
-      not_taken may going grows (inl again) = absurd (let apart : None ≡ Some (told fault) = sym going ∙ again.is in cc)
+      not_taken : MayTake first (member_items before ++ f.r ∷ []) → engine_fault f.mid ≡ None → Grows (f.through).took later.took → NotTaken MayTake Stands engine_fault settled f.mid f.r f.through (fault_value fault) fed later → StopsUpTo (fault_value fault) new later
+      not_taken may going grows (inl again) = absurd (let apart : None ≡ Some (fault_value fault) = sym going ∙ again.is in cc)
       not_taken may going grows (inr (inl fails)) =
           let cuts = fails.cuts first (member_items before) at_mid.stands may in
           fails_writing (settled first) (IsBedKind (order_in old)) (AreInOrder (order_in old)) left failed end (view_of old) out before given f.r given_items (view_of new) passes read
-          f.through at_mid.grows at_mid.puts at_mid.works at_mid.block sorted_given (told fault) later cuts.bytes cuts.goes_on fails.is cuts.front fails.failed fails.sink_failed grows
+          f.through at_mid.grows at_mid.puts at_mid.works at_mid.block sorted_given (fault_value fault) later cuts.bytes cuts.goes_on fails.is cuts.front fails.failed fails.sink_failed grows
       not_taken may going grows (inr (inr out_of)) =
           let puts = out_of.puts first (member_items before) at_mid.stands may in
           fails_growing (settled first) (IsBedKind (order_in old)) (AreInOrder (order_in old)) left failed end (view_of old) out before given f.r given_items (view_of new) passes read
-          f.through at_mid.grows at_mid.puts at_mid.works at_mid.block sorted_given (told fault) later puts.bytes puts.goes_on out_of.is puts.appends out_of.works grows
+          f.through at_mid.grows at_mid.puts at_mid.works at_mid.block sorted_given (fault_value fault) later puts.bytes puts.goes_on out_of.is puts.appends out_of.works grows
 
-      pub stops_feeding : StopsUpTo (told fault) new later
+      pub stops_feeding : StopsUpTo (fault_value fault) new later
       stops_feeding =
           not_taken (takes (member_items before ++ f.r ∷ []) sorted_given.0 sorted_given.1) (f.fails.going first (member_items before) at_mid.stands) f.fails.grows f.fails.answers
 
 -- an engine that is after some records has failed at one
 pub failed_among : {S O E : Type 0} {g : Ghosts O} {left : S → Option (List ℕ)} {failed end : S → Bool} {MayTake : E → List Feature → Type 0} {Stands : E → List Feature → E → Type 0}
-    {engine_fault : E → Option Told} {settled : E → List Feature → List ℕ} {Quiet : E → List Feature → Feature → Type 0} {old : Records S O g} {engine : E} {out : Output} {fault : Fault} {new : Records S O g} {fed : E} {grown : Output}
+    {engine_fault : E → Option FaultValue} {settled : E → List Feature → List ℕ} {Quiet : E → List Feature → Feature → Type 0} {old : Records S O g} {engine : E} {out : Output} {fault : Fault} {new : Records S O g} {fed : E} {grown : Output}
     → FeedsBuffered left failed end MayTake Stands engine_fault settled Quiet old engine out {A = Unit {0}} (Err fault) new fed grown → (first : E) (past : List Feature) → Stands first past engine
     → FailsAmong left failed end MayTake Stands engine_fault settled Quiet old engine out fault new fed grown
 failed_among (inl f) first past stands = f

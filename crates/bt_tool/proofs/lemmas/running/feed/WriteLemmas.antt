@@ -2,7 +2,7 @@
 use Rattle.std.proofs.Common.{◌≡◌, ℕ, Bool, true, List, [], Option, None, Some, refl, sym, ap, ◌∙◌}
 use Rattle.std.proofs.lemmas.Grind.{flat_map-append}
 use Rattle.std.proofs.lemmas.List.{map-append}
-use Rattle.bt_lines.specs.model.Fault.{Told}
+use Rattle.bt_lines.specs.model.Fault.{FaultValue}
 use Rattle.bt_lines.specs.model.Handed.{Handed}
 use Rattle.bt_lines.specs.model.Lines.{TextLine}
 use Rattle.bt_lines.specs.calls.Output.{Output}
@@ -19,7 +19,7 @@ use Rattle.bt_bed.specs.model.order.Sorting.{sorting_of}
 use Rattle.bt_bed.proofs.lemmas.laws.GoodBedLemmas.{placed_good, placed_lines}
 use Rattle.bt_runs.specs.model.Gaps.{settled_gaps}
 use Rattle.bt_runs.specs.model.MergedRuns.{AreTaken, merged_runs, passed_by, settled_runs}
-use Rattle.bt_runs.specs.calls.Merging.{Merging, Together, Apart, merge_begun, settled_lines, whole_output}
+use Rattle.bt_runs.specs.calls.Merging.{Merging, Contiguous, Apart, merge_begun, settled_lines, whole_output}
 use Rattle.bt_runs.specs.model.StrandRuns.{places_of, settled_strand_runs, strand_runs}
 use Rattle.bt_runs.specs.calls.Settling.{SettledBegins, SettledStays}
 use Rattle.bt_runs.specs.declared.merge.merge_strand.MergeStrand.{MergeStrand}
@@ -52,7 +52,7 @@ merge_as_they_come merge = record { whole = whole_output merge; settled = settle
 -- a merge that has taken no record has settled nothing
 pub merge_begins : (merge : Merging) → settled_lines merge [] ≡ []
 unfolding settled_runs
-merge_begins (Together merge) = refl
+merge_begins (Contiguous merge) = refl
 merge_begins (Apart merge) = ap (λ items. interval_lines (places_of items)) (no_strand_settled merge.rule.gap)
 
 -- nor does it write any of no records
@@ -63,13 +63,13 @@ merge_settles_none order d (One strand) = refl
 
 -- what it has settled stays, and begins the whole
 pub merge_stays : (merge : Merging) → SettledStays (settled_lines merge) AreTaken
-merge_stays (Together merge) = lines_stay (settled_runs merge.rule.gap merge.rule.strand) AreTaken (runs_stay merge.rule.gap merge.rule.strand)
+merge_stays (Contiguous merge) = lines_stay (settled_runs merge.rule.gap merge.rule.strand) AreTaken (runs_stay merge.rule.gap merge.rule.strand)
 merge_stays (Apart merge) = lines_stay (λ records. places_of (settled_strand_runs merge.rule.gap records)) AreTaken (λ past more taken.
     let s = stay merge.rule.gap past more taken in
     (places_of s.0, ap places_of s.1 ∙ map-append (λ item. item.run) (settled_strand_runs merge.rule.gap past) s.0))
 
 pub merge_begins_whole : (merge : Merging) → SettledBegins (settled_lines merge) (whole_output merge) AreTaken
-merge_begins_whole (Together merge) = lines_begin (settled_runs merge.rule.gap merge.rule.strand) (merged_runs merge.rule.gap merge.rule.strand) AreTaken (runs_begin merge.rule.gap merge.rule.strand)
+merge_begins_whole (Contiguous merge) = lines_begin (settled_runs merge.rule.gap merge.rule.strand) (merged_runs merge.rule.gap merge.rule.strand) AreTaken (runs_begin merge.rule.gap merge.rule.strand)
 merge_begins_whole (Apart merge) = lines_begin (λ records. places_of (settled_strand_runs merge.rule.gap records)) (λ records. places_of (strand_runs merge.rule.gap records)) AreTaken (λ past more taken.
     let s = begin merge.rule.gap past more taken in
     (places_of s.0, ap places_of s.1 ∙ map-append (λ item. item.run) (settled_strand_runs merge.rule.gap past) s.0))
@@ -104,7 +104,7 @@ module _ (order : Order) (total : IsTotal order) where
   settled_same d Each records placed = refl
   settled_same d (One strand) records placed = pooled_settled d (One strand) records placed
 
-  report_same : (d : ℕ) (strand : MergeStrand) (records : List Feature) (fault : Option Told) → ArePlaced order (intervals_of records)
+  report_same : (d : ℕ) (strand : MergeStrand) (records : List Feature) (fault : Option FaultValue) → ArePlaced order (intervals_of records)
       → report_by (merge_as_they_come (merge_begun d strand)) records fault ≡ report_by (merge_written order d strand) records fault
   report_same d strand records None placed = ap (λ l. record { output = l; fault = None }) (merged_same d strand records placed)
   report_same d strand records (Some fault) placed = ap (λ l. record { output = l; fault = Some fault }) (settled_same d strand records placed)
@@ -123,7 +123,7 @@ module _ (order : Order) (total : IsTotal order) where
 
   -- a merge's records were written as the command says
   pub merge_writes : {A : Type 0} (left : A → Option (List ℕ)) (failed : A → Bool) (d : ℕ) (strand : MergeStrand) (merge : Merging) → merge ≡ merge_begun d strand
-      → (first : A) (out : Output) (fault : Option Told) (new : A) (grown : Output)
+      → (first : A) (out : Output) (fault : Option FaultValue) (new : A) (grown : Output)
       → WritesRecords left failed (merge_as_they_come merge) order first out fault new grown
       → WritesRecords left failed (merge_written order d strand) order first out fault new grown
   merge_writes left failed d strand merge begun first out fault new grown =

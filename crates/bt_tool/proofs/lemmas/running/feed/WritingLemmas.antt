@@ -2,7 +2,7 @@
 use Rattle.std.proofs.Common.{◌≡◌, ℕ, ◌+◌, ◌-◌, ◌≤◌, Bool, true, List, [], ◌++◌, length, Option, None, Some, take, refl, sym, ap, ◌∙◌, subst, arith, inl, inr}
 use Rattle.std.specs.Prelude.{◌⊎◌, IfSome}
 use Rattle.std.proofs.KnownBytes.{Consumes-nil}
-use Rattle.bt_lines.specs.model.Fault.{Told}
+use Rattle.bt_lines.specs.model.Fault.{FaultValue}
 use Rattle.bt_lines.specs.model.Handed.{Handed}
 use Rattle.bt_lines.specs.model.Lines.{TextLine, text_lines}
 use Rattle.bt_lines.specs.calls.Output.{Output, block_size}
@@ -12,7 +12,7 @@ use Rattle.bt_tool.specs.model.report.Behaviour.{Behaviour, behaviour_of}
 use Rattle.bt_tool.specs.inside.feed.Coming.{IsWhole}
 use Rattle.bt_tool.specs.model.report.Inputs.{HandsUpToIf, Holds, HoldsIf, ServesIf}
 use Rattle.bt_tool.specs.model.report.RecordReport.{Report}
-use Rattle.bt_tool.specs.calls.run.Telling.{IsFaultButWrite, IsOfInput, IsPutTo, IsReported, IsWithin, ReadsNoFurther, TellsInput}
+use Rattle.bt_tool.specs.calls.run.FaultSource.{IsFaultButWrite, IsOfInput, IsPutTo, IsReported, IsWithin, ReadsNoFurther, TellsInput}
 use Rattle.bt_tool.specs.calls.run.Writing.{WritesAlone, WritesBy}
 use Rattle.bt_tool.specs.declared.planning.plan_type.Command.{Command}
 
@@ -54,14 +54,14 @@ named_alone (inl tells) = inl (inl tells)
 named_alone (inr tells) = inr tells
 
 -- the whole text is known of an input of which no failed read is reported
-pub is_whole : {S : Type 0} (left : S → Option (List ℕ)) (failed : S → Bool) (first last : S) (fault : Option Told) (handed : Handed) → Holds left first handed → IsOfInput fault → IsWhole left failed first last fault handed
+pub is_whole : {S : Type 0} (left : S → Option (List ℕ)) (failed : S → Bool) (first last : S) (fault : Option FaultValue) (handed : Handed) → Holds left first handed → IsOfInput fault → IsWhole left failed first last fault handed
 is_whole left failed first last fault handed holds of_input = record { text = holds.text; known = holds.known; is = holds.is; no_read = of_input.no_read }
 
 module _ {A B : Type 0} (a_left : A → Option (List ℕ)) (a_failed a_end : A → Bool) (b_left : B → Option (List ℕ)) (b_failed : B → Bool) where
   -- what a command of one input writes, a second that isn't touched beside it, by a behaviour that says the same
   module _ (mine yours : Behaviour) (same : (one : Handed) (two : Option Handed) → mine.report one None ≡ yours.report one two) (same_settle : (two : Option Handed) (lines : List TextLine) → mine.settles None lines ≡ yours.settles two lines)
-      (first : A) (second : Option B) (out : Output) (fault : Option Told) (first_after : A) (grown : Output)
-      (same_kinds : (t : Told) → TellsInput a_left a_failed mine.FirstKinds First first first_after t → TellsInput a_left a_failed yours.FirstKinds First first first_after t) (w : WritesAlone a_left a_failed mine first out fault first_after grown) where
+      (first : A) (second : Option B) (out : Output) (fault : Option FaultValue) (first_after : A) (grown : Output)
+      (same_kinds : (t : FaultValue) → TellsInput a_left a_failed mine.FirstKinds First first first_after t → TellsInput a_left a_failed yours.FirstKinds First first first_after t) (w : WritesAlone a_left a_failed mine first out fault first_after grown) where
     pub alone_writes : WritesBy a_left a_failed a_end b_left b_failed yours first second out fault first_after second grown
     alone_writes = record {
       whole = λ one two before reads others put write memory. subst (λ r. IsReported r before fault grown) (same one two) (w.whole one None before reads tt put write memory);
@@ -91,7 +91,7 @@ module _ {A B : Type 0} (a_left : A → Option (List ℕ)) (a_failed a_end : A �
   pub behaves_alone : (command : Command) (chromosomes : Option (List Entry))
       → ((one : Handed) (two : Option Handed) → (behaviour_of command chromosomes).report one None ≡ (behaviour_of command chromosomes).report one two)
       → ((two : Option Handed) (lines : List TextLine) → (behaviour_of command chromosomes).settles None lines ≡ (behaviour_of command chromosomes).settles two lines)
-      → (is : Command) → is ≡ command → (first : A) (second : Option B) (out : Output) (fault : Option Told) (first_after : A) (grown : Output)
+      → (is : Command) → is ≡ command → (first : A) (second : Option B) (out : Output) (fault : Option FaultValue) (first_after : A) (grown : Output)
       → WritesAlone a_left a_failed (behaviour_of command chromosomes) first out fault first_after grown
       → WritesBy a_left a_failed a_end b_left b_failed (behaviour_of is chromosomes) first second out fault first_after second grown
   behaves_alone command chromosomes same same_settle is e first second out fault first_after grown w =

@@ -1,7 +1,7 @@
 -- Lemmas on lines and records that were given to a masking engine together, over two readers.
 use Rattle.std.proofs.Common.{◌≡◌, ℕ, suc, Bool, true, false, List, [], ◌∷◌, ◌++◌, length, Option, None, Some, Err, refl, sym, ap, ◌∙◌, subst, append-nil, option_to_list, arith, inl, inr}
 use Rattle.std.specs.Prelude.{◌⊎◌, IsTrue}
-use Rattle.bt_lines.specs.model.Fault.{Told, no_memory, read_failed}
+use Rattle.bt_lines.specs.model.Fault.{FaultValue, no_memory, read_failed}
 use Rattle.bt_lines.specs.model.Lines.{AreNumbered, TextLine}
 use Rattle.bt_lines.specs.calls.Output.{Output}
 use Rattle.bt_lines.specs.calls.Putting.{FailsToAdd, Grown}
@@ -26,15 +26,15 @@ use Rattle.bt_tool.specs.inside.feed.Feeding.{member_items}
 use Rattle.bt_tool.specs.model.report.MaskReport.{is_fasta_kind}
 use Rattle.bt_tool.specs.inside.pair.MaskLoop.{MaskRun, leaves_some, line_members, nothing_reached, stage_of}
 use Rattle.bt_tool.specs.inside.pair.MaskTurns.{Ends, GoesOnAt}
-use Rattle.bt_tool.specs.inside.pair.Pair.{Making, Pair, Settles, item_ahead}
-use Rattle.bt_tool.specs.inside.pair.PairComes.{Follows, Stage, TakesFurther}
-use Rattle.bt_tool.specs.inside.pair.PairEnds.{AsksFor, IsKnown}
+use Rattle.bt_tool.specs.inside.pair.Pair.{JoinDef, Pair, Settles, item_ahead}
+use Rattle.bt_tool.specs.inside.pair.Progress.{Follows, Stage, TakesFurther}
+use Rattle.bt_tool.specs.inside.pair.Endings.{AsksFor, IsKnown}
 use Rattle.bt_tool.specs.inside.feed.Passed.{HasTaken}
 use Rattle.bt_tool.proofs.lemmas.running.feed.FaultLemmas.{line_no_read}
 use Rattle.bt_tool.proofs.lemmas.running.members.LineMembers.{has_taken, known_members, passes_known, refused, refuses, refuses_read, say_count, wrong_is_text}
 use Rattle.bt_tool.proofs.lemmas.running.mask.MaskFacts.{asked_of}
 use Rattle.bt_tool.proofs.lemmas.running.mask.MaskGiven.{ahead_first, first_of, settles_given}
-use Rattle.bt_tool.proofs.lemmas.running.mask.MaskedLemmas.{asked, asks_for, come_so_far, making, pair, reached_behind}
+use Rattle.bt_tool.proofs.lemmas.running.mask.MaskedLemmas.{asked, asks_for, come_so_far, join, pair, reached_behind}
 use Rattle.bt_tool.proofs.lemmas.running.pair.PairStops as stop
 use Rattle.bt_tool.proofs.lemmas.running.pair.PairTurns as turned
 use Rattle.bt_lines.proofs.lemmas.reader.block.ReadsLemmas.{some_is}
@@ -71,11 +71,11 @@ module _ {A B : Type 0} (a_left : A → Option (List ℕ)) (a_failed a_end : A �
   abbrev Going : Reached → LineReader A → MemberReader B Feature (Option Locus) → Masking → Output → Type 0
   Going = GoesOnAt a_left a_failed a_end b_left b_failed b_end run
 
-  abbrev EndsAt : Option Told → LineReader A → MemberReader B Feature (Option Locus) → Output → Type 0
+  abbrev EndsAt : Option FaultValue → LineReader A → MemberReader B Feature (Option Locus) → Output → Type 0
   EndsAt = Ends a_left a_failed a_end b_left b_failed b_end run
 
-  abbrev rule : Making SequenceLine Feature
-  rule = making a_left a_failed a_end b_left b_failed b_end run
+  abbrev rule : JoinDef SequenceLine Feature
+  rule = join a_left a_failed a_end b_left b_failed b_end run
 
   abbrev both : Pair A B SequenceLine Feature Reached (Option Locus)
   both = pair a_left a_failed a_end b_left b_failed b_end run
@@ -176,7 +176,7 @@ module _ {A B : Type 0} (a_left : A → Option (List ℕ)) (a_failed a_end : A �
         )
 
         -- what is settled wasn't all written
-        pub fails_write : (puts rest : List ℕ) → bytes ≡ puts ++ rest → (through now : Output) (fault : Told) → Grown grown puts through → FailsToAdd through rest fault now → EndsAt (Some fault) new second_now now
+        pub fails_write : (puts rest : List ℕ) → bytes ≡ puts ++ rest → (through now : Output) (fault : FaultValue) → Grown grown puts through → FailsToAdd through rest fault now → EndsAt (Some fault) new second_now now
         fails_write puts rest is through now fault adds fails = (
           first_now,
           refl,
@@ -187,7 +187,7 @@ module _ {A B : Type 0} (a_left : A → Option (List ℕ)) (a_failed a_end : A �
 
         -- memory ran out after others were written
         pub lacks_room : (mid : Stage SequenceLine Feature) (newly : List SequenceLine) → Follows (stage_of stage) (member_items more_first) newly (member_items more_second) mid → (put : List ℕ) (now : Output)
-            → (IsKnown both → Settles rule mid.written (s.comes.bytes ++ put) (mid.taken ++ option_to_list (item_ahead second_now)) mid.second_ended) → Grown grown put now → (fault : Told) → fault ≡ no_memory
+            → (IsKnown both → Settles rule mid.written (s.comes.bytes ++ put) (mid.taken ++ option_to_list (item_ahead second_now)) mid.second_ended) → Grown grown put now → (fault : FaultValue) → fault ≡ no_memory
             → EndsAt (Some fault) new second_now now
         lacks_room mid newly follows put now settles adds fault is = (
           first_now,
@@ -201,7 +201,7 @@ module _ {A B : Type 0} (a_left : A → Option (List ℕ)) (a_failed a_end : A �
 
       -- they were taken, and one more line, which is at fault
       module _ (line : TextLine) (more : List TextLine) (parts : buffered_in lines ≡ (texts ++ line ∷ []) ++ more) (numbered : AreNumbered (suc (lines_given lines)) (texts ++ line ∷ [])) (are : TakenLines lines consumed (length (texts ++ line ∷ [])))
-          (none : final.waiting ≡ None) (kind : Kind) (says : line_says run.full (reached final) line ≡ Err kind) (fault : Told) (is : fault ≡ fault_at_line First line.number kind) where
+          (none : final.waiting ≡ None) (kind : Kind) (says : line_says run.full (reached final) line ≡ Err kind) (fault : FaultValue) (is : fault ≡ fault_at_line First line.number kind) where
         says_now : line_says run.full (state_behind (sequence_format run.full) at items) line ≡ Err kind
         says_now = ap (λ (r : Reached). line_says run.full r line) reached_now ∙ says
 

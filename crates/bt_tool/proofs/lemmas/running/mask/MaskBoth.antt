@@ -5,9 +5,9 @@ use Rattle.std.proofs.lemmas.Bool.{false≢true}
 use Rattle.bt_lines.proofs.lemmas.reader.block.BufferLemmas.{fed_none}
 use Rattle.bt_lines.proofs.lemmas.reader.lines.TextLemmas.{bytes_in-lines, whole_count}
 use Rattle.bt_lines.specs.calls.Buffered.{BeginsLines, buffered_lines, lines_in}
-use Rattle.bt_lines.specs.model.Fault.{Told, no_memory}
+use Rattle.bt_lines.specs.model.Fault.{FaultValue, no_memory}
 use Rattle.bt_lines.specs.model.Lines.{AreNumbered, TextLine, bytes_in}
-use Rattle.bt_lines.specs.calls.Names.{told}
+use Rattle.bt_lines.specs.calls.Names.{fault_value}
 use Rattle.bt_lines.specs.calls.Output.{Output}
 use Rattle.bt_lines.specs.calls.Putting.{FailsToAdd}
 use Rattle.bt_lines.specs.calls.Reader.{TakenLines, TakesLines, buffered_bytes, buffered_in, has_ended, is_open, lines_given, room as line_room}
@@ -34,10 +34,10 @@ use Rattle.bt_seq.specs.model.Sequences.{Reached, SequenceLine, sequence_format}
 use Rattle.bt_seq.specs.declared.mask.mask_how.MaskHow.{MaskHow}
 use Rattle.bt_seq.specs.declared.mask.mask_want.MaskWant.{MaskWant}
 use Rattle.bt_seq.specs.declared.mask.mask_want.MaskWant.TheVariants.{Line as WantLine, Bed as WantBed, Nothing}
-use Rattle.bt_tool.specs.inside.pair.MaskLoop.{MaskRun, mask_making}
+use Rattle.bt_tool.specs.inside.pair.MaskLoop.{MaskRun, mask_join}
 use Rattle.bt_tool.specs.inside.pair.MaskTurns.{Ends, Gives, GoesOnAt, IsThere, asks, left_to_ask}
 use Rattle.bt_tool.specs.inside.pair.Pair.{Settles, item_ahead}
-use Rattle.bt_tool.specs.inside.pair.PairComes.{Stage}
+use Rattle.bt_tool.specs.inside.pair.Progress.{Stage}
 use Rattle.bt_tool.specs.inside.feed.Passed.{HasTaken}
 use Rattle.bt_tool.proofs.lemmas.running.mask.MaskAdvanced.{come_on, fails_write, items_from, lacks_room, refuses_line, settled}
 use Rattle.bt_tool.proofs.lemmas.running.mask.MaskGiven.{ahead_first, first_of}
@@ -140,7 +140,7 @@ module _ {A B : Type 0} (a_left : A → Option (List ℕ)) (a_failed a_end : A �
     (numbered : AreNumbered (suc (lines_given lines)) texts) (first_beds last_beds : Batch) (lent : left first_beds ≡ second.buffered) (lent_at : (cursor_in first_beds).lines ≡ lines_given second.below)
     (taken : List Feature) (gave : Passes first_beds taken last_beds) (new : LineReader A) (over : has_ended lines ≡ true → buffered_in lines ≡ []) (consumed : ConsumedLines) (are : TakenLines lines consumed (length texts)) (takes : TakesLines a_left a_end lines consumed new)
     (second_now : MemberReader B Feature (Option Locus)) (has : HasTaken b_left b_failed b_end second taken second_now) where
-  abbrev EndsAt : Option Told → Output → Type 0
+  abbrev EndsAt : Option FaultValue → Output → Type 0
   EndsAt fault grown = Ends a_left a_failed a_end b_left b_failed b_end run fault new second_now grown
 
   -- the record ahead is the next one that is given
@@ -215,7 +215,7 @@ module _ {A B : Type 0} (a_left : A → Option (List ℕ)) (a_failed a_end : A �
         )
 
   -- the last of what was given failed
-  module _ (fault : Told) (now : Output) (behind : FailsBehind Passes line_in HasEnded run.how run.full s.stage texts taken out first_beds fault last_beds now) where
+  module _ (fault : FaultValue) (now : Output) (behind : FailsBehind Passes line_in HasEnded run.how run.full s.stage texts taken out first_beds fault last_beds now) where
     abbrev comes : HasCome run.how run.full s.stage behind.before taken out behind.mask behind.through
     comes = behind.comes
 
@@ -299,7 +299,7 @@ module _ {A B : Type 0} (a_left : A → Option (List ℕ)) (a_failed a_end : A �
                 second_is = comes.goes_on.bed_ended_is;
               })
               comes.bytes behind.through
-              (λ known. subst (λ (b : Bool). Settles (mask_making run.how) comes.stage.written (s.comes.bytes ++ comes.bytes) (comes.stage.taken ++ option_to_list (item_ahead second_now)) b) (sym comes.goes_on.bed_ended_is)
+              (λ known. subst (λ (b : Bool). Settles (mask_join run.how) comes.stage.written (s.comes.bytes ++ comes.bytes) (comes.stage.taken ++ option_to_list (item_ahead second_now)) b) (sym comes.goes_on.bed_ended_is)
               (settled a_left a_failed a_end b_left b_failed b_end run at lines second mask out s new over consumed takes taken second_now has behind.before comes.stage comes.bytes comes.goes_on kept known)) comes.puts fault is
 
           fails_one : EndsAt (Some fault) now
@@ -345,4 +345,4 @@ module _ {A B : Type 0} (a_left : A → Option (List ℕ)) (a_failed a_end : A �
   pub gives_both : {T : Type 0} (answer : Result T Fault) (masked : Masking) (now : Output) → (ComesNext Passes line_in HasEnded s.stage.ahead first_beds → BothCome Passes line_in HasEnded run.how run.full s.stage texts taken out first_beds answer masked last_beds now)
       → OnOk answer (StopsAt Passes line_in HasEnded masked.want last_lines last_beds) → Gives a_left a_failed a_end b_left b_failed b_end run lines second mask answer new second_now masked now
   gives_both (Ok done) masked now come stops = let both = come comes_next in gave_both masked now both.0 stops both.2 done
-  gives_both (Err fault) masked now come stops = let both = come comes_next in failed_both (told fault) now both.1
+  gives_both (Err fault) masked now come stops = let both = come comes_next in failed_both (fault_value fault) now both.1

@@ -15,7 +15,7 @@ use Rattle.bt_seq.proofs.lemmas.laws.MaskFrontLemmas.{decided_stays}
 use Rattle.bt_tool.specs.model.report.SweepReport.{bytes_up_to}
 use Rattle.bt_tool.specs.inside.feed.Feeding.{member_items}
 use Rattle.bt_tool.specs.model.report.MaskReport.{last_needed}
-use Rattle.bt_tool.specs.inside.pair.MaskLoop.{leaves_some, mask_making}
+use Rattle.bt_tool.specs.inside.pair.MaskLoop.{leaves_some, mask_join}
 use Rattle.bt_tool.proofs.lemmas.running.pair.PairLimits.{AreLimits}
 use Rattle.bt_tool.proofs.lemmas.running.pair.PairNear.{AreNeeded, least_by, not_all, skip_by, take_whole}
 
@@ -75,13 +75,13 @@ reaches_least on before (m ∷ ms) lines count high =
     (reaches_least on (before ++ m.item ∷ []) ms lines count (All-tail (λ (m : Member Feature). count < m.line) m ms high))
 
 -- what lines need lies after the records that were taken for them
-pub mask_needs : (how : MaskHow) → AreNeeded (mask_making how)
+pub mask_needs : (how : MaskHow) → AreNeeded (mask_join how)
 mask_needs how given extra past rest lines count asked high =
     subst (λ o. bytes_in (take (suc count) lines) ≤ bytes_up_to lines o) (sym (needed_behind (given ++ extra) past rest (asked_by given extra past asked)))
     (reaches_least (given ++ extra) (member_items past) rest lines count high)
 
 -- masking has no limit on what is held
-pub mask_limits : (how : MaskHow) → AreLimits (mask_making how)
+pub mask_limits : (how : MaskHow) → AreLimits (mask_join how)
 mask_limits how = record {
   more = λ given later past fits. tt;
   whole = λ first past fault fits. refl;

@@ -1,7 +1,7 @@
 -- Lemmas on a round of masking in which an input is read on: a line or a record is buffered, or its end is given.
 use Rattle.std.proofs.Common.{◌≡◌, ℕ, ◌≤◌, ◌<◌, Bool, true, false, List, [], ◌∷◌, length, Option, None, Some, Ok, Err, refl, sym, ap, ◌∙◌, subst, arith, inl, inr}
 use Rattle.std.specs.Prelude.{◌⊎◌, is_some}
-use Rattle.bt_lines.specs.calls.Names.{told}
+use Rattle.bt_lines.specs.calls.Names.{fault_value}
 use Rattle.bt_lines.specs.calls.Output.{Output}
 use Rattle.bt_lines.specs.calls.Reader.{GivesEnd, IsKept, MakesLine}
 use Rattle.bt_lines.specs.declared.fault.Fault.{Fault}
@@ -119,7 +119,7 @@ module _ {A B : Type 0} (a_left : A → Option (List ℕ)) (a_failed a_end : A �
       unended_by : (o : Option SequenceLine) → s.stage.waiting ≡ o → (fault : Fault)
           → ((waiting : SequenceLine) → s.stage.waiting ≡ Some waiting → EndsRecords {A = Unit {0}} run.how run.full s.stage waiting out (Err fault) masked now) → (s.stage.waiting ≡ None → EndsCheck {A = Unit {0}} run.how run.full s.stage out (Err fault) masked now)
           → Fills a_left a_failed a_end b_left b_failed b_end run lines second mask (Err fault) lines second_now masked now
-      unended_by (Some a) e fault waits none = fails_at_end a_left a_failed a_end b_left b_failed b_end run at lines second mask out s wants second_now over a e (told fault) now (waits a e).1
+      unended_by (Some a) e fault waits none = fails_at_end a_left a_failed a_end b_left b_failed b_end run at lines second mask out s wants second_now over a e (fault_value fault) now (waits a e).1
       unended_by None e fault waits none = absurd (none e)
 
       pub records_unended : (fault : Fault) → ((waiting : SequenceLine) → s.stage.waiting ≡ Some waiting → EndsRecords {A = Unit {0}} run.how run.full s.stage waiting out (Err fault) masked now)

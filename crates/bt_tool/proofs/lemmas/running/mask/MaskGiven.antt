@@ -5,7 +5,7 @@ use Rattle.std.specs.List.{list_all}
 use Rattle.std.proofs.lemmas.Bool.{false≢true, and_from, and_parts, or_left, or_right}
 use Rattle.std.proofs.lemmas.Grind.{flat_map-append}
 use Rattle.std.proofs.lemmas.List.Folds.{list_all-append}
-use Rattle.bt_lines.specs.model.Fault.{Told}
+use Rattle.bt_lines.specs.model.Fault.{FaultValue}
 use Rattle.bt_lines.specs.model.Lines.{TextLine}
 use Rattle.bt_bed.specs.model.feature.Feature.{Feature}
 use Rattle.bt_bed.specs.model.input.Good.{Member}
@@ -15,7 +15,7 @@ use Rattle.bt_seq.specs.calls.MaskStage.{MaskStage}
 use Rattle.bt_seq.specs.model.Masked.{decided, masked_line}
 use Rattle.bt_seq.specs.model.Sequences.{SequenceLine}
 use Rattle.bt_seq.specs.declared.mask.mask_how.MaskHow.{MaskHow}
-use Rattle.bt_tool.specs.inside.pair.MaskLoop.{mask_making}
+use Rattle.bt_tool.specs.inside.pair.MaskLoop.{mask_join}
 use Rattle.bt_tool.specs.inside.pair.Pair.{MayCome, Settles, item_ahead}
 
 -- the first of some records
@@ -31,12 +31,12 @@ pub ahead_first : {S State : Type 0} (reader : MemberReader S Feature State) →
 ahead_first reader = first_by _ reader.buffered
 
 -- each of these is decided
-all_faultless : (fault : Option Told) (records : List Feature) (lines : List SequenceLine) → is_none fault ≡ true → list_all (λ x. is_none fault || decided x records) lines ≡ true
+all_faultless : (fault : Option FaultValue) (records : List Feature) (lines : List SequenceLine) → is_none fault ≡ true → list_all (λ x. is_none fault || decided x records) lines ≡ true
 all_faultless fault records [] e = refl
 all_faultless fault records (line ∷ lines) e =
     and_from (is_none fault || decided line records) (list_all (λ x. is_none fault || decided x records) lines) (or_left (is_none fault) (decided line records) e) (all_faultless fault records lines e)
 
-all_decided : (fault : Option Told) (records : List Feature) (lines : List SequenceLine) → list_all (λ line. decided line records) lines ≡ true → list_all (λ x. is_none fault || decided x records) lines ≡ true
+all_decided : (fault : Option FaultValue) (records : List Feature) (lines : List SequenceLine) → list_all (λ line. decided line records) lines ≡ true → list_all (λ x. is_none fault || decided x records) lines ≡ true
 all_decided fault records [] e = refl
 all_decided fault records (line ∷ lines) e =
     let both = and_parts (decided line records) (list_all (λ line. decided line records) lines) e in
@@ -44,7 +44,7 @@ all_decided fault records (line ∷ lines) e =
 
 -- what may come after those that a reader has taken and the one ahead, follows what the engine has seen
 module _ (stage : MaskStage) (next : Option Feature) (kept : (r : Feature) → stage.ahead ≡ Some r → next ≡ Some r) (over : stage.bed_ended ≡ true → next ≡ None)
-    (records : List Feature) (fault : Option Told) (may : MayCome (stage.taken ++ option_to_list next) stage.bed_ended records fault) where
+    (records : List Feature) (fault : Option FaultValue) (may : MayCome (stage.taken ++ option_to_list next) stage.bed_ended records fault) where
   follows_by : (ended : Bool) (ahead : Option Feature) → stage.bed_ended ≡ ended → stage.ahead ≡ ahead → MayFollow stage records
   follows_by true ahead e a =
       let seen : seen_at stage ≡ stage.taken ++ [] = ap (λ (b : Bool). stage.taken ++ cond b [] (option_to_list stage.ahead)) e in
@@ -74,7 +74,7 @@ module _ (stage : MaskStage) (next : Option Feature) (kept : (r : Feature) → s
   may_follow = follows_by stage.bed_ended stage.ahead refl refl
 
 -- what may come after more records may come after fewer
-pub come_back : (old taken buffered : List Feature) (ended : Bool) (records : List Feature) (fault : Option Told) → (ended ≡ true → taken ≡ []) → MayCome ((old ++ taken) ++ option_to_list (first_of buffered)) ended records fault
+pub come_back : (old taken buffered : List Feature) (ended : Bool) (records : List Feature) (fault : Option FaultValue) → (ended ≡ true → taken ≡ []) → MayCome ((old ++ taken) ++ option_to_list (first_of buffered)) ended records fault
     → MayCome (old ++ option_to_list (first_of (taken ++ buffered))) ended records fault
 come_back old [] buffered ended records fault none may =
     subst (λ (l : List Feature). MayCome (l ++ option_to_list (first_of buffered)) ended records fault) (append-nil old) may
@@ -89,9 +89,9 @@ come_back old (x ∷ xs) buffered ended records fault none may = record {
 
 module _ (how : MaskHow) (full : Bool) where
   -- the lines that are written now are settled with those before
-  pub settles_given : (written : List SequenceLine) (bytes more : List ℕ) (stage new : MaskStage) (texts : List TextLine) (taken buffered : List Feature) → Settles (mask_making how) written bytes (stage.taken ++ option_to_list (first_of (taken ++ buffered))) stage.bed_ended
+  pub settles_given : (written : List SequenceLine) (bytes more : List ℕ) (stage new : MaskStage) (texts : List TextLine) (taken buffered : List Feature) → Settles (mask_join how) written bytes (stage.taken ++ option_to_list (first_of (taken ++ buffered))) stage.bed_ended
       → (goes : GoesOn how full stage texts taken new more) → (stage.bed_ended ≡ true → (taken ≡ []) × (buffered ≡ [])) → ((r : Feature) → new.ahead ≡ Some r → first_of buffered ≡ Some r)
-      → Settles (mask_making how) (written ++ goes.newly) (bytes ++ more) ((stage.taken ++ taken) ++ option_to_list (first_of buffered)) stage.bed_ended
+      → Settles (mask_join how) (written ++ goes.newly) (bytes ++ more) ((stage.taken ++ taken) ++ option_to_list (first_of buffered)) stage.bed_ended
   settles_given written bytes more stage new texts taken buffered settles goes over kept = record {
     whatever = λ records fault ordered may.
         let was = settles.whatever records fault ordered (come_back stage.taken taken buffered stage.bed_ended records fault (λ e. (over e).0) may) in
@@ -106,7 +106,7 @@ module _ (how : MaskHow) (full : Bool) where
         );
   }
     where
-      newly_by : (b : Bool) → new.bed_ended ≡ b → (records : List Feature) (fault : Option Told) → MayCome (new.taken ++ option_to_list (first_of buffered)) new.bed_ended records fault → MayFollow new records
+      newly_by : (b : Bool) → new.bed_ended ≡ b → (records : List Feature) (fault : Option FaultValue) → MayCome (new.taken ++ option_to_list (first_of buffered)) new.bed_ended records fault → MayFollow new records
           → list_all (λ x. is_none fault || decided x records) goes.newly ≡ true
       newly_by true e records fault may follow = all_faultless fault records goes.newly (ap is_none (may.all e).1)
       newly_by false e records fault may follow = all_decided fault records goes.newly (goes.settles.are_decided records follow e)

@@ -22,8 +22,8 @@ use Rattle.bt_seq.specs.calls.MaskState.{Masking}
 use Rattle.bt_seq.specs.model.Sequences.{Reached, SequenceLine, sequence_format}
 use Rattle.bt_seq.specs.declared.mask.mask_how.MaskHow.{MaskHow}
 use Rattle.bt_tool.specs.inside.feed.Feeding.{IsFresh}
-use Rattle.bt_lines.specs.model.Fault.{Told}
-use Rattle.bt_tool.specs.inside.pair.MaskLoop.{MaskEnds, Masks, line_members, mask_making, mask_pair, nothing_reached}
+use Rattle.bt_lines.specs.model.Fault.{FaultValue}
+use Rattle.bt_tool.specs.inside.pair.MaskLoop.{MaskEnds, Masks, line_members, mask_join, mask_pair, nothing_reached}
 use Rattle.bt_tool.specs.inside.feed.Passed.{IsKeptBelow}
 use Rattle.bt_tool.proofs.lemmas.running.members.CameMembers.{BeginsAt}
 use Rattle.bt_tool.proofs.lemmas.running.members.BlockMembers.{blocks_going}
@@ -83,7 +83,7 @@ module _ {A B : Type 0} (a_left : A → Option (List ℕ)) (a_failed a_end : A �
     past_second = [];
     stage = first_stage;
     stands = stands;
-    comes = comes_start (mask_making how) (mask_pair a_left a_failed a_end b_left b_failed b_end how full (line_members full nothing_reached lines) (view_of records)) out
+    comes = comes_start (mask_join how) (mask_pair a_left a_failed a_end b_left b_failed b_end how full (line_members full nothing_reached lines) (view_of records)) out
         (passes_start a_left a_failed a_end (line_members full nothing_reached lines) fresh going)
         (passes_start b_left b_failed b_end (view_of records) fresh_second (blocks_going records kept)) block;
     kept_ahead = λ r e. absurd (let apart : None ≡ Some r = e in cc);
@@ -101,7 +101,7 @@ module _ {A B : Type 0} (a_left : A → Option (List ℕ)) (a_failed a_end : A �
       (subst (λ (h : MaskHow). MaskStandsAt h mask.full first_stage mask) (sym stands.how_is) (subst (λ (f : Bool). MaskStandsAt how f first_stage mask) (sym stands.full_is) stands))
 
   -- and how it ends
-  pub as_asked : (lines : LineReader A) (second : MemberReader B Feature (Option Locus)) (out : Output) (fault : Option Told) (new : LineReader A) (second_now : MemberReader B Feature (Option Locus)) (grown : Output)
+  pub as_asked : (lines : LineReader A) (second : MemberReader B Feature (Option Locus)) (out : Output) (fault : Option FaultValue) (new : LineReader A) (second_now : MemberReader B Feature (Option Locus)) (grown : Output)
       (own : MaskHow) (own_full : Bool) (how : MaskHow) (full : Bool) → own ≡ how → own_full ≡ full
       → (members : MemberReader A SequenceLine Reached) × (members.below ≡ new) × MaskEnds a_left a_failed a_end b_left b_failed b_end own own_full (line_members own_full nothing_reached lines) second out fault members second_now grown × IsKeptBelow members new
       → (members : MemberReader A SequenceLine Reached) × (members.below ≡ new) × MaskEnds a_left a_failed a_end b_left b_failed b_end how full (line_members full nothing_reached lines) second out fault members second_now grown × IsKeptBelow members new

@@ -3,7 +3,7 @@ use Rattle.std.proofs.Common.{◌≡◌, ℕ, suc, Bool, true, false, not, ◌||
 use Rattle.std.specs.Prelude.{◌⊎◌, IfSome, IsSome, IsTrue, is_some, option_map}
 use Rattle.std.proofs.lemmas.Bool.{false≢true, or_left, or_right}
 use Rattle.std.proofs.lemmas.List.{map-append}
-use Rattle.bt_lines.specs.model.Fault.{Told}
+use Rattle.bt_lines.specs.model.Fault.{FaultValue}
 use Rattle.bt_lines.specs.model.Lines.{TextLine}
 use Rattle.bt_lines.specs.calls.Output.{Output}
 use Rattle.bt_lines.specs.calls.Putting.{FailsToAdd, Grown}
@@ -31,10 +31,10 @@ use Rattle.bt_seq.specs.model.Sequences.{Reached, SequenceLine, line_says, seque
 use Rattle.bt_seq.specs.declared.mask.mask_want.MaskWant.TheVariants.{Line as WantLine, Bed as WantBed, Nothing}
 use Rattle.bt_tool.specs.inside.feed.Feeding.{ComeFirst, member_items}
 use Rattle.bt_tool.specs.model.report.MaskReport.{is_fasta_kind, is_mask_kind}
-use Rattle.bt_tool.specs.inside.pair.MaskLoop.{AreOwned, MaskRun, leaves_some, line_members, mask_making, mask_pair, nothing_reached, stage_of}
+use Rattle.bt_tool.specs.inside.pair.MaskLoop.{AreOwned, MaskRun, leaves_some, line_members, mask_join, mask_pair, nothing_reached, stage_of}
 use Rattle.bt_tool.specs.inside.pair.MaskTurns.{Ends, GoesOnAt}
-use Rattle.bt_tool.specs.inside.pair.Pair.{Making, Pair, Settles, item_ahead}
-use Rattle.bt_tool.specs.inside.pair.PairEnds.{AsksFor, IsKnown}
+use Rattle.bt_tool.specs.inside.pair.Pair.{JoinDef, Pair, Settles, item_ahead}
+use Rattle.bt_tool.specs.inside.pair.Endings.{AsksFor, IsKnown}
 use Rattle.bt_tool.specs.inside.feed.Passed.{IsFilled, IsOver, IsStopped}
 use Rattle.bt_tool.proofs.lemmas.running.members.LineMembers.{gives_over, gives_unread, passes_made, wrong_is_text}
 use Rattle.bt_tool.proofs.lemmas.running.mask.MaskGiven.{ahead_first, first_of}
@@ -106,7 +106,7 @@ lacks_told : (names : List (List ℕ)) (members past : List (Member Feature)) (m
 lacks_told names members past m owned unowned parts =
     ap (no_sequence names) (parts.1 ∙ append_assoc past (m ∷ []) parts.0) ∙ first_is_told names past parts.0 m owned unowned
 
-told_by : (names : List (List ℕ)) (good : Option (Good Feature)) (past : List (Member Feature)) (m : Member Feature) (fault : Told) → fault ≡ fault_at_line Second m.line NoSequence
+told_by : (names : List (List ℕ)) (good : Option (Good Feature)) (past : List (Member Feature)) (m : Member Feature) (fault : FaultValue) → fault ≡ fault_at_line Second m.line NoSequence
     → is_some (left_after names (member_items past)) ≡ true → left_after names (member_items (past ++ m ∷ [])) ≡ None
     → IfSome good (λ good. (rest : List (Member Feature)) × (good.members ≡ (past ++ m ∷ []) ++ rest)) → IfSome good (λ good. no_sequence names good.members ≡ Some fault)
 told_by names None past m fault is owned unowned begins = tt
@@ -125,8 +125,8 @@ none_ahead : {S State : Type 0} (now : MemberReader S Feature State) (r : Featur
 none_ahead now r none was = let apart : None ≡ Some r = sym (ahead_first now ∙ ap first_of none) ∙ was in cc
 
 module _ {A B : Type 0} (a_left : A → Option (List ℕ)) (a_failed a_end : A → Bool) (b_left : B → Option (List ℕ)) (b_failed b_end : B → Bool) (run : MaskRun A B) where
-  abbrev pub making : Making SequenceLine Feature
-  making = mask_making run.how
+  abbrev pub join : JoinDef SequenceLine Feature
+  join = mask_join run.how
 
   abbrev pub pair : Pair A B SequenceLine Feature Reached (Option Locus)
   pair = mask_pair a_left a_failed a_end b_left b_failed b_end run.how run.full (line_members run.full nothing_reached run.lines) run.records
@@ -134,7 +134,7 @@ module _ {A B : Type 0} (a_left : A → Option (List ℕ)) (a_failed a_end : A �
   abbrev Going : Reached → LineReader A → MemberReader B Feature (Option Locus) → Masking → Output → Type 0
   Going = GoesOnAt a_left a_failed a_end b_left b_failed b_end run
 
-  abbrev EndsAt : Option Told → LineReader A → MemberReader B Feature (Option Locus) → Output → Type 0
+  abbrev EndsAt : Option FaultValue → LineReader A → MemberReader B Feature (Option Locus) → Output → Type 0
   EndsAt = Ends a_left a_failed a_end b_left b_failed b_end run
 
   wrong_first : (state : Reached) (line : TextLine) (kind : Kind) → line_says run.full state line ≡ Err kind → is_fasta_kind kind ≡ true
@@ -155,11 +155,11 @@ module _ {A B : Type 0} (a_left : A → Option (List ℕ)) (a_failed a_end : A �
     come_so_far =
         s.comes.first_passes.state ∙ reached_behind run.full (member_items s.past_first) ∙ ap (λ (l : List SequenceLine). reached_by (line_given_last l)) (sym s.comes.all_given)
 
-    pub asked : stage.lines_ended ≡ false → making.Asks (given stage) stage.taken
+    pub asked : stage.lines_ended ≡ false → join.Asks (given stage) stage.taken
     asked going = open_leaves (given stage) (line_given_last (given stage)) stage.taken refl (s.stands.is_open going)
 
-    pub asks_for : stage.lines_ended ≡ false → AsksFor making pair run.out s.past_first second
-    asks_for going = stop.asks_now making pair run.out (stage_of stage) s.past_first s.past_second first second grown s.comes (asked going)
+    pub asks_for : stage.lines_ended ≡ false → AsksFor join pair run.out s.past_first second
+    asks_for going = stop.asks_now join pair run.out (stage_of stage) s.past_first s.past_second first second grown s.comes (asked going)
 
     -- if no line waits, the block of each record taken belongs to a sequence of the lines
     module _ (none : stage.waiting ≡ None) where
@@ -172,7 +172,7 @@ module _ {A B : Type 0} (a_left : A → Option (List ℕ)) (a_failed a_end : A �
       owned_alone =
           rw (← s.comes.all_taken) (subst (λ (names : List (List ℕ)). is_some (left_after names stage.taken) ≡ true) (sym names_alone) s.stands.owned)
 
-      pub none_lacks : making.last stage.written s.past_second ≡ None
+      pub none_lacks : join.last stage.written s.past_second ≡ None
       none_lacks = lack_none (names_of stage.written) s.past_second owned_alone
 
     -- a line that waits isn't decided by what was taken
@@ -245,17 +245,17 @@ module _ {A B : Type 0} (a_left : A → Option (List ℕ)) (a_failed a_end : A �
             past_second = s.past_second;
             stage = with_lines_ended stage;
             stands = stands;
-            comes = turned.ends_first making pair run.out (stage_of stage) s.past_first s.past_second first second grown s.comes none_waits no_line.1 (line_members run.full at new) over;
+            comes = turned.ends_first join pair run.out (stage_of stage) s.past_first s.past_second first second grown s.comes none_waits no_line.1 (line_members run.full at new) over;
             kept_ahead = s.kept_ahead;
             lines_over = λ e. over.ends.ends;
           }
 
       -- a line couldn't be read
-      pub stops_lines : (fault : Told) (new : LineReader A) → GivesFault a_left a_failed lines fault new → (IsKept a_left a_end lines → IsKept a_left a_end new) → EndsAt (Some fault) new second grown
+      pub stops_lines : (fault : FaultValue) (new : LineReader A) → GivesFault a_left a_failed lines fault new → (IsKept a_left a_end lines → IsKept a_left a_end new) → EndsAt (Some fault) new second grown
       stops_lines fault new gives kept = (
         line_members run.full at new,
         refl,
-        stop.stops_first making pair run.out (stage_of stage) s.past_first s.past_second first second grown s.comes asks_for (λ known. tt) wrong_first none_waits no_line.1 fault (line_members run.full at new)
+        stop.stops_first join pair run.out (stage_of stage) s.past_first s.past_second first second grown s.comes asks_for (λ known. tt) wrong_first none_waits no_line.1 fault (line_members run.full at new)
             (gives_unread a_left a_failed a_end run.full at lines new kept fault gives),
         λ input line e. e,
       )
@@ -282,7 +282,7 @@ module _ {A B : Type 0} (a_left : A → Option (List ℕ)) (a_failed a_end : A �
         past_second = s.past_second;
         stage = stage;
         stands = s.stands;
-        comes = turned.fills_second making pair run.out (stage_of stage) s.past_first s.past_second first second grown s.comes goes second_now filled;
+        comes = turned.fills_second join pair run.out (stage_of stage) s.past_first s.past_second first second grown s.comes goes second_now filled;
         kept_ahead = λ r e. kept_filled b_left b_failed b_end second second_now r (s.kept_ahead r e) filled;
         lines_over = s.lines_over;
       }
@@ -297,7 +297,7 @@ module _ {A B : Type 0} (a_left : A → Option (List ℕ)) (a_failed a_end : A �
           past_second = s.past_second;
           stage = with_bed_ended stage;
           stands = stands;
-          comes = turned.ends_waiting making pair run.out (stage_of stage) s.past_first s.past_second first second grown s.comes goes second_now over a waits now adds;
+          comes = turned.ends_waiting join pair run.out (stage_of stage) s.past_first s.past_second first second grown s.comes goes second_now over a waits now adds;
           kept_ahead = λ r e. absurd (none_ahead second r over.ends.was_none (s.kept_ahead r e));
           lines_over = s.lines_over;
         }
@@ -309,36 +309,36 @@ module _ {A B : Type 0} (a_left : A → Option (List ℕ)) (a_failed a_end : A �
           past_second = s.past_second;
           stage = with_bed_ended stage;
           stands = stands;
-          comes = turned.ends_alone making pair run.out (stage_of stage) s.past_first s.past_second first second grown s.comes goes second_now over none;
+          comes = turned.ends_alone join pair run.out (stage_of stage) s.past_first s.past_second first second grown s.comes goes second_now over none;
           kept_ahead = λ r e. absurd (none_ahead second r over.ends.was_none (s.kept_ahead r e));
           lines_over = s.lines_over;
         }
 
         -- the waiting line wasn't written
-        pub fails_at_end : (a : SequenceLine) → stage.waiting ≡ Some a → (fault : Told) (now : Output) → FailsToAdd grown (masked_line run.how stage.taken a) fault now → EndsAt (Some fault) lines second_now now
+        pub fails_at_end : (a : SequenceLine) → stage.waiting ≡ Some a → (fault : FaultValue) (now : Output) → FailsToAdd grown (masked_line run.how stage.taken a) fault now → EndsAt (Some fault) lines second_now now
         fails_at_end a waits fault now fails = (
           first,
           refl,
-          stop.fails_at_end making pair run.out (stage_of stage) s.past_first s.past_second first second grown s.comes asks_for (λ known. tt) a waits (asked (s.stands.waits a waits).lines) goes fault second_now now over fails,
+          stop.fails_at_end join pair run.out (stage_of stage) s.past_first s.past_second first second grown s.comes asks_for (λ known. tt) a waits (asked (s.stands.waits a waits).lines) goes fault second_now now over fails,
           λ input line e. e,
         )
 
       -- the second input couldn't give a record
-      stops_by : (o : Option SequenceLine) → stage.waiting ≡ o → (fault : Told) (second_now : MemberReader B Feature (Option Locus)) → IsStopped b_left b_failed b_end second fault second_now → EndsAt (Some fault) lines second_now grown
+      stops_by : (o : Option SequenceLine) → stage.waiting ≡ o → (fault : FaultValue) (second_now : MemberReader B Feature (Option Locus)) → IsStopped b_left b_failed b_end second fault second_now → EndsAt (Some fault) lines second_now grown
       stops_by None e fault second_now stopped = (
         first,
         refl,
-        stop.stops_behind making pair run.out (stage_of stage) s.past_first s.past_second first second grown s.comes asks_for (λ known. tt) (lines_done e) wrong_second goes (none_lacks e) fault second_now stopped,
+        stop.stops_behind join pair run.out (stage_of stage) s.past_first s.past_second first second grown s.comes asks_for (λ known. tt) (lines_done e) wrong_second goes (none_lacks e) fault second_now stopped,
         λ input line e. e,
       )
       stops_by (Some a) e fault second_now stopped = (
         first,
         refl,
-        stop.stops_second making pair run.out (stage_of stage) s.past_first s.past_second first second grown s.comes asks_for (λ known. tt) a e wrong_second (asked (s.stands.waits a e).lines) goes (λ known none. undecided a e) fault second_now stopped,
+        stop.stops_second join pair run.out (stage_of stage) s.past_first s.past_second first second grown s.comes asks_for (λ known. tt) a e wrong_second (asked (s.stands.waits a e).lines) goes (λ known none. undecided a e) fault second_now stopped,
         λ input line e. e,
       )
 
-      pub stops_records : (fault : Told) (second_now : MemberReader B Feature (Option Locus)) → IsStopped b_left b_failed b_end second fault second_now → EndsAt (Some fault) lines second_now grown
+      pub stops_records : (fault : FaultValue) (second_now : MemberReader B Feature (Option Locus)) → IsStopped b_left b_failed b_end second fault second_now → EndsAt (Some fault) lines second_now grown
       stops_records fault second_now stopped = stops_by stage.waiting refl fault second_now stopped
 
     -- a record is buffered, and failed
@@ -357,9 +357,9 @@ module _ {A B : Type 0} (a_left : A → Option (List ℕ)) (a_failed a_end : A �
 
       -- if it decides the waiting line, that stays as it is
       settles_decided : (a : SequenceLine) → decided a (stage.taken ++ r ∷ []) ≡ true → LineBefore run.how a stage.taken r → IsKnown pair
-          → Settles making (stage.written ++ a ∷ []) (s.comes.bytes ++ masked_line run.how stage.taken a) (stage.taken ++ option_to_list (item_ahead second)) stage.bed_ended
+          → Settles join (stage.written ++ a ∷ []) (s.comes.bytes ++ masked_line run.how stage.taken a) (stage.taken ++ option_to_list (item_ahead second)) stage.bed_ended
       settles_decided a decides settled known =
-          settles_with making stage.written s.comes.bytes (stage.taken ++ option_to_list (item_ahead second)) stage.bed_ended a (masked_line run.how stage.taken a) (s.comes.settles known)
+          settles_with join stage.written s.comes.bytes (stage.taken ++ option_to_list (item_ahead second)) stage.bed_ended a (masked_line run.how stage.taken a) (s.comes.settles known)
           (λ rest ordered.
           let front : (stage.taken ++ option_to_list (item_ahead second)) ++ rest ≡ (stage.taken ++ r ∷ []) ++ rest = ap (λ (l : List Feature). l ++ rest) seen in
           let parts : (stage.taken ++ option_to_list (item_ahead second)) ++ rest ≡ stage.taken ++ r ∷ rest = front ∙ append_assoc stage.taken (r ∷ []) rest in (
@@ -380,12 +380,12 @@ module _ {A B : Type 0} (a_left : A → Option (List ℕ)) (a_failed a_end : A �
           let f = first refl in
           (f.0, come.0 ∙ ap (λ l. s.past_second ++ l) f.1 ∙ sym (append_assoc s.past_second (m ∷ []) f.0))
 
-      fails_by : (o : Option SequenceLine) → stage.waiting ≡ o → (fault : Told) (now : Output) → FailsAtRecord run.how run.full o stage r (suc (lines_given second.below)) grown fault now → EndsAt (Some fault) lines second now
+      fails_by : (o : Option SequenceLine) → stage.waiting ≡ o → (fault : FaultValue) (now : Output) → FailsAtRecord run.how run.full o stage r (suc (lines_given second.below)) grown fault now → EndsAt (Some fault) lines second now
       fails_by None none fault now lacks = (
         first,
         refl,
         rw lacks.same_output
-            (stop.ends_rest making pair run.out (stage_of stage) s.past_first s.past_second first second grown s.comes asks_for (λ known. tt) (lines_done wants none) second
+            (stop.ends_rest join pair run.out (stage_of stage) s.past_first s.past_second first second grown s.comes asks_for (λ known. tt) (lines_done wants none) second
             (λ some. absurd (false≢true (ap is_some (sym s.comes.second_passes.going) ∙ some))) s.comes.second_passes.bytes s.past_second (Some fault)
             (inr (inr (
               fault,
@@ -405,17 +405,17 @@ module _ {A B : Type 0} (a_left : A → Option (List ℕ)) (a_failed a_end : A �
       fails_by (Some a) waits fault now (inl writes) = (
         first,
         refl,
-        stop.fails_waiting making pair run.out (stage_of stage) s.past_first s.past_second first second grown s.comes asks_for (λ known. tt) a waits (masked_line run.how stage.taken a) (settles_decided a writes.decides writes.settled) fault now writes.fails,
+        stop.fails_waiting join pair run.out (stage_of stage) s.past_first s.past_second first second grown s.comes asks_for (λ known. tt) a waits (masked_line run.how stage.taken a) (settles_decided a writes.decides writes.settled) fault now writes.fails,
         λ input line e. e,
       )
       fails_by (Some a) waits fault now (inr holds) = (
         first,
         refl,
-        rw holds.same_output (stop.lacks_memory making pair run.out (stage_of stage) s.past_first s.past_second first second grown s.comes asks_for (λ known. tt) fault holds.is),
+        rw holds.same_output (stop.lacks_memory join pair run.out (stage_of stage) s.past_first s.past_second first second grown s.comes asks_for (λ known. tt) fault holds.is),
         λ input line e. e,
       )
 
-      pub fails_record : (fault : Told) (now : Output) → FailsAtRecord run.how run.full stage.waiting stage r (suc (lines_given second.below)) grown fault now → EndsAt (Some fault) lines second now
+      pub fails_record : (fault : FaultValue) (now : Output) → FailsAtRecord run.how run.full stage.waiting stage r (suc (lines_given second.below)) grown fault now → EndsAt (Some fault) lines second now
       fails_record fault now fails = fails_by stage.waiting refl fault now fails
 
     -- both inputs have ended
@@ -424,6 +424,6 @@ module _ {A B : Type 0} (a_left : A → Option (List ℕ)) (a_failed a_end : A �
         let ends = all_ended (is_some stage.waiting) stage.lines_ended stage.bed_ended (sym s.stands.want_is ∙ wants) in (
           first,
           refl,
-          stop.ends_all making pair run.out (stage_of stage) s.past_first s.past_second first second grown s.comes asks_for (λ known. tt) ends.1 ends.2 (none_lacks (none_by stage.waiting ends.0)),
+          stop.ends_all join pair run.out (stage_of stage) s.past_first s.past_second first second grown s.comes asks_for (λ known. tt) ends.1 ends.2 (none_lacks (none_by stage.waiting ends.0)),
           λ input line e. e,
         )

@@ -4,7 +4,7 @@ use Rattle.std.specs.Prelude.{IfSome, option_map}
 use Rattle.std.proofs.lemmas.Bool.{false≢true}
 use Rattle.bt_lines.proofs.lemmas.reader.lines.BufferedLemmas.{none_left}
 use Rattle.bt_lines.specs.calls.Buffered.{buffered_lines}
-use Rattle.bt_lines.specs.calls.Names.{told}
+use Rattle.bt_lines.specs.calls.Names.{fault_value}
 use Rattle.bt_lines.specs.calls.Reader.{buffered_bytes, buffered_in, fault_kept as line_fault, has_ended, is_open, lines_given}
 use Rattle.bt_lines.specs.inside.ReaderState.{ended_at, lends_at, open_at}
 use Rattle.bt_lines.specs.declared.fault.Fault.{Fault}
@@ -42,7 +42,7 @@ none_over reader e =
 -- a reader of records without a fault has a reader of lines without one
 pub blocks_going : {S : Type 0} (records : Blocks S) → fault_kept records ≡ None → line_fault (below records) ≡ None
 unfolding view_of view_with
-blocks_going records e = or_none (option_map told records.sorted.fault) (line_fault records.sorted.reader) e
+blocks_going records e = or_none (option_map fault_value records.sorted.fault) (line_fault records.sorted.reader) e
 
 -- what was consumed of a batch is what was taken
 pub blocks_given : {S : Type 0} (records : Blocks S) (first last : Batch) (taken : List Feature) (consumed : Consumed) → Lends records first → Passes first taken last → IsWhere last consumed → take (count_in records consumed) (records_in records) ≡ taken
@@ -65,7 +65,7 @@ module _ {S : Type 0} (left : S → Option (List ℕ)) (failed end : S → Bool)
   pub block_over : FillsBlocks left failed end IsRead now (Ok false) new → IsOver left failed end (view_of now) (view_of new)
   block_over fills = record { ends = fills.answers; kept = fills.kept; clear = blocks_going new }
 
-  pub block_stopped : (fault : Fault) → FillsBlocks left failed end IsRead now (Err fault) new → IsStopped left failed end (view_of now) (told fault) (view_of new)
+  pub block_stopped : (fault : Fault) → FillsBlocks left failed end IsRead now (Err fault) new → IsStopped left failed end (view_of now) (fault_value fault) (view_of new)
   block_stopped fault fills = record { answers = fills.answers; kept = fills.kept }
 
 module _ {S : Type 0} (left : S → Option (List ℕ)) (failed end : S → Bool) (now new : Blocks S) (count : ℕ) (records : List Feature) (are : take count (records_in now) ≡ records) where

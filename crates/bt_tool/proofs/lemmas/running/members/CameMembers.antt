@@ -1,7 +1,7 @@
 -- Lemmas on what is good of an input that a reader of members took.
 use Rattle.std.proofs.Common.{◌≡◌, ℕ, suc, ◌+◌, ◌-◌, ◌^◌, ◌≤◌, ◌<◌, Bool, List, ◌++◌, length, take, drop, Option, None, Some, refl, sym, ap, ◌∙◌, subst, inl, inr, ⊎_elim}
 use Rattle.std.specs.Prelude.{All, IfSome, IsSome, option_map}
-use Rattle.bt_lines.specs.model.Fault.{Told, read_failed}
+use Rattle.bt_lines.specs.model.Fault.{FaultValue, read_failed}
 use Rattle.bt_lines.specs.model.Handed.{Handed, whole_text}
 use Rattle.bt_lines.specs.model.Lines.{bytes_in, line_feeds, text_lines}
 use Rattle.bt_lines.specs.calls.Reader.{Hands, bytes_taken, feeds_taken, input_of, lines_given, lines_left, source_of}
@@ -14,7 +14,7 @@ use Rattle.bt_bed.specs.model.input.Good.{Format, Good, Member, good, good_hande
 use Rattle.bt_bed.specs.model.input.GoodLines.{IsBeyond}
 use Rattle.bt_bed.specs.calls.Reading.{MemberReader, good_coming}
 use Rattle.bt_tool.specs.inside.feed.Coming.{Came}
-use Rattle.bt_tool.specs.calls.run.Telling.{TellsInput}
+use Rattle.bt_tool.specs.calls.run.FaultSource.{TellsInput}
 use Rattle.bt_tool.specs.inside.feed.Passed.{HasFaultBehind, IsUnreadBehind}
 use Rattle.bt_tool.proofs.lemmas.running.members.HandedLemmas.{cut_good, handed_near}
 use Rattle.bt_tool.proofs.lemmas.running.members.HandedReader.{consumed_by, consumes_parts, cut_text, handed_all, handed_part, passes_by}
@@ -24,7 +24,7 @@ pub some_of : {A : Type 0} (a : Option A) (value : A) (P : A → Type 0) → a �
 some_of None value P e h = cc
 some_of (Some x) value P e h = let same : x ≡ value = cc in subst P same h
 
-pub or_else_none : (fault : Option Told) → or_else fault None ≡ fault
+pub or_else_none : (fault : Option FaultValue) → or_else fault None ≡ fault
 or_else_none None = refl
 or_else_none (Some fault) = refl
 
@@ -55,12 +55,12 @@ module _ {S A State : Type 0} (left : S → Option (List ℕ)) (failed end : S �
   pub at_whole : (text : List ℕ) → left first ≡ Some text → (P : Good A → Type 0) → IfSome (good_coming left old) P → P (good_handed format input (whole_text text))
   at_whole text e P h = subst P (sym (good_whole format input text)) (some_of (good_coming left old) (good format input (text_lines text)) P (good_known text e) h)
 
-  pub text_known : (fault : Option Told) (handed : Handed) → Came left failed first last fault handed → (text : List ℕ) × (left first ≡ Some text)
+  pub text_known : (fault : Option FaultValue) (handed : Handed) → Came left failed first last fault handed → (text : List ℕ) × (left first ≡ Some text)
   text_known fault handed (inl reads) = (reads.text, reads.known)
   text_known fault handed (inr whole) = (whole.text, whole.known)
 
   -- an input that worked
-  pub came_whole : (fault : Option Told) (handed : Handed) → Came left failed first last fault handed → (bytes : List ℕ) × Hands left old.below bytes new.below
+  pub came_whole : (fault : Option FaultValue) (handed : Handed) → Came left failed first last fault handed → (bytes : List ℕ) × Hands left old.below bytes new.below
       → failed (source_of new.below) ≡ failed (source_of old.below) → bytes_taken new.below < 2 ^ 63
       → (P : Good A → Type 0) → IfSome (good_coming left old) P → P (good_handed format input handed)
   came_whole fault handed (inl reads) hands served within P h =
@@ -68,7 +68,7 @@ module _ {S A State : Type 0} (left : S → Option (List ℕ)) (failed end : S �
   came_whole fault handed (inr whole) hands served within P h = subst (λ t. P (good_handed format input t)) (sym whole.is) (at_whole whole.text whole.known P h)
 
   -- one that failed to be read
-  pub came_cut : (past : List (Member A)) (fault : Told) (handed : Handed) → Came left failed first last (Some fault) handed → IsUnreadBehind left failed end old past fault new
+  pub came_cut : (past : List (Member A)) (fault : FaultValue) (handed : Handed) → Came left failed first last (Some fault) handed → IsUnreadBehind left failed end old past fault new
       → good_handed format input handed ≡ record { members = past; fault = Some fault }
   came_cut past fault handed (inr whole) unread = absurd (whole.no_read (input_of old.below) (suc (lines_given new.below)) (ap Some unread.is))
   came_cut past fault handed (inl reads) unread =
@@ -90,7 +90,7 @@ module _ {S A State : Type 0} (left : S → Option (List ℕ)) (failed end : S �
       ∙ ap (λ f. record { members = past; fault = f }) told
 
   -- one with a fault
-  pub says_fault : (Kinds : Kind → Type 0) (past : List (Member A)) (fault : Told) (handed : Handed) → Came left failed first last (Some fault) handed → (bytes : List ℕ) × Hands left old.below bytes new.below
+  pub says_fault : (Kinds : Kind → Type 0) (past : List (Member A)) (fault : FaultValue) (handed : Handed) → Came left failed first last (Some fault) handed → (bytes : List ℕ) × Hands left old.below bytes new.below
       → HasFaultBehind left failed end old Kinds past fault new → ((good_handed format input handed).members ≡ past) × ((good_handed format input handed).fault ≡ Some fault)
   says_fault Kinds past fault handed came hands (inl wrong) =
       came_whole (Some fault) handed came hands wrong.served wrong.within (λ good. (good.members ≡ past) × (good.fault ≡ Some fault)) wrong.whole
@@ -99,7 +99,7 @@ module _ {S A State : Type 0} (left : S → Option (List ℕ)) (failed end : S �
       (ap (λ (g : Good A). g.members) is, ap (λ (g : Good A). g.fault) is)
 
   -- what the fault tells
-  pub tells_fault : (Kinds : Kind → Type 0) (past : List (Member A)) (fault : Told) → (bytes : List ℕ) × Hands left old.below bytes new.below
+  pub tells_fault : (Kinds : Kind → Type 0) (past : List (Member A)) (fault : FaultValue) → (bytes : List ℕ) × Hands left old.below bytes new.below
       → HasFaultBehind left failed end old Kinds past fault new → TellsInput left failed Kinds input first last fault
   tells_fault Kinds past fault hands (inl wrong) = inl (record { line = wrong.line; kind = wrong.kind; of_kind = wrong.of_kind; is = wrong.is ∙ ap (λ i. fault_at_line i wrong.line wrong.kind) begins.input_is })
   tells_fault Kinds past fault hands (inr unread) = inr (record {

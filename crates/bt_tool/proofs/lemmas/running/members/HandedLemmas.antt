@@ -1,7 +1,7 @@
 -- Lemmas on what an input handed over: its first lines, and the piece that a failed read cut off.
 use Rattle.std.proofs.Common.{◌≡◌, ℕ, zero, suc, ◌+◌, ◌-◌, ◌^◌, ◌≤◌, Bool, true, false, List, [], ◌∷◌, ◌++◌, length, take, drop, Option, Some, None, refl, sym, ap, ◌∙◌, arith, length-append}
 use Rattle.std.specs.Prelude.{All}
-use Rattle.bt_lines.specs.model.Fault.{Told, read_failed}
+use Rattle.bt_lines.specs.model.Fault.{FaultValue, read_failed}
 use Rattle.bt_lines.specs.model.Handed.{whole_text}
 use Rattle.bt_lines.specs.model.Lines.{bytes_in, line_feeds, text_lines, whole_lines}
 use Rattle.bt_lines.specs.calls.Output.{block_size}
@@ -37,7 +37,7 @@ cut_lines cut more = sym (whole_front 1 cut more)
 module _ {A State : Type 0} (format : Format A State) (input : Input) where
   -- what is good of a text that was cut off after these lines: the members of the lines, and then
   -- the failed read
-  pub cut_good : (cut more : List ℕ) (past rest : List (Member A)) (fault : Option Told)
+  pub cut_good : (cut more : List ℕ) (past rest : List (Member A)) (fault : Option FaultValue)
       → (good format input (text_lines (cut ++ more))).members ≡ past ++ rest
       → (good format input (text_lines (cut ++ more))).fault ≡ fault
       → All (λ m. m.line ≤ line_feeds cut) past

@@ -8,7 +8,7 @@ use Rattle.bt_lines.specs.model.Handed.{Handed, whole_text}
 use Rattle.bt_lines.specs.model.Lines.{line_feeds}
 use Rattle.bt_lines.specs.calls.Reader.{CutsOff, Hands, source_of, bytes_taken, feeds_taken, lines_given}
 use Rattle.bt_lines.specs.declared.reader.line_reader.LineReader.{LineReader}
-use Rattle.bt_tool.specs.calls.run.Telling.{PassesBound}
+use Rattle.bt_tool.specs.calls.run.FaultSource.{PassesBound}
 use Rattle.bt_tool.specs.model.report.Inputs.{Reads}
 use Rattle.bt_tool.proofs.lemmas.running.members.HandedLemmas.{handed_cut, handed_past, handed_whole}
 

@@ -6,7 +6,7 @@ use Rattle.std.proofs.lemmas.List.{drop-drop}
 use Rattle.std.proofs.lemmas.List.Elements.{All-append, All-nil}
 use Rattle.bt_lines.proofs.lemmas.reader.lines.ReaderLemmas.{hands_both, sound_near}
 use Rattle.bt_lines.proofs.lemmas.reader.lines.TakingLemmas.{is_prefix, near_next}
-use Rattle.bt_lines.specs.model.Fault.{Told}
+use Rattle.bt_lines.specs.model.Fault.{FaultValue}
 use Rattle.bt_lines.specs.model.Lines.{AreNumbered, TextLine, bytes_in, line_feeds, lines_from}
 use Rattle.bt_lines.specs.calls.Output.{block_size}
 use Rattle.bt_lines.specs.calls.Reader.{DropsLines, GivesEnd, GivesFault, Hands, IsKept, MakesLine, SameLines, TakenLines, TakesLines, buffered_bytes, buffered_in, bytes_left, end_told, fault_kept as line_fault, held, input_of, left_at, lines_given, lines_left, source_of}
@@ -173,7 +173,7 @@ module _ {S : Type 0} (left : S → Option (List ℕ)) (failed end : S → Bool)
     }
 
     -- or couldn't be read
-    pub gives_unread : (fault : Told) → GivesFault left failed lines fault new → IsStopped left failed end (line_members full reached lines) fault (line_members full reached new)
+    pub gives_unread : (fault : FaultValue) → GivesFault left failed lines fault new → IsStopped left failed end (line_members full reached lines) fault (line_members full reached new)
     gives_unread fault gives = record {
       answers = going_unread left failed end (line_members full reached lines) (line_members full reached lines) (line_members full reached new) fault start gives gives.kept refl (record { state = refl; format = refl })
           (λ same was. ap (line_members full reached) same);
@@ -268,7 +268,7 @@ module _ {S : Type 0} (left : S → Option (List ℕ)) (failed end : S → Bool)
   module _ (old : MemberReader S SequenceLine Reached) (past : List (Member SequenceLine)) (reached : Reached) (lines new : LineReader S) (g : Passes left failed end old past (line_members full reached lines))
       (before : List TextLine) (line : TextLine) (more : List TextLine) (items : List SequenceLine) (say : SayEach full reached before items) (kind : Kind) (says : line_says full (state_behind (sequence_format full) reached items) line ≡ Err kind)
       (parts : buffered_in lines ≡ (before ++ line ∷ []) ++ more) (numbered : AreNumbered (suc (lines_given lines)) (before ++ line ∷ [])) (consumed : ConsumedLines) (are : TakenLines lines consumed (length (before ++ line ∷ [])))
-      (takes : TakesLines left end lines consumed new) (fault : Told) (is : fault ≡ fault_at_line (input_of old.below) line.number kind) where
+      (takes : TakesLines left end lines consumed new) (fault : FaultValue) (is : fault ≡ fault_at_line (input_of old.below) line.number kind) where
     abbrev pub refused : MemberReader S SequenceLine Reached
     refused = record {
       format = sequence_format full;

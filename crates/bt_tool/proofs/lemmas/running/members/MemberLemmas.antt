@@ -4,7 +4,7 @@ use Rattle.std.specs.Prelude.{◌⊎◌, All, IfSome, IsSome, option_map}
 use Rattle.std.proofs.lemmas.List.{drop-drop, length-append, length-drop, map-append, take-append-drop}
 use Rattle.std.proofs.lemmas.List.Elements.{All-append, All-cons, All-head, All-nil, All-tail}
 use Rattle.bt_lines.proofs.lemmas.reader.block.ReadsLemmas.{memory_no_read}
-use Rattle.bt_lines.specs.model.Fault.{Told, no_memory, read_failed}
+use Rattle.bt_lines.specs.model.Fault.{FaultValue, no_memory, read_failed}
 use Rattle.std.proofs.lemmas.Bool.{false≢true}
 use Rattle.std.specs.Io.KnownBytes.{Consumes}
 use Rattle.bt_lines.specs.calls.Reader.{Hands, IsKept, IsSound, bytes_left, end_told, fault_kept as line_fault, has_ended, held, left_at, source_of, input_of, lines_given, lines_left}
@@ -198,7 +198,7 @@ no_more (Some start) (Some now) given later h p e =
     omega (arith, h, length-drop given start, ap length is, length-drop (later - given) now, ap length e)
 
 -- nothing but a fault is to come if nothing is left
-none_taken : {A : Type 0} (now next : Option (Good A)) (taken : List (Member A)) (fault : Option Told) → IsSome now → option_map (with_members taken) next ≡ now
+none_taken : {A : Type 0} (now next : Option (Good A)) (taken : List (Member A)) (fault : Option FaultValue) → IsSome now → option_map (with_members taken) next ≡ now
     → IfSome now (λ good. good ≡ ends_with fault) → taken ≡ []
 none_taken None next taken fault k e f = absurd (false≢true k)
 none_taken (Some n) None taken fault k e f = absurd (let apart : None ≡ Some n = e in cc)
@@ -362,7 +362,7 @@ module _ {S A State : Type 0} (left : S → Option (List ℕ)) (failed end : S �
     }
 
     -- nothing is read after the end
-    pub fails_before_end : (new : MemberReader S A State) (fault : Told) → IsStopped left failed end now fault new → (input : Input) (line : ℕ) → fault ≡ read_failed input line → end_told now.below ≡ false
+    pub fails_before_end : (new : MemberReader S A State) (fault : FaultValue) → IsStopped left failed end now fault new → (input : Input) (line : ℕ) → fault ≡ read_failed input line → end_told now.below ≡ false
     fails_before_end new fault stopped input line e =
         elim (stopped.answers.first g.going) [
           | inl at ↦ absurd (line_no_read (input_of now.below) (lines_given new.below) at.kind input line at.of_line (sym at.place ∙ e))
@@ -376,7 +376,7 @@ module _ {S A State : Type 0} (left : S → Option (List ℕ)) (failed end : S �
     same_input = g.bytes.1.same_input
 
     module _ (kinds : Kind → Type 0) (of_format : (state : State) (line : TextLine) (kind : Kind) → old.format.says state line ≡ Err kind → kinds kind) where
-      cause_of : (new : MemberReader S A State) (fault : Told) → IsKept left end new.below → AnswersFault left failed end now fault new
+      cause_of : (new : MemberReader S A State) (fault : FaultValue) → IsKept left end new.below → AnswersFault left failed end now fault new
           → Cause left failed end now fault new
           → IsWrongBehind left failed end old kinds past fault new ⊎ (IsUnreadBehind left failed end old past fault new ⊎ LacksMemory left failed end old fault new)
       cause_of new fault kept answers (inl at) = inl (record {
@@ -399,7 +399,7 @@ module _ {S A State : Type 0} (left : S → Option (List ℕ)) (failed end : S �
       cause_of new fault kept answers (inr (inr ran)) = inr (inr (record { is = ran.is; served = ran.served ∙ g.served }))
 
       -- it reports a fault
-      pub passes_stop : (new : MemberReader S A State) (fault : Told) → IsStopped left failed end now fault new
+      pub passes_stop : (new : MemberReader S A State) (fault : FaultValue) → IsStopped left failed end now fault new
           → StopsAfter left failed end old kinds past fault new
       passes_stop new fault stopped = record {
         bytes = bytes_more new stopped.answers.stays.bytes;
@@ -424,7 +424,7 @@ module _ {S A State : Type 0} (left : S → Option (List ℕ)) (failed end : S �
     ended_after_all new over = no_more (lines_left left old.below) (lines_left left now.below) (lines_given now.below) (lines_given new.below) over.ends.rises g.lines over.ends.lines
 
     -- if it stops at a fault
-    pub read_at_stop : (new : MemberReader S A State) (fault : Told) → IsStopped left failed end now fault new → IsReadFor left failed end old past past new
+    pub read_at_stop : (new : MemberReader S A State) (fault : FaultValue) → IsStopped left failed end now fault new → IsReadFor left failed end old past past new
     read_at_stop new fault stopped =
         let stops = stops_faulty left failed end now g.going g.kept new fault stopped.answers (stopped.kept g.kept) in
         record {

@@ -4,8 +4,8 @@ use Rattle.std.specs.Prelude.{IfSome, IsTrue, map, option_map}
 use Rattle.std.specs.Option.{ForSome}
 use Rattle.std.proofs.lemmas.List.{map-append}
 use Rattle.std.proofs.lemmas.List.Elements.{All-push}
-use Rattle.bt_lines.specs.model.Fault.{Told}
-use Rattle.bt_lines.specs.calls.Names.{told}
+use Rattle.bt_lines.specs.model.Fault.{FaultValue}
+use Rattle.bt_lines.specs.calls.Names.{fault_value}
 use Rattle.bt_lines.specs.calls.Reader.{HasRead, bytes_taken, fault_kept as line_fault, lines_given, source_of}
 use Rattle.bt_lines.proofs.lemmas.reader.block.ReadsLemmas.{counts_none}
 use Rattle.bt_lines.specs.declared.fault.Fault.{Fault}
@@ -26,14 +26,14 @@ use Rattle.bt_bed.proofs.lemmas.order.TogetherLemmas.{last_of-push, grows_placed
 use Rattle.bt_tool.specs.inside.feed.Feeding.{AreInOrder}
 use Rattle.bt_tool.specs.inside.feed.Passed.{AheadComes, HasTaken, IsFilled, IsOver, IsStopped, member_items}
 
-pub or_none : (a b : Option Told) → or_else a b ≡ None → b ≡ None
+pub or_none : (a b : Option FaultValue) → or_else a b ≡ None → b ≡ None
 or_none None b e = e
 or_none (Some a) b e = cc
 
 -- a reader of records without a fault has a reader of lines without one
 pub line_going : {S O : Type 0} {ghosts : Ghosts O} (records : Records S O ghosts) → fault_kept records ≡ None → line_fault (below records) ≡ None
 unfolding view_of view_with
-line_going records e = or_none (option_map told records.sorted.fault) (line_fault records.sorted.reader) e
+line_going records e = or_none (option_map fault_value records.sorted.fault) (line_fault records.sorted.reader) e
 
 -- ---- what is buffered comes next
 
@@ -75,7 +75,7 @@ module _ {S O : Type 0} {ghosts : Ghosts O} (left : S → Option (List ℕ)) (fa
   pub is_over : FillsRecords left failed end IsRead now (Ok false) new → IsOver left failed end (view_of now) (view_of new)
   is_over fills = record { ends = fills.answers; kept = fills.kept; clear = line_going new }
 
-  pub is_stopped : (fault : Fault) → FillsRecords left failed end IsRead now (Err fault) new → IsStopped left failed end (view_of now) (told fault) (view_of new)
+  pub is_stopped : (fault : Fault) → FillsRecords left failed end IsRead now (Err fault) new → IsStopped left failed end (view_of now) (fault_value fault) (view_of new)
   is_stopped fault fills = record { answers = fills.answers; kept = fills.kept }
 
 module _ {S O : Type 0} {ghosts : Ghosts O} (left : S → Option (List ℕ)) (failed end : S → Bool) (now new : Records S O ghosts) (count : ℕ) (records : List Feature) (are : take count (buffered_in now) ≡ records) where

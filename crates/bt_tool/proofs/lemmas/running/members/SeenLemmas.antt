@@ -2,7 +2,7 @@
 use Rattle.std.proofs.Common.{◌≡◌, ℕ, List, [], ◌∷◌, ◌++◌, Option, None, Some, refl, sym, ap, ◌∙◌, append-nil, append_assoc, option_to_list}
 use Rattle.std.specs.Prelude.{IfSome, IsSome, option_map}
 use Rattle.std.proofs.lemmas.List.{map-append}
-use Rattle.bt_lines.specs.model.Fault.{Told}
+use Rattle.bt_lines.specs.model.Fault.{FaultValue}
 use Rattle.bt_lines.specs.calls.Output.{Output}
 use Rattle.bt_lines.specs.calls.Putting.{FailsToAdd}
 use Rattle.bt_bed.specs.model.input.Good.{Good, Member, items_in}
@@ -38,7 +38,7 @@ pub puts_front : (out : Output) (lines : List ℕ) (grown : Output) → PutsLine
 puts_front out lines grown puts = record { front = lines; rest = []; parts = sym (append-nil lines); puts = puts }
 
 -- the lines that couldn't be added were cut off
-pub cuts_more : (out old new : Output) (lines more : List ℕ) (fault : Told) → PutsLines out lines old → FailsToAdd old more fault new → CutsLines out (lines ++ more) new
+pub cuts_more : (out old new : Output) (lines more : List ℕ) (fault : FaultValue) → PutsLines out lines old → FailsToAdd old more fault new → CutsLines out (lines ++ more) new
 cuts_more out old new lines more fault puts fails = record {
   front = λ before e. front_all new.took old.put before lines more (lines ++ more) refl (puts before e) fails.puts.front;
   failed = fails.puts.failed;

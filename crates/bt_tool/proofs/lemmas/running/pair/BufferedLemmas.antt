@@ -1,8 +1,8 @@
 -- Lemmas on feeding an engine with the records that a reader has buffered.
 use Rattle.std.proofs.Common.{◌≡◌, ℕ, Bool, true, List, [], ◌∷◌, ◌++◌, take, Option, None, Some, Result, Ok, Err, refl, sym, ap, ◌∙◌, subst, append-nil, inl, inr}
 use Rattle.std.specs.Prelude.{◌⊎◌}
-use Rattle.bt_lines.specs.model.Fault.{Told}
-use Rattle.bt_lines.specs.calls.Names.{told}
+use Rattle.bt_lines.specs.model.Fault.{FaultValue}
+use Rattle.bt_lines.specs.calls.Names.{fault_value}
 use Rattle.bt_lines.specs.calls.Output.{Output}
 use Rattle.bt_lines.specs.declared.fault.Fault.{Fault}
 use Rattle.bt_bed.specs.calls.Batch.{HasEnded, IsWhere, Passes, left as left_in}
@@ -22,7 +22,7 @@ use Rattle.bt_tool.specs.inside.feed.Passed.{HasTaken}
 use Rattle.bt_tool.proofs.lemmas.running.members.PassedLemmas.{has_taken}
 
 module _ {S O E : Type 0} {g : Ghosts O} (left : S → Option (List ℕ)) (failed end : S → Bool) (MayTake : E → List Feature → Type 0) (Stands : E → List Feature → E → Type 0)
-    (engine_fault : E → Option Told) (settled : E → List Feature → List ℕ) (Quiet : E → List Feature → Feature → Type 0) (wants : E → Feature → Type 0)
+    (engine_fault : E → Option FaultValue) (settled : E → List Feature → List ℕ) (Quiet : E → List Feature → Feature → Type 0) (wants : E → Feature → Type 0)
     (old : Records S O g) (engine : E) (out : Output) (first : Batch) (lends : Lends old first) where
   abbrev Feeding : {A : Type 0} → Result A Fault → E → Batch → Output → Type 0
   Feeding = FeedsBatch MayTake Stands engine_fault settled Quiet wants Passes HasEnded engine first out

@@ -7,26 +7,26 @@ use Rattle.std.proofs.lemmas.Bool.{false≢true, or_from}
 use Rattle.std.proofs.lemmas.List.{map-append}
 use Rattle.std.proofs.lemmas.List.Elements.{All-head, All-tail}
 use Rattle.bt_lines.proofs.lemmas.reader.block.ReadsLemmas.{some_is}
-use Rattle.bt_lines.specs.model.Fault.{Told, no_memory, write_failed}
+use Rattle.bt_lines.specs.model.Fault.{FaultValue, no_memory, write_failed}
 use Rattle.bt_lines.specs.model.Handed.{Handed, whole_text}
 use Rattle.bt_lines.specs.model.Lines.{TextLine, text_lines}
-use Rattle.bt_lines.specs.calls.Output.{Output, IsFrontOf, block_size}
+use Rattle.bt_lines.specs.calls.Output.{Output, IsPrefixOf, block_size}
 use Rattle.bt_lines.specs.calls.Reader.{input_of, lines_given, source_of}
 use Rattle.bt_lines.specs.declared.fault.Input.TheVariants.{First, Second}
 use Rattle.bt_bed.specs.model.input.Good.{Format, Good, Member, good_handed, items_in, or_else}
 use Rattle.bt_bed.specs.model.input.GoodLines.{IsBeyond}
-use Rattle.bt_bed.specs.model.input.Meeting.{written}
+use Rattle.bt_bed.specs.model.input.TwoInputReport.{written}
 use Rattle.bt_bed.specs.calls.Reading.{MemberReader, good_coming}
 use Rattle.bt_bed.proofs.lemmas.laws.MeetingLemmas.{all_stop, all_written, met_fault_all, met_fault_stop, met_lines, written_past, written_stop}
 use Rattle.bt_tool.specs.model.report.Behaviour.{Behaviour}
 use Rattle.bt_tool.specs.model.report.SweepReport.{met_report}
 use Rattle.bt_tool.specs.calls.run.Writing.{WritesBy}
 use Rattle.bt_tool.specs.inside.feed.Coming.{Came}
-use Rattle.bt_tool.specs.calls.run.Telling.{IsFaultButWrite, IsReported, IsWithin, ReadsNoFurther, TellsDevice, TellsInput}
+use Rattle.bt_tool.specs.calls.run.FaultSource.{IsFaultButWrite, IsReported, IsWithin, ReadsNoFurther, TellsDevice, TellsInput}
 use Rattle.bt_tool.specs.inside.feed.Feeding.{PutsFront, PutsLines, member_items}
 use Rattle.bt_tool.specs.model.report.Inputs.{HandsUpTo, Holds, HoldsIf, Reads, ReadsIf, or_empty}
-use Rattle.bt_tool.specs.inside.pair.Pair.{Making, MayCome, Pair, Serves, met_by, met_whole, rule_of}
-use Rattle.bt_tool.specs.inside.pair.PairEnds.{Finishes, FirstFails, FirstStops, InputsEnd, LimitStops, RestStops, SecondFails, SecondStops, Why}
+use Rattle.bt_tool.specs.inside.pair.Pair.{JoinDef, MayCome, Pair, Serves, met_by, met_whole, rule_of}
+use Rattle.bt_tool.specs.inside.pair.Endings.{Finishes, FirstFails, FirstStops, InputsEnd, LimitStops, RestStops, SecondFails, SecondStops, Why}
 use Rattle.bt_tool.proofs.lemmas.running.members.CameMembers.{BeginsAt, at_whole, came_cut, came_whole, is_known, says_fault, tells_fault, text_known}
 use Rattle.bt_tool.proofs.lemmas.running.feed.FaultLemmas.{memory_no_write, tells_no_write}
 use Rattle.bt_tool.proofs.lemmas.running.pair.PairLimits.{AreLimits}
@@ -43,42 +43,42 @@ module _ {S : Type 0} (left : S → Option (List ℕ)) where
   read_if failed before after None h = absurd h
   read_if failed before after (Some handed) h = h
 
-module _ {X Y : Type 0} (making : Making X Y) where
+module _ {X Y : Type 0} (join : JoinDef X Y) where
   -- what the lines and the fault of a meeting are
-  abbrev MeetsAs : Good X → Good Y → List ℕ → Option Told → Type 0
-  MeetsAs first second bytes fault = ((met_whole making first second).lines ≡ bytes) × ((met_whole making first second).fault ≡ fault)
+  abbrev MeetsAs : Good X → Good Y → List ℕ → Option FaultValue → Type 0
+  MeetsAs first second bytes fault = ((met_whole join first second).lines ≡ bytes) × ((met_whole join first second).fault ≡ fault)
 
   -- what is reported when all of the first is written
-  abbrev last_of : Good X → Good Y → Option Told
-  last_of first second = or_else (making.last (items_in first) second.members) second.fault
+  abbrev last_of : Good X → Good Y → Option FaultValue
+  last_of first second = or_else (join.last (items_in first) second.members) second.fault
 
   -- these members are decided, and have these bytes
   abbrev HereAs : Good Y → List X → List ℕ → Type 0
-  HereAs second xs bytes = (list_all (λ x. is_none second.fault || making.decided x (items_in second)) xs ≡ true) × (flat_map (λ x. making.bytes x (items_in second)) xs ≡ bytes)
+  HereAs second xs bytes = (list_all (λ x. is_none second.fault || join.decided x (items_in second)) xs ≡ true) × (flat_map (λ x. join.bytes x (items_in second)) xs ≡ bytes)
 
   module _ (first : Good X) (second : Good Y) (xs : List X) (bytes : List ℕ) (here : HereAs second xs bytes) where
     -- all members of the first are written
     meets_all : items_in first ≡ xs → MeetsAs first second bytes (option_or first.fault (last_of first second))
     meets_all is =
-        let made = rule_of making (items_in first) second in
+        let made = rule_of join (items_in first) second in
         let all : list_all made.decided (items_in first) ≡ true = ap (list_all made.decided) is ∙ here.0 in (
           met_lines made (items_in first) first.fault ∙ sym (all_written made (items_in first) all) ∙ ap (flat_map made.lines) is ∙ here.1,
           met_fault_all made (items_in first) first.fault all,
         )
 
     -- one of them waits, which the second input doesn't decide
-    meets_stop : (a : X) (rest : List X) (fault : Told) → items_in first ≡ xs ++ a ∷ rest → second.fault ≡ Some fault → making.decided a (items_in second) ≡ false → MeetsAs first second bytes (Some fault)
+    meets_stop : (a : X) (rest : List X) (fault : FaultValue) → items_in first ≡ xs ++ a ∷ rest → second.fault ≡ Some fault → join.decided a (items_in second) ≡ false → MeetsAs first second bytes (Some fault)
     meets_stop a rest fault is told undecided_by =
-        let made = rule_of making (items_in first) second in
-        let undecided : made.decided a ≡ false = or_from (is_none second.fault) (making.decided a (items_in second)) (ap is_none told) undecided_by in (
+        let made = rule_of join (items_in first) second in
+        let undecided : made.decided a ≡ false = or_from (is_none second.fault) (join.decided a (items_in second)) (ap is_none told) undecided_by in (
           met_lines made (items_in first) first.fault ∙ ap (written made) is ∙ written_stop made xs a rest here.0 undecided ∙ here.1,
           met_fault_stop made (items_in first) first.fault (ap (list_all made.decided) is ∙ all_stop made xs a rest undecided) ∙ told,
         )
 
     -- whatever comes after them
-    meets_front : (rest : List X) → items_in first ≡ xs ++ rest → (more : List ℕ) × ((met_whole making first second).lines ≡ bytes ++ more)
+    meets_front : (rest : List X) → items_in first ≡ xs ++ rest → (more : List ℕ) × ((met_whole join first second).lines ≡ bytes ++ more)
     meets_front rest is =
-        let made = rule_of making (items_in first) second in
+        let made = rule_of join (items_in first) second in
         (written made rest, met_lines made (items_in first) first.fault ∙ ap (written made) is ∙ written_past made xs rest here.0 ∙ ap (λ l. l ++ written made rest) here.1)
 
 module _ {Y : Type 0} where
@@ -107,8 +107,8 @@ module _ {Y : Type 0} where
     all = λ e. let whole = all e in (ap member_items whole.0, whole.1);
   }
 
-  good_is : (good : Good Y) (members : List (Member Y)) (fault : Option Told) → good.members ≡ members → good.fault ≡ fault → good ≡ record { members = members; fault = fault }
-  good_is good members fault e f = ap (λ ms. record { members = ms; fault = good.fault }) e ∙ ap (λ (o : Option Told). record { members = members; fault = o }) f
+  good_is : (good : Good Y) (members : List (Member Y)) (fault : Option FaultValue) → good.members ≡ members → good.fault ≡ fault → good ≡ record { members = members; fault = fault }
+  good_is good members fault e f = ap (λ ms. record { members = ms; fault = good.fault }) e ∙ ap (λ (o : Option FaultValue). record { members = members; fault = o }) f
 
   -- the members that were seen of a second input come first, and are all if it has ended
   abbrev Sees : List (Member Y) → Bool → Good Y → Type 0
@@ -131,26 +131,26 @@ pub from_known : {T : Type 0} (o : Option T) (P : Type 0) → IsSome o → IfSom
 from_known None P k h = absurd (false≢true k)
 from_known (Some x) P k h = h
 
-module _ {A B X Y U V : Type 0} (making : Making X Y) (pair : Pair A B X Y U V) (out : Output)
-    (first_format : Format X U) (second_format : Format Y V) (in_order : (two : Handed) → making.InOrder (items_in (good_handed second_format Second two))) (limits : AreLimits making)
+module _ {A B X Y U V : Type 0} (join : JoinDef X Y) (pair : Pair A B X Y U V) (out : Output)
+    (first_format : Format X U) (second_format : Format Y V) (in_order : (two : Handed) → join.InOrder (items_in (good_handed second_format Second two))) (limits : AreLimits join)
     (one_before : A) (two_before : B) (begins : BeginsAt pair.a_left first_format First one_before pair.first) (begins_second : BeginsAt pair.b_left second_format Second two_before pair.second)
     (first : MemberReader A X U) (second : MemberReader B Y V) (one_after : A) (two_after : B) (ended : source_of first.below ≡ one_after) (ended_second : source_of second.below ≡ two_after)
-    (fault : Option Told) (grown : Output) (w : Finishes making pair out fault first second grown) where
+    (fault : Option FaultValue) (grown : Output) (w : Finishes join pair out fault first second grown) where
   abbrev good_one : Handed → Good X
   good_one one = good_handed first_format First one
 
   abbrev good_two : Handed → Good Y
   good_two two = good_handed second_format Second two
 
-  abbrev CameOne : Option Told → Handed → Type 0
+  abbrev CameOne : Option FaultValue → Handed → Type 0
   CameOne = Came pair.a_left pair.a_failed one_before one_after
 
-  abbrev CameTwo : Option Told → Handed → Type 0
+  abbrev CameTwo : Option FaultValue → Handed → Type 0
   CameTwo = Came pair.b_left pair.b_failed two_before two_after
 
   -- what the first meets of the second
   abbrev limit : Handed → Handed → Good Y
-  limit one two = making.limited (items_in (good_one one)) (good_two two)
+  limit one two = join.limited (items_in (good_one one)) (good_two two)
 
   abbrev MayBe : Good Y → Type 0
   MayBe good = MayCome (member_items w.wrote.seen) w.wrote.ended (items_in good) good.fault
@@ -172,8 +172,8 @@ module _ {A B X Y U V : Type 0} (making : Making X Y) (pair : Pair A B X Y U V) 
     abbrev firsts : List X
     firsts = items_in first_good
 
-    fits_first : making.Fits firsts w.wrote.taken
-    fits_first = subst (λ (l : List X). making.Fits l w.wrote.taken) (sym begun.1) (limits.more w.wrote.given begun.0 w.wrote.taken (w.wrote.fits known))
+    fits_first : join.Fits firsts w.wrote.taken
+    fits_first = subst (λ (l : List X). join.Fits l w.wrote.taken) (sym begun.1) (limits.more w.wrote.given begun.0 w.wrote.taken (w.wrote.fits known))
 
     abbrev seen_all : List (Member Y)
     seen_all = w.wrote.taken ++ option_to_list w.wrote.ahead
@@ -184,75 +184,75 @@ module _ {A B X Y U V : Type 0} (making : Making X Y) (pair : Pair A B X Y U V) 
     ended_taken : w.wrote.ended ≡ true → w.wrote.seen ≡ w.wrote.taken
     ended_taken e = w.wrote.sees ∙ ap (λ (o : Option (Member Y)). w.wrote.taken ++ option_to_list o) (w.wrote.none_ahead e) ∙ append-nil w.wrote.taken
 
-    whole_at : w.wrote.ended ≡ true → second_good.members ≡ w.wrote.seen → making.limited firsts second_good ≡ second_good
+    whole_at : w.wrote.ended ≡ true → second_good.members ≡ w.wrote.seen → join.limited firsts second_good ≡ second_good
     whole_at e all =
         let is = good_is second_good w.wrote.taken second_good.fault (all ∙ ended_taken e) refl in
-        ap (making.limited firsts) is ∙ limits.whole firsts w.wrote.taken second_good.fault fits_first ∙ sym is
+        ap (join.limited firsts) is ∙ limits.whole firsts w.wrote.taken second_good.fault fits_first ∙ sym is
 
     -- what the first meets of the second begins with what was seen
-    limited_may : SeesTwo second_good → MayBe (making.limited firsts second_good)
+    limited_may : SeesTwo second_good → MayBe (join.limited firsts second_good)
     limited_may sees =
         let is = parted sees.0.0 sees.0.1 in
         let keeps = limits.keeps firsts w.wrote.taken w.wrote.ahead sees.0.0 second_good.fault fits_first in
         record {
           begins = (
             member_items keeps.0,
-            ap (λ (g : Good Y). items_in (making.limited firsts g)) is ∙ ap member_items keeps.1 ∙ ap (λ l. member_items (l ++ keeps.0)) (sym w.wrote.sees) ∙ map-append (λ m. m.item) w.wrote.seen keeps.0,
+            ap (λ (g : Good Y). items_in (join.limited firsts g)) is ∙ ap member_items keeps.1 ∙ ap (λ l. member_items (l ++ keeps.0)) (sym w.wrote.sees) ∙ map-append (λ m. m.item) w.wrote.seen keeps.0,
           );
           all = λ e.
               let same = whole_at e (sees.1 e).0 in
               (ap items_in same ∙ ap member_items (sees.1 e).0, ap (λ (g : Good Y). g.fault) same ∙ (sees.1 e).1);
         }
 
-    decided_all : w.wrote.ended ≡ false → firsts ≡ w.written → making.InOrder (member_items seen_all) → list_all (λ x. making.decided x (member_items seen_all)) firsts ≡ true
+    decided_all : w.wrote.ended ≡ false → firsts ≡ w.written → join.InOrder (member_items seen_all) → list_all (λ x. join.decided x (member_items seen_all)) firsts ≡ true
     decided_all e all ordered =
         let seen_is : member_items w.wrote.seen ≡ member_items seen_all = ap member_items w.wrote.sees in
         let may : MayCome (member_items w.wrote.seen) w.wrote.ended (member_items seen_all) (Some no_memory) = record {
           begins = ([], sym seen_is ∙ sym (append-nil (member_items w.wrote.seen)));
           all = λ t. absurd (false≢true (sym e ∙ t));
         } in
-        ap (list_all (λ x. making.decided x (member_items seen_all))) all ∙ ((w.wrote.settles known).whatever (member_items seen_all) (Some no_memory) ordered may).0
+        ap (list_all (λ x. join.decided x (member_items seen_all))) all ∙ ((w.wrote.settles known).whatever (member_items seen_all) (Some no_memory) ordered may).0
 
-    free_by : (b : Bool) → w.wrote.ended ≡ b → firsts ≡ w.written → making.InOrder (items_in second_good) → (rest : List (Member Y)) → second_good.members ≡ w.wrote.seen ++ rest
-        → (w.wrote.ended ≡ true → second_good.members ≡ w.wrote.seen) → making.limited firsts second_good ≡ second_good
+    free_by : (b : Bool) → w.wrote.ended ≡ b → firsts ≡ w.written → join.InOrder (items_in second_good) → (rest : List (Member Y)) → second_good.members ≡ w.wrote.seen ++ rest
+        → (w.wrote.ended ≡ true → second_good.members ≡ w.wrote.seen) → join.limited firsts second_good ≡ second_good
     free_by true e all ordered rest begins ends = whole_at e (ends e)
     free_by false e all ordered rest begins ends =
         let is = parted rest begins in
-        ap (making.limited firsts) is
-        ∙ limits.done firsts w.wrote.taken w.wrote.ahead rest second_good.fault fits_first (subst (λ (g : Good Y). making.InOrder (items_in g)) is ordered) (decided_all e all)
+        ap (join.limited firsts) is
+        ∙ limits.done firsts w.wrote.taken w.wrote.ahead rest second_good.fault fits_first (subst (λ (g : Good Y). join.InOrder (items_in g)) is ordered) (decided_all e all)
         ∙ sym is
 
     -- if all of the first is written, the limit changes nothing
-    free : firsts ≡ w.written → making.InOrder (items_in second_good) → (rest : List (Member Y)) → second_good.members ≡ w.wrote.seen ++ rest
-        → (w.wrote.ended ≡ true → second_good.members ≡ w.wrote.seen) → making.limited firsts second_good ≡ second_good
+    free : firsts ≡ w.written → join.InOrder (items_in second_good) → (rest : List (Member Y)) → second_good.members ≡ w.wrote.seen ++ rest
+        → (w.wrote.ended ≡ true → second_good.members ≡ w.wrote.seen) → join.limited firsts second_good ≡ second_good
     free all ordered rest begins ends = free_by w.wrote.ended refl all ordered rest begins ends
 
-  first_whole : (other : Option Told) (one : Handed) → CameOne other one → Serves pair.a_failed pair.first first → (P : Good X → Type 0) → IfSome (good_coming pair.a_left pair.first) P → P (good_one one)
+  first_whole : (other : Option FaultValue) (one : Handed) → CameOne other one → Serves pair.a_failed pair.first first → (P : Good X → Type 0) → IfSome (good_coming pair.a_left pair.first) P → P (good_one one)
   first_whole other one came serves =
       came_whole pair.a_left pair.a_failed pair.a_end first_format First one_before pair.first begins first one_after ended other one came w.wrote.first_bytes serves.served serves.within
 
-  second_whole : (other : Option Told) (two : Handed) → CameTwo other two → Serves pair.b_failed pair.second second → (P : Good Y → Type 0) → IfSome (good_coming pair.b_left pair.second) P → P (good_two two)
+  second_whole : (other : Option FaultValue) (two : Handed) → CameTwo other two → Serves pair.b_failed pair.second second → (P : Good Y → Type 0) → IfSome (good_coming pair.b_left pair.second) P → P (good_two two)
   second_whole other two came serves =
       came_whole pair.b_left pair.b_failed pair.b_end second_format Second two_before pair.second begins_second second two_after ended_second other two came w.wrote.second_bytes serves.served serves.within
 
   known_by : (two : List ℕ) → pair.b_left two_before ≡ Some two → IsSome (good_coming pair.b_left pair.second)
   known_by two e = is_known pair.b_left pair.b_failed pair.b_end second_format Second two_before pair.second begins_second second two_after ended_second two e
 
-  known_two : (other : Option Told) (two : Handed) → CameTwo other two → IsSome (good_coming pair.b_left pair.second)
+  known_two : (other : Option FaultValue) (two : Handed) → CameTwo other two → IsSome (good_coming pair.b_left pair.second)
   known_two other two came =
       let text = text_known pair.b_left pair.b_failed pair.b_end second_format Second two_before pair.second begins_second second two_after ended_second other two came in
       known_by text.0 text.1
 
-  here_by : (one two : Handed) → IsSome (good_coming pair.b_left pair.second) → MayBe (limit one two) → HereAs making (limit one two) w.written w.bytes
+  here_by : (one two : Handed) → IsSome (good_coming pair.b_left pair.second) → MayBe (limit one two) → HereAs join (limit one two) w.written w.bytes
   here_by one two known may = (w.wrote.settles known).whatever (items_in (limit one two)) (limit one two).fault (limits.ordered (items_in (good_one one)) (good_two two) (in_order two)) may
 
   -- what the fault of an input says of it
-  first_wrong : (past : List (Member X)) (other : Told) (one : Handed) → CameOne (Some other) one → FirstFails making pair out past first other
+  first_wrong : (past : List (Member X)) (other : FaultValue) (one : Handed) → CameOne (Some other) one → FirstFails join pair out past first other
       → ((good_one one).members ≡ past) × ((good_one one).fault ≡ Some other)
   first_wrong past other one came fails =
-      says_fault pair.a_left pair.a_failed pair.a_end first_format First one_before pair.first begins first one_after ended making.first_kinds past other one came w.wrote.first_bytes fails
+      says_fault pair.a_left pair.a_failed pair.a_end first_format First one_before pair.first begins first one_after ended join.first_kinds past other one came w.wrote.first_bytes fails
 
-  second_wrong : (past : List (Member Y)) (other : Told) (two : Handed) → CameTwo (Some other) two → SecondFails making pair out w.wrote.ended past second other
+  second_wrong : (past : List (Member Y)) (other : FaultValue) (two : Handed) → CameTwo (Some other) two → SecondFails join pair out w.wrote.ended past second other
       → ((good_two two).members ≡ past) × ((good_two two).fault ≡ Some other) × MayBe (good_two two)
       × ((rest : List (Member Y)) × ((good_two two).members ≡ w.wrote.seen ++ rest)) × (w.wrote.ended ≡ true → (good_two two).members ≡ w.wrote.seen)
   second_wrong past other two came fails =
@@ -283,65 +283,65 @@ module _ {A B X Y U V : Type 0} (making : Making X Y) (pair : Pair A B X Y U V) 
     known_now = known_two fault two came_second
 
     abbrev MeetsHere : Type 0
-    MeetsHere = MeetsAs making (good_one one) (limit one two) w.bytes fault
+    MeetsHere = MeetsAs join (good_one one) (limit one two) w.bytes fault
 
-    meets_first : (other : Told) → fault ≡ Some other → FirstStops making pair out w.written w.wrote.given first second other → MeetsHere
+    meets_first : (other : FaultValue) → fault ≡ Some other → FirstStops join pair out w.written w.wrote.given first second other → MeetsHere
     meets_first other is stops =
         let says = first_wrong stops.past other one (subst (λ f. CameOne f one) is came) stops.cause in
         let begun : Begins (good_one one) = ([], ap member_items says.0 ∙ sym stops.all_given ∙ sym (append-nil w.wrote.given)) in
         let may = limited_may (good_one one) (good_two two) known_now begun (second_whole fault two came_second stops.serves SeesTwo second_sees) in
-        let met = meets_all making (good_one one) (limit one two) w.written w.bytes (here_by one two known_now may) (ap member_items says.0 ∙ sym stops.all) in
-        (met.0, met.1 ∙ ap (λ f. option_or f (last_of making (good_one one) (limit one two))) says.1 ∙ sym is)
+        let met = meets_all join (good_one one) (limit one two) w.written w.bytes (here_by one two known_now may) (ap member_items says.0 ∙ sym stops.all) in
+        (met.0, met.1 ∙ ap (λ f. option_or f (last_of join (good_one one) (limit one two))) says.1 ∙ sym is)
 
-    meets_second : (other : Told) → fault ≡ Some other → SecondStops making pair out w.written w.wrote.ended first second other → MeetsHere
+    meets_second : (other : FaultValue) → fault ≡ Some other → SecondStops join pair out w.written w.wrote.ended first second other → MeetsHere
     meets_second other is stops =
         let says = second_wrong stops.past other two (subst (λ f. CameTwo f two) is came_second) stops.fails in
         let waits = first_whole fault one came stops.serves (λ good. (rest : List X) × (items_in good ≡ w.written ++ stops.waiting ∷ rest)) stops.begins in
         let all = items_in (good_one one) in
-        let fits : making.Fits all stops.past = rw (← append_assoc w.written (stops.waiting ∷ []) waits.0 ∙ sym waits.1) (limits.more (w.written ++ stops.waiting ∷ []) waits.0 stops.past (stops.fits known_now)) in
+        let fits : join.Fits all stops.past = rw (← append_assoc w.written (stops.waiting ∷ []) waits.0 ∙ sym waits.1) (limits.more (w.written ++ stops.waiting ∷ []) waits.0 stops.past (stops.fits known_now)) in
         let cut = good_is (good_two two) stops.past (Some other) says.0 says.1 in
-        let same : limit one two ≡ good_two two = ap (making.limited all) cut ∙ limits.whole all stops.past (Some other) fits ∙ sym cut in
-        let undecided_by : making.decided stops.waiting (items_in (limit one two)) ≡ false =
-        ap (λ (g : Good Y). making.decided stops.waiting (items_in g)) same
-        ∙ ap (λ ms. making.decided stops.waiting (member_items ms)) says.0
-        ∙ from_known (good_coming pair.b_left pair.second) (making.decided stops.waiting (member_items stops.past) ≡ false) known_now stops.undecided in
+        let same : limit one two ≡ good_two two = ap (join.limited all) cut ∙ limits.whole all stops.past (Some other) fits ∙ sym cut in
+        let undecided_by : join.decided stops.waiting (items_in (limit one two)) ≡ false =
+        ap (λ (g : Good Y). join.decided stops.waiting (items_in g)) same
+        ∙ ap (λ ms. join.decided stops.waiting (member_items ms)) says.0
+        ∙ from_known (good_coming pair.b_left pair.second) (join.decided stops.waiting (member_items stops.past) ≡ false) known_now stops.undecided in
         let told : (limit one two).fault ≡ Some other = ap (λ (g : Good Y). g.fault) same ∙ says.1 in
-        let met = meets_stop making (good_one one) (limit one two) w.written w.bytes (here_by one two known_now (subst MayBe (sym same) says.2)) stops.waiting waits.0 other waits.1 told undecided_by in
+        let met = meets_stop join (good_one one) (limit one two) w.written w.bytes (here_by one two known_now (subst MayBe (sym same) says.2)) stops.waiting waits.0 other waits.1 told undecided_by in
         (met.0, met.1 ∙ sym is)
 
-    meets_limit : (other : Told) → fault ≡ Some other → LimitStops making pair out w.written first second other → MeetsHere
+    meets_limit : (other : FaultValue) → fault ≡ Some other → LimitStops join pair out w.written first second other → MeetsHere
     meets_limit other is stops =
         let waits = first_whole fault one came stops.serves (λ good. (rest : List X) × (items_in good ≡ w.written ++ stops.waiting ∷ rest)) stops.begins in
         let begun = first_whole fault one came stops.serves Begins w.wrote.given_begin in
         let comes = second_whole fault two came_second stops.serves_second (λ good. (rest : List (Member Y)) × (good.members ≡ (stops.past ++ stops.m ∷ []) ++ rest)) stops.comes in
         let may = limited_may (good_one one) (good_two two) known_now begun (second_whole fault two came_second stops.serves_second SeesTwo second_sees) in
         let cut : limit one two ≡ record { members = stops.past ++ stops.m ∷ []; fault = Some other } =
-        ap (λ (l : List X). making.limited l (good_two two)) waits.1
-        ∙ ap (making.limited (w.written ++ stops.waiting ∷ waits.0)) (good_is (good_two two) ((stops.past ++ stops.m ∷ []) ++ comes.0) (good_two two).fault comes.1 refl)
+        ap (λ (l : List X). join.limited l (good_two two)) waits.1
+        ∙ ap (join.limited (w.written ++ stops.waiting ∷ waits.0)) (good_is (good_two two) ((stops.past ++ stops.m ∷ []) ++ comes.0) (good_two two).fault comes.1 refl)
         ∙ stops.cuts known_now waits.0 comes.0 (good_two two).fault in
-        let met = meets_stop making (good_one one) (limit one two) w.written w.bytes (here_by one two known_now may) stops.waiting waits.0 other waits.1 (ap (λ (g : Good Y). g.fault) cut)
-        (ap (λ (g : Good Y). making.decided stops.waiting (items_in g)) cut ∙ stops.undecided) in
+        let met = meets_stop join (good_one one) (limit one two) w.written w.bytes (here_by one two known_now may) stops.waiting waits.0 other waits.1 (ap (λ (g : Good Y). g.fault) cut)
+        (ap (λ (g : Good Y). join.decided stops.waiting (items_in g)) cut ∙ stops.undecided) in
         (met.0, met.1 ∙ sym is)
 
     -- all of the first is written
-    module _ (stops : RestStops making pair out w.written w.wrote.ended first second fault) where
+    module _ (stops : RestStops join pair out w.written w.wrote.ended first second fault) where
       whole_first : ((good_one one).members ≡ stops.past) × ((good_one one).fault ≡ None)
       whole_first = first_whole fault one came stops.serves (λ good. (good.members ≡ stops.past) × (good.fault ≡ None)) stops.whole
 
       every : items_in (good_one one) ≡ w.written
       every = ap member_items whole_first.0 ∙ sym stops.all
 
-      at_last : (told : Option Told) → making.last w.written (good_two two).members ≡ told → or_else told (good_two two).fault ≡ fault → MayBe (good_two two)
+      at_last : (told : Option FaultValue) → join.last w.written (good_two two).members ≡ told → or_else told (good_two two).fault ≡ fault → MayBe (good_two two)
           → (rest : List (Member Y)) × ((good_two two).members ≡ w.wrote.seen ++ rest) → (w.wrote.ended ≡ true → (good_two two).members ≡ w.wrote.seen) → MeetsHere
       at_last told is last may begins ends =
           let begun = first_whole fault one came stops.serves Begins w.wrote.given_begin in
           let same = free (good_one one) (good_two two) known_now begun every (in_order two) begins.0 begins.1 ends in
-          let here : HereAs making (good_two two) w.written w.bytes = (w.wrote.settles known_now).whatever (items_in (good_two two)) (good_two two).fault (in_order two) may in
-          let met = meets_all making (good_one one) (good_two two) w.written w.bytes here every in
-          subst (λ (g : Good Y). MeetsAs making (good_one one) g w.bytes fault) (sym same) (
+          let here : HereAs join (good_two two) w.written w.bytes = (w.wrote.settles known_now).whatever (items_in (good_two two)) (good_two two).fault (in_order two) may in
+          let met = meets_all join (good_one one) (good_two two) w.written w.bytes here every in
+          subst (λ (g : Good Y). MeetsAs join (good_one one) g w.bytes fault) (sym same) (
             met.0,
-            met.1 ∙ ap (λ f. option_or f (last_of making (good_one one) (good_two two))) whole_first.1
-                ∙ ap (λ (xs : List X). or_else (making.last xs (good_two two).members) (good_two two).fault) every ∙ ap (λ t. or_else t (good_two two).fault) is ∙ last,
+            met.1 ∙ ap (λ f. option_or f (last_of join (good_one one) (good_two two))) whole_first.1
+                ∙ ap (λ (xs : List X). or_else (join.last xs (good_two two).members) (good_two two).fault) every ∙ ap (λ t. or_else t (good_two two).fault) is ∙ last,
           )
 
       meets_rest : MeetsHere
@@ -350,32 +350,32 @@ module _ {A B X Y U V : Type 0} (making : Making X Y) (pair : Pair A B X Y U V) 
             | inl end ↦
                 let says = second_whole fault two came_second end.2 (λ good. (good.members ≡ stops.past_second) × (good.fault ≡ None)) end.1 in
                 let sees = second_whole fault two came_second end.2 SeesTwo second_sees in
-                at_last None (ap (making.last w.written) says.0 ∙ end.3) (says.1 ∙ sym end.0) (second_whole fault two came_second end.2 MayBe second_may) sees.0 (λ e. (sees.1 e).0)
+                at_last None (ap (join.last w.written) says.0 ∙ end.3) (says.1 ∙ sym end.0) (second_whole fault two came_second end.2 MayBe second_may) sees.0 (λ e. (sees.1 e).0)
             | inr others ↦ elim others [
               | inl told ↦
                   let says = second_wrong stops.past_second told.0 two (subst (λ f. CameTwo f two) told.1 came_second) told.2 in
-                  at_last None (ap (making.last w.written) says.0 ∙ told.3) (says.1 ∙ sym told.1) says.2 says.3 says.4
+                  at_last None (ap (join.last w.written) says.0 ∙ told.3) (says.1 ∙ sym told.1) says.2 says.3 says.4
               | inr told ↦
                   let last = told.2 in
                   let sees = second_whole fault two came_second last.serves SeesTwo second_sees in
-                  at_last (Some told.0) (second_whole fault two came_second last.serves (λ good. making.last w.written good.members ≡ Some told.0) last.told) (sym told.1)
+                  at_last (Some told.0) (second_whole fault two came_second last.serves (λ good. join.last w.written good.members ≡ Some told.0) last.told) (sym told.1)
                   (second_whole fault two came_second last.serves MayBe second_may) sees.0 (λ e. (sees.1 e).0)
             ]
           ]
 
-    meets : InputsEnd making pair out w.written w.wrote.given w.wrote.ended first second fault → MeetsHere
+    meets : InputsEnd join pair out w.written w.wrote.given w.wrote.ended first second fault → MeetsHere
     meets (inl stops) = meets_first stops.0 stops.1 stops.2
     meets (inr (inl stops)) = meets_second stops.0 stops.1 stops.2
     meets (inr (inr (inl stops))) = meets_rest stops
     meets (inr (inr (inr stops))) = meets_limit stops.0 stops.1 stops.2
 
-    reported : (before : List ℕ) → out.put ≡ Some before → InputsEnd making pair out w.written w.wrote.given w.wrote.ended first second fault → PutsLines out w.bytes grown
-        → IsReported (met_report (met_by making (good_one one) (good_two two))) before fault grown
+    reported : (before : List ℕ) → out.put ≡ Some before → InputsEnd join pair out w.written w.wrote.given w.wrote.ended first second fault → PutsLines out w.bytes grown
+        → IsReported (met_report (met_by join (good_one one) (good_two two))) before fault grown
     reported before put end puts = let met = meets end in (sym met.1, puts before put ∙ ap (λ l. Some (before ++ l)) (sym met.0))
 
   -- what was written begins the report on the whole texts
   front_of : (first second : Handed) → Holds pair.a_left one_before first → Holds pair.b_left two_before second
-      → (more : List ℕ) × ((met_by making (good_one first) (good_two second)).lines ≡ w.bytes ++ more)
+      → (more : List ℕ) × ((met_by join (good_one first) (good_two second)).lines ≡ w.bytes ++ more)
   front_of first_handed second_handed holds others =
       let one = holds.text in
       let two = others.text in
@@ -385,24 +385,24 @@ module _ {A B X Y U V : Type 0} (making : Making X Y) (pair : Pair A B X Y U V) 
       let begun = at_whole pair.a_left pair.a_failed pair.a_end first_format First one_before pair.first begins first one_after ended one e Begins w.wrote.given_begin in
       let may = limited_may (good_one (whole_text one)) (good_two (whole_text two)) (known_by two f) begun sees in
       let rest = at_whole pair.a_left pair.a_failed pair.a_end first_format First one_before pair.first begins first one_after ended one e (λ good. (rest : List X) × (items_in good ≡ w.written ++ rest)) w.wrote.first_begins in
-      rw (holds.is, others.is) (meets_front making (good_one (whole_text one)) (limit (whole_text one) (whole_text two)) w.written w.bytes (here_by (whole_text one) (whole_text two) (known_by two f) may) rest.0 rest.1)
+      rw (holds.is, others.is) (meets_front join (good_one (whole_text one)) (limit (whole_text one) (whole_text two)) w.written w.bytes (here_by (whole_text one) (whole_text two) (known_by two f) may) rest.0 rest.1)
 
-  first_named : (past : List (Member X)) (other : Told) → FirstFails making pair out past first other → TellsInput pair.a_left pair.a_failed making.first_kinds First one_before one_after other
+  first_named : (past : List (Member X)) (other : FaultValue) → FirstFails join pair out past first other → TellsInput pair.a_left pair.a_failed join.first_kinds First one_before one_after other
   first_named past other fails =
-      tells_fault pair.a_left pair.a_failed pair.a_end first_format First one_before pair.first begins first one_after ended making.first_kinds past other w.wrote.first_bytes fails
+      tells_fault pair.a_left pair.a_failed pair.a_end first_format First one_before pair.first begins first one_after ended join.first_kinds past other w.wrote.first_bytes fails
 
-  second_named : (past : List (Member Y)) (other : Told) → SecondFails making pair out w.wrote.ended past second other → TellsInput pair.b_left pair.b_failed making.second_kinds Second two_before two_after other
+  second_named : (past : List (Member Y)) (other : FaultValue) → SecondFails join pair out w.wrote.ended past second other → TellsInput pair.b_left pair.b_failed join.second_kinds Second two_before two_after other
   second_named past other fails =
-      tells_fault pair.b_left pair.b_failed pair.b_end second_format Second two_before pair.second begins_second second two_after ended_second making.second_kinds past other w.wrote.second_bytes fails.cause
+      tells_fault pair.b_left pair.b_failed pair.b_end second_format Second two_before pair.second begins_second second two_after ended_second join.second_kinds past other w.wrote.second_bytes fails.cause
 
   abbrev Because : Type 0
-  Because = Why making pair out w.written w.bytes w.wrote.given w.wrote.ended first second fault grown
+  Because = Why join pair out w.written w.bytes w.wrote.given w.wrote.ended first second fault grown
 
-  abbrev TellsBoth : Told → Type 0
-  TellsBoth told = TellsInput pair.a_left pair.a_failed making.first_kinds First one_before one_after told ⊎ TellsInput pair.b_left pair.b_failed making.second_kinds Second two_before two_after told
+  abbrev TellsBoth : FaultValue → Type 0
+  TellsBoth told = TellsInput pair.a_left pair.a_failed join.first_kinds First one_before one_after told ⊎ TellsInput pair.b_left pair.b_failed join.second_kinds Second two_before two_after told
 
   -- what the inputs tell
-  tells_by : (told : Told) → fault ≡ Some told → InputsEnd making pair out w.written w.wrote.given w.wrote.ended first second fault → TellsBoth told
+  tells_by : (told : FaultValue) → fault ≡ Some told → InputsEnd join pair out w.written w.wrote.given w.wrote.ended first second fault → TellsBoth told
   tells_by told e (inl stops) = subst TellsBoth (some_is stops.0 told (sym stops.1 ∙ e)) (inl (first_named stops.2.past stops.0 stops.2.cause))
   tells_by told e (inr (inl stops)) = subst TellsBoth (some_is stops.0 told (sym stops.1 ∙ e)) (inr (second_named stops.2.past stops.0 stops.2.fails))
   tells_by told e (inr (inr (inr stops))) =
@@ -416,14 +416,14 @@ module _ {A B X Y U V : Type 0} (making : Making X Y) (pair : Pair A B X Y U V) 
         ]
       ]
 
-  inputs_no_write : InputsEnd making pair out w.written w.wrote.given w.wrote.ended first second fault → fault ≡ Some write_failed → ⊥
+  inputs_no_write : InputsEnd join pair out w.written w.wrote.given w.wrote.ended first second fault → fault ≡ Some write_failed → ⊥
   inputs_no_write end e =
       elim (tells_by write_failed e end) [
-        | inl tells ↦ tells_no_write pair.a_left pair.a_failed making.first_kinds First one_before one_after tells
-        | inr tells ↦ tells_no_write pair.b_left pair.b_failed making.second_kinds Second two_before two_after tells
+        | inl tells ↦ tells_no_write pair.a_left pair.a_failed join.first_kinds First one_before one_after tells
+        | inr tells ↦ tells_no_write pair.b_left pair.b_failed join.second_kinds Second two_before two_after tells
       ]
 
-  named_by : (told : Told) → fault ≡ Some told → Because → TellsBoth told ⊎ TellsDevice grown.sink_has_failed told
+  named_by : (told : FaultValue) → fault ≡ Some told → Because → TellsBoth told ⊎ TellsDevice grown.sink_has_failed told
   named_by told e (inl (end, puts, works)) = inl (tells_by told e end)
   named_by told e (inr (inl ran)) = inr (inr (some_is told no_memory (sym e ∙ ran.0)))
   named_by told e (inr (inr cut)) = inr (inl (some_is told write_failed (sym e ∙ cut.0), cut.1.sink_failed))
@@ -448,12 +448,12 @@ module _ {A B X Y U V : Type 0} (making : Making X Y) (pair : Pair A B X Y U V) 
   served_by e (inr (inr cut)) = absurd (let apart : None ≡ Some write_failed = sym e ∙ cut.0 in cc)
 
   whole_by : (one two : Handed) (before : List ℕ) → CameOne fault one → CameTwo fault two → out.put ≡ Some before
-      → fault ≢ Some write_failed → fault ≢ Some no_memory → Because → IsReported (met_report (met_by making (good_one one) (good_two two))) before fault grown
+      → fault ≢ Some write_failed → fault ≢ Some no_memory → Because → IsReported (met_report (met_by join (good_one one) (good_two two))) before fault grown
   whole_by one two before came came_second put write memory (inl (end, puts, works)) = reported one two came came_second before put end puts
   whole_by one two before came came_second put write memory (inr (inl ran)) = absurd (memory ran.0)
   whole_by one two before came came_second put write memory (inr (inr cut)) = absurd (write cut.0)
 
-  cut_by : fault ≡ Some write_failed → (before : List ℕ) → out.put ≡ Some before → Because → IsFrontOf grown.took (Some (before ++ w.bytes)) []
+  cut_by : fault ≡ Some write_failed → (before : List ℕ) → out.put ≡ Some before → Because → IsPrefixOf grown.took (Some (before ++ w.bytes)) []
   cut_by is before put (inl (end, puts, works)) = absurd (inputs_no_write end is)
   cut_by is before put (inr (inl ran)) = absurd (memory_no_write (some_is no_memory write_failed (sym ran.0 ∙ is)))
   cut_by is before put (inr (inr cut)) = cut.1.front before put
@@ -471,11 +471,11 @@ module _ {A B X Y U V : Type 0} (making : Making X Y) (pair : Pair A B X Y U V) 
 
     abbrev behaviour : Behaviour
     behaviour = record {
-      report = λ one two. met_report (met_by making (good_one one) (good_two (or_empty two)));
+      report = λ one two. met_report (met_by join (good_one one) (good_two (or_empty two)));
       settles = λ two. settles (or_empty two);
       reaches = λ two. reaches (or_empty two);
-      FirstKinds = making.first_kinds;
-      SecondKinds = making.second_kinds;
+      FirstKinds = join.first_kinds;
+      SecondKinds = join.second_kinds;
     }
 
     -- the report on how the inputs meet, by how far they were read

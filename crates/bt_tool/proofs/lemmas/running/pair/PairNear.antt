@@ -7,7 +7,7 @@ use Rattle.std.proofs.lemmas.Bool.{false≢true}
 use Rattle.std.proofs.lemmas.List.{map-append, take-append-drop}
 use Rattle.std.proofs.lemmas.List.Elements.{All-head, All-tail}
 use Rattle.bt_lines.specs.model.Handed.{Handed, whole_text}
-use Rattle.bt_lines.specs.model.Fault.{Told}
+use Rattle.bt_lines.specs.model.Fault.{FaultValue}
 use Rattle.bt_lines.specs.model.Lines.{AreNumbered, TextLine, bytes_in, text_lines}
 use Rattle.bt_lines.specs.calls.Output.{Output, block_size}
 use Rattle.bt_lines.specs.calls.Reader.{lines_left, source_of}
@@ -21,11 +21,11 @@ use Rattle.bt_bed.specs.model.input.GoodLines.{AreAscending, IsBeyond}
 use Rattle.bt_bed.specs.calls.Reading.{MemberReader, good_coming}
 use Rattle.bt_bed.proofs.lemmas.read.good.GoodLemmas.{ascend_from, first_from}
 use Rattle.bt_tool.specs.model.report.SweepReport.{bytes_up_to}
-use Rattle.bt_tool.specs.calls.run.Telling.{IsFaultButWrite, IsWithin, ReadsNoFurther}
+use Rattle.bt_tool.specs.calls.run.FaultSource.{IsFaultButWrite, IsWithin, ReadsNoFurther}
 use Rattle.bt_tool.specs.inside.feed.Feeding.{TookButBlock, member_items}
 use Rattle.bt_tool.specs.model.report.Inputs.{HandsUpTo}
-use Rattle.bt_tool.specs.inside.pair.Pair.{Making, MayCome, Pair}
-use Rattle.bt_tool.specs.inside.pair.PairEnds.{AsksFor, Finishes, HasNoMore, StaysNear}
+use Rattle.bt_tool.specs.inside.pair.Pair.{JoinDef, MayCome, Pair}
+use Rattle.bt_tool.specs.inside.pair.Endings.{AsksFor, Finishes, HasNoMore, StaysNear}
 use Rattle.bt_tool.proofs.lemmas.running.members.CameMembers.{BeginsAt, at_whole, good_whole, handed_to, is_known, some_of}
 use Rattle.bt_tool.proofs.lemmas.running.pair.PairMet.{may_come}
 
@@ -90,17 +90,17 @@ least_by true m o lines count low h = take_less (suc count) m.line lines (omega 
 least_by false m o lines count low h = h
 
 -- members of the first need the lines after those that were taken for the first of them
-abbrev pub AreNeeded : {X Y : Type 0} → Making X Y → Type 0
-AreNeeded {X} {Y} making =
-    (given extra : List X) (past rest : List (Member Y)) (lines : List TextLine) (count : ℕ) → making.Asks given (member_items past) → All (λ m. count < m.line) rest
-    → bytes_in (take (suc count) lines) ≤ making.reaches (given ++ extra) (past ++ rest) lines
+abbrev pub AreNeeded : {X Y : Type 0} → JoinDef X Y → Type 0
+AreNeeded {X} {Y} join =
+    (given extra : List X) (past rest : List (Member Y)) (lines : List TextLine) (count : ℕ) → join.Asks given (member_items past) → All (λ m. count < m.line) rest
+    → bytes_in (take (suc count) lines) ≤ join.reaches (given ++ extra) (past ++ rest) lines
 
-module _ {A B X Y U V : Type 0} (making : Making X Y) (pair : Pair A B X Y U V) (out : Output)
-    (first_format : Format X U) (second_format : Format Y V) (in_order : (two : Handed) → making.InOrder (items_in (good_handed second_format Second two))) (needed : AreNeeded making)
+module _ {A B X Y U V : Type 0} (join : JoinDef X Y) (pair : Pair A B X Y U V) (out : Output)
+    (first_format : Format X U) (second_format : Format Y V) (in_order : (two : Handed) → join.InOrder (items_in (good_handed second_format Second two))) (needed : AreNeeded join)
     (one_before : A) (two_before : B) (begins : BeginsAt pair.a_left first_format First one_before pair.first) (begins_second : BeginsAt pair.b_left second_format Second two_before pair.second)
     (first : MemberReader A X U) (second : MemberReader B Y V) (one_after : A) (two_after : B) (ended : source_of first.below ≡ one_after) (ended_second : source_of second.below ≡ two_after)
-    (fault : Option Told) (grown : Output) (w : Finishes making pair out fault first second grown) where
-  abbrev near : StaysNear making pair out first second grown
+    (fault : Option FaultValue) (grown : Output) (w : Finishes join pair out fault first second grown) where
+  abbrev near : StaysNear join pair out first second grown
   near = w.near
 
   abbrev count : ℕ
@@ -110,10 +110,10 @@ module _ {A B X Y U V : Type 0} (making : Making X Y) (pair : Pair A B X Y U V) 
   items_on lines = items_in (good first_format First lines)
 
   abbrev pub settles : Handed → List TextLine → List ℕ
-  settles two lines = flat_map (λ x. making.bytes x (items_in (good_handed second_format Second two))) (items_on lines)
+  settles two lines = flat_map (λ x. join.bytes x (items_in (good_handed second_format Second two))) (items_on lines)
 
   abbrev pub reaches : Handed → List TextLine → ℕ
-  reaches two lines = making.reaches (items_on lines) (good_handed second_format Second two).members (text_lines two.text)
+  reaches two lines = join.reaches (items_on lines) (good_handed second_format Second two).members (text_lines two.text)
 
   module _ (one two : List ℕ) (e : pair.a_left one_before ≡ Some one) (f : pair.b_left two_before ≡ Some two) where
     abbrev good_one : Good X
@@ -149,18 +149,18 @@ module _ {A B X Y U V : Type 0} (making : Making X Y) (pair : Pair A B X Y U V) 
     settled =
         let may = of_two (λ good. MayCome (member_items near.wrote.seen) near.wrote.ended (items_in good) good.fault)
         (may_come (good_coming pair.b_left pair.second) near.wrote.seen near.wrote.ended near.wrote.second_begins near.wrote.second_all) in
-        ap (flat_map (λ x. making.bytes x (items_in good_two))) on_lines
+        ap (flat_map (λ x. join.bytes x (items_in good_two))) on_lines
         ∙ ((near.wrote.settles known).whatever (items_in good_two) good_two.fault (in_order (whole_text two)) may).1
 
     -- the second input was read as far as they need
-    beside_by : AsksFor making pair out near.given_first second → HandsUpTo pair.b_left (reaches (whole_text two) (take (suc count) (text_lines one)) + block_size) two_before two_after
+    beside_by : AsksFor join pair out near.given_first second → HandsUpTo pair.b_left (reaches (whole_text two) (take (suc count) (text_lines one)) + block_size) two_before two_after
     beside_by asks =
         let read = asks.near known in
         let handed = handed_to pair.b_left pair.b_failed pair.b_end second_format Second two_before pair.second begins_second second two_after ended_second read.count two f read.near near.wrote.second_bytes in
         let b = of_two (λ good. (rest : List (Member Y)) × (good.members ≡ asks.past ++ rest) × IsBeyond read.count (record { members = rest; fault = good.fault })) read.behind in
         let given = member_items near.given_first ++ member_items given_on.0 in
-        let is : making.reaches given (asks.past ++ b.0) (text_lines two) ≡ reaches (whole_text two) (take (suc count) (text_lines one)) =
-        ap (λ (ms : List (Member Y)). making.reaches given ms (text_lines two)) (sym b.1) ∙ ap (λ (xs : List X). making.reaches xs good_two.members (text_lines two)) (sym given_on.1) in
+        let is : join.reaches given (asks.past ++ b.0) (text_lines two) ≡ reaches (whole_text two) (take (suc count) (text_lines one)) =
+        ap (λ (ms : List (Member Y)). join.reaches given ms (text_lines two)) (sym b.1) ∙ ap (λ (xs : List X). join.reaches xs good_two.members (text_lines two)) (sym given_on.1) in
         let least : bytes_in (take (suc read.count) (text_lines two)) ≤ reaches (whole_text two) (take (suc count) (text_lines one)) =
         rw (← is) (needed (member_items near.given_first) (member_items given_on.0) asks.past b.0 (text_lines two) read.count asks.reached b.2.members) in
         record { handed = handed.0; consumed = handed.1; read = omega (arith, handed.2, least) }
@@ -173,7 +173,7 @@ module _ {A B X Y U V : Type 0} (making : Making X Y) (pair : Pair A B X Y U V) 
         let few = some_of (lines_left pair.a_left pair.first.below) (text_lines one) (λ lines. length lines ≤ count) lines all.1 in
         absurd (omega (arith, within, few))
 
-    beside : HasNoMore pair first count ⊎ AsksFor making pair out near.given_first second → IsWithin (pair.a_end one_after) one (suc count)
+    beside : HasNoMore pair first count ⊎ AsksFor join pair out near.given_first second → IsWithin (pair.a_end one_after) one (suc count)
         → HandsUpTo pair.b_left (reaches (whole_text two) (take (suc count) (text_lines one)) + block_size) two_before two_after
     beside (inl all) within = absurd (no_end all within)
     beside (inr asks) within = beside_by asks

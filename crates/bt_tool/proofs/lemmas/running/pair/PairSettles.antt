@@ -7,8 +7,8 @@ use Rattle.std.proofs.lemmas.Grind.{flat_map-append}
 use Rattle.std.proofs.lemmas.List.Folds.{list_all-append}
 use Rattle.bt_bed.specs.model.input.Good.{Member}
 use Rattle.bt_bed.specs.calls.Reading.{GivesMember, MemberReader, ahead_in}
-use Rattle.bt_lines.specs.model.Fault.{Told}
-use Rattle.bt_tool.specs.inside.pair.Pair.{Making, MayCome, Settles}
+use Rattle.bt_lines.specs.model.Fault.{FaultValue}
+use Rattle.bt_tool.specs.inside.pair.Pair.{JoinDef, MayCome, Settles}
 
 -- one more member is decided and has these bytes
 one_more : {X : Type 0} (test : X → Bool) (write : X → List ℕ) (written : List X) (a : X) (bytes more : List ℕ) → (list_all test written ≡ true) × (flat_map write written ≡ bytes)
@@ -18,70 +18,70 @@ one_more test write written a bytes more was here is = (
   flat_map-append write written (a ∷ []) ∙ ap (λ l. l ++ flat_map write (a ∷ [])) was.1 ∙ ap (λ l. bytes ++ l) (append-nil (write a) ∙ is),
 )
 
-module _ {X Y : Type 0} (making : Making X Y) where
-  pub settles_nothing : (seen : List Y) (ended : Bool) → Settles making [] [] seen ended
+module _ {X Y : Type 0} (join : JoinDef X Y) where
+  pub settles_nothing : (seen : List Y) (ended : Bool) → Settles join [] [] seen ended
   settles_nothing seen ended = record { whatever = λ second fault ordered may. (refl, refl) }
 
   -- one more member of the second input is seen
-  pub settles_seen : (written : List X) (bytes : List ℕ) (seen more : List Y) → Settles making written bytes seen false → Settles making written bytes (seen ++ more) false
+  pub settles_seen : (written : List X) (bytes : List ℕ) (seen more : List Y) → Settles join written bytes seen false → Settles join written bytes (seen ++ more) false
   settles_seen written bytes seen more s = record {
     whatever = λ second fault ordered may. s.whatever second fault ordered
         (record { begins = (more ++ may.begins.0, may.begins.1 ∙ append_assoc seen more may.begins.0); all = λ e. absurd (false≢true e) });
   }
 
   -- none comes after those seen
-  pub settles_close : (written : List X) (bytes : List ℕ) (seen : List Y) → Settles making written bytes seen false → Settles making written bytes seen true
+  pub settles_close : (written : List X) (bytes : List ℕ) (seen : List Y) → Settles join written bytes seen false → Settles join written bytes seen true
   settles_close written bytes seen s = record {
     whatever = λ second fault ordered may. s.whatever second fault ordered (record { begins = may.begins; all = λ e. absurd (false≢true e) });
   }
 
   -- one more member of the first is decided by those seen, and its bytes stay whatever follows them in order
-  pub settles_with : (written : List X) (bytes : List ℕ) (seen : List Y) (ended : Bool) (a : X) (more : List ℕ) → Settles making written bytes seen ended
-      → ((rest : List Y) → making.InOrder (seen ++ rest) → (making.decided a (seen ++ rest) ≡ true) × (making.bytes a (seen ++ rest) ≡ more))
-      → Settles making (written ++ a ∷ []) (bytes ++ more) seen ended
+  pub settles_with : (written : List X) (bytes : List ℕ) (seen : List Y) (ended : Bool) (a : X) (more : List ℕ) → Settles join written bytes seen ended
+      → ((rest : List Y) → join.InOrder (seen ++ rest) → (join.decided a (seen ++ rest) ≡ true) × (join.bytes a (seen ++ rest) ≡ more))
+      → Settles join (written ++ a ∷ []) (bytes ++ more) seen ended
   settles_with written bytes seen ended a more s stays = record {
     whatever = λ second fault ordered may.
-        let here = stays may.begins.0 (subst making.InOrder may.begins.1 ordered) in
-        one_more (λ x. is_none fault || making.decided x second) (λ x. making.bytes x second) written a bytes more (s.whatever second fault ordered may)
-        (or_right (is_none fault) (making.decided a second) (ap (making.decided a) may.begins.1 ∙ here.0))
-        (ap (making.bytes a) may.begins.1 ∙ here.1);
+        let here = stays may.begins.0 (subst join.InOrder may.begins.1 ordered) in
+        one_more (λ x. is_none fault || join.decided x second) (λ x. join.bytes x second) written a bytes more (s.whatever second fault ordered may)
+        (or_right (is_none fault) (join.decided a second) (ap (join.decided a) may.begins.1 ∙ here.0))
+        (ap (join.bytes a) may.begins.1 ∙ here.1);
   }
 
   -- more members of the first are decided and have these bytes, whatever the second still has
-  pub settles_list : (written newly : List X) (bytes more : List ℕ) (seen : List Y) (ended : Bool) → Settles making written bytes seen ended
-      → ((second : List Y) (fault : Option Told) → making.InOrder second → MayCome seen ended second fault
-      → (list_all (λ x. is_none fault || making.decided x second) newly ≡ true) × (flat_map (λ x. making.bytes x second) newly ≡ more))
-      → Settles making (written ++ newly) (bytes ++ more) seen ended
+  pub settles_list : (written newly : List X) (bytes more : List ℕ) (seen : List Y) (ended : Bool) → Settles join written bytes seen ended
+      → ((second : List Y) (fault : Option FaultValue) → join.InOrder second → MayCome seen ended second fault
+      → (list_all (λ x. is_none fault || join.decided x second) newly ≡ true) × (flat_map (λ x. join.bytes x second) newly ≡ more))
+      → Settles join (written ++ newly) (bytes ++ more) seen ended
   settles_list written newly bytes more seen ended s now = record {
     whatever = λ second fault ordered may.
         let was = s.whatever second fault ordered may in
         let here = now second fault ordered may in (
-          list_all-append (λ x. is_none fault || making.decided x second) written newly
-              ∙ and_from (list_all (λ x. is_none fault || making.decided x second) written) (list_all (λ x. is_none fault || making.decided x second) newly) was.0 here.0,
-          flat_map-append (λ x. making.bytes x second) written newly ∙ ap (λ l. l ++ flat_map (λ x. making.bytes x second) newly) was.1 ∙ ap (λ l. bytes ++ l) here.1,
+          list_all-append (λ x. is_none fault || join.decided x second) written newly
+              ∙ and_from (list_all (λ x. is_none fault || join.decided x second) written) (list_all (λ x. is_none fault || join.decided x second) newly) was.0 here.0,
+          flat_map-append (λ x. join.bytes x second) written newly ∙ ap (λ l. l ++ flat_map (λ x. join.bytes x second) newly) was.1 ∙ ap (λ l. bytes ++ l) here.1,
         );
   }
 
   -- the second input has ended
-  pub settles_end : (written : List X) (bytes : List ℕ) (taken : List Y) (ended : Bool) (a : X) → Settles making written bytes taken ended
-      → Settles making (written ++ a ∷ []) (bytes ++ making.bytes a taken) taken true
+  pub settles_end : (written : List X) (bytes : List ℕ) (taken : List Y) (ended : Bool) (a : X) → Settles join written bytes taken ended
+      → Settles join (written ++ a ∷ []) (bytes ++ join.bytes a taken) taken true
   settles_end written bytes taken ended a s = record {
     whatever = λ second fault ordered may.
         let all = may.all refl in
-        one_more (λ x. is_none fault || making.decided x second) (λ x. making.bytes x second) written a bytes (making.bytes a taken)
+        one_more (λ x. is_none fault || join.decided x second) (λ x. join.bytes x second) written a bytes (join.bytes a taken)
         (s.whatever second fault ordered (record { begins = may.begins; all = λ e. all }))
-        (or_left (is_none fault) (making.decided a second) (ap is_none all.1))
-        (ap (making.bytes a) all.0);
+        (or_left (is_none fault) (join.decided a second) (ap is_none all.1))
+        (ap (join.bytes a) all.0);
   }
 
   -- the member ahead is seen
   pub seen_by : {S State : Type 0} (left : S → Option (List ℕ)) (failed : S → Bool) (now new : MemberReader S Y State) (m : Member Y) (o : Option (Member Y)) → ahead_in now ≡ o → GivesMember left failed now m new
-      → (written : List X) (bytes : List ℕ) (taken : List Y) → Settles making written bytes (taken ++ option_to_list (option_map (λ m. m.item) o)) false
-      → Settles making written bytes (taken ++ m.item ∷ []) false
+      → (written : List X) (bytes : List ℕ) (taken : List Y) → Settles join written bytes (taken ++ option_to_list (option_map (λ m. m.item) o)) false
+      → Settles join written bytes (taken ++ m.item ∷ []) false
   seen_by left failed now new m None e gives written bytes taken s =
-      settles_seen written bytes taken (m.item ∷ []) (subst (λ (l : List Y). Settles making written bytes l false) (append-nil taken) s)
+      settles_seen written bytes taken (m.item ∷ []) (subst (λ (l : List Y). Settles join written bytes l false) (append-nil taken) s)
   seen_by {S} {State} left failed now new m (Some x) e gives written bytes taken s =
       let same : new ≡ now = gives.again (subst IsSome (sym e) refl) in
       let is : Some x ≡ Some m = sym e ∙ ap (λ (r : MemberReader S Y State). ahead_in r) (sym same) ∙ gives.ahead in
       let eq : x ≡ m = cc in
-      subst (λ (y : Member Y). Settles making written bytes (taken ++ y.item ∷ []) false) eq s
+      subst (λ (y : Member Y). Settles join written bytes (taken ++ y.item ∷ []) false) eq s

@@ -5,7 +5,7 @@ use Rattle.std.proofs.lemmas.Bool.{false≢true}
 use Rattle.std.proofs.lemmas.List.{map-append}
 use Rattle.bt_lines.proofs.lemmas.writer.OutputLemmas.{grows_both}
 use Rattle.bt_lines.proofs.lemmas.writer.PuttingLemmas.{grown_none, grown_works}
-use Rattle.bt_lines.specs.model.Fault.{Told, no_memory, read_failed}
+use Rattle.bt_lines.specs.model.Fault.{FaultValue, no_memory, read_failed}
 use Rattle.bt_lines.specs.model.Lines.{TextLine, bytes_in}
 use Rattle.bt_lines.specs.calls.Output.{Output, Grows, block_size}
 use Rattle.bt_lines.specs.calls.Putting.{FailsToAdd, Grown}
@@ -17,9 +17,9 @@ use Rattle.bt_bed.specs.model.input.Good.{Good, Member, items_in}
 use Rattle.bt_bed.specs.model.feature.LineKind.{fault_at_line}
 use Rattle.bt_bed.specs.calls.Reading.{MemberReader, ahead_in, first_from, good_coming}
 use Rattle.bt_tool.specs.inside.feed.Feeding.{ComeFirst, CutsLines, GoesOn, PutsLines, member_items}
-use Rattle.bt_tool.specs.inside.pair.Pair.{Making, Pair, Serves, Settles, item_ahead}
-use Rattle.bt_tool.specs.inside.pair.PairComes.{Comes, Stage, TakesFurther, given}
-use Rattle.bt_tool.specs.inside.pair.PairEnds.{AsksFor, Finishes, IsKnown, LastTold, SecondFails, StaysNear, Why, Wrote}
+use Rattle.bt_tool.specs.inside.pair.Pair.{JoinDef, Pair, Serves, Settles, item_ahead}
+use Rattle.bt_tool.specs.inside.pair.Progress.{Comes, Stage, TakesFurther, given}
+use Rattle.bt_tool.specs.inside.pair.Endings.{AsksFor, Finishes, IsKnown, LastTold, SecondFails, StaysNear, Why, Wrote}
 use Rattle.bt_tool.specs.inside.feed.Passed.{AreAll, IsOver, IsReadFor, IsReadTo, IsStopped, Passes, StopsAfter}
 use Rattle.bt_tool.proofs.lemmas.running.feed.ComeLemmas.{begins_with, up_to}
 use Rattle.bt_tool.proofs.lemmas.running.feed.FeedLemmas.{goes_failed, goes_same, took_later, took_lines, works_both}
@@ -56,12 +56,12 @@ takes_none {S} {A} {State} left failed end old past now p = record {
   told = λ told. told;
 }
 
-module _ {A B X Y U V : Type 0} (making : Making X Y) (pair : Pair A B X Y U V) (out : Output) where
-  abbrev Ends : Option Told → MemberReader A X U → MemberReader B Y V → Output → Type 0
-  Ends = Finishes making pair out
+module _ {A B X Y U V : Type 0} (join : JoinDef X Y) (pair : Pair A B X Y U V) (out : Output) where
+  abbrev Ends : Option FaultValue → MemberReader A X U → MemberReader B Y V → Output → Type 0
+  Ends = Finishes join pair out
 
   abbrev Near : MemberReader A X U → MemberReader B Y V → Output → Type 0
-  Near = StaysNear making pair out
+  Near = StaysNear join pair out
 
   abbrev BeginsWith : List X → Type 0
   BeginsWith written = IfSome (good_coming pair.a_left pair.first) (λ good. (rest : List X) × (items_in good ≡ written ++ rest))
@@ -80,14 +80,14 @@ module _ {A B X Y U V : Type 0} (making : Making X Y) (pair : Pair A B X Y U V) 
   wrote_by : (past : List (Member Y)) (now new : MemberReader B Y V) → Passes pair.b_left pair.b_failed pair.b_end pair.second past now
       → (IsSome new.fault → All (λ m. m.line ≤ lines_given new.below) (past ++ option_to_list (ahead_in now)))
       → HandsSecond new → (first : MemberReader A X U) → HandsFirst first → (written : List X) (bytes : List ℕ) (ended : Bool) (grown : Output)
-      → (IsKnown pair → Settles making written bytes (member_items past ++ option_to_list (item_ahead now)) ended)
+      → (IsKnown pair → Settles join written bytes (member_items past ++ option_to_list (item_ahead now)) ended)
       → BeginsWith written → (ended ≡ true → AreAll pair.b_left pair.b_failed pair.b_end pair.second past × (ahead_in now ≡ None)) → Grows out.took grown.took
-      → (given : List X) → BeginsWith given → (IsKnown pair → making.Fits given past)
-      → Wrote making pair out written bytes first new grown
+      → (given : List X) → BeginsWith given → (IsKnown pair → join.Fits given past)
+      → Wrote join pair out written bytes first new grown
   wrote_by past now new p low handed first first_bytes written bytes ended grown settles begins all grows given given_begin fits = record {
     seen = past ++ option_to_list (ahead_in now);
     ended = ended;
-    settles = λ known. subst (λ (l : List Y). Settles making written bytes l ended) (sym (seen_items past (ahead_in now))) (settles known);
+    settles = λ known. subst (λ (l : List Y). Settles join written bytes l ended) (sym (seen_items past (ahead_in now))) (settles known);
     first_begins = begins;
     second_begins = seen_begins pair.b_left (good_coming pair.b_left pair.second) now past (ahead_in now) refl p.come p.ahead;
     low = low;
@@ -109,12 +109,12 @@ module _ {A B X Y U V : Type 0} (making : Making X Y) (pair : Pair A B X Y U V) 
   none_low : {P : Type 0} (new : MemberReader B Y V) → new.fault ≡ None → IsSome new.fault → P
   none_low new none some = absurd (false≢true (ap is_some (sym none) ∙ some))
 
-  module _ (stage : Stage X Y) (past_first : List (Member X)) (past_second : List (Member Y)) (first : MemberReader A X U) (second : MemberReader B Y V) (grown : Output) (s : Comes making pair out stage past_first past_second first second grown) where
-    reached_items : (given_first : List (Member X)) → given stage ≡ member_items given_first → making.Asks (given stage) stage.taken → making.Asks (member_items given_first) (member_items past_second)
-    reached_items given_first e asks = subst (λ (l : List X). making.Asks l (member_items past_second)) e (subst (λ (l : List Y). making.Asks (given stage) l) s.all_taken asks)
+  module _ (stage : Stage X Y) (past_first : List (Member X)) (past_second : List (Member Y)) (first : MemberReader A X U) (second : MemberReader B Y V) (grown : Output) (s : Comes join pair out stage past_first past_second first second grown) where
+    reached_items : (given_first : List (Member X)) → given stage ≡ member_items given_first → join.Asks (given stage) stage.taken → join.Asks (member_items given_first) (member_items past_second)
+    reached_items given_first e asks = subst (λ (l : List X). join.Asks l (member_items past_second)) e (subst (λ (l : List Y). join.Asks (given stage) l) s.all_taken asks)
 
     -- of the second input was taken what the first needs
-    pub asks_now : making.Asks (given stage) stage.taken → AsksFor making pair out past_first second
+    pub asks_now : join.Asks (given stage) stage.taken → AsksFor join pair out past_first second
     asks_now asks = record {
       past = past_second;
       reached = reached_items past_first s.all_given asks;
@@ -129,18 +129,18 @@ module _ {A B X Y U V : Type 0} (making : Making X Y) (pair : Pair A B X Y U V) 
       behind = read.behind;
     }
 
-    asks_same : (past : List (Member X)) (second_now : MemberReader B Y V) → source_of second_now.below ≡ source_of second.below → AsksFor making pair out past second → AsksFor making pair out past second_now
+    asks_same : (past : List (Member X)) (second_now : MemberReader B Y V) → source_of second_now.below ≡ source_of second.below → AsksFor join pair out past second → AsksFor join pair out past second_now
     asks_same past second_now same asks = record { past = asks.past; reached = asks.reached; near = λ known. read_to_same asks.past second_now same (asks.near known) }
 
     -- it still is after more members were taken of both
-    pub asks_then : making.Asks (given stage) stage.taken → ((more : List X) → making.Asks (given stage) stage.taken → making.Asks (given stage ++ more) stage.taken)
+    pub asks_then : join.Asks (given stage) stage.taken → ((more : List X) → join.Asks (given stage) stage.taken → join.Asks (given stage ++ more) stage.taken)
         → (more_first : List (Member X)) (more_second : List (Member Y)) (second_now : MemberReader B Y V) → TakesFurther pair.b_left pair.b_failed pair.b_end pair.second past_second more_second second second_now
-        → AsksFor making pair out (past_first ++ more_first) second_now
+        → AsksFor join pair out (past_first ++ more_first) second_now
     asks_then asks wider more_first more_second second_now takes = record {
       past = past_second;
       reached =
-          subst (λ (l : List X). making.Asks l (member_items past_second)) (ap (λ l. l ++ member_items more_first) s.all_given ∙ sym (map-append (λ m. m.item) past_first more_first))
-          (subst (λ (l : List Y). making.Asks (given stage ++ member_items more_first) l) s.all_taken (wider (member_items more_first) asks));
+          subst (λ (l : List X). join.Asks l (member_items past_second)) (ap (λ l. l ++ member_items more_first) s.all_given ∙ sym (map-append (λ m. m.item) past_first more_first))
+          (subst (λ (l : List Y). join.Asks (given stage ++ member_items more_first) l) s.all_taken (wider (member_items more_first) asks));
       near = λ known. read_to_same past_second second_now takes.source (read_here pair.b_left pair.b_failed pair.b_end pair.second past_second second s.second_passes).to;
     }
 
@@ -150,8 +150,8 @@ module _ {A B X Y U V : Type 0} (making : Making X Y) (pair : Pair A B X Y U V) 
     first_serves : Serves pair.a_failed pair.first first
     first_serves = record { served = s.first_passes.served; within = s.first_passes.kept.within s.first_passes.clear }
 
-    settled_now : IsKnown pair → Settles making stage.written s.bytes (member_items past_second ++ option_to_list (item_ahead second)) stage.second_ended
-    settled_now known = subst (λ (l : List Y). Settles making stage.written s.bytes (l ++ option_to_list (item_ahead second)) stage.second_ended) s.all_taken (s.settles known)
+    settled_now : IsKnown pair → Settles join stage.written s.bytes (member_items past_second ++ option_to_list (item_ahead second)) stage.second_ended
+    settled_now known = subst (λ (l : List Y). Settles join stage.written s.bytes (l ++ option_to_list (item_ahead second)) stage.second_ended) s.all_taken (s.settles known)
 
     came_first : IfSome (good_coming pair.a_left pair.first) (λ good. (rest : List (Member X)) × (good.members ≡ past_first ++ rest))
     came_first = begins_with (good_coming pair.a_left pair.first) (good_coming pair.a_left first) past_first s.first_passes.come
@@ -169,20 +169,20 @@ module _ {A B X Y U V : Type 0} (making : Making X Y) (pair : Pair A B X Y U V) 
     ended_now : stage.second_ended ≡ true → AreAll pair.b_left pair.b_failed pair.b_end pair.second past_second × (ahead_in second ≡ None)
     ended_now e = let all = s.second_all e in (all.0, none_buffered all.1)
 
-    module _ (asks : stage.first_ended ≡ false → AsksFor making pair out past_first second) (fits : IsKnown pair → making.Fits (given stage) past_second) where
+    module _ (asks : stage.first_ended ≡ false → AsksFor join pair out past_first second) (fits : IsKnown pair → join.Fits (given stage) past_second) where
       -- the bytes so far, and what was read of the inputs later
       wrote_later : (first_now : MemberReader A X U) → HandsFirst first_now → (second_now : MemberReader B Y V)
           → (IsSome second_now.fault → All (λ m. m.line ≤ lines_given second_now.below) (past_second ++ option_to_list (ahead_in second))) → HandsSecond second_now
-          → Wrote making pair out stage.written s.bytes first_now second_now grown
+          → Wrote join pair out stage.written s.bytes first_now second_now grown
       wrote_later first_now handed second_now low handed_second =
           wrote_by past_second second second_now s.second_passes low handed_second first_now handed stage.written s.bytes stage.second_ended grown settled_now begins_now ended_now s.grows (given stage) given_now fits
 
-      wrote_now : Wrote making pair out stage.written s.bytes first second grown
+      wrote_now : Wrote join pair out stage.written s.bytes first second grown
       wrote_now = wrote_later first s.first_passes.bytes second (none_low second s.second_passes.going) s.second_passes.bytes
 
       -- the sink took all but a block of the bytes so far
-      near_by : (first_now : MemberReader A X U) (second_now : MemberReader B Y V) (now : Output) → Wrote making pair out stage.written s.bytes first_now second_now grown → GoesOn grown now
-          → source_of first_now.below ≡ source_of first.below → ((stage.first_ended ≡ true) ⊎ AsksFor making pair out past_first second_now) → Near first_now second_now now
+      near_by : (first_now : MemberReader A X U) (second_now : MemberReader B Y V) (now : Output) → Wrote join pair out stage.written s.bytes first_now second_now grown → GoesOn grown now
+          → source_of first_now.below ≡ source_of first.below → ((stage.first_ended ≡ true) ⊎ AsksFor join pair out past_first second_now) → Near first_now second_now now
       unfolding read_same
       near_by first_now second_now now wrote more same beside = record {
         at = grown;
@@ -197,11 +197,11 @@ module _ {A B X Y U V : Type 0} (making : Making X Y) (pair : Pair A B X Y U V) 
         beside = elim beside [ inl ended ↦ inl (let all = s.near_first.3 ended in (ap pair.a_end same ∙ all.0, all.1)) | inr asks ↦ inr asks ];
       }
 
-      beside_if : (b : Bool) → stage.first_ended ≡ b → (second_now : MemberReader B Y V) → source_of second_now.below ≡ source_of second.below → (stage.first_ended ≡ true) ⊎ AsksFor making pair out past_first second_now
+      beside_if : (b : Bool) → stage.first_ended ≡ b → (second_now : MemberReader B Y V) → source_of second_now.below ≡ source_of second.below → (stage.first_ended ≡ true) ⊎ AsksFor join pair out past_first second_now
       beside_if true e second_now same = inl e
       beside_if false e second_now same = inr (asks_same past_first second_now same (asks e))
 
-      beside_now : (stage.first_ended ≡ true) ⊎ AsksFor making pair out past_first second
+      beside_now : (stage.first_ended ≡ true) ⊎ AsksFor join pair out past_first second
       beside_now = beside_if stage.first_ended refl second refl
 
       no_more : GoesOn grown grown
@@ -213,9 +213,9 @@ module _ {A B X Y U V : Type 0} (making : Making X Y) (pair : Pair A B X Y U V) 
       -- more members of both were taken, then the first input stopped: all members of it were written
       module _ (going : stage.first_ended ≡ false) (more_first : List (Member X)) (more_second : List (Member Y)) (second_now : MemberReader B Y V)
           (takes_second : TakesFurther pair.b_left pair.b_failed pair.b_end pair.second past_second more_second second second_now) (ended : stage.second_ended ≡ true → (more_second ≡ []) × (second_now.buffered ≡ [])) (more : List ℕ)
-          (settles : IsKnown pair → Settles making (given stage ++ member_items more_first) (s.bytes ++ more) ((stage.taken ++ member_items more_second) ++ option_to_list (item_ahead second_now)) stage.second_ended)
-          (fits_now : IsKnown pair → making.Fits (given stage ++ member_items more_first) (past_second ++ more_second)) (asks_first : AsksFor making pair out (past_first ++ more_first) second_now)
-          (fault : Told) (first_now : MemberReader A X U) (stops : StopsAfter pair.a_left pair.a_failed pair.a_end pair.first making.first_kinds (past_first ++ more_first) fault first_now)
+          (settles : IsKnown pair → Settles join (given stage ++ member_items more_first) (s.bytes ++ more) ((stage.taken ++ member_items more_second) ++ option_to_list (item_ahead second_now)) stage.second_ended)
+          (fits_now : IsKnown pair → join.Fits (given stage ++ member_items more_first) (past_second ++ more_second)) (asks_first : AsksFor join pair out (past_first ++ more_first) second_now)
+          (fault : FaultValue) (first_now : MemberReader A X U) (stops : StopsAfter pair.a_left pair.a_failed pair.a_end pair.first join.first_kinds (past_first ++ more_first) fault first_now)
           (read : IsReadFor pair.a_left pair.a_failed pair.a_end pair.first (past_first ++ more_first) (past_first ++ more_first) first_now)
           (now : Output) (adds : Grown grown more now) where
         abbrev written : List X
@@ -236,10 +236,10 @@ module _ {A B X Y U V : Type 0} (making : Making X Y) (pair : Pair A B X Y U V) 
         grows_now : Grows out.took now.took
         grows_now = grows_both out.took grown.took now.took s.grows adds.grows
 
-        wrote_first : Wrote making pair out written (s.bytes ++ more) first_now second_now now
+        wrote_first : Wrote join pair out written (s.bytes ++ more) first_now second_now now
         wrote_first =
             wrote_by (past_second ++ more_second) second_now second_now takes_second.passes (none_low second_now takes_second.passes.going) takes_second.passes.bytes first_now stops.bytes written (s.bytes ++ more) stage.second_ended now
-            (λ known. subst (λ (l : List Y). Settles making written (s.bytes ++ more) (l ++ option_to_list (item_ahead second_now)) stage.second_ended) taken_now (settles known))
+            (λ known. subst (λ (l : List Y). Settles join written (s.bytes ++ more) (l ++ option_to_list (item_ahead second_now)) stage.second_ended) taken_now (settles known))
             (begins_items (past_first ++ more_first) written [] (sym all_written_now ∙ sym (append-nil written)) read.begins)
             (λ e. let none = ended e in (
               subst (AreAll pair.b_left pair.b_failed pair.b_end pair.second) (sym (append-nil past_second) ∙ ap (λ (l : List (Member Y)). past_second ++ l) (sym none.0)) (s.second_all e).0,
@@ -247,7 +247,7 @@ module _ {A B X Y U V : Type 0} (making : Making X Y) (pair : Pair A B X Y U V) 
             ))
             grows_now written (begins_items (past_first ++ more_first) written [] (sym all_written_now ∙ sym (append-nil written)) read.begins) fits_now
 
-        stops_why : Why making pair out written (s.bytes ++ more) written stage.second_ended first_now second_now (Some fault) now
+        stops_why : Why join pair out written (s.bytes ++ more) written stage.second_ended first_now second_now (Some fault) now
         stops_why =
             let works = works_both out grown now s.works (grown_works grown now more adds) in
             elim stops.cause [
@@ -281,25 +281,25 @@ module _ {A B X Y U V : Type 0} (making : Making X Y) (pair : Pair A B X Y U V) 
         }
 
       -- the first input couldn't give a member
-      pub stops_first : ((state : U) (line : TextLine) (kind : Kind) → pair.first.format.says state line ≡ Err kind → making.first_kinds kind)
-          → stage.waiting ≡ None → stage.first_ended ≡ false → (fault : Told) (first_now : MemberReader A X U) → IsStopped pair.a_left pair.a_failed pair.a_end first fault first_now
+      pub stops_first : ((state : U) (line : TextLine) (kind : Kind) → pair.first.format.says state line ≡ Err kind → join.first_kinds kind)
+          → stage.waiting ≡ None → stage.first_ended ≡ false → (fault : FaultValue) (first_now : MemberReader A X U) → IsStopped pair.a_left pair.a_failed pair.a_end first fault first_now
           → Ends (Some fault) first_now second grown
       stops_first wrong none going fault first_now stopped =
           let same : past_first ≡ past_first ++ [] = sym (append-nil past_first) in
-          let stops = passes_stop pair.a_left pair.a_failed pair.a_end pair.first past_first first s.first_passes making.first_kinds wrong first_now fault stopped in
+          let stops = passes_stop pair.a_left pair.a_failed pair.a_end pair.first past_first first s.first_passes join.first_kinds wrong first_now fault stopped in
           let read = read_at_stop pair.a_left pair.a_failed pair.a_end pair.first past_first first s.first_passes first_now fault stopped in
           let alone : given stage ++ [] ≡ stage.written = append-nil (given stage) ∙ ap (λ (o : Option X). stage.written ++ option_to_list o) none ∙ append-nil stage.written in
           let bytes : s.bytes ++ [] ≡ s.bytes = append-nil s.bytes in
           let taken : stage.taken ++ [] ≡ stage.taken = append-nil stage.taken in
           first_fails going [] [] second (takes_none pair.b_left pair.b_failed pair.b_end pair.second past_second second s.second_passes) (λ e. (refl, (s.second_all e).1)) []
           (λ known. rw (alone, bytes, taken) (s.settles known))
-          (λ known. subst (λ (l : List X). making.Fits l (past_second ++ [])) (sym (append-nil (given stage))) (subst (λ (l : List (Member Y)). making.Fits (given stage) l) (sym (append-nil past_second)) (fits known)))
-          (subst (λ (l : List (Member X)). AsksFor making pair out l second) same (asks going)) fault first_now
-          (subst (λ (l : List (Member X)). StopsAfter pair.a_left pair.a_failed pair.a_end pair.first making.first_kinds l fault first_now) same stops)
+          (λ known. subst (λ (l : List X). join.Fits l (past_second ++ [])) (sym (append-nil (given stage))) (subst (λ (l : List (Member Y)). join.Fits (given stage) l) (sym (append-nil past_second)) (fits known)))
+          (subst (λ (l : List (Member X)). AsksFor join pair out l second) same (asks going)) fault first_now
+          (subst (λ (l : List (Member X)). StopsAfter pair.a_left pair.a_failed pair.a_end pair.first join.first_kinds l fault first_now) same stops)
           (subst (λ (l : List (Member X)). IsReadFor pair.a_left pair.a_failed pair.a_end pair.first l l first_now) same read) grown (grown_none grown)
 
       -- memory ran out
-      pub lacks_memory : (fault : Told) → fault ≡ no_memory → Ends (Some fault) first second grown
+      pub lacks_memory : (fault : FaultValue) → fault ≡ no_memory → Ends (Some fault) first second grown
       unfolding near_by near_now
       lacks_memory fault is = record {
         written = stage.written;
@@ -315,10 +315,10 @@ module _ {A B X Y U V : Type 0} (making : Making X Y) (pair : Pair A B X Y U V) 
           → TakesFurther pair.a_left pair.a_failed pair.a_end pair.first past_first more_first first first_now
           → TakesFurther pair.b_left pair.b_failed pair.b_end pair.second past_second more_second second second_now
           → (written rest : List X) → written ++ rest ≡ given stage ++ member_items more_first
-          → (IsKnown pair → making.Fits (given stage ++ member_items more_first) (past_second ++ more_second))
+          → (IsKnown pair → join.Fits (given stage ++ member_items more_first) (past_second ++ more_second))
           → (stage.second_ended ≡ true → (more_second ≡ []) × (second_now.buffered ≡ []))
-          → (puts more : List ℕ) → (IsKnown pair → Settles making written (s.bytes ++ (puts ++ more)) ((stage.taken ++ member_items more_second) ++ option_to_list (item_ahead second_now)) stage.second_ended)
-          → (through now : Output) (fault : Told) → Grown grown puts through → FailsToAdd through more fault now → Ends (Some fault) first_now second_now now
+          → (puts more : List ℕ) → (IsKnown pair → Settles join written (s.bytes ++ (puts ++ more)) ((stage.taken ++ member_items more_second) ++ option_to_list (item_ahead second_now)) stage.second_ended)
+          → (through now : Output) (fault : FaultValue) → Grown grown puts through → FailsToAdd through more fault now → Ends (Some fault) first_now second_now now
       fails_to_write more_first more_second first_now second_now takes takes_second written rest parts fits_now ended puts more settles through now fault adds fails =
           let all : given stage ++ member_items more_first ≡ member_items (past_first ++ more_first) = ap (λ l. l ++ member_items more_first) s.all_given ∙ sym (map-append (λ m. m.item) past_first more_first) in
           let taken : stage.taken ++ member_items more_second ≡ member_items (past_second ++ more_second) = ap (λ l. l ++ member_items more_second) s.all_taken ∙ sym (map-append (λ m. m.item) past_second more_second) in
@@ -328,7 +328,7 @@ module _ {A B X Y U V : Type 0} (making : Making X Y) (pair : Pair A B X Y U V) 
             written = written;
             bytes = s.bytes ++ (puts ++ more);
             wrote = wrote_by (past_second ++ more_second) second_now second_now takes_second.passes (none_low second_now takes_second.passes.going) takes_second.passes.bytes first_now takes.passes.bytes written (s.bytes ++ (puts ++ more)) stage.second_ended now
-                (λ known. subst (λ (l : List Y). Settles making written (s.bytes ++ (puts ++ more)) (l ++ option_to_list (item_ahead second_now)) stage.second_ended) taken (settles known))
+                (λ known. subst (λ (l : List Y). Settles join written (s.bytes ++ (puts ++ more)) (l ++ option_to_list (item_ahead second_now)) stage.second_ended) taken (settles known))
                 (begins_items (past_first ++ more_first) written rest (sym all ∙ sym parts) begun)
                 (λ e. let none = ended e in (
                   subst (AreAll pair.b_left pair.b_failed pair.b_end pair.second) (sym (append-nil past_second) ∙ ap (λ (l : List (Member Y)). past_second ++ l) (sym none.0)) (s.second_all e).0,
@@ -346,14 +346,14 @@ module _ {A B X Y U V : Type 0} (making : Making X Y) (pair : Pair A B X Y U V) 
           }
 
       -- the same of the member that waits
-      pub fails_waiting : (a : X) → stage.waiting ≡ Some a → (more : List ℕ) → (IsKnown pair → Settles making (stage.written ++ a ∷ []) (s.bytes ++ more) (stage.taken ++ option_to_list (item_ahead second)) stage.second_ended)
-          → (fault : Told) (now : Output) → FailsToAdd grown more fault now → Ends (Some fault) first second now
+      pub fails_waiting : (a : X) → stage.waiting ≡ Some a → (more : List ℕ) → (IsKnown pair → Settles join (stage.written ++ a ∷ []) (s.bytes ++ more) (stage.taken ++ option_to_list (item_ahead second)) stage.second_ended)
+          → (fault : FaultValue) (now : Output) → FailsToAdd grown more fault now → Ends (Some fault) first second now
       fails_waiting a waits more settles fault now fails =
           fails_to_write [] [] first second (takes_none pair.a_left pair.a_failed pair.a_end pair.first past_first first s.first_passes) (takes_none pair.b_left pair.b_failed pair.b_end pair.second past_second second s.second_passes)
           (stage.written ++ a ∷ []) [] (ap (λ l. l ++ []) (ap (λ (o : Option X). stage.written ++ option_to_list o) (sym waits)))
-          (λ known. subst (λ (l : List X). making.Fits l (past_second ++ [])) (sym (append-nil (given stage))) (subst (λ (l : List (Member Y)). making.Fits (given stage) l) (sym (append-nil past_second)) (fits known)))
+          (λ known. subst (λ (l : List X). join.Fits l (past_second ++ [])) (sym (append-nil (given stage))) (subst (λ (l : List (Member Y)). join.Fits (given stage) l) (sym (append-nil past_second)) (fits known)))
           (λ e. (refl, (s.second_all e).1)) [] more
-          (λ known. subst (λ (l : List Y). Settles making (stage.written ++ a ∷ []) (s.bytes ++ more) (l ++ option_to_list (item_ahead second)) stage.second_ended) (sym (append-nil stage.taken)) (settles known))
+          (λ known. subst (λ (l : List Y). Settles join (stage.written ++ a ∷ []) (s.bytes ++ more) (l ++ option_to_list (item_ahead second)) stage.second_ended) (sym (append-nil stage.taken)) (settles known))
           grown now fault (grown_none grown) fails
 
       -- while one of the first waits
@@ -366,13 +366,13 @@ module _ {A B X Y U V : Type 0} (making : Making X Y) (pair : Pair A B X Y U V) 
         with_waiting = ap (λ (o : Option X). stage.written ++ option_to_list o) waits
 
         goes_first : stage.first_ended ≡ false
-        goes_first = first_waits making pair out stage past_first past_second first second grown s a waits
+        goes_first = first_waits join pair out stage past_first past_second first second grown s a waits
 
         -- with the member ahead of the second too many would be held for the one that waits
         pub passes_limit : (m : Member Y) → ahead_in second ≡ Some m
-            → (kind : Kind) → making.second_kinds kind → (fault : Told) → fault ≡ fault_at_line Second m.line kind → making.decided a (member_items (past_second ++ m ∷ [])) ≡ false
-            → (IsKnown pair → (later : List X) (more : List (Member Y)) (other : Option Told)
-            → making.limited (stage.written ++ a ∷ later) (record { members = (past_second ++ m ∷ []) ++ more; fault = other }) ≡ record { members = past_second ++ m ∷ []; fault = Some fault })
+            → (kind : Kind) → join.second_kinds kind → (fault : FaultValue) → fault ≡ fault_at_line Second m.line kind → join.decided a (member_items (past_second ++ m ∷ [])) ≡ false
+            → (IsKnown pair → (later : List X) (more : List (Member Y)) (other : Option FaultValue)
+            → join.limited (stage.written ++ a ∷ later) (record { members = (past_second ++ m ∷ []) ++ more; fault = other }) ≡ record { members = past_second ++ m ∷ []; fault = Some fault })
             → Ends (Some fault) first second grown
         unfolding near_by near_now
         passes_limit m ahead kind of_kind fault is undecided cuts = record {
@@ -407,9 +407,9 @@ module _ {A B X Y U V : Type 0} (making : Making X Y) (pair : Pair A B X Y U V) 
         }
 
         -- the second input couldn't give a member
-        module _ (wrong : (state : V) (line : TextLine) (kind : Kind) → pair.second.format.says state line ≡ Err kind → making.second_kinds kind)
-            (reached : making.Asks (given stage) stage.taken) (goes : stage.second_ended ≡ false) (opens : IsKnown pair → second.buffered ≡ [] → making.decided a stage.taken ≡ false)
-            (fault : Told) (second_now : MemberReader B Y V) (stopped : IsStopped pair.b_left pair.b_failed pair.b_end second fault second_now) where
+        module _ (wrong : (state : V) (line : TextLine) (kind : Kind) → pair.second.format.says state line ≡ Err kind → join.second_kinds kind)
+            (reached : join.Asks (given stage) stage.taken) (goes : stage.second_ended ≡ false) (opens : IsKnown pair → second.buffered ≡ [] → join.decided a stage.taken ≡ false)
+            (fault : FaultValue) (second_now : MemberReader B Y V) (stopped : IsStopped pair.b_left pair.b_failed pair.b_end second fault second_now) where
           low_stopped : IsSome second_now.fault → All (λ m. m.line ≤ lines_given second_now.below) (past_second ++ option_to_list (ahead_in second))
           low_stopped some = seen_low past_second second (lines_given second_now.below) (none_buffered stopped.answers.was_none) (up_to (lines_given second.below) (lines_given second_now.below) past_second stopped.answers.rises s.second_passes.behind)
 
@@ -420,7 +420,7 @@ module _ {A B X Y U V : Type 0} (making : Making X Y) (pair : Pair A B X Y U V) 
             near = λ known. (read_at_stop pair.b_left pair.b_failed pair.b_end pair.second past_second second s.second_passes second_now fault stopped).to;
           }))
 
-          second_why : SecondFails making pair out stage.second_ended past_second second_now fault → Why making pair out stage.written s.bytes (given stage) stage.second_ended first second_now (Some fault) grown
+          second_why : SecondFails join pair out stage.second_ended past_second second_now fault → Why join pair out stage.written s.bytes (given stage) stage.second_ended first second_now (Some fault) grown
           second_why fails =
               inl (
                 inr (inl (
@@ -430,9 +430,9 @@ module _ {A B X Y U V : Type 0} (making : Making X Y) (pair : Pair A B X Y U V) 
                     past = past_second;
                     waiting = a;
                     begins = begins_before;
-                    undecided = if_known (good_coming pair.b_left pair.second) (making.decided a (member_items past_second) ≡ false) (λ known. ap (making.decided a) (sym s.all_taken) ∙ opens known stopped.answers.was_none);
+                    undecided = if_known (good_coming pair.b_left pair.second) (join.decided a (member_items past_second) ≡ false) (λ known. ap (join.decided a) (sym s.all_taken) ∙ opens known stopped.answers.was_none);
                     fails = fails;
-                    fits = λ known. subst (λ (l : List X). making.Fits l past_second) with_waiting (fits known);
+                    fits = λ known. subst (λ (l : List X). join.Fits l past_second) with_waiting (fits known);
                     serves = first_serves;
                   },
                 )),
@@ -440,7 +440,7 @@ module _ {A B X Y U V : Type 0} (making : Making X Y) (pair : Pair A B X Y U V) 
                 s.works,
               )
 
-          second_stops : StopsAfter pair.b_left pair.b_failed pair.b_end pair.second making.second_kinds past_second fault second_now → Why making pair out stage.written s.bytes (given stage) stage.second_ended first second_now (Some fault) grown
+          second_stops : StopsAfter pair.b_left pair.b_failed pair.b_end pair.second join.second_kinds past_second fault second_now → Why join pair out stage.written s.bytes (given stage) stage.second_ended first second_now (Some fault) grown
           second_stops stops =
               elim stops.cause [
                 | inl wrong ↦ second_why (record { cause = inl wrong; before_end = λ e. absurd (false≢true (sym goes ∙ e)) })
@@ -453,7 +453,7 @@ module _ {A B X Y U V : Type 0} (making : Making X Y) (pair : Pair A B X Y U V) 
           pub stops_second : Ends (Some fault) first second_now grown
           unfolding wrote_later wrote_by near_stopped near_by
           stops_second =
-              let stops = passes_stop pair.b_left pair.b_failed pair.b_end pair.second past_second second s.second_passes making.second_kinds wrong second_now fault stopped in
+              let stops = passes_stop pair.b_left pair.b_failed pair.b_end pair.second past_second second s.second_passes join.second_kinds wrong second_now fault stopped in
               record {
                 written = stage.written;
                 bytes = s.bytes;
@@ -464,18 +464,18 @@ module _ {A B X Y U V : Type 0} (making : Making X Y) (pair : Pair A B X Y U V) 
               }
 
         -- at its end the waiting member wasn't written
-        pub fails_at_end : making.Asks (given stage) stage.taken → stage.second_ended ≡ false
-            → (fault : Told) (second_now : MemberReader B Y V) (now : Output) → IsOver pair.b_left pair.b_failed pair.b_end second second_now
-            → FailsToAdd grown (making.bytes a stage.taken) fault now → Ends (Some fault) first second_now now
+        pub fails_at_end : join.Asks (given stage) stage.taken → stage.second_ended ≡ false
+            → (fault : FaultValue) (second_now : MemberReader B Y V) (now : Output) → IsOver pair.b_left pair.b_failed pair.b_end second second_now
+            → FailsToAdd grown (join.bytes a stage.taken) fault now → Ends (Some fault) first second_now now
         fails_at_end reached goes fault second_now now over fails =
             let p = passes_end pair.b_left pair.b_failed pair.b_end pair.second past_second second s.second_passes second_now over in
-            let more = making.bytes a stage.taken in
+            let more = join.bytes a stage.taken in
             let seen : member_items past_second ++ option_to_list (item_ahead second_now) ≡ stage.taken = seen_alone (member_items past_second) second_now over.ends.none_buffered ∙ sym s.all_taken in
             record {
               written = stage.written ++ a ∷ [];
               bytes = s.bytes ++ more;
               wrote = wrote_by past_second second_now second_now p (none_low second_now p.going) p.bytes first s.first_passes.bytes (stage.written ++ a ∷ []) (s.bytes ++ more) true now
-                  (λ known. rw seen (settles_end making stage.written s.bytes stage.taken false a (settles_ended making pair out stage past_first past_second first second grown s goes second_now over known)))
+                  (λ known. rw seen (settles_end join stage.written s.bytes stage.taken false a (settles_ended join pair out stage past_first past_second first second grown s goes second_now over known)))
                   (begins_items past_first (stage.written ++ a ∷ []) [] (sym s.all_given ∙ with_waiting ∙ sym (append-nil (stage.written ++ a ∷ []))) came_first)
                   (λ e. (passes_all pair.b_left pair.b_failed pair.b_end pair.second past_second second s.second_passes second_now over, ap (λ (l : List Y). first_from (suc (lines_given second_now.below)) l) over.ends.none_buffered))
                   (grows_both out.took grown.took now.took s.grows fails.puts.grows) (given stage) given_now fits;
@@ -495,10 +495,10 @@ module _ {A B X Y U V : Type 0} (making : Making X Y) (pair : Pair A B X Y U V) 
           near_rest = near_by first second_now grown (wrote_later first s.first_passes.bytes second_now low handed) no_more refl (inl done)
 
           -- the second was read on
-          pub ends_rest : (past : List (Member Y)) (fault : Option Told)
-              → ((fault ≡ None) × AreAll pair.b_left pair.b_failed pair.b_end pair.second past × Serves pair.b_failed pair.second second_now × (making.last stage.written past ≡ None))
-              ⊎ (((other : Told) × (fault ≡ Some other) × SecondFails making pair out stage.second_ended past second_now other × (making.last stage.written past ≡ None))
-              ⊎ ((other : Told) × (fault ≡ Some other) × LastTold making pair out stage.written second_now other))
+          pub ends_rest : (past : List (Member Y)) (fault : Option FaultValue)
+              → ((fault ≡ None) × AreAll pair.b_left pair.b_failed pair.b_end pair.second past × Serves pair.b_failed pair.second second_now × (join.last stage.written past ≡ None))
+              ⊎ (((other : FaultValue) × (fault ≡ Some other) × SecondFails join pair out stage.second_ended past second_now other × (join.last stage.written past ≡ None))
+              ⊎ ((other : FaultValue) × (fault ≡ Some other) × LastTold join pair out stage.written second_now other))
               → Ends fault first second_now grown
           unfolding wrote_later wrote_by near_rest near_by
           ends_rest past fault rest =
@@ -511,7 +511,7 @@ module _ {A B X Y U V : Type 0} (making : Making X Y) (pair : Pair A B X Y U V) 
                   inr (inr (inl (record {
                     past = past_first;
                     past_second = past;
-                    all = all_written making pair out stage past_first past_second first second grown s whole.1;
+                    all = all_written join pair out stage past_first past_second first second grown s whole.1;
                     whole = whole.0;
                     serves = first_serves;
                     rest = rest;
@@ -523,7 +523,7 @@ module _ {A B X Y U V : Type 0} (making : Making X Y) (pair : Pair A B X Y U V) 
                 exact = λ stops. s.puts;
               }
 
-          runs_out : (fault : Told) → fault ≡ no_memory → Ends (Some fault) first second_now grown
+          runs_out : (fault : FaultValue) → fault ≡ no_memory → Ends (Some fault) first second_now grown
           unfolding near_rest near_by
           runs_out fault is = record {
             written = stage.written;
@@ -535,13 +535,13 @@ module _ {A B X Y U V : Type 0} (making : Making X Y) (pair : Pair A B X Y U V) 
           }
 
         -- both inputs have ended
-        pub ends_all : stage.second_ended ≡ true → making.last stage.written past_second ≡ None → Ends None first second grown
+        pub ends_all : stage.second_ended ≡ true → join.last stage.written past_second ≡ None → Ends None first second grown
         ends_all done_second none = ends_rest second (none_low second s.second_passes.going) s.second_passes.bytes past_second None (inl (refl, (s.second_all done_second).0, second_serves, none))
 
         -- the rest of the second input stopped
-        pub stops_rest : (second_now : MemberReader B Y V) → (IsSome second_now.fault → All (λ m. m.line ≤ lines_given second_now.below) (past_second ++ option_to_list (ahead_in second))) → (past : List (Member Y)) (fault : Told)
-            → StopsAfter pair.b_left pair.b_failed pair.b_end pair.second making.second_kinds past fault second_now
-            → (stage.second_ended ≡ true → (input : Input) (line : ℕ) → fault ≡ read_failed input line → ⊥) → making.last stage.written past ≡ None → Ends (Some fault) first second_now grown
+        pub stops_rest : (second_now : MemberReader B Y V) → (IsSome second_now.fault → All (λ m. m.line ≤ lines_given second_now.below) (past_second ++ option_to_list (ahead_in second))) → (past : List (Member Y)) (fault : FaultValue)
+            → StopsAfter pair.b_left pair.b_failed pair.b_end pair.second join.second_kinds past fault second_now
+            → (stage.second_ended ≡ true → (input : Input) (line : ℕ) → fault ≡ read_failed input line → ⊥) → join.last stage.written past ≡ None → Ends (Some fault) first second_now grown
         stops_rest second_now low past fault stops before_end none =
             elim stops.cause [
               | inl wrong ↦ ends_rest second_now low stops.bytes past (Some fault) (inr (inl (fault, refl, record { cause = inl wrong; before_end = before_end }, none)))
@@ -552,11 +552,11 @@ module _ {A B X Y U V : Type 0} (making : Making X Y) (pair : Pair A B X Y U V) 
             ]
 
         -- after the last member of the first the second couldn't give one
-        pub stops_behind : ((state : V) (line : TextLine) (kind : Kind) → pair.second.format.says state line ≡ Err kind → making.second_kinds kind)
-            → stage.second_ended ≡ false → making.last stage.written past_second ≡ None
-            → (fault : Told) (second_now : MemberReader B Y V) → IsStopped pair.b_left pair.b_failed pair.b_end second fault second_now → Ends (Some fault) first second_now grown
+        pub stops_behind : ((state : V) (line : TextLine) (kind : Kind) → pair.second.format.says state line ≡ Err kind → join.second_kinds kind)
+            → stage.second_ended ≡ false → join.last stage.written past_second ≡ None
+            → (fault : FaultValue) (second_now : MemberReader B Y V) → IsStopped pair.b_left pair.b_failed pair.b_end second fault second_now → Ends (Some fault) first second_now grown
         stops_behind wrong goes none fault second_now stopped =
             stops_rest second_now
             (λ some. seen_low past_second second (lines_given second_now.below) (none_buffered stopped.answers.was_none) (up_to (lines_given second.below) (lines_given second_now.below) past_second stopped.answers.rises s.second_passes.behind))
             past_second fault
-            (passes_stop pair.b_left pair.b_failed pair.b_end pair.second past_second second s.second_passes making.second_kinds wrong second_now fault stopped) (λ e. absurd (false≢true (sym goes ∙ e))) none
+            (passes_stop pair.b_left pair.b_failed pair.b_end pair.second past_second second s.second_passes join.second_kinds wrong second_now fault stopped) (λ e. absurd (false≢true (sym goes ∙ e))) none

@@ -13,9 +13,9 @@ use Rattle.bt_lines.specs.calls.Putting.{Grown, WorksAsBefore}
 use Rattle.bt_bed.specs.model.input.Good.{Member}
 use Rattle.bt_bed.specs.calls.Reading.{MemberReader, first_from, good_coming, members_from}
 use Rattle.bt_tool.specs.inside.feed.Feeding.{PutsLines, member_items}
-use Rattle.bt_tool.specs.inside.pair.Pair.{Making, Pair, Settles, item_ahead}
-use Rattle.bt_tool.specs.inside.pair.PairComes.{Comes, Follows, Stage, TakesFurther, given}
-use Rattle.bt_tool.specs.inside.pair.PairEnds.{HasNoMore, IsKnown}
+use Rattle.bt_tool.specs.inside.pair.Pair.{JoinDef, Pair, Settles, item_ahead}
+use Rattle.bt_tool.specs.inside.pair.Progress.{Comes, Follows, Stage, TakesFurther, given}
+use Rattle.bt_tool.specs.inside.pair.Endings.{HasNoMore, IsKnown}
 use Rattle.bt_tool.specs.inside.feed.Passed.{AreAll, HasTaken, IsFilled, IsOver, IsReadFor, Passes}
 use Rattle.bt_tool.proofs.lemmas.running.feed.FeedLemmas.{text_grows, works_both}
 use Rattle.bt_tool.proofs.lemmas.running.members.MemberLemmas.{ended_after_all, passes_all, passes_end, passes_fill, passes_take, read_before, read_here}
@@ -116,20 +116,20 @@ pub seen_alone : {S A State : Type 0} (taken : List A) (now : MemberReader S A S
 seen_alone {S} {A} {State} taken now none =
     ap (λ (l : List A). taken ++ option_to_list (option_map (λ m. m.item) (first_from (suc (lines_given now.below)) l))) none ∙ append-nil taken
 
-module _ {A B X Y U V : Type 0} (making : Making X Y) (pair : Pair A B X Y U V) (out : Output) where
+module _ {A B X Y U V : Type 0} (join : JoinDef X Y) (pair : Pair A B X Y U V) (out : Output) where
   abbrev pub first_stage : Stage X Y
   first_stage = record { written = []; waiting = None; taken = []; first_ended = false; second_ended = false }
 
   -- nothing was given yet
   pub comes_start : Passes pair.a_left pair.a_failed pair.a_end pair.first [] pair.first → Passes pair.b_left pair.b_failed pair.b_end pair.second [] pair.second
-      → HoldsBlock out.took out.put → Comes making pair out first_stage [] [] pair.first pair.second out
+      → HoldsBlock out.took out.put → Comes join pair out first_stage [] [] pair.first pair.second out
   comes_start passes passes_second block = record {
     first_passes = passes;
     second_passes = passes_second;
     all_given = refl;
     all_taken = refl;
     bytes = [];
-    settles = λ known. settles_nothing making ([] ++ option_to_list (item_ahead pair.second)) false;
+    settles = λ known. settles_nothing join ([] ++ option_to_list (item_ahead pair.second)) false;
     first_all = λ e. absurd (false≢true e);
     second_all = λ e. absurd (false≢true e);
     puts = λ before e. e ∙ ap Some (sym (append-nil before));
@@ -139,14 +139,14 @@ module _ {A B X Y U V : Type 0} (making : Making X Y) (pair : Pair A B X Y U V) 
     near_first = ([], refl, read_here pair.a_left pair.a_failed pair.a_end pair.first [] pair.first passes, λ e. absurd (false≢true e));
   }
 
-  module _ (stage : Stage X Y) (past_first : List (Member X)) (past_second : List (Member Y)) (first : MemberReader A X U) (second : MemberReader B Y V) (grown : Output) (s : Comes making pair out stage past_first past_second first second grown) where
+  module _ (stage : Stage X Y) (past_first : List (Member X)) (past_second : List (Member Y)) (first : MemberReader A X U) (second : MemberReader B Y V) (grown : Output) (s : Comes join pair out stage past_first past_second first second grown) where
     -- if none waits, all are written
     pub all_written : stage.waiting ≡ None → stage.written ≡ member_items past_first
     all_written none = sym (append-nil stage.written) ∙ ap (λ (o : Option X). stage.written ++ option_to_list o) (sym none) ∙ s.all_given
 
     -- a member of the first input is buffered
     pub fills_first : stage.waiting ≡ None → stage.first_ended ≡ false → (first_now : MemberReader A X U) → IsFilled pair.a_left pair.a_failed pair.a_end first first_now
-        → Comes making pair out stage past_first past_second first_now second grown
+        → Comes join pair out stage past_first past_second first_now second grown
     fills_first none going first_now filled =
         let p = passes_fill pair.a_left pair.a_failed pair.a_end pair.first past_first first s.first_passes first_now filled in
         record {
@@ -167,7 +167,7 @@ module _ {A B X Y U V : Type 0} (making : Making X Y) (pair : Pair A B X Y U V) 
 
     -- a member of the second is
     pub fills_second : stage.second_ended ≡ false → (second_now : MemberReader B Y V) → IsFilled pair.b_left pair.b_failed pair.b_end second second_now
-        → Comes making pair out stage past_first past_second first second_now grown
+        → Comes join pair out stage past_first past_second first second_now grown
     fills_second going second_now filled = record {
       first_passes = s.first_passes;
       second_passes = passes_fill pair.b_left pair.b_failed pair.b_end pair.second past_second second s.second_passes second_now filled;
@@ -175,9 +175,9 @@ module _ {A B X Y U V : Type 0} (making : Making X Y) (pair : Pair A B X Y U V) 
       all_taken = s.all_taken;
       bytes = s.bytes;
       settles = λ known.
-          rw going (subst (λ (o : Option (Member Y)). Settles making stage.written s.bytes (stage.taken ++ option_to_list (option_map (λ m. m.item) o)) false) (sym filled.gives.ahead)
-          (seen_by making pair.b_left pair.b_failed second second_now filled.m _ refl filled.gives stage.written s.bytes stage.taken
-          (subst (λ (b : Bool). Settles making stage.written s.bytes (stage.taken ++ option_to_list (item_ahead second)) b) going (s.settles known))));
+          rw going (subst (λ (o : Option (Member Y)). Settles join stage.written s.bytes (stage.taken ++ option_to_list (option_map (λ m. m.item) o)) false) (sym filled.gives.ahead)
+          (seen_by join pair.b_left pair.b_failed second second_now filled.m _ refl filled.gives stage.written s.bytes stage.taken
+          (subst (λ (b : Bool). Settles join stage.written s.bytes (stage.taken ++ option_to_list (item_ahead second)) b) going (s.settles known))));
       first_all = s.first_all;
       second_all = λ e. absurd (false≢true (sym going ∙ e));
       puts = s.puts;
@@ -256,8 +256,8 @@ module _ {A B X Y U V : Type 0} (making : Making X Y) (pair : Pair A B X Y U V) 
         λ e. absurd (false≢true (sym going ∙ sym follows.first_is ∙ e)),
       )
 
-      pub goes_on : (more : List ℕ) (now : Output) → (IsKnown pair → Settles making new.written (s.bytes ++ more) (new.taken ++ option_to_list (item_ahead second_now)) new.second_ended)
-          → Grown grown more now → Comes making pair out new (past_first ++ more_first) (past_second ++ more_second) first_now second_now now
+      pub goes_on : (more : List ℕ) (now : Output) → (IsKnown pair → Settles join new.written (s.bytes ++ more) (new.taken ++ option_to_list (item_ahead second_now)) new.second_ended)
+          → Grown grown more now → Comes join pair out new (past_first ++ more_first) (past_second ++ more_second) first_now second_now now
       goes_on more now settles adds = record {
         first_passes = takes.passes;
         second_passes = takes_second.passes;
@@ -299,7 +299,7 @@ module _ {A B X Y U V : Type 0} (making : Making X Y) (pair : Pair A B X Y U V) 
         ended_after_all pair.a_left pair.a_failed pair.a_end pair.first past_first first s.first_passes first_now over,
       )
 
-      pub ends_first : Comes making pair out (record stage { first_ended = true }) past_first past_second first_now second grown
+      pub ends_first : Comes join pair out (record stage { first_ended = true }) past_first past_second first_now second grown
       ends_first = record {
         first_passes = ended_passes;
         second_passes = s.second_passes;
@@ -318,10 +318,10 @@ module _ {A B X Y U V : Type 0} (making : Making X Y) (pair : Pair A B X Y U V) 
 
     -- once the second input has ended, the bytes of a member of the first are those against what was taken
     pub settles_at_end : stage.second_ended ≡ true → (a : X) → IsKnown pair
-        → Settles making (stage.written ++ a ∷ []) (s.bytes ++ making.bytes a stage.taken) (stage.taken ++ option_to_list (item_ahead second)) stage.second_ended
+        → Settles join (stage.written ++ a ∷ []) (s.bytes ++ join.bytes a stage.taken) (stage.taken ++ option_to_list (item_ahead second)) stage.second_ended
     settles_at_end e a known =
         let seen = seen_alone stage.taken second (s.second_all e).1 in
-        rw e (rw seen (settles_end making stage.written s.bytes stage.taken stage.second_ended a (subst (λ (l : List Y). Settles making stage.written s.bytes l stage.second_ended) seen (s.settles known))))
+        rw e (rw seen (settles_end join stage.written s.bytes stage.taken stage.second_ended a (subst (λ (l : List Y). Settles join stage.written s.bytes l stage.second_ended) seen (s.settles known))))
 
     -- if a member waits, the first input hasn't ended
     waits_by : (a : X) → stage.waiting ≡ Some a → (b : Bool) → stage.first_ended ≡ b → b ≡ false
@@ -334,23 +334,23 @@ module _ {A B X Y U V : Type 0} (making : Making X Y) (pair : Pair A B X Y U V) 
     -- if the second input ends now
     module _ (goes : stage.second_ended ≡ false) (second_now : MemberReader B Y V) (over : IsOver pair.b_left pair.b_failed pair.b_end second second_now) where
       -- those written are settled by what was taken
-      pub settles_ended : IsKnown pair → Settles making stage.written s.bytes stage.taken false
+      pub settles_ended : IsKnown pair → Settles join stage.written s.bytes stage.taken false
       settles_ended known =
-          subst (λ (l : List Y). Settles making stage.written s.bytes l false) (seen_alone stage.taken second over.ends.was_none)
-          (subst (λ (b : Bool). Settles making stage.written s.bytes (stage.taken ++ option_to_list (item_ahead second)) b) goes (s.settles known))
+          subst (λ (l : List Y). Settles join stage.written s.bytes l false) (seen_alone stage.taken second over.ends.was_none)
+          (subst (λ (b : Bool). Settles join stage.written s.bytes (stage.taken ++ option_to_list (item_ahead second)) b) goes (s.settles known))
 
       -- its end was given
-      ends_by : (now : Output) (bytes : List ℕ) → (IsKnown pair → Settles making (given stage) bytes stage.taken true) → PutsLines out bytes now → WorksAsBefore out now → HoldsBlock now.took now.put → Grows out.took now.took
+      ends_by : (now : Output) (bytes : List ℕ) → (IsKnown pair → Settles join (given stage) bytes stage.taken true) → PutsLines out bytes now → WorksAsBefore out now → HoldsBlock now.took now.put → Grows out.took now.took
           → ((past : List (Member X)) × (member_items past ≡ given stage)
           × (read : IsReadFor pair.a_left pair.a_failed pair.a_end pair.first past past_first first) × (stage.first_ended ≡ true → HasNoMore pair first read.to.count))
-          → Comes making pair out (record stage { written = given stage; waiting = None; second_ended = true }) past_first past_second first second_now now
+          → Comes join pair out (record stage { written = given stage; waiting = None; second_ended = true }) past_first past_second first second_now now
       ends_by now bytes settles puts works block grows near = record {
         first_passes = s.first_passes;
         second_passes = passes_end pair.b_left pair.b_failed pair.b_end pair.second past_second second s.second_passes second_now over;
         all_given = append-nil (given stage) ∙ s.all_given;
         all_taken = s.all_taken;
         bytes = bytes;
-        settles = λ known. subst (λ (l : List Y). Settles making (given stage) bytes l true) (sym (seen_alone stage.taken second_now over.ends.none_buffered)) (settles known);
+        settles = λ known. subst (λ (l : List Y). Settles join (given stage) bytes l true) (sym (seen_alone stage.taken second_now over.ends.none_buffered)) (settles known);
         first_all = λ e. let was = s.first_all e in (was.0, refl, was.2, was.3);
         second_all = λ e. (passes_all pair.b_left pair.b_failed pair.b_end pair.second past_second second s.second_passes second_now over, over.ends.none_buffered, over.ends.told);
         puts = puts;
@@ -361,22 +361,22 @@ module _ {A B X Y U V : Type 0} (making : Making X Y) (pair : Pair A B X Y U V) 
       }
 
       -- the waiting member was written
-      pub ends_waiting : (a : X) → stage.waiting ≡ Some a → (now : Output) → Grown grown (making.bytes a stage.taken) now
-          → Comes making pair out (record stage { written = given stage; waiting = None; second_ended = true }) past_first past_second first second_now now
+      pub ends_waiting : (a : X) → stage.waiting ≡ Some a → (now : Output) → Grown grown (join.bytes a stage.taken) now
+          → Comes join pair out (record stage { written = given stage; waiting = None; second_ended = true }) past_first past_second first second_now now
       ends_waiting a waits now adds =
-          let more = making.bytes a stage.taken in
+          let more = join.bytes a stage.taken in
           let with_waiting : given stage ≡ stage.written ++ a ∷ [] = ap (λ (o : Option X). stage.written ++ option_to_list o) waits in
           ends_by now (s.bytes ++ more)
-          (λ known. subst (λ (w : List X). Settles making w (s.bytes ++ more) stage.taken true) (sym with_waiting) (settles_end making stage.written s.bytes stage.taken false a (settles_ended known)))
+          (λ known. subst (λ (w : List X). Settles join w (s.bytes ++ more) stage.taken true) (sym with_waiting) (settles_end join stage.written s.bytes stage.taken false a (settles_ended known)))
           (grown_puts out grown now s.bytes more s.puts adds) (works_both out grown now s.works (grown_works grown now more adds)) (adds.block s.block)
           (grows_both out.took grown.took now.took s.grows adds.grows)
           (past_first, sym s.all_given, read_here pair.a_left pair.a_failed pair.a_end pair.first past_first first s.first_passes, λ e. absurd (false≢true (sym (first_waits a waits) ∙ e)))
 
       -- or none waited
-      pub ends_alone : stage.waiting ≡ None → Comes making pair out (record stage { written = given stage; waiting = None; second_ended = true }) past_first past_second first second_now grown
+      pub ends_alone : stage.waiting ≡ None → Comes join pair out (record stage { written = given stage; waiting = None; second_ended = true }) past_first past_second first second_now grown
       ends_alone none =
           let all : stage.written ≡ given stage = sym (append-nil stage.written) ∙ ap (λ (o : Option X). stage.written ++ option_to_list o) (sym none) in
           let near = s.near_first in
           ends_by grown s.bytes
-          (λ known. subst (λ (w : List X). Settles making w s.bytes stage.taken true) all (settles_close making stage.written s.bytes stage.taken (settles_ended known)))
+          (λ known. subst (λ (w : List X). Settles join w s.bytes stage.taken true) all (settles_close join stage.written s.bytes stage.taken (settles_ended known)))
           s.puts s.works s.block s.grows (near.0, near.1 ∙ all, near.2, near.3)

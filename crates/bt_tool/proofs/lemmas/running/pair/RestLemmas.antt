@@ -3,7 +3,7 @@ use Rattle.std.proofs.Common.{◌≡◌, ℕ, suc, ◌≤◌, ◌<◌, inl, inr,
 use Rattle.std.specs.Prelude.{All}
 use Rattle.std.proofs.lemmas.Bool.{false≢true}
 use Rattle.std.proofs.lemmas.List.Elements.{All-push}
-use Rattle.bt_lines.specs.model.Fault.{Told}
+use Rattle.bt_lines.specs.model.Fault.{FaultValue}
 use Rattle.bt_lines.specs.model.Lines.{TextLine}
 use Rattle.bt_lines.specs.calls.Device.{ReadsCounted}
 use Rattle.bt_lines.specs.calls.Reader.{HasRead, bytes_taken, lines_given, source_of}
@@ -89,7 +89,7 @@ module _ {S A State : Type 0} (left : S → Option (List ℕ)) (failed end : S �
           | inr less ↦ All-push (λ (m : Member A). m.line ≤ lines_given new.below) past m low (omega (arith, less, up, first_line (suc (lines_given before.below)) before.buffered m e))
         ]
 
-    pub reads_stop : (kinds : Kind → Type 0) (new : MemberReader S A State) (fault : Told) → IsStopped left failed end now fault new → (old : MemberReader S A State) (past : List (Member A))
+    pub reads_stop : (kinds : Kind → Type 0) (new : MemberReader S A State) (fault : FaultValue) → IsStopped left failed end now fault new → (old : MemberReader S A State) (past : List (Member A))
         → Passes left failed end old past before → ((state : State) (line : TextLine) (kind : Kind) → old.format.says state line ≡ Err kind → kinds kind)
         → ChecksUpTo left failed end old past before kinds fault new
     reads_stop kinds new fault stopped old past p wrong =

@@ -18,7 +18,7 @@ use Rattle.bt_sweep.specs.calls.SweepState.{Sweeping}
 use Rattle.bt_sweep.specs.declared.hits.hit_rule.HitRule.{HitRule}
 use Rattle.bt_sweep.specs.declared.output.shape.Shape.{Shape}
 use Rattle.bt_tool.specs.inside.feed.Feeding.{IsFresh}
-use Rattle.bt_tool.specs.inside.pair.SweepLoop.{Sweeps, records_pair, sweep_making}
+use Rattle.bt_tool.specs.inside.pair.SweepLoop.{Sweeps, records_pair, sweep_join}
 use Rattle.bt_tool.proofs.lemmas.running.members.CameMembers.{BeginsAt}
 use Rattle.bt_tool.proofs.lemmas.running.members.MemberLemmas.{passes_start}
 use Rattle.bt_tool.proofs.lemmas.running.pair.PairTurns.{comes_start}
@@ -36,7 +36,7 @@ module _ {A B O : Type 0} {g : Ghosts O} (a_left : A → Option (List ℕ)) (a_f
     past_second = [];
     stage = first_stage;
     stands = stands;
-    comes = comes_start (sweep_making (order_in first) shape rule limit) (records_pair a_left a_failed a_end b_left b_failed b_end first second) out
+    comes = comes_start (sweep_join (order_in first) shape rule limit) (records_pair a_left a_failed a_end b_left b_failed b_end first second) out
         (passes_start a_left a_failed a_end (view_of first) fresh (line_going first fresh.going))
         (passes_start b_left b_failed b_end (view_of second) fresh_second (line_going second fresh_second.going)) block;
     first_order = refl;

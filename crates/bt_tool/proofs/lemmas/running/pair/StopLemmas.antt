@@ -3,7 +3,7 @@ use Rattle.std.proofs.Common.{◌≡◌, ℕ, suc, ◌+◌, ◌-◌, ◌<◌, �
 use Rattle.std.specs.Prelude.{◌⊎◌, All, IfSome, option_map}
 use Rattle.std.proofs.Common.{inl, inr}
 use Rattle.std.proofs.lemmas.List.Elements.{All-cons, All-head, All-nil}
-use Rattle.bt_lines.specs.model.Fault.{Told, no_memory}
+use Rattle.bt_lines.specs.model.Fault.{FaultValue, no_memory}
 use Rattle.bt_lines.specs.model.Lines.{AreNumbered, TextLine, bytes_in, lines_from}
 use Rattle.bt_lines.specs.calls.Output.{block_size}
 use Rattle.bt_lines.specs.calls.Reader.{IsKept, held, input_of, lines_given, lines_left, source_of, fault_kept as line_fault}
@@ -28,7 +28,7 @@ pub record StopsBehind {S A State : Type 0} (left : S → Option (List ℕ)) (ol
       bytes_in (drop (suc count - lines_given old.below) lines) ≤ length rest + block_size))
 
 -- a fault of a line, if there is one, lies after the first `count` lines
-abbrev FaultBeyond : ℕ → Option Told → Type 0
+abbrev FaultBeyond : ℕ → Option FaultValue → Type 0
 FaultBeyond count fault = IfSome fault (IsFaultBeyond count)
 
 placed_less : (less more : ℕ) (place : Option Place) → less ≤ more → IfSome place (λ p. more < p.line)
@@ -36,7 +36,7 @@ placed_less : (less more : ℕ) (place : Option Place) → less ≤ more → IfS
 placed_less less more None h f = tt
 placed_less less more (Some place) h f = omega arith
 
-fault_less : (less more : ℕ) (fault : Option Told) → less ≤ more → FaultBeyond more fault → FaultBeyond less fault
+fault_less : (less more : ℕ) (fault : Option FaultValue) → less ≤ more → FaultBeyond more fault → FaultBeyond less fault
 fault_less less more None h f = tt
 fault_less less more (Some fault) h f = placed_less less more fault.place h f
 
@@ -154,7 +154,7 @@ near_passed (Some start) (Some now) (Some rest) passed more e p n =
     let is : now ≡ drop passed start = cc in
     omega (arith, ap bytes_in (is ∙ ap (λ n. drop n start) (sym e)), n)
 
-beyond_end : {A : Type 0} (count : ℕ) (fault : Option Told) (good : Option (Good A)) → FaultBeyond count fault → IfSome good (λ good. good ≡ ends_with fault) → IfSome good (IsBeyond count)
+beyond_end : {A : Type 0} (count : ℕ) (fault : Option FaultValue) (good : Option (Good A)) → FaultBeyond count fault → IfSome good (λ good. good ≡ ends_with fault) → IfSome good (IsBeyond count)
 beyond_end count fault None h e = tt
 beyond_end {A} count fault (Some good) h e = subst (IsBeyond count) (sym e) (record { members = All-nil (λ (m : Member A). count < m.line); fault = h })
 
@@ -171,12 +171,12 @@ module _ {S A State : Type 0} (left : S → Option (List ℕ)) (failed end : S �
   }
 
   -- at a line that wasn't given
-  stops_unread : (new : MemberReader S A State) (fault : Told) → AnswersFault left failed end old fault new → IfSome (good_coming left old) (IsBeyond (lines_given new.below))
+  stops_unread : (new : MemberReader S A State) (fault : FaultValue) → AnswersFault left failed end old fault new → IfSome (good_coming left old) (IsBeyond (lines_given new.below))
       → (count : ℕ) × StopsBehind left old count new.below
   stops_unread new fault answers passed = (lines_given new.below, record { passed = passed; from = answers.rises; near = answers.near going kept })
 
   -- at a line that was given and is at fault
-  stops_wrong : (new : MemberReader S A State) (fault : Told) → AnswersFault left failed end old fault new → IsKept left end new.below → LineIsWrong left failed old fault new
+  stops_wrong : (new : MemberReader S A State) (fault : FaultValue) → AnswersFault left failed end old fault new → IsKept left end new.below → LineIsWrong left failed old fault new
       → (count : ℕ) × StopsBehind left old count new.below
   stops_wrong new fault answers next wrong =
       let count = lines_given new.below - 1 in
@@ -189,7 +189,7 @@ module _ {S A State : Type 0} (left : S → Option (List ℕ)) (failed end : S �
             (answers.lines wrong.going) next wrong.going wrong.near,
       )
 
-  stops_out : (new : MemberReader S A State) (fault : Told) → AnswersFault left failed end old fault new → IsKept left end new.below
+  stops_out : (new : MemberReader S A State) (fault : FaultValue) → AnswersFault left failed end old fault new → IsKept left end new.below
       → ((line_fault new.below ≡ Some no_memory) × SaidNothing left old new) ⊎ LastUnkept left old new
       → (count : ℕ) × StopsBehind left old count new.below
   stops_out new fault answers next (inl unread) = stops_unread new fault answers unread.1
@@ -203,13 +203,13 @@ module _ {S A State : Type 0} (left : S → Option (List ℕ)) (failed end : S �
             (answers.lines unkept.going) next unkept.going unkept.near,
       )
 
-  stops_by : (new : MemberReader S A State) (fault : Told) → AnswersFault left failed end old fault new → IsKept left end new.below
+  stops_by : (new : MemberReader S A State) (fault : FaultValue) → AnswersFault left failed end old fault new → IsKept left end new.below
       → Cause left failed end old fault new → (count : ℕ) × StopsBehind left old count new.below
   stops_by new fault answers next (inl wrong) = stops_wrong new fault answers next wrong
   stops_by new fault answers next (inr (inl unread)) = stops_unread new fault answers unread.passed
   stops_by new fault answers next (inr (inr ran)) = stops_out new fault answers next ran.checked
 
   -- at a fault
-  pub stops_faulty : (new : MemberReader S A State) (fault : Told) → AnswersFault left failed end old fault new → IsKept left end new.below
+  pub stops_faulty : (new : MemberReader S A State) (fault : FaultValue) → AnswersFault left failed end old fault new → IsKept left end new.below
       → (count : ℕ) × StopsBehind left old count new.below
   stops_faulty new fault answers next = stops_by new fault answers next (answers.first going)

@@ -5,7 +5,7 @@ use Rattle.std.specs.Prelude.{IfSome, IsTrue, option_map}
 use Rattle.std.specs.List.{list_all}
 use Rattle.std.proofs.lemmas.Bool.{false≢true, and_from, and_parts}
 use Rattle.std.proofs.lemmas.List.{map-append}
-use Rattle.bt_lines.specs.calls.Names.{told}
+use Rattle.bt_lines.specs.calls.Names.{fault_value}
 use Rattle.bt_lines.specs.calls.Output.{Output}
 use Rattle.bt_lines.specs.calls.Reader.{lines_given}
 use Rattle.bt_lines.specs.declared.fault.Fault.{Fault}
@@ -232,7 +232,7 @@ module _ {A B O : Type 0} {g : Ghosts O} (a_left : A → Option (List ℕ)) (a_f
           ends = lack.ends;
           puts = lack.puts;
           lacks = λ shape rule limit stage stands placed placed_second.
-              subst (λ (n : ℕ). CannotBeHeld limit lack.last (stage.taken ++ fails.seconds) n (told fault))
+              subst (λ (n : ℕ). CannotBeHeld limit lack.last (stage.taken ++ fails.seconds) n (fault_value fault))
               (line_then second seconds lends_second last_seconds fails.seconds fails.gives_seconds second_consumed second_is b_left b_failed b_end comes_second new_second second_takes lack.b lack.after lack.gives)
               (lack.lacks shape rule limit stage stands placed placed_second);
         }))

@@ -1,6 +1,6 @@
 -- What subtract writes is what intersect would in the shapes of what is left.
 use Rattle.std.proofs.Common.{◌≡◌, ℕ, Bool, true, List, Option, None, sym, ◌∙◌}
-use Rattle.bt_lines.specs.model.Fault.{Told}
+use Rattle.bt_lines.specs.model.Fault.{FaultValue}
 use Rattle.bt_lines.specs.model.Handed.{Handed}
 use Rattle.bt_lines.specs.model.Lines.{TextLine}
 use Rattle.bt_lines.specs.calls.Output.{Output}
@@ -14,7 +14,7 @@ use Rattle.bt_sweep.proofs.lemmas.laws.SweepsLemmas.{faultless_all, subtract_met
 use Rattle.bt_tool.specs.model.report.Behaviour.{of_intersect, of_subtract}
 use Rattle.bt_tool.specs.model.report.Inputs.{or_empty}
 use Rattle.bt_tool.specs.model.report.SweepReport.{intersect_settles, records_on, subtract_settles}
-use Rattle.bt_tool.specs.calls.run.Telling.{IsFaultButWrite}
+use Rattle.bt_tool.specs.calls.run.FaultSource.{IsFaultButWrite}
 use Rattle.bt_tool.specs.calls.run.Writing.{WritesBy}
 use Rattle.bt_tool.proofs.lemmas.running.feed.WritingLemmas.{near_as}
 
@@ -27,7 +27,7 @@ settles_left order whole rule second lines =
     sym (faultless_all order (subtract_shape whole) rule first others None) ∙ subtract_met order whole rule first others None
 
 module _ {A B : Type 0} (a_left : A → Option (List ℕ)) (a_failed a_end : A → Bool) (b_left : B → Option (List ℕ)) (b_failed : B → Bool)
-    (order : Order) (whole : Bool) (rule : HitRule) (limit : Option ℕ) (first : A) (second : Option B) (out : Output) (fault : Option Told) (first_after : A) (second_after : Option B) (grown : Output) where
+    (order : Order) (whole : Bool) (rule : HitRule) (limit : Option ℕ) (first : A) (second : Option B) (out : Output) (fault : Option FaultValue) (first_after : A) (second_after : Option B) (grown : Output) where
   pub subtract_writes : WritesBy a_left a_failed a_end b_left b_failed (of_intersect order (subtract_shape whole) rule limit) first second out fault first_after second_after grown
       → WritesBy a_left a_failed a_end b_left b_failed (of_subtract order whole rule limit) first second out fault first_after second_after grown
   subtract_writes w = record {

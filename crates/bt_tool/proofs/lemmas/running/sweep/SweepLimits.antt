@@ -6,7 +6,7 @@ use Rattle.std.proofs.lemmas.Bool.{false≢true, and_from, and_parts, le-ltb, lt
 use Rattle.std.proofs.lemmas.List.{map-append}
 use Rattle.std.proofs.lemmas.List.Elements.{filter-append}
 use Rattle.std.proofs.lemmas.List.Folds.{list_any-append}
-use Rattle.bt_lines.specs.model.Fault.{Told}
+use Rattle.bt_lines.specs.model.Fault.{FaultValue}
 use Rattle.bt_lines.specs.declared.fault.Input.TheVariants.{Second}
 use Rattle.bt_lines.specs.declared.fault.Kind.TheVariants.{TooManyHeld}
 use Rattle.bt_bed.specs.model.feature.Feature.{Feature, intervals_of}
@@ -22,7 +22,7 @@ use Rattle.bt_sweep.specs.declared.hits.hit_rule.HitRule.{HitRule}
 use Rattle.bt_sweep.specs.declared.output.shape.Shape.{Shape}
 use Rattle.bt_sweep.proofs.lemmas.laws.LimitLemmas.{cut_front, cut_here, cut_keeps, cut_next, cut_none, cut_on, few_decided, many_by}
 use Rattle.bt_tool.specs.inside.feed.Feeding.{member_items}
-use Rattle.bt_tool.specs.inside.pair.SweepLoop.{AreWithin, sweep_making}
+use Rattle.bt_tool.specs.inside.pair.SweepLoop.{AreWithin, sweep_join}
 use Rattle.bt_tool.proofs.lemmas.running.pair.PairLimits.{AreLimits}
 
 pub some_limit : (limit : Option ℕ) (count : ℕ) → has_room limit count ≡ false → is_some limit ≡ true
@@ -67,10 +67,10 @@ module _ (order : Order) where
       ∙ ap (λ n. length (filter (is_held a) (member_items past)) + n) (passed_one a m.item e)
 
   -- with one that there is no room for, the second input is cut
-  pub cuts_at : (limit : Option ℕ) (before : List Feature) (a : Feature) (past : List (Member Feature)) (m : Member Feature) (fault : Told) → fault ≡ fault_at_line Second m.line TooManyHeld
+  pub cuts_at : (limit : Option ℕ) (before : List Feature) (a : Feature) (past : List (Member Feature)) (m : Member Feature) (fault : FaultValue) → fault ≡ fault_at_line Second m.line TooManyHeld
       → AreWithin order limit (before ++ a ∷ []) past → list_all (λ x. decided order x (member_items (past ++ m ∷ []))) before ≡ true → decided order a (member_items (past ++ m ∷ [])) ≡ false
       → is_held a m.item ≡ true → has_room limit (length (filter (is_held a) (member_items past))) ≡ false
-      → (later : List Feature) (more : List (Member Feature)) (other : Option Told)
+      → (later : List Feature) (more : List (Member Feature)) (other : Option FaultValue)
       → limited order limit (before ++ a ∷ later) (record { members = (past ++ m ∷ []) ++ more; fault = other }) ≡ record { members = past ++ m ∷ []; fault = Some fault }
   cuts_at None before a past m fault is within all undecided held full later more other = absurd (false≢true (sym full))
   cuts_at (Some most) before a past m fault is within all undecided held full later more other =
@@ -82,13 +82,13 @@ module _ (order : Order) where
       subst (λ (l : List Feature). cut_behind (are_too_many order most l) [] (past ++ m ∷ more) other ≡ cut_behind (are_too_many order most l) past (m ∷ more) other) (append_assoc before (a ∷ []) later) (within later (m ∷ more) other) in
       ap (λ l. cut_behind (are_too_many order most (before ++ a ∷ later)) [] l other) (append_assoc past (m ∷ []) more)
       ∙ here ∙ cut_here (are_too_many order most (before ++ a ∷ later)) past more m other many
-      ∙ ap (λ (f : Told). record { members = past ++ m ∷ []; fault = Some f }) (sym is)
+      ∙ ap (λ (f : FaultValue). record { members = past ++ m ∷ []; fault = Some f }) (sym is)
 
   module _ (most : ℕ) (first : List Feature) where
     abbrev too_many : List Feature → Bool
     too_many = are_too_many order most first
 
-    cut_at : (past more : List (Member Feature)) (fault : Option Told) → AreWithin order (Some most) first past → cut_behind too_many [] (past ++ more) fault ≡ cut_behind too_many past more fault
+    cut_at : (past more : List (Member Feature)) (fault : Option FaultValue) → AreWithin order (Some most) first past → cut_behind too_many [] (past ++ more) fault ≡ cut_behind too_many past more fault
     cut_at past more fault within =
         subst (λ (l : List Feature). cut_behind (are_too_many order most l) [] (past ++ more) fault ≡ cut_behind (are_too_many order most l) past more fault) (append-nil first) (within [] more fault)
 
@@ -103,7 +103,7 @@ module _ (order : Order) where
         let parts = and_parts (decided order x (member_items past)) (list_all (λ x. decided order x (member_items past)) xs) all in
         and_from (decided order x (member_items (past ++ extra))) (list_all (λ x. decided order x (member_items (past ++ extra))) xs) (still x past extra parts.0) (all_still xs past extra parts.1)
 
-    cut_seen : (past : List (Member Feature)) (ahead : Option (Member Feature)) (rest : List (Member Feature)) (fault : Option Told) → AreWithin order (Some most) first past
+    cut_seen : (past : List (Member Feature)) (ahead : Option (Member Feature)) (rest : List (Member Feature)) (fault : Option FaultValue) → AreWithin order (Some most) first past
         → list_all (λ x. decided order x (member_items (past ++ option_to_list ahead))) first ≡ true
         → cut_behind too_many [] ((past ++ option_to_list ahead) ++ rest) fault ≡ cut_behind too_many (past ++ option_to_list ahead) rest fault
     cut_seen past None rest fault within all =
@@ -113,7 +113,7 @@ module _ (order : Order) where
         ∙ cut_on too_many past rest m fault (few_decided order most (member_items (past ++ m ∷ [])) first all)
 
     -- if all of the first is decided, the second isn't cut
-    cut_done : (past : List (Member Feature)) (ahead : Option (Member Feature)) (rest : List (Member Feature)) (fault : Option Told) → AreWithin order (Some most) first past
+    cut_done : (past : List (Member Feature)) (ahead : Option (Member Feature)) (rest : List (Member Feature)) (fault : Option FaultValue) → AreWithin order (Some most) first past
         → list_all (λ x. decided order x (member_items (past ++ option_to_list ahead))) first ≡ true
         → cut_behind too_many [] ((past ++ option_to_list ahead) ++ rest) fault ≡ record { members = (past ++ option_to_list ahead) ++ rest; fault = fault }
     cut_done past ahead rest fault within all =
@@ -121,7 +121,7 @@ module _ (order : Order) where
         ∙ cut_none too_many (past ++ option_to_list ahead) rest fault
         (λ front n more e. few_decided order most (member_items ((past ++ option_to_list ahead) ++ (front ++ n ∷ []))) first (all_still first (past ++ option_to_list ahead) (front ++ n ∷ []) all))
 
-    keeps_at : (past : List (Member Feature)) (ahead : Option (Member Feature)) (rest : List (Member Feature)) (fault : Option Told) → AreWithin order (Some most) first past
+    keeps_at : (past : List (Member Feature)) (ahead : Option (Member Feature)) (rest : List (Member Feature)) (fault : Option FaultValue) → AreWithin order (Some most) first past
         → (more : List (Member Feature)) × ((cut_behind too_many [] ((past ++ option_to_list ahead) ++ rest) fault).members ≡ (past ++ option_to_list ahead) ++ more)
     keeps_at past None rest fault within =
         let keeps = cut_keeps too_many past rest fault in (
@@ -134,12 +134,12 @@ module _ (order : Order) where
           ap (λ (g : Good Feature). g.members) (ap (λ l. cut_behind too_many [] l fault) (append_assoc past (m ∷ []) rest) ∙ cut_at past (m ∷ rest) fault within) ∙ keeps.1,
         )
 
-  whole_limited : (limit : Option ℕ) (first : List Feature) (past : List (Member Feature)) (fault : Option Told) → AreWithin order limit first past
+  whole_limited : (limit : Option ℕ) (first : List Feature) (past : List (Member Feature)) (fault : Option FaultValue) → AreWithin order limit first past
       → limited order limit first (record { members = past; fault = fault }) ≡ record { members = past; fault = fault }
   whole_limited None first past fault within = refl
   whole_limited (Some most) first past fault within = ap (λ l. cut_behind (are_too_many order most first) [] l fault) (sym (append-nil past)) ∙ cut_at most first past [] fault within
 
-  keeps_limited : (limit : Option ℕ) (first : List Feature) (past : List (Member Feature)) (ahead : Option (Member Feature)) (rest : List (Member Feature)) (fault : Option Told) → AreWithin order limit first past
+  keeps_limited : (limit : Option ℕ) (first : List Feature) (past : List (Member Feature)) (ahead : Option (Member Feature)) (rest : List (Member Feature)) (fault : Option FaultValue) → AreWithin order limit first past
       → (more : List (Member Feature)) × ((limited order limit first (record { members = (past ++ option_to_list ahead) ++ rest; fault = fault })).members ≡ (past ++ option_to_list ahead) ++ more)
   keeps_limited None first past ahead rest fault within = (rest, refl)
   keeps_limited (Some most) first past ahead rest fault within = keeps_at most first past ahead rest fault within
@@ -149,7 +149,7 @@ module _ (order : Order) where
       placed_front order (intervals_of (member_items past)) (intervals_of (member_items rest))
       (subst (ArePlaced order) (ap intervals_of (map-append (λ m. m.item) past rest) ∙ map-append _ (member_items past) (member_items rest)) placed)
 
-  done_limited : (limit : Option ℕ) (first : List Feature) (past : List (Member Feature)) (ahead : Option (Member Feature)) (rest : List (Member Feature)) (fault : Option Told) → AreWithin order limit first past
+  done_limited : (limit : Option ℕ) (first : List Feature) (past : List (Member Feature)) (ahead : Option (Member Feature)) (rest : List (Member Feature)) (fault : Option FaultValue) → AreWithin order limit first past
       → ArePlaced order (intervals_of (member_items ((past ++ option_to_list ahead) ++ rest)))
       → (ArePlaced order (intervals_of (member_items (past ++ option_to_list ahead))) → list_all (λ x. decided order x (member_items (past ++ option_to_list ahead))) first ≡ true)
       → limited order limit first (record { members = (past ++ option_to_list ahead) ++ rest; fault = fault }) ≡ record { members = (past ++ option_to_list ahead) ++ rest; fault = fault }
@@ -163,7 +163,7 @@ module _ (order : Order) where
       front_placed (limited order (Some most) first second).members front.0 (subst (λ ms. ArePlaced order (intervals_of (member_items ms))) front.1 placed)
 
   -- what a run owes for the limit
-  pub sweep_limits : (shape : Shape) (rule : HitRule) (limit : Option ℕ) → AreLimits (sweep_making order shape rule limit)
+  pub sweep_limits : (shape : Shape) (rule : HitRule) (limit : Option ℕ) → AreLimits (sweep_join order shape rule limit)
   sweep_limits shape rule limit = record {
     more = within_given limit;
     whole = whole_limited limit;

@@ -3,7 +3,7 @@ use Rattle.std.proofs.Common.{◌≡◌, ℕ, zero, suc, ◌+◌, ◌*◌, ◌�
 use Rattle.std.specs.Prelude.{◌⊎◌, is_some}
 use Rattle.std.proofs.lemmas.Bool.{false≢true}
 use Rattle.bt_lines.proofs.lemmas.reader.block.ReadsLemmas.{reads_same}
-use Rattle.bt_lines.specs.calls.Names.{told}
+use Rattle.bt_lines.specs.calls.Names.{fault_value}
 use Rattle.bt_lines.specs.calls.Output.{Output}
 use Rattle.bt_lines.specs.calls.Reader.{HasRead}
 use Rattle.bt_lines.specs.declared.fault.Fault.{Fault}
@@ -113,7 +113,7 @@ module _ {A B O : Type 0} {g : Ghosts O} (a_left : A → Option (List ℕ)) (a_f
   reads_filled false new_first new_second swept grown none = (same_first new_first none.same_first, same_second new_second none.same_second)
 
   module _ (none : fault_kept first ≡ None) (none_second : fault_kept second ≡ None) where
-    pub reads_stopped : (fault : Fault) (new_first : Records A O g) (new_second : Records B O g) (swept : Sweeping) (grown : Output) → FillStops fault new_first new_second swept grown → TellsNoRead (Some (told fault)) → ReadBoth new_first new_second
+    pub reads_stopped : (fault : Fault) (new_first : Records A O g) (new_second : Records B O g) (swept : Sweeping) (grown : Output) → FillStops fault new_first new_second swept grown → TellsNoRead (Some (fault_value fault)) → ReadBoth new_first new_second
     reads_stopped fault new_first new_second swept grown (inl f) never = ((f.fills.own_failure none).read never, same_second new_second f.same_second)
     reads_stopped fault new_first new_second swept grown (inr (inl f)) never = (same_first new_first f.same_first, (f.fills.own_failure none_second).read never)
     reads_stopped fault new_first new_second swept grown (inr (inr f)) never = (same_first new_first f.same_first, f.fills.own_failure)
@@ -170,7 +170,7 @@ module _ {A B O : Type 0} {g : Ghosts O} (a_left : A → Option (List ℕ)) (a_f
   Going = Sweeps a_left a_failed a_end b_left b_failed b_end (order_in old_first) shape rule limit old_first old_second out
 
   abbrev Ends : Fault → Records A O g → Records B O g → Output → Type 0
-  Ends fault = SweepEnds a_left a_failed a_end b_left b_failed b_end (order_in old_first) shape rule limit old_first old_second out (Some (told fault))
+  Ends fault = SweepEnds a_left a_failed a_end b_left b_failed b_end (order_in old_first) shape rule limit old_first old_second out (Some (fault_value fault))
 
   -- a record is buffered of the input that is wanted, or the sweep was given its end
   abbrev IsReady : Records A O g → Records B O g → Sweeping → Type 0
@@ -244,7 +244,7 @@ module _ {A B O : Type 0} {g : Ghosts O} (a_left : A → Option (List ℕ)) (a_f
   stops_at fault new_first new_second swept later (inr (inr f)) =
       let w = waiting a_left a_failed a_end ReadsA b_left b_failed b_end ReadsB shape rule limit old_first old_second out total same_order is_bed is_bed_second first second sweep grown s f.wants in
       rw f.same_first
-      (fails_at_end a_left a_failed a_end ReadsA b_left b_failed b_end ReadsB shape rule limit old_first old_second out total same_order is_bed is_bed_second first second sweep grown s f.wants (told fault) new_second later f.fills
+      (fails_at_end a_left a_failed a_end ReadsA b_left b_failed b_end ReadsB shape rule limit old_first old_second out total same_order is_bed is_bed_second first second sweep grown s f.wants (fault_value fault) new_second later f.fills
       (f.fails shape rule limit s.stage w.0 s.stands w.1 (placed_taken a_left a_failed a_end ReadsA b_left b_failed b_end ReadsB shape rule limit old_first old_second out total same_order is_bed is_bed_second first second sweep grown s)))
 
   pub fill_stops : (fault : Fault) (new_first : Records A O g) (new_second : Records B O g) (swept : Sweeping) (later : Output) → FillsWanted a_left a_failed a_end ReadsA b_left b_failed b_end ReadsB order first second sweep grown (Err fault) new_first new_second swept later
@@ -258,11 +258,11 @@ module _ {A B O : Type 0} {g : Ghosts O} (a_left : A → Option (List ℕ)) (a_f
       goes_both a_left a_failed a_end ReadsA b_left b_failed b_end ReadsB shape rule limit old_first old_second out total same_order is_bed is_bed_second first second sweep grown s new_first new_second swept later
       (subst (λ (o : Order). GivesBoth a_left a_failed a_end ReadsA b_left b_failed b_end ReadsB o first second sweep grown new_first new_second swept later) is_order gives)
 
-  pub failed_both : (fault : Fault) (new_first : Records A O g) (new_second : Records B O g) (later : Output) → FailsAmong a_left a_failed a_end ReadsA b_left b_failed b_end ReadsB order first second sweep grown (told fault) new_first new_second later
+  pub failed_both : (fault : Fault) (new_first : Records A O g) (new_second : Records B O g) (later : Output) → FailsAmong a_left a_failed a_end ReadsA b_left b_failed b_end ReadsB order first second sweep grown (fault_value fault) new_first new_second later
       → Ends fault new_first new_second later
   failed_both fault new_first new_second later fails =
-      fails_both a_left a_failed a_end ReadsA b_left b_failed b_end ReadsB shape rule limit old_first old_second out total same_order is_bed is_bed_second first second sweep grown s (told fault) new_first new_second later
-      (subst (λ (o : Order). FailsAmong a_left a_failed a_end ReadsA b_left b_failed b_end ReadsB o first second sweep grown (told fault) new_first new_second later) is_order fails)
+      fails_both a_left a_failed a_end ReadsA b_left b_failed b_end ReadsB shape rule limit old_first old_second out total same_order is_bed is_bed_second first second sweep grown s (fault_value fault) new_first new_second later
+      (subst (λ (o : Order). FailsAmong a_left a_failed a_end ReadsA b_left b_failed b_end ReadsB o first second sweep grown (fault_value fault) new_first new_second later) is_order fails)
 
   -- whether the first input has ended doesn't change
   done_at : (new_first : Records A O g) (new_second : Records B O g) (swept : Sweeping) (later : Output) → GivesBoth a_left a_failed a_end ReadsA b_left b_failed b_end ReadsB (order_in old_first) first second sweep grown new_first new_second swept later

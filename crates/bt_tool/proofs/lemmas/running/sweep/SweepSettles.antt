@@ -5,7 +5,7 @@ use Rattle.std.specs.List.{list_all, list_any}
 use Rattle.std.proofs.lemmas.Bool.{false≢true, and_from, and_parts, or_right, cases_Bool}
 use Rattle.std.proofs.lemmas.List.{map-append}
 use Rattle.std.proofs.lemmas.List.Folds.{list_all-append}
-use Rattle.bt_lines.specs.model.Fault.{Told}
+use Rattle.bt_lines.specs.model.Fault.{FaultValue}
 use Rattle.bt_bed.specs.model.feature.Feature.{Feature, intervals_of}
 use Rattle.bt_bed.specs.model.input.Good.{Member}
 use Rattle.bt_bed.specs.model.order.Locus.{ArePlaced}
@@ -25,8 +25,8 @@ use Rattle.bt_sweep.proofs.lemmas.laws.DecidingLemmas.{none_before, placed_back}
 use Rattle.bt_sweep.proofs.lemmas.sweep.KeepLemmas.{decided_before, decided_behind, decided_both, lines_stay_so}
 use Rattle.bt_sweep.proofs.lemmas.laws.PlacedLemmas.{front_placed}
 use Rattle.bt_tool.specs.inside.feed.Feeding.{member_items}
-use Rattle.bt_tool.specs.inside.pair.Pair.{Making, Settles}
-use Rattle.bt_tool.specs.inside.pair.SweepLoop.{AreWithin, sweep_making}
+use Rattle.bt_tool.specs.inside.pair.Pair.{JoinDef, Settles}
+use Rattle.bt_tool.specs.inside.pair.SweepLoop.{AreWithin, sweep_join}
 use Rattle.bt_tool.proofs.lemmas.running.pair.PairSettles.{settles_list}
 use Rattle.bt_tool.proofs.lemmas.running.pair.PairTurns as turned
 use Rattle.bt_tool.proofs.lemmas.running.sweep.SweepLimits.{held_few, within_taken}
@@ -78,36 +78,36 @@ module _ (order : Order) (total : IsTotal order) where
       ∙ lines_stay_so order total shape rule taken b rest (subst (λ (l : List Feature). ArePlaced order (intervals_of l)) parts placed) newly known
       (decided_before order newly taken (b ∷ []) (subst (λ (l : List Feature). AreDecided order newly l) (append-nil taken) all))
 
-  each_true : (fault : Option Told) (newly second : List Feature) → list_all (λ x. decided order x second) newly ≡ true → list_all (λ x. is_none fault || decided order x second) newly ≡ true
+  each_true : (fault : Option FaultValue) (newly second : List Feature) → list_all (λ x. decided order x second) newly ≡ true → list_all (λ x. is_none fault || decided order x second) newly ≡ true
   each_true fault [] second all = refl
   each_true fault (x ∷ newly) second all =
       let parts = and_parts (decided order x second) (list_all (λ x. decided order x second) newly) all in
       and_from (is_none fault || decided order x second) (list_all (λ x. is_none fault || decided order x second) newly) (or_right (is_none fault) (decided order x second) parts.0) (each_true fault newly second parts.1)
 
-  none_true : (newly second : List Feature) → list_all (λ x. is_none {T = Told} None || decided order x second) newly ≡ true
+  none_true : (newly second : List Feature) → list_all (λ x. is_none {T = FaultValue} None || decided order x second) newly ≡ true
   none_true [] second = refl
   none_true (x ∷ newly) second = none_true newly second
 
   module _ (shape : Shape) (rule : HitRule) (limit : Option ℕ) where
-    abbrev making_of : Making Feature Feature
-    making_of = sweep_making order shape rule limit
+    abbrev join_of : JoinDef Feature Feature
+    join_of = sweep_join order shape rule limit
 
     -- more records of the first are settled
-    pub settles_newly : (written newly : List Feature) (bytes : List ℕ) (taken : List Feature) (o : Option Feature) (ended : Bool) (phase : Phase) → Settles making_of written bytes (taken ++ option_to_list o) ended → ArePlaced order (intervals_of newly)
+    pub settles_newly : (written newly : List Feature) (bytes : List ℕ) (taken : List Feature) (o : Option Feature) (ended : Bool) (phase : Phase) → Settles join_of written bytes (taken ++ option_to_list o) ended → ArePlaced order (intervals_of newly)
         → (phase ≡ First → (ended ≡ true) × (o ≡ None)) → (ss : List Feature) (before : List Feature) → taken ≡ before ++ ss → SettlesEach order phase newly (ss ++ option_to_list o)
-        → Settles making_of (written ++ newly) (bytes ++ intersect shape rule newly taken) (taken ++ option_to_list o) ended
+        → Settles join_of (written ++ newly) (bytes ++ intersect shape rule newly taken) (taken ++ option_to_list o) ended
     settles_newly written newly bytes taken o ended phase s known ends ss before parts (inl first) =
         let done = ends first in
-        settles_list making_of written newly bytes (intersect shape rule newly taken) (taken ++ option_to_list o) ended s
+        settles_list join_of written newly bytes (intersect shape rule newly taken) (taken ++ option_to_list o) ended s
         (λ second fault ordered may.
         let all = may.all done.0 in (
-          subst (λ (f : Option Told). list_all (λ x. is_none f || decided order x second) newly ≡ true) (sym all.1) (none_true newly second),
+          subst (λ (f : Option FaultValue). list_all (λ x. is_none f || decided order x second) newly ≡ true) (sym all.1) (none_true newly second),
           ap (intersect shape rule newly) (all.0 ∙ ap (λ (w : Option Feature). taken ++ option_to_list w) done.1 ∙ append-nil taken),
         ))
     settles_newly written newly bytes taken o ended phase s known ends ss before parts (inr each) =
         let all : AreDecided order newly (taken ++ option_to_list o) =
         subst (λ (l : List Feature). AreDecided order newly l) (sym (append_assoc before ss (option_to_list o)) ∙ ap (λ (l : List Feature). l ++ option_to_list o) (sym parts)) (decided_behind order newly before (ss ++ option_to_list o) each) in
-        settles_list making_of written newly bytes (intersect shape rule newly taken) (taken ++ option_to_list o) ended s
+        settles_list join_of written newly bytes (intersect shape rule newly taken) (taken ++ option_to_list o) ended s
         (λ second fault ordered may. (
           each_true fault newly second (subst (λ (l : List Feature). AreDecided order newly l) (sym may.begins.1) (decided_before order newly (taken ++ option_to_list o) may.begins.0 all)),
           ap (intersect shape rule newly) may.begins.1 ∙ lines_then shape rule newly taken o may.begins.0 known all (subst (λ (l : List Feature). ArePlaced order (intervals_of l)) may.begins.1 ordered),

@@ -5,9 +5,9 @@ use Rattle.std.specs.List.{list_all}
 use Rattle.std.proofs.lemmas.Bool.{false≢true, and_from, and_parts, lt-ltb}
 use Rattle.std.proofs.lemmas.List.{map-append}
 use Rattle.std.proofs.lemmas.List.Folds.{list_all-append}
-use Rattle.bt_lines.specs.model.Fault.{Told, no_memory}
+use Rattle.bt_lines.specs.model.Fault.{FaultValue, no_memory}
 use Rattle.bt_lines.specs.model.Lines.{TextLine}
-use Rattle.bt_lines.specs.calls.Names.{told}
+use Rattle.bt_lines.specs.calls.Names.{fault_value}
 use Rattle.bt_lines.specs.calls.Output.{Output}
 use Rattle.bt_lines.proofs.lemmas.writer.PuttingLemmas.{grown_none}
 use Rattle.bt_lines.specs.calls.Putting.{FailsToAdd, Grown}
@@ -46,10 +46,10 @@ use Rattle.bt_sweep.proofs.lemmas.laws.DecidingLemmas.{none_before, placed_back}
 use Rattle.bt_sweep.proofs.lemmas.sweep.KeepLemmas.{undecided_beside}
 use Rattle.bt_sweep.proofs.lemmas.laws.PlacedLemmas.{front_placed}
 use Rattle.bt_tool.specs.inside.feed.Feeding.{member_items}
-use Rattle.bt_tool.specs.inside.pair.Pair.{Making, Pair, Settles, item_ahead}
-use Rattle.bt_tool.specs.inside.pair.PairComes.{Comes, TakesFurther}
-use Rattle.bt_tool.specs.inside.pair.PairEnds.{AsksFor, IsKnown}
-use Rattle.bt_tool.specs.inside.pair.SweepLoop.{AreWithin, FinishesBoth, ReadsRest, SweepEnds, Sweeps, records_pair, stage_of, sweep_making}
+use Rattle.bt_tool.specs.inside.pair.Pair.{JoinDef, Pair, Settles, item_ahead}
+use Rattle.bt_tool.specs.inside.pair.Progress.{Comes, TakesFurther}
+use Rattle.bt_tool.specs.inside.pair.Endings.{AsksFor, IsKnown}
+use Rattle.bt_tool.specs.inside.pair.SweepLoop.{AreWithin, FinishesBoth, ReadsRest, SweepEnds, Sweeps, records_pair, stage_of, sweep_join}
 use Rattle.bt_tool.specs.inside.pair.SweepSteps.{FailsAmong, GivesBoth, TakesBoth}
 use Rattle.bt_tool.specs.inside.feed.Passed.{Passes, StopsAfter}
 use Rattle.bt_tool.proofs.lemmas.running.sweep.AdvanceLemmas.{ahead_placed}
@@ -97,7 +97,7 @@ says_bed order format is state line kind e = wrong_of_bed order state line.text 
 
 -- a fault of some kinds is one of wider kinds
 stops_wider : {S A State : Type 0} (left : S → Option (List ℕ)) (failed end : S → Bool) (old : MemberReader S A State) (Narrow Wide : Kind → Type 0) → ((kind : Kind) → Narrow kind → Wide kind)
-    → (past : List (Member A)) (fault : Told) (new : MemberReader S A State) → StopsAfter left failed end old Narrow past fault new → StopsAfter left failed end old Wide past fault new
+    → (past : List (Member A)) (fault : FaultValue) (new : MemberReader S A State) → StopsAfter left failed end old Narrow past fault new → StopsAfter left failed end old Wide past fault new
 stops_wider left failed end old Narrow Wide wider past fault new stops = record {
   bytes = stops.bytes;
   cause = elim stops.cause [
@@ -126,8 +126,8 @@ module _ {A B O : Type 0} {g : Ghosts O} (a_left : A → Option (List ℕ)) (a_f
   abbrev order : Order
   order = order_in old_first
 
-  abbrev making : Making Feature Feature
-  making = sweep_making order shape rule limit
+  abbrev join : JoinDef Feature Feature
+  join = sweep_join order shape rule limit
 
   abbrev pair : Pair A B Feature Feature (Option Locus) (Option Locus)
   pair = records_pair a_left a_failed a_end b_left b_failed b_end old_first old_second
@@ -135,7 +135,7 @@ module _ {A B O : Type 0} {g : Ghosts O} (a_left : A → Option (List ℕ)) (a_f
   abbrev Going : Records A O g → Records B O g → Sweeping → Output → Type 0
   Going = Sweeps a_left a_failed a_end b_left b_failed b_end order shape rule limit old_first old_second out
 
-  abbrev Ends : Option Told → Records A O g → Records B O g → Output → Type 0
+  abbrev Ends : Option FaultValue → Records A O g → Records B O g → Output → Type 0
   Ends = SweepEnds a_left a_failed a_end b_left b_failed b_end order shape rule limit old_first old_second out
 
   wrong : (state : Option Locus) (line : TextLine) (kind : Kind) → (view_of old_first).format.says state line ≡ Err kind → IsBedKind order kind
@@ -144,7 +144,7 @@ module _ {A B O : Type 0} {g : Ghosts O} (a_left : A → Option (List ℕ)) (a_f
   wrong_bed : (state : Option Locus) (line : TextLine) (kind : Kind) → (view_of old_second).format.says state line ≡ Err kind → IsBedKind order kind
   wrong_bed state line kind e = subst (λ (o : Order). IsBedKind o kind) same_order (says_bed (order_in old_second) (view_of old_second).format is_bed_second state line kind e)
 
-  wrong_second : (state : Option Locus) (line : TextLine) (kind : Kind) → (view_of old_second).format.says state line ≡ Err kind → making.second_kinds kind
+  wrong_second : (state : Option Locus) (line : TextLine) (kind : Kind) → (view_of old_second).format.says state line ≡ Err kind → join.second_kinds kind
   wrong_second state line kind e = inl (wrong_bed state line kind e)
 
   -- what was passed of either is in order
@@ -160,9 +160,9 @@ module _ {A B O : Type 0} {g : Ghosts O} (a_left : A → Option (List ℕ)) (a_f
       (subst (λ (s : Option Locus). AreSaid (view_of old_second).format s (member_items past)) none p.said))).0
 
   -- with the member ahead too many would be held
-  limit_case : (fault : Told) (first_now : Records A O g) (second_now : Records B O g) → order_in second_now ≡ order → (view_of old_second).state ≡ None → (later : Stage) (last : Feature) → later.waiting ≡ Some last → later.b_ended ≡ false
+  limit_case : (fault : FaultValue) (first_now : Records A O g) (second_now : Records B O g) → order_in second_now ≡ order → (view_of old_second).state ≡ None → (later : Stage) (last : Feature) → later.waiting ≡ Some last → later.b_ended ≡ false
       → (past_first past_second : List (Member Feature)) (grown : Output)
-      → Comes making pair out (stage_of later) past_first past_second (view_of first_now) (view_of second_now) grown → (later.a_ended ≡ false → AsksFor making pair out past_first (view_of second_now))
+      → Comes join pair out (stage_of later) past_first past_second (view_of first_now) (view_of second_now) grown → (later.a_ended ≡ false → AsksFor join pair out past_first (view_of second_now))
       → (IsKnown pair → AreWithin order limit (given later) past_second) → (m : Member Feature) → ahead_in (view_of second_now) ≡ Some m → m.item.chrom ≡ last.chrom → m.item.start < last.stop → last.start < m.item.stop → order.knows last.chrom ≡ true
       → has_room limit (length (held_for (Some last) later.taken)) ≡ false → fault ≡ fault_at_line Second m.line TooManyHeld → Ends (Some fault) first_now second_now grown
   limit_case fault first_now second_now is_order none later last waits going past_first past_second grown comes asks fits m ahead on starts ends known full is =
@@ -176,7 +176,7 @@ module _ {A B O : Type 0} {g : Ghosts O} (a_left : A → Option (List ℕ)) (a_f
       ap (decided order last) items ∙ none_before order last (member_items past_second) m.item total known with_m (undecided_beside order total last m.item known on starts) in
       let parts : given later ≡ later.written ++ last ∷ [] = ap (λ (o : Option Feature). later.written ++ option_to_list o) waits in
       let held : is_held last m.item ≡ true = and_from (bytes_eq last.chrom m.item.chrom) (ltb last.start m.item.stop) (name_eq last.chrom m.item.chrom (sym on)) (lt-ltb last.start m.item.stop ends) in
-      stop.passes_limit making pair out (stage_of later) past_first past_second (view_of first_now) (view_of second_now) grown comes asks fits last waits m ahead TooManyHeld
+      stop.passes_limit join pair out (stage_of later) past_first past_second (view_of first_now) (view_of second_now) grown comes asks fits last waits m ahead TooManyHeld
       (inr (some_limit limit (length (held_for (Some last) later.taken)) full, refl)) fault is undecided
       (λ known_now.
       cuts_at order limit later.written last past_second m fault is (subst (λ (l : List Feature). AreWithin order limit l past_second) parts (fits known_now))
@@ -202,11 +202,11 @@ module _ {A B O : Type 0} {g : Ghosts O} (a_left : A → Option (List ℕ)) (a_f
     pub placed_taken : ArePlaced order (intervals_of stage.taken)
     placed_taken = subst (λ (l : List Feature). ArePlaced order (intervals_of l)) (sym s.comes.all_taken) (second_placed s.second_begins s.past_second (view_of second) s.comes.second_passes)
 
-    abbrev asked : making.Asks (given stage) stage.taken
+    abbrev asked : join.Asks (given stage) stage.taken
     asked = s.stands.holds.reached
 
-    asks_here : stage.a_ended ≡ false → AsksFor making pair out s.past_first (view_of second)
-    asks_here going = stop.asks_now making pair out (stage_of stage) s.past_first s.past_second (view_of first) (view_of second) grown s.comes asked
+    asks_here : stage.a_ended ≡ false → AsksFor join pair out s.past_first (view_of second)
+    asks_here going = stop.asks_now join pair out (stage_of stage) s.past_first s.past_second (view_of first) (view_of second) grown s.comes asked
 
     -- ---- a record of the first input is wanted
 
@@ -223,7 +223,7 @@ module _ {A B O : Type 0} {g : Ghosts O} (a_left : A → Option (List ℕ)) (a_f
         past_second = s.past_second;
         stage = stage;
         stands = s.stands;
-        comes = turned.fills_first making pair out (stage_of stage) s.past_first s.past_second (view_of first) (view_of second) grown s.comes none_waits not_ended (view_of first_now) (is_filled a_left a_failed a_end ReadsA first first_now fills);
+        comes = turned.fills_first join pair out (stage_of stage) s.past_first s.past_second (view_of first) (view_of second) grown s.comes none_waits not_ended (view_of first_now) (is_filled a_left a_failed a_end ReadsA first first_now fills);
         first_order = fills.order ∙ s.first_order;
         second_order = s.second_order;
         first_begins = s.first_begins;
@@ -238,7 +238,7 @@ module _ {A B O : Type 0} {g : Ghosts O} (a_left : A → Option (List ℕ)) (a_f
         past_second = s.past_second;
         stage = with_a_ended stage;
         stands = stands;
-        comes = turned.ends_first making pair out (stage_of stage) s.past_first s.past_second (view_of first) (view_of second) grown s.comes none_waits not_ended (view_of first_now) (is_over a_left a_failed a_end ReadsA first first_now fills);
+        comes = turned.ends_first join pair out (stage_of stage) s.past_first s.past_second (view_of first) (view_of second) grown s.comes none_waits not_ended (view_of first_now) (is_over a_left a_failed a_end ReadsA first first_now fills);
         first_order = fills.order ∙ s.first_order;
         second_order = s.second_order;
         first_begins = s.first_begins;
@@ -246,9 +246,9 @@ module _ {A B O : Type 0} {g : Ghosts O} (a_left : A → Option (List ℕ)) (a_f
         fits = s.fits;
       }
 
-      pub stops_first : (fault : Fault) (first_now : Records A O g) → FillsRecords a_left a_failed a_end ReadsA first (Err fault) first_now → Ends (Some (told fault)) first_now second grown
+      pub stops_first : (fault : Fault) (first_now : Records A O g) → FillsRecords a_left a_failed a_end ReadsA first (Err fault) first_now → Ends (Some (fault_value fault)) first_now second grown
       stops_first fault first_now fills =
-          stop.stops_first making pair out (stage_of stage) s.past_first s.past_second (view_of first) (view_of second) grown s.comes asks_here s.fits wrong none_waits not_ended (told fault) (view_of first_now)
+          stop.stops_first join pair out (stage_of stage) s.past_first s.past_second (view_of first) (view_of second) grown s.comes asks_here s.fits wrong none_waits not_ended (fault_value fault) (view_of first_now)
           (is_stopped a_left a_failed a_end ReadsA first first_now fault fills)
 
     -- ---- one of the second is
@@ -269,7 +269,7 @@ module _ {A B O : Type 0} {g : Ghosts O} (a_left : A → Option (List ℕ)) (a_f
         past_second = s.past_second;
         stage = stage;
         stands = s.stands;
-        comes = turned.fills_second making pair out (stage_of stage) s.past_first s.past_second (view_of first) (view_of second) grown s.comes goes (view_of second_now) (is_filled b_left b_failed b_end ReadsB second second_now fills);
+        comes = turned.fills_second join pair out (stage_of stage) s.past_first s.past_second (view_of first) (view_of second) grown s.comes goes (view_of second_now) (is_filled b_left b_failed b_end ReadsB second second_now fills);
         first_order = s.first_order;
         second_order = fills.order ∙ s.second_order;
         first_begins = s.first_begins;
@@ -284,7 +284,7 @@ module _ {A B O : Type 0} {g : Ghosts O} (a_left : A → Option (List ℕ)) (a_f
         past_second = s.past_second;
         stage = with_b_ended stage;
         stands = stands;
-        comes = turned.ends_waiting making pair out (stage_of stage) s.past_first s.past_second (view_of first) (view_of second) grown s.comes goes (view_of second_now) (is_over b_left b_failed b_end ReadsB second second_now fills) a waiting.1 now adds;
+        comes = turned.ends_waiting join pair out (stage_of stage) s.past_first s.past_second (view_of first) (view_of second) grown s.comes goes (view_of second_now) (is_over b_left b_failed b_end ReadsB second second_now fills) a waiting.1 now adds;
         first_order = s.first_order;
         second_order = fills.order ∙ s.second_order;
         first_begins = s.first_begins;
@@ -301,15 +301,15 @@ module _ {A B O : Type 0} {g : Ghosts O} (a_left : A → Option (List ℕ)) (a_f
           open_last order total stage.taken stage.written a placed_taken (subst (λ (l : List Feature). ArePlaced order (intervals_of l)) parts placed_given) all
           (subst (λ (l : List Feature). IsTrue (list_all (leaves_some order l) stage.taken)) parts asked)
 
-      pub stops_second : (fault : Fault) (second_now : Records B O g) → FillsRecords b_left b_failed b_end ReadsB second (Err fault) second_now → Ends (Some (told fault)) first second_now grown
+      pub stops_second : (fault : Fault) (second_now : Records B O g) → FillsRecords b_left b_failed b_end ReadsB second (Err fault) second_now → Ends (Some (fault_value fault)) first second_now grown
       stops_second fault second_now fills =
-          stop.stops_second making pair out (stage_of stage) s.past_first s.past_second (view_of first) (view_of second) grown s.comes asks_here s.fits a waiting.1 wrong_second asked goes opens (told fault) (view_of second_now)
+          stop.stops_second join pair out (stage_of stage) s.past_first s.past_second (view_of first) (view_of second) grown s.comes asks_here s.fits a waiting.1 wrong_second asked goes opens (fault_value fault) (view_of second_now)
           (is_stopped b_left b_failed b_end ReadsB second second_now fault fills)
 
-      pub fails_at_end : (fault : Told) (second_now : Records B O g) (now : Output) → FillsRecords b_left b_failed b_end ReadsB second (Ok false) second_now → FailsToAdd grown (lines_for shape rule a stage.taken) fault now
+      pub fails_at_end : (fault : FaultValue) (second_now : Records B O g) (now : Output) → FillsRecords b_left b_failed b_end ReadsB second (Ok false) second_now → FailsToAdd grown (lines_for shape rule a stage.taken) fault now
           → Ends (Some fault) first second_now now
       fails_at_end fault second_now now fills fails =
-          stop.fails_at_end making pair out (stage_of stage) s.past_first s.past_second (view_of first) (view_of second) grown s.comes asks_here s.fits a waiting.1 asked goes fault (view_of second_now) now
+          stop.fails_at_end join pair out (stage_of stage) s.past_first s.past_second (view_of first) (view_of second) grown s.comes asks_here s.fits a waiting.1 asked goes fault (view_of second_now) now
           (is_over b_left b_failed b_end ReadsB second second_now fills) fails
 
     -- ---- what both have buffered was given
@@ -366,28 +366,28 @@ module _ {A B O : Type 0} {g : Ghosts O} (a_left : A → Option (List ℕ)) (a_f
       not_ended_with m ahead false e = refl
 
       -- what is seen of the second input grows
-      seen_by : (b : Bool) → stage.b_ended ≡ b → (xs : List Feature) → ss ≡ xs → Settles making stage.written s.comes.bytes (stage.taken ++ option_to_list (item_ahead (view_of second))) b
-          → Settles making stage.written s.comes.bytes ((stage.taken ++ xs) ++ option_to_list (item_ahead (view_of second_now))) b
+      seen_by : (b : Bool) → stage.b_ended ≡ b → (xs : List Feature) → ss ≡ xs → Settles join stage.written s.comes.bytes (stage.taken ++ option_to_list (item_ahead (view_of second))) b
+          → Settles join stage.written s.comes.bytes ((stage.taken ++ xs) ++ option_to_list (item_ahead (view_of second_now))) b
       seen_by true e xs is settles =
           let none = none_second e in
           let before = turned.seen_alone stage.taken (view_of second) (s.comes.second_all e).1 in
           let after = turned.seen_alone (stage.taken ++ xs) (view_of second_now) none.1 ∙ ap (λ (l : List Feature). stage.taken ++ l) (sym is ∙ none.0) ∙ append-nil stage.taken in
-          subst (λ (l : List Feature). Settles making stage.written s.comes.bytes l true) (before ∙ sym after) settles
+          subst (λ (l : List Feature). Settles join stage.written s.comes.bytes l true) (before ∙ sym after) settles
       seen_by false e [] is settles =
           let same : (view_of second).buffered ≡ (view_of second_now).buffered = takes.second_taken.takes.buffered ∙ ap (λ (l : List Feature). l ++ (view_of second_now).buffered) is in
-          subst (λ (l : List Feature). Settles making stage.written s.comes.bytes l false)
+          subst (λ (l : List Feature). Settles join stage.written s.comes.bytes l false)
           (ap (λ (o : Option Feature). stage.taken ++ option_to_list o) (item_same (suc (lines_given (below second))) (suc (lines_given (below second_now))) (view_of second).buffered (view_of second_now).buffered same)
           ∙ ap (λ (l : List Feature). l ++ option_to_list (item_ahead (view_of second_now))) (sym (append-nil stage.taken))) settles
       seen_by false e (x ∷ xs) is settles =
           let same : (view_of second).buffered ≡ x ∷ (xs ++ (view_of second_now).buffered) = takes.second_taken.takes.buffered ∙ ap (λ (l : List Feature). l ++ (view_of second_now).buffered) is in
           let ahead : item_ahead (view_of second) ≡ Some x = item_same (suc (lines_given (below second))) 0 (view_of second).buffered (x ∷ (xs ++ (view_of second_now).buffered)) same in
           let rest = xs ++ option_to_list (item_ahead (view_of second_now)) in
-          subst (λ (l : List Feature). Settles making stage.written s.comes.bytes l false)
+          subst (λ (l : List Feature). Settles join stage.written s.comes.bytes l false)
           (append_assoc stage.taken (x ∷ []) rest ∙ sym (append_assoc stage.taken (x ∷ xs) (option_to_list (item_ahead (view_of second_now)))))
-          (settles_seen making stage.written s.comes.bytes (stage.taken ++ x ∷ []) rest
-          (subst (λ (o : Option Feature). Settles making stage.written s.comes.bytes (stage.taken ++ option_to_list o) false) ahead settles))
+          (settles_seen join stage.written s.comes.bytes (stage.taken ++ x ∷ []) rest
+          (subst (λ (o : Option Feature). Settles join stage.written s.comes.bytes (stage.taken ++ option_to_list o) false) ahead settles))
 
-      settled_seen : IsKnown pair → Settles making stage.written s.comes.bytes ((stage.taken ++ ss) ++ option_to_list (item_ahead (view_of second_now))) stage.b_ended
+      settled_seen : IsKnown pair → Settles join stage.written s.comes.bytes ((stage.taken ++ ss) ++ option_to_list (item_ahead (view_of second_now))) stage.b_ended
       settled_seen known = seen_by stage.b_ended refl ss refl (s.comes.settles known)
 
       ends_then : sweep.phase ≡ First → (stage.b_ended ≡ true) × (item_ahead (view_of second_now) ≡ None)
@@ -397,8 +397,8 @@ module _ {A B O : Type 0} {g : Ghosts O} (a_left : A → Option (List ℕ)) (a_f
 
       -- so far are the lines of some more settled
       settled_more : (written newly : List Feature) (bytes : List ℕ) → ArePlaced order (intervals_of newly) → SettlesEach order sweep.phase newly (ss ++ option_to_list (item_ahead (view_of second_now)))
-          → Settles making written bytes ((stage.taken ++ ss) ++ option_to_list (item_ahead (view_of second_now))) stage.b_ended
-          → Settles making (written ++ newly) (bytes ++ intersect shape rule newly (stage.taken ++ ss)) ((stage.taken ++ ss) ++ option_to_list (item_ahead (view_of second_now))) stage.b_ended
+          → Settles join written bytes ((stage.taken ++ ss) ++ option_to_list (item_ahead (view_of second_now))) stage.b_ended
+          → Settles join (written ++ newly) (bytes ++ intersect shape rule newly (stage.taken ++ ss)) ((stage.taken ++ ss) ++ option_to_list (item_ahead (view_of second_now))) stage.b_ended
       settled_more written newly bytes placed each settles =
           settles_newly order total shape rule limit written newly bytes (stage.taken ++ ss) (item_ahead (view_of second_now)) stage.b_ended sweep.phase settles placed ends_then ss stage.taken refl each
 
@@ -436,21 +436,21 @@ module _ {A B O : Type 0} {g : Ghosts O} (a_left : A → Option (List ℕ)) (a_f
 
         -- the lines of some more, which are settled then, weren't all written
         cuts_later : TakenEach order limit (option_to_list sweep.current ++ fs) stage.taken ss → SettlesEach order sweep.phase newly (ss ++ option_to_list (item_ahead (view_of second_now)))
-            → (fault : Told) (now : Output) → FailsToAdd grown (intersect shape rule newly (stage.taken ++ ss)) fault now → Ends (Some fault) first_now second_now now
+            → (fault : FaultValue) (now : Output) → FailsToAdd grown (intersect shape rule newly (stage.taken ++ ss)) fault now → Ends (Some fault) first_now second_now now
         cuts_later each settles fault now fails =
             let items : given later ≡ given stage ++ member_items more_first = given_later ∙ ap (λ (l : List Feature). given stage ++ l) (sym items_first) in
-            stop.fails_to_write making pair out (stage_of stage) s.past_first s.past_second (view_of first) (view_of second) grown s.comes asks_here s.fits more_first more_second (view_of first_now) (view_of second_now) further further_second
+            stop.fails_to_write join pair out (stage_of stage) s.past_first s.past_second (view_of first) (view_of second) grown s.comes asks_here s.fits more_first more_second (view_of first_now) (view_of second_now) further further_second
             (stage.written ++ newly) (option_to_list w) items
             (λ known. subst (λ (l : List Feature). AreWithin order limit l (s.past_second ++ more_second)) items (fits_later each known))
             ended_second [] (intersect shape rule newly (stage.taken ++ ss))
-            (λ known. subst (λ (l : List Feature). Settles making (stage.written ++ newly) (s.comes.bytes ++ intersect shape rule newly (stage.taken ++ ss)) ((stage.taken ++ l) ++ option_to_list (item_ahead (view_of second_now))) stage.b_ended) (sym items_second)
+            (λ known. subst (λ (l : List Feature). Settles join (stage.written ++ newly) (s.comes.bytes ++ intersect shape rule newly (stage.taken ++ ss)) ((stage.taken ++ l) ++ option_to_list (item_ahead (view_of second_now))) stage.b_ended) (sym items_second)
             (settled_more stage.written newly s.comes.bytes newly_placed settles (settled_seen known)))
             grown now fault (grown_none grown) fails
 
         module _ (each : SettlesEach order sweep.phase newly (ss ++ option_to_list (item_ahead (view_of second_now)))) (now : Output) (puts : PutsEach order sweep fs ss newly grown now) where
-          comes_later : Comes making pair out (stage_of later) (s.past_first ++ more_first) (s.past_second ++ more_second) (view_of first_now) (view_of second_now) now
+          comes_later : Comes join pair out (stage_of later) (s.past_first ++ more_first) (s.past_second ++ more_second) (view_of first_now) (view_of second_now) now
           comes_later =
-              turned.goes_on making pair out (stage_of stage) s.past_first s.past_second (view_of first) (view_of second) grown s.comes more_first more_second (view_of first_now) (view_of second_now) further further_second ended_first ended_second newly (stage_of later)
+              turned.goes_on join pair out (stage_of stage) s.past_first s.past_second (view_of first) (view_of second) grown s.comes more_first more_second (view_of first_now) (view_of second_now) further further_second ended_first ended_second newly (stage_of later)
               (record { given_is = given_later ∙ ap (λ (l : List Feature). given stage ++ l) (sym items_first); written_is = refl; taken_is = ap (λ (l : List Feature). stage.taken ++ l) (sym items_second); first_is = refl; second_is = refl })
               (intersect shape rule newly (stage.taken ++ ss)) now (λ known. settled_more stage.written newly s.comes.bytes newly_placed each (settled_seen known)) (puts shape rule limit stage s.stands placed_first placed_second)
 
@@ -476,7 +476,7 @@ module _ {A B O : Type 0} {g : Ghosts O} (a_left : A → Option (List ℕ)) (a_f
 
     -- ---- it failed at one of the first
 
-    pub fails_both : (fault : Told) (first_now : Records A O g) (second_now : Records B O g) (now : Output) → FailsAmong a_left a_failed a_end ReadsA b_left b_failed b_end ReadsB order first second sweep grown fault first_now second_now now
+    pub fails_both : (fault : FaultValue) (first_now : Records A O g) (second_now : Records B O g) (now : Output) → FailsAmong a_left a_failed a_end ReadsA b_left b_failed b_end ReadsB order first second sweep grown fault first_now second_now now
         → Ends (Some fault) first_now second_now now
     fails_both fault first_now second_now now fails =
         let fs = fails.firsts in
@@ -486,8 +486,8 @@ module _ {A B O : Type 0} {g : Ghosts O} (a_left : A → Option (List ℕ)) (a_f
         let each = fails.each shape rule limit stage s.stands placed placed_taken in
         let past_first = s.past_first ++ members_from (suc (lines_given (below first))) fs in
         let past_second = s.past_second ++ members_from (suc (lines_given (below second))) ss in
-        let asks : stage.a_ended ≡ false → AsksFor making pair out past_first (view_of second_now) =
-        λ going. stop.asks_then making pair out (stage_of stage) s.past_first s.past_second (view_of first) (view_of second) grown s.comes asked (λ more asks. leaves_more order (given stage) more stage.taken asks)
+        let asks : stage.a_ended ≡ false → AsksFor join pair out past_first (view_of second_now) =
+        λ going. stop.asks_then join pair out (stage_of stage) s.past_first s.past_second (view_of first) (view_of second) grown s.comes asked (λ more asks. leaves_more order (given stage) more stage.taken asks)
         (members_from (suc (lines_given (below first))) fs) (members_from (suc (lines_given (below second))) ss) (view_of second_now) (further_second first_now second_now fs ss fails.takes) in
         elim fails.cause [
           | inl write ↦ cuts_later first_now second_now fs ss fails.takes fails.newly fails.waiting fails.are each fails.settles fault now (write.cuts shape rule limit stage s.stands placed placed_taken)
@@ -502,13 +502,13 @@ module _ {A B O : Type 0} {g : Ghosts O} (a_left : A → Option (List ℕ)) (a_f
                   | inl full ↦
                       limit_case fault first_now second_now (fails.takes.second_order ∙ s.second_order ∙ same_order) s.second_begins (stage_after stage fails.newly (Some last) ss) last refl
                       (not_ended_with first_now second_now fs ss fails.takes lack.m lack.ahead stage.b_ended refl) past_first past_second now comes asks fits lack.m lack.ahead lack.chrom lack.starts lack.ends placed_last.0 full.0 full.1
-                  | inr ran ↦ stop.lacks_memory making pair out (stage_of (stage_after stage fails.newly (Some last) ss)) past_first past_second (view_of first_now) (view_of second_now) now comes asks fits fault ran.1
+                  | inr ran ↦ stop.lacks_memory join pair out (stage_of (stage_after stage fails.newly (Some last) ss)) past_first past_second (view_of first_now) (view_of second_now) now comes asks fits fault ran.1
                 ]
             | inr keep ↦
                 let are = fails.are ∙ ap (λ (o : Option Feature). fails.newly ++ option_to_list o) keep.waits in
                 let comes = comes_later first_now second_now fs ss fails.takes fails.newly (Some keep.last) are fails.settles now keep.puts in
                 let fits = fits_later first_now second_now fs ss fails.takes fails.newly (Some keep.last) are each in
-                stop.lacks_memory making pair out (stage_of (stage_after stage fails.newly (Some keep.last) ss)) past_first past_second (view_of first_now) (view_of second_now) now comes asks fits fault keep.is
+                stop.lacks_memory join pair out (stage_of (stage_after stage fails.newly (Some keep.last) ss)) past_first past_second (view_of first_now) (view_of second_now) now comes asks fits fault keep.is
           ]
         ]
 
@@ -522,10 +522,10 @@ module _ {A B O : Type 0} {g : Ghosts O} (a_left : A → Option (List ℕ)) (a_f
           → FinishesBoth a_left a_failed a_end b_left b_failed b_end order shape rule limit old_first old_second out result first second_now grown
       finishes_both {T} (Ok unit) second_now reads =
           let checks = subst (λ (o : Order). ReadsRest {T = T} b_left b_failed b_end (IsBedKind o) (view_of second) (Ok unit) (view_of second_now)) (s.second_order ∙ same_order) reads (view_of old_second) s.past_second s.comes.second_passes wrong_bed in
-          stop.ends_rest making pair out (stage_of stage) s.past_first s.past_second (view_of first) (view_of second) grown s.comes asks_here s.fits done (view_of second_now) (λ some. absurd (false≢true (ap is_some (sym checks.passes.going) ∙ some))) checks.passes.bytes (s.past_second ++ checks.more) None
+          stop.ends_rest join pair out (stage_of stage) s.past_first s.past_second (view_of first) (view_of second) grown s.comes asks_here s.fits done (view_of second_now) (λ some. absurd (false≢true (ap is_some (sym checks.passes.going) ∙ some))) checks.passes.bytes (s.past_second ++ checks.more) None
           (inl (refl, checks.all, record { served = checks.passes.served; within = checks.passes.kept.within checks.passes.clear }, refl))
       finishes_both {T} (Err fault) second_now reads =
           let checks = subst (λ (o : Order). ReadsRest {T = T} b_left b_failed b_end (IsBedKind o) (view_of second) (Err fault) (view_of second_now)) (s.second_order ∙ same_order) reads (view_of old_second) s.past_second s.comes.second_passes wrong_bed in
-          stop.stops_rest making pair out (stage_of stage) s.past_first s.past_second (view_of first) (view_of second) grown s.comes asks_here s.fits done (view_of second_now) (λ some. checks.low) (s.past_second ++ checks.more) (told fault)
-          (stops_wider b_left b_failed b_end (view_of old_second) (IsBedKind order) making.second_kinds (λ kind of_bed. inl of_bed) (s.past_second ++ checks.more) (told fault) (view_of second_now) checks.stops)
+          stop.stops_rest join pair out (stage_of stage) s.past_first s.past_second (view_of first) (view_of second) grown s.comes asks_here s.fits done (view_of second_now) (λ some. checks.low) (s.past_second ++ checks.more) (fault_value fault)
+          (stops_wider b_left b_failed b_end (view_of old_second) (IsBedKind order) join.second_kinds (λ kind of_bed. inl of_bed) (s.past_second ++ checks.more) (fault_value fault) (view_of second_now) checks.stops)
           (λ e. checks.before_end (s.comes.second_all e).2) refl

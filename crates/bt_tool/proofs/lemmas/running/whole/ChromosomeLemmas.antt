@@ -4,7 +4,7 @@ use Rattle.std.specs.Prelude.{◌⊎◌, ◌≢◌, IfSome, option_map}
 use Rattle.std.proofs.lemmas.Bool.{false≢true}
 use Rattle.bt_lines.proofs.lemmas.reader.block.ReadsLemmas.{memory_no_read, some_is}
 use Rattle.bt_tool.proofs.lemmas.running.members.CameMembers.{some_of}
-use Rattle.bt_lines.specs.model.Fault.{Told, no_memory, write_failed, read_failed}
+use Rattle.bt_lines.specs.model.Fault.{FaultValue, no_memory, write_failed, read_failed}
 use Rattle.bt_lines.specs.model.Handed.{Handed, whole_text}
 use Rattle.bt_lines.specs.model.Lines.{TextLine, line_feeds, text_lines, whole_lines}
 use Rattle.bt_lines.specs.calls.Reader.{Hands, IsSound, IsUnread, source_of, input_of, bytes_taken, fault_kept, feeds_taken, lines_given, lines_left}
@@ -19,7 +19,7 @@ use Rattle.bt_bed.specs.model.feature.LineKind.{fault_at_line, is_genome_kind}
 use Rattle.bt_bed.specs.declared.order.genome.Genome.{Genome}
 use Rattle.bt_tool.specs.model.usage.Kinds.{IsOneOf}
 use Rattle.bt_tool.specs.calls.run.Chromosomes.{KnowsChromosomes, LacksChromosomes}
-use Rattle.bt_tool.specs.calls.run.Telling.{IsOfInput, TellsInput}
+use Rattle.bt_tool.specs.calls.run.FaultSource.{IsOfInput, TellsInput}
 use Rattle.bt_tool.specs.model.report.Inputs.{HoldsIf, Reads, ReadsIf}
 use Rattle.bt_tool.specs.model.report.Report.{chromosomes_of, of_file}
 use Rattle.bt_tool.specs.calls.run.OwnReads.{IsOwnFailure, TellsOwnReads}
@@ -64,7 +64,7 @@ module _ {G : Type 0} (left : G → Option (List ℕ)) (failed end : G → Bool)
         served = ap failed (sym ended) ∙ reads.served ∙ ap failed source;
       }
 
-  module _ (fault : Told) (bytes : (bytes : List ℕ) × Hands left old bytes new) (next : IsSound left end new) where
+  module _ (fault : FaultValue) (bytes : (bytes : List ℕ) × Hands left old bytes new) (next : IsSound left end new) where
     abbrev Tells : Type 0
     Tells = TellsInput left failed (IsOneOf is_genome_kind) FromGenome genome after fault
 
@@ -120,13 +120,13 @@ module _ {G : Type 0} (left : G → Option (List ℕ)) (failed end : G → Bool)
       no_write = no_write_by cause;
     }
 
-  pub lacks_read : (fault : Told) → ReadingStops left failed end old new fault → IsSound left end new → LacksChromosomes left failed (Some genome) (Some after) fault
+  pub lacks_read : (fault : FaultValue) → ReadingStops left failed end old new fault → IsSound left end new → LacksChromosomes left failed (Some genome) (Some after) fault
   lacks_read fault stops next = lacks_by fault stops.bytes next (stops.first clear)
 
   -- a failed read that is reported is of a read that failed then
-  module _ (IsRead : G → Option ℕ → G → Type 0) (fault : Told) (own : (input : Input) (line : ℕ) → fault ≡ read_failed input line → IsUnread IsRead old new) where
+  module _ (IsRead : G → Option ℕ → G → Type 0) (fault : FaultValue) (own : (input : Input) (line : ℕ) → fault ≡ read_failed input line → IsUnread IsRead old new) where
     own_by : StopCause left failed end old new fault → (other : Input) (line : ℕ) → fault ≡ read_failed other line → (other ≡ FromGenome) × IsOwnFailure IsRead genome after
-    own_by (inl wrong) other line e = absurd (false≢true (ap (λ (f : Told). is_genome_kind f.kind) (sym e ∙ wrong.place) ∙ wrong.of_line))
+    own_by (inl wrong) other line e = absurd (false≢true (ap (λ (f : FaultValue). is_genome_kind f.kind) (sym e ∙ wrong.place) ∙ wrong.of_line))
     own_by (inr (inl unread)) other line e = (
       sym (same_input (input_of old) other (suc (lines_given new)) line (sym unread.fails.is ∙ e)) ∙ input,
       own_failure_of IsRead genome after old new source ended fresh (own other line e),
@@ -140,6 +140,6 @@ module _ {G : Type 0} (left : G → Option (List ℕ)) (failed end : G → Bool)
       second_input = λ line e. let apart : Second ≡ FromGenome = (own_by cause Second line (some_is fault (read_failed Second line) e)).0 in cc;
     }
 
-  pub lacks_own : (IsRead : G → Option ℕ → G → Type 0) (fault : Told) → ReadingStops left failed end old new fault → ((input : Input) (line : ℕ) → fault ≡ read_failed input line → IsUnread IsRead old new)
+  pub lacks_own : (IsRead : G → Option ℕ → G → Type 0) (fault : FaultValue) → ReadingStops left failed end old new fault → ((input : Input) (line : ℕ) → fault ≡ read_failed input line → IsUnread IsRead old new)
       → TellsOwnReads (IsOwnFailure IsRead genome after) ⊥ ⊥ (Some fault)
   lacks_own IsRead fault stops own = tells_own IsRead fault own (stops.first clear)

@@ -3,9 +3,9 @@ use Rattle.std.proofs.Common.{◌≡◌, ℕ, Option, None, Some, Err, Bool, Lis
 use Rattle.std.specs.Prelude.{◌⊎◌, ◌≢◌, ⊤, MatchResult, Ok, Result}
 use Rattle.std.proofs.lemmas.Bool.{false≢true}
 use Rattle.bt_lines.proofs.lemmas.reader.block.ReadsLemmas.{memory_no_read, some_is, unread_then}
-use Rattle.bt_lines.specs.model.Fault.{Told, no_memory, read_failed, write_failed}
+use Rattle.bt_lines.specs.model.Fault.{FaultValue, no_memory, read_failed, write_failed}
 use Rattle.bt_lines.specs.calls.Device.{ReadsFail, ReadsOn, begun}
-use Rattle.bt_lines.specs.calls.Names.{told}
+use Rattle.bt_lines.specs.calls.Names.{fault_value}
 use Rattle.bt_lines.specs.calls.Output.{Output}
 use Rattle.bt_lines.specs.calls.Reader.{HasRead, IsUnread, TellsOwnFailure as LineTellsOwnFailure, bytes_taken, fault_kept as line_fault, source_of}
 use Rattle.bt_lines.specs.declared.fault.Fault.{Fault}
@@ -24,8 +24,8 @@ use Rattle.bt_bed.specs.declared.order.genome.Genome.{Genome as GenomeTable}
 use Rattle.bt_tool.specs.calls.run.Chromosomes.{WritesOutput}
 use Rattle.bt_tool.specs.inside.feed.Feeding.{FeedsUpTo}
 use Rattle.bt_tool.specs.inside.feed.Flushing.{Flushes, FlushesAll, FlushFails, StaysFailed}
-use Rattle.bt_tool.specs.inside.pair.Pair.{Making, Pair}
-use Rattle.bt_tool.specs.inside.pair.PairEnds.{Finishes, InputsEnd, Why}
+use Rattle.bt_tool.specs.inside.pair.Pair.{JoinDef, Pair}
+use Rattle.bt_tool.specs.inside.pair.Endings.{Finishes, InputsEnd, Why}
 use Rattle.bt_tool.specs.inside.feed.Passed.{HasFaultBehind, IsKeptBelow, IsOwnFault, KeepsOwnFault}
 use Rattle.bt_tool.specs.model.report.SweepReport.{IsSweptKind}
 use Rattle.bt_tool.specs.calls.run.OwnReads.{AnswersNoRead, IsOwnFailure, ReadsServe, ReadsServeIf, TellsNoRead, TellsOwnReads}
@@ -36,13 +36,13 @@ use Rattle.bt_tool.proofs.lemmas.running.feed.FaultLemmas.{write_no_read}
 -- a failed read is of one input
 pub same_input : (one other : Input) (m n : ℕ) → read_failed one m ≡ read_failed other n → one ≡ other
 same_input one other m n e =
-    let places : Some (record { input = one; line = m }) ≡ Some (record { input = other; line = n }) = ap (λ (f : Told). f.place) e in
+    let places : Some (record { input = one; line = m }) ≡ Some (record { input = other; line = n }) = ap (λ (f : FaultValue). f.place) e in
     let same : record { input = one; line = m } ≡ record { input = other; line = n } = cc in
     ap (λ (p : Place). p.input) same
 
 -- a fault of a kind that no line can have
 never_read : (Kinds : Kind → Type 0) → (Kinds ReadFailed → ⊥) → (input : Input) (line : ℕ) (kind : Kind) → Kinds kind → (other : Input) (at : ℕ) → fault_at_line input line kind ≡ read_failed other at → ⊥
-never_read Kinds never input line kind of_kind other at e = never (subst Kinds (ap (λ (f : Told). f.kind) e) of_kind)
+never_read Kinds never input line kind of_kind other at e = never (subst Kinds (ap (λ (f : FaultValue). f.kind) e) of_kind)
 
 pub bed_no_read : (order : Order) → IsBedKind order ReadFailed → ⊥
 bed_no_read order kind = false≢true kind.0
@@ -52,21 +52,21 @@ swept_no_read order limit (inl kind) = false≢true kind.0
 swept_no_read order limit (inr held) = let apart : ReadFailed ≡ TooManyHeld = held.1 in cc
 
 -- a reader that keeps no fault
-pub none_kept : {S : Type 0} (IsRead : S → Option ℕ → S → Type 0) (old : LineReader S) (kept : Option Told) (lines : LineReader S) → kept ≡ None → IsOwnFault IsRead old kept lines
+pub none_kept : {S : Type 0} (IsRead : S → Option ℕ → S → Type 0) (old : LineReader S) (kept : Option FaultValue) (lines : LineReader S) → kept ≡ None → IsOwnFault IsRead old kept lines
 none_kept IsRead old kept lines none input line e = absurd (let apart : None ≡ Some (read_failed input line) = sym none ∙ e in cc)
 
 -- one that keeps the fault that it reported
-pub told_kept : {S : Type 0} (IsRead : S → Option ℕ → S → Type 0) (before kept : Option Told) (old lines : LineReader S) (fault : Fault) → kept ≡ Some (told fault) → before ≡ None
+pub told_kept : {S : Type 0} (IsRead : S → Option ℕ → S → Type 0) (before kept : Option FaultValue) (old lines : LineReader S) (fault : Fault) → kept ≡ Some (fault_value fault) → before ≡ None
     → TellsOwnFailure {T = Unit {0}} IsRead before old (Err fault) lines → IsOwnFault IsRead old kept lines
 told_kept IsRead before kept old lines fault is none own input line e = (own none).unread input line (sym is ∙ e)
 
 -- the same of a reader of lines
-pub line_told_kept : {S : Type 0} (IsRead : S → Option ℕ → S → Type 0) (old lines : LineReader S) (fault : Fault) → line_fault lines ≡ Some (told fault) → line_fault old ≡ None
+pub line_told_kept : {S : Type 0} (IsRead : S → Option ℕ → S → Type 0) (old lines : LineReader S) (fault : Fault) → line_fault lines ≡ Some (fault_value fault) → line_fault old ≡ None
     → LineTellsOwnFailure {A = Option Line} IsRead old (Err fault) lines → IsOwnFault IsRead old (line_fault lines) lines
 line_told_kept IsRead old lines fault is none own input line e = (own none).unread input line (sym is ∙ e)
 
 -- it is one of the reads since before those that served
-pub own_then : {S : Type 0} (IsRead : S → Option ℕ → S → Type 0) (old now : LineReader S) (kept : Option Told) (lines : LineReader S) → HasRead IsRead old now → IsOwnFault IsRead now kept lines → IsOwnFault IsRead old kept lines
+pub own_then : {S : Type 0} (IsRead : S → Option ℕ → S → Type 0) (old now : LineReader S) (kept : Option FaultValue) (lines : LineReader S) → HasRead IsRead old now → IsOwnFault IsRead now kept lines → IsOwnFault IsRead old kept lines
 own_then IsRead old now kept lines so_far own input line e = unread_then IsRead old now lines so_far (own input line e)
 
 -- what its reader of lines keeps
@@ -100,28 +100,28 @@ serve_same_if IsRead None = tt
 serve_same_if IsRead (Some source) = serve_same IsRead source
 
 -- no failed read is reported
-pub tells_none : (G F S : Type 0) (fault : Option Told) → ((input : Input) (line : ℕ) → fault ≡ Some (read_failed input line) → ⊥) → TellsOwnReads G F S fault
+pub tells_none : (G F S : Type 0) (fault : Option FaultValue) → ((input : Input) (line : ℕ) → fault ≡ Some (read_failed input line) → ⊥) → TellsOwnReads G F S fault
 tells_none G F S fault never = record {
   genome_file = λ line e. absurd (never Genome line e);
   first_input = λ line e. absurd (never First line e);
   second_input = λ line e. absurd (never Second line e);
 }
 
-pub tells_nothing : (G F S : Type 0) (fault : Option Told) → fault ≡ None → TellsOwnReads G F S fault
+pub tells_nothing : (G F S : Type 0) (fault : Option FaultValue) → fault ≡ None → TellsOwnReads G F S fault
 tells_nothing G F S fault none = tells_none G F S fault (λ input line e. let apart : None ≡ Some (read_failed input line) = sym none ∙ e in cc)
 
-pub tells_write : (G F S : Type 0) (fault : Told) → fault ≡ write_failed → TellsOwnReads G F S (Some fault)
+pub tells_write : (G F S : Type 0) (fault : FaultValue) → fault ≡ write_failed → TellsOwnReads G F S (Some fault)
 tells_write G F S fault is = tells_none G F S (Some fault) (λ input line e. write_no_read input line (sym is ∙ some_is fault (read_failed input line) e))
 
 -- one input of several
-pub tells_first : (S F : Type 0) (fault : Option Told) → TellsOwnReads ⊥ F ⊥ fault → TellsOwnReads ⊥ F S fault
+pub tells_first : (S F : Type 0) (fault : Option FaultValue) → TellsOwnReads ⊥ F ⊥ fault → TellsOwnReads ⊥ F S fault
 tells_first S F fault own = record { genome_file = own.genome_file; first_input = own.first_input; second_input = λ line e. absurd (own.second_input line e) }
 
 -- an input at its end, and what it was at first
 module _ {S A State : Type 0} (left : S → Option (List ℕ)) (failed end : S → Bool) (IsRead : S → Option ℕ → S → Type 0) (format : Format A State) (input : Input) (first : S) (old : MemberReader S A State) (begins : BeginsAt left format input first old)
     (new : MemberReader S A State) (last : S) (ended : source_of new.below ≡ last) (own : KeepsOwnFault IsRead old.below new) where
   -- a failed read that is reported after some members
-  pub behind_own : (Kinds : Kind → Type 0) → (Kinds ReadFailed → ⊥) → (past : List (Member A)) (fault : Told) → HasFaultBehind left failed end old Kinds past fault new → (other : Input) (line : ℕ) → fault ≡ read_failed other line
+  pub behind_own : (Kinds : Kind → Type 0) → (Kinds ReadFailed → ⊥) → (past : List (Member A)) (fault : FaultValue) → HasFaultBehind left failed end old Kinds past fault new → (other : Input) (line : ℕ) → fault ≡ read_failed other line
       → (other ≡ input) × IsOwnFailure IsRead first last
   behind_own Kinds never past fault (inl wrong) other line e = absurd (never_read Kinds never _ wrong.line wrong.kind wrong.of_kind other line (sym wrong.is ∙ e))
   behind_own Kinds never past fault (inr unread) other line e = (
@@ -132,7 +132,7 @@ module _ {S A State : Type 0} (left : S → Option (List ℕ)) (failed end : S �
 -- the members of the first input were fed to an engine up to a fault
 module _ {S A State : Type 0} (left : S → Option (List ℕ)) (failed end : S → Bool) (IsRead : S → Option ℕ → S → Type 0) (format : Format A State) (first : S) (old : MemberReader S A State) (begins : BeginsAt left format First first old)
     (new : MemberReader S A State) (last : S) (ended : source_of new.below ≡ last) (own : KeepsOwnFault IsRead old.below new) where
-  pub feeds_own : (settled : List A → List ℕ) (Kinds : Kind → Type 0) → (Kinds ReadFailed → ⊥) → (Sorted : List A → Type 0) (out : Output) (fault : Told) (grown : Output)
+  pub feeds_own : (settled : List A → List ℕ) (Kinds : Kind → Type 0) → (Kinds ReadFailed → ⊥) → (Sorted : List A → Type 0) (out : Output) (fault : FaultValue) (grown : Output)
       → FeedsUpTo settled Kinds Sorted left failed end old out fault new grown → TellsOwnReads ⊥ (IsOwnFailure IsRead first last) ⊥ (Some fault)
   feeds_own settled Kinds never Sorted out fault grown fed =
       let by : (other : Input) (line : ℕ) → Some fault ≡ Some (read_failed other line) → (other ≡ First) × IsOwnFailure IsRead first last =
@@ -153,40 +153,40 @@ module _ {S A State : Type 0} (left : S → Option (List ℕ)) (failed end : S �
       }
 
 -- a run over two readers ended
-module _ {A B X Y U V : Type 0} (making : Making X Y) (pair : Pair A B X Y U V) (out : Output) (a_read : A → Option ℕ → A → Type 0) (b_read : B → Option ℕ → B → Type 0) (first_format : Format X U) (second_format : Format Y V)
+module _ {A B X Y U V : Type 0} (join : JoinDef X Y) (pair : Pair A B X Y U V) (out : Output) (a_read : A → Option ℕ → A → Type 0) (b_read : B → Option ℕ → B → Type 0) (first_format : Format X U) (second_format : Format Y V)
     (one_before : A) (two_before : B) (begins : BeginsAt pair.a_left first_format First one_before pair.first) (begins_second : BeginsAt pair.b_left second_format Second two_before pair.second)
-    (first : MemberReader A X U) (second : MemberReader B Y V) (one_after : A) (two_after : B) (ended : source_of first.below ≡ one_after) (ended_second : source_of second.below ≡ two_after) (fault : Option Told) (grown : Output)
-    (w : Finishes making pair out fault first second grown) (no_first : making.first_kinds ReadFailed → ⊥) (no_second : making.second_kinds ReadFailed → ⊥) (own : KeepsOwnFault a_read pair.first.below first) (own_second : KeepsOwnFault b_read pair.second.below second) where
+    (first : MemberReader A X U) (second : MemberReader B Y V) (one_after : A) (two_after : B) (ended : source_of first.below ≡ one_after) (ended_second : source_of second.below ≡ two_after) (fault : Option FaultValue) (grown : Output)
+    (w : Finishes join pair out fault first second grown) (no_first : join.first_kinds ReadFailed → ⊥) (no_second : join.second_kinds ReadFailed → ⊥) (own : KeepsOwnFault a_read pair.first.below first) (own_second : KeepsOwnFault b_read pair.second.below second) where
   abbrev OwnFirst : Input → Type 0
   OwnFirst input = (input ≡ First) × IsOwnFailure a_read one_before one_after
 
   abbrev OwnSecond : Input → Type 0
   OwnSecond input = (input ≡ Second) × IsOwnFailure b_read two_before two_after
 
-  of_first : (past : List (Member X)) (other : Told) → HasFaultBehind pair.a_left pair.a_failed pair.a_end pair.first making.first_kinds past other first → (input : Input) (line : ℕ) → other ≡ read_failed input line → OwnFirst input
+  of_first : (past : List (Member X)) (other : FaultValue) → HasFaultBehind pair.a_left pair.a_failed pair.a_end pair.first join.first_kinds past other first → (input : Input) (line : ℕ) → other ≡ read_failed input line → OwnFirst input
   of_first past other behind =
-      behind_own pair.a_left pair.a_failed pair.a_end a_read first_format First one_before pair.first begins first one_after ended own making.first_kinds no_first past other behind
+      behind_own pair.a_left pair.a_failed pair.a_end a_read first_format First one_before pair.first begins first one_after ended own join.first_kinds no_first past other behind
 
-  of_second : (past : List (Member Y)) (other : Told) → HasFaultBehind pair.b_left pair.b_failed pair.b_end pair.second making.second_kinds past other second → (input : Input) (line : ℕ) → other ≡ read_failed input line → OwnSecond input
+  of_second : (past : List (Member Y)) (other : FaultValue) → HasFaultBehind pair.b_left pair.b_failed pair.b_end pair.second join.second_kinds past other second → (input : Input) (line : ℕ) → other ≡ read_failed input line → OwnSecond input
   of_second past other behind =
-      behind_own pair.b_left pair.b_failed pair.b_end b_read second_format Second two_before pair.second begins_second second two_after ended_second own_second making.second_kinds no_second past other behind
+      behind_own pair.b_left pair.b_failed pair.b_end b_read second_format Second two_before pair.second begins_second second two_after ended_second own_second join.second_kinds no_second past other behind
 
   -- the inputs reported it
-  by_inputs : InputsEnd making pair out w.written w.wrote.given w.wrote.ended first second fault → (input : Input) (line : ℕ) → fault ≡ Some (read_failed input line) → OwnFirst input ⊎ OwnSecond input
+  by_inputs : InputsEnd join pair out w.written w.wrote.given w.wrote.ended first second fault → (input : Input) (line : ℕ) → fault ≡ Some (read_failed input line) → OwnFirst input ⊎ OwnSecond input
   by_inputs (inl stops) input line e = inl (of_first stops.2.past stops.0 stops.2.cause input line (some_is stops.0 (read_failed input line) (sym stops.1 ∙ e)))
   by_inputs (inr (inl stops)) input line e = inr (of_second stops.2.past stops.0 stops.2.fails.cause input line (some_is stops.0 (read_failed input line) (sym stops.1 ∙ e)))
   by_inputs (inr (inr (inr stops))) input line e =
-      absurd (never_read making.second_kinds no_second Second stops.2.m.line stops.2.kind stops.2.of_kind input line (sym stops.2.is ∙ some_is stops.0 (read_failed input line) (sym stops.1 ∙ e)))
+      absurd (never_read join.second_kinds no_second Second stops.2.m.line stops.2.kind stops.2.of_kind input line (sym stops.2.is ∙ some_is stops.0 (read_failed input line) (sym stops.1 ∙ e)))
   by_inputs (inr (inr (inl stops))) input line e =
       elim stops.rest [
         | inl end ↦ absurd (let apart : None ≡ Some (read_failed input line) = sym end.0 ∙ e in cc)
         | inr others ↦ elim others [
           | inl other ↦ inr (of_second stops.past_second other.0 other.2.cause input line (some_is other.0 (read_failed input line) (sym other.1 ∙ e)))
-          | inr other ↦ absurd (never_read making.second_kinds no_second Second other.2.line other.2.kind other.2.of_kind input line (sym other.2.is ∙ some_is other.0 (read_failed input line) (sym other.1 ∙ e)))
+          | inr other ↦ absurd (never_read join.second_kinds no_second Second other.2.line other.2.kind other.2.of_kind input line (sym other.2.is ∙ some_is other.0 (read_failed input line) (sym other.1 ∙ e)))
         ]
       ]
 
-  by_cause : Why making pair out w.written w.bytes w.wrote.given w.wrote.ended first second fault grown → (input : Input) (line : ℕ) → fault ≡ Some (read_failed input line) → OwnFirst input ⊎ OwnSecond input
+  by_cause : Why join pair out w.written w.bytes w.wrote.given w.wrote.ended first second fault grown → (input : Input) (line : ℕ) → fault ≡ Some (read_failed input line) → OwnFirst input ⊎ OwnSecond input
   by_cause (inl (end, puts, works)) input line e = by_inputs end input line e
   by_cause (inr (inl ran)) input line e = absurd (memory_no_read input line (some_is no_memory (read_failed input line) (sym ran.0 ∙ e)))
   by_cause (inr (inr cut)) input line e = absurd (write_no_read input line (some_is write_failed (read_failed input line) (sym cut.0 ∙ e)))
@@ -211,13 +211,13 @@ module _ {A B X Y U V : Type 0} (making : Making X Y) (pair : Pair A B X Y U V) 
   }
 
 -- a flush tells no failed read of its own
-flushed_read : (old new : Output) (fault answer : Option Told) → (FlushesAll old fault answer new ⊎ FlushFails old fault answer new) ⊎ StaysFailed old fault answer new → (input : Input) (line : ℕ) → answer ≡ Some (read_failed input line)
+flushed_read : (old new : Output) (fault answer : Option FaultValue) → (FlushesAll old fault answer new ⊎ FlushFails old fault answer new) ⊎ StaysFailed old fault answer new → (input : Input) (line : ℕ) → answer ≡ Some (read_failed input line)
     → fault ≡ Some (read_failed input line)
 flushed_read old new fault answer (inl (inl all)) input line e = sym all.same_fault ∙ e
 flushed_read old new fault answer (inl (inr fails)) input line e = absurd (write_no_read input line (some_is write_failed (read_failed input line) (sym fails.is ∙ e)))
 flushed_read old new fault answer (inr stays) input line e = absurd (write_no_read input line (some_is write_failed (read_failed input line) (sym stays.is ∙ e)))
 
-pub flushed_own : (G F S : Type 0) (old new : Output) (fault answer : Option Told) → Flushes old fault answer new → TellsOwnReads G F S fault → TellsOwnReads G F S answer
+pub flushed_own : (G F S : Type 0) (old new : Output) (fault answer : Option FaultValue) → Flushes old fault answer new → TellsOwnReads G F S fault → TellsOwnReads G F S answer
 flushed_own G F S old new fault answer flush own = record {
   genome_file = λ line e. own.genome_file line (flushed_read old new fault answer flush.ends Genome line e);
   first_input = λ line e. own.first_input line (flushed_read old new fault answer flush.ends First line e);
@@ -225,7 +225,7 @@ flushed_own G F S old new fault answer flush own = record {
 }
 
 -- nor hides it one, unless a write failed
-pub flushed_no_read : (old new : Output) (fault answer : Option Told) → Flushes old fault answer new → answer ≢ Some write_failed → TellsNoRead answer → TellsNoRead fault
+pub flushed_no_read : (old new : Output) (fault answer : Option FaultValue) → Flushes old fault answer new → answer ≢ Some write_failed → TellsNoRead answer → TellsNoRead fault
 flushed_no_read old new fault answer flush no_write never input line e = elim flush.ends [
   | inl handed ↦ elim handed [
     | inl all ↦ never input line (all.same_fault ∙ e)
@@ -235,9 +235,9 @@ flushed_no_read old new fault answer flush no_write never input line e = elim fl
 ]
 
 -- the genome file was read, or its fault reported, and then the other inputs
-module _ {A B : Type 0} (a_left : A → Option (List ℕ)) (a_failed a_end : A → Bool) (b_left : B → Option (List ℕ)) (b_failed : B → Bool) (command : Command) (first : A) (second : Option B) (out : Output) (fault : Option Told) (first_after : A)
+module _ {A B : Type 0} (a_left : A → Option (List ℕ)) (a_failed a_end : A → Bool) (b_left : B → Option (List ℕ)) (b_failed : B → Bool) (command : Command) (first : A) (second : Option B) (out : Output) (fault : Option FaultValue) (first_after : A)
     (second_after : Option B) (grown : Output) where
-  pub all_own : (G F S : Type 0) (chromosomes : Result (Option GenomeTable) Fault) → MatchResult chromosomes (λ _. ⊤) (λ fault. TellsOwnReads G ⊥ ⊥ (Some (told fault)))
+  pub all_own : (G F S : Type 0) (chromosomes : Result (Option GenomeTable) Fault) → MatchResult chromosomes (λ _. ⊤) (λ fault. TellsOwnReads G ⊥ ⊥ (Some (fault_value fault)))
       → WritesOutput a_left a_failed a_end b_left b_failed command chromosomes first second out fault first_after second_after grown
       → MatchResult chromosomes (λ _. TellsOwnReads ⊥ F S fault) (λ _. ⊤) → TellsOwnReads G F S fault
   all_own G F S (Ok table) read written own = record { genome_file = λ line e. absurd (own.genome_file line e); first_input = own.first_input; second_input = own.second_input }

@@ -8,11 +8,11 @@ use Rattle.std.proofs.KnownBytes.{Appends-nil, Consumes-nil}
 use Rattle.bt_lines.proofs.lemmas.reader.block.ReadsLemmas.{some_is}
 use Rattle.bt_tool.proofs.lemmas.running.feed.FeedLemmas.{took_more_than}
 use Rattle.bt_lines.proofs.lemmas.writer.OutputLemmas.{grows_both}
-use Rattle.bt_lines.specs.model.Fault.{Told, write_failed, no_memory}
+use Rattle.bt_lines.specs.model.Fault.{FaultValue, write_failed, no_memory}
 use Rattle.bt_lines.specs.model.Handed.{Handed}
 use Rattle.bt_lines.specs.model.Lines.{text_lines}
-use Rattle.bt_lines.specs.calls.Names.{told}
-use Rattle.bt_lines.specs.calls.Output.{Output, IsFrontOf, Grows, block_size}
+use Rattle.bt_lines.specs.calls.Names.{fault_value}
+use Rattle.bt_lines.specs.calls.Output.{Output, IsPrefixOf, Grows, block_size}
 use Rattle.bt_lines.specs.declared.fault.Fault.{Fault}
 use Rattle.bt_lines.specs.declared.fault.Input.{Input}
 use Rattle.bt_lines.specs.declared.fault.Input.TheVariants.{First, Second, Genome as FromGenome}
@@ -26,10 +26,10 @@ use Rattle.bt_runs.specs.model.Depth.{settled_depths}
 use Rattle.bt_runs.specs.model.Gaps.{settled_gaps}
 use Rattle.bt_tool.specs.model.usage.Kinds.{IsOneOf}
 use Rattle.bt_tool.specs.calls.run.Chromosomes.{KnowsChromosomes, LacksChromosomes, ReadsChromosomes, StopsAtGenome, WritesOutput}
-use Rattle.bt_tool.specs.calls.run.Telling.{IsFaultButWrite, IsOfInput, IsPutTo, IsWithin, ReadsNoFurther, TellsDevice, TellsInput, TellsInputIf, TellsLine, TellsRead}
+use Rattle.bt_tool.specs.calls.run.FaultSource.{IsFaultButWrite, IsOfInput, IsPutTo, IsWithin, ReadsNoFurther, TellsDevice, TellsInput, TellsInputIf, TellsLine, TellsRead}
 use Rattle.bt_tool.specs.calls.run.Writing.{WritesBy}
 use Rattle.bt_tool.specs.inside.feed.Flushing.{Flushes, FlushesAll, FlushFails, StaysFailed}
-use Rattle.bt_tool.specs.calls.run.Gives.{Runs, TellsOther, is_of_genome, lies_in_genome}
+use Rattle.bt_tool.specs.calls.run.RunContract.{Runs, TellsOther, is_of_genome, lies_in_genome}
 use Rattle.bt_tool.specs.model.report.Inputs.{HandsUpToIf, Inputs}
 use Rattle.bt_tool.specs.model.report.RecordReport.{Report}
 use Rattle.bt_tool.specs.model.report.Behaviour.{behaviour_of, order_of}
@@ -47,7 +47,7 @@ kept_known (Some y) None x e k = absurd k
 kept_known (Some y) (Some z) x e k = ap Some k ∙ e
 
 -- what a sink took is a prefix of the output, if it's a prefix of what was put
-cut_front : (a took : Option (List ℕ)) (before front rest output : List ℕ) → a ≡ Some before → Grows a took → output ≡ front ++ rest → IsFrontOf took (Some (before ++ front)) []
+cut_front : (a took : Option (List ℕ)) (before front rest output : List ℕ) → a ≡ Some before → Grows a took → output ≡ front ++ rest → IsPrefixOf took (Some (before ++ front)) []
     → (front : List ℕ) × (rest : List ℕ) × (took ≡ Some (before ++ front)) × (output ≡ front ++ rest)
 cut_front None took before front rest output e g o f = cc
 cut_front (Some x) None before front rest output e g o f = absurd g.1
@@ -59,10 +59,10 @@ cut_front (Some x) (Some y) before front rest output e g o f =
     (g.0, f.0 ++ rest, ap Some grown, o ∙ ap (λ l. l ++ rest) (sym parts) ∙ append_assoc g.0 f.0 rest)
 
 -- a fault from before a flush
-module _ (out mid new : Output) (fault answer : Option Told) where
+module _ (out mid new : Output) (fault answer : Option FaultValue) where
   front_by : (before output : List ℕ) → out.took ≡ Some before → Grows out.took mid.took → Grows mid.took new.took
       → (fault ≢ Some write_failed → (front : List ℕ) × (rest : List ℕ) × (output ≡ front ++ rest) × (mid.put ≡ Some (before ++ front)))
-      → (fault ≡ Some write_failed → (front : List ℕ) × (rest : List ℕ) × (output ≡ front ++ rest) × IsFrontOf mid.took (Some (before ++ front)) [])
+      → (fault ≡ Some write_failed → (front : List ℕ) × (rest : List ℕ) × (output ≡ front ++ rest) × IsPrefixOf mid.took (Some (before ++ front)) [])
       → (FlushesAll mid fault answer new ⊎ FlushFails mid fault answer new) ⊎ StaysFailed mid fault answer new
       → (front : List ℕ) × (rest : List ℕ) × (new.took ≡ Some (before ++ front)) × (output ≡ front ++ rest)
   front_by before output took grows more kept cut (inl (inl all)) =
@@ -70,12 +70,12 @@ module _ (out mid new : Output) (fault answer : Option Told) where
       (k.0, k.1, kept_known mid.put new.took (before ++ k.0) k.3 all.taken, k.2)
   front_by before output took grows more kept cut (inl (inr fails)) =
       let k = kept fails.was in
-      cut_front out.took new.took before k.0 k.1 output took (grows_both out.took mid.took new.took grows more) k.2 (subst (λ put. IsFrontOf new.took put []) k.3 fails.front)
+      cut_front out.took new.took before k.0 k.1 output took (grows_both out.took mid.took new.took grows more) k.2 (subst (λ put. IsPrefixOf new.took put []) k.3 fails.front)
   front_by before output took grows more kept cut (inr stays) =
       let c = cut stays.was in
-      cut_front out.took new.took before c.0 c.1 output took (grows_both out.took mid.took new.took grows more) c.2 (subst (λ (o : Output). IsFrontOf o.took (Some (before ++ c.0)) []) (sym stays.unchanged) c.3)
+      cut_front out.took new.took before c.0 c.1 output took (grows_both out.took mid.took new.took grows more) c.2 (subst (λ (o : Output). IsPrefixOf o.took (Some (before ++ c.0)) []) (sym stays.unchanged) c.3)
 
-  whole_by : (told : Option Told) (whole : List ℕ) → (fault ≢ Some write_failed → fault ≢ Some no_memory → (fault ≡ told) × (mid.put ≡ Some whole)) → (fault ≡ Some write_failed → mid.sink_has_failed ≡ true)
+  whole_by : (told : Option FaultValue) (whole : List ℕ) → (fault ≢ Some write_failed → fault ≢ Some no_memory → (fault ≡ told) × (mid.put ≡ Some whole)) → (fault ≡ Some write_failed → mid.sink_has_failed ≡ true)
       → new.sink_has_failed ≡ false → answer ≢ Some no_memory → (FlushesAll mid fault answer new ⊎ FlushFails mid fault answer new) ⊎ StaysFailed mid fault answer new
       → (answer ≡ told) × (new.took ≡ Some whole)
   whole_by told whole gives writing served memory (inl (inl all)) =
@@ -85,7 +85,7 @@ module _ (out mid new : Output) (fault answer : Option Told) where
   whole_by told whole gives writing served memory (inr stays) =
       absurd (false≢true (sym served ∙ ap (λ (o : Output). o.sink_has_failed) stays.unchanged ∙ writing stays.was))
 
-  told_by : (told : Option Told) (whole : List ℕ) → (IsOfInput fault → (fault ≡ told) × (mid.put ≡ Some whole)) → IsOfInput answer → (FlushesAll mid fault answer new ⊎ FlushFails mid fault answer new) ⊎ StaysFailed mid fault answer new
+  told_by : (told : Option FaultValue) (whole : List ℕ) → (IsOfInput fault → (fault ≡ told) × (mid.put ≡ Some whole)) → IsOfInput answer → (FlushesAll mid fault answer new ⊎ FlushFails mid fault answer new) ⊎ StaysFailed mid fault answer new
       → (answer ≡ told) × (new.took ≡ Some whole)
   told_by told whole gives is (inl (inl all)) =
       let of_input : IsOfInput fault = record { no_read = λ i line e. is.no_read i line (all.same_fault ∙ e); no_write = all.was; no_growth = λ e. is.no_growth (all.same_fault ∙ e) } in
@@ -119,9 +119,9 @@ module _ (out mid new : Output) (fault answer : Option Told) where
   served_by (inr stays) none = absurd (let apart : None ≡ Some write_failed = sym none ∙ stays.is in cc)
 
   -- the fault that is reported is the one before the flush, or a failed write
-  pub named_by : {P : Told → Type 0} → ((t : Told) → fault ≡ Some t → P t ⊎ TellsDevice mid.sink_has_failed t)
+  pub named_by : {P : FaultValue → Type 0} → ((t : FaultValue) → fault ≡ Some t → P t ⊎ TellsDevice mid.sink_has_failed t)
       → (FlushesAll mid fault answer new ⊎ FlushFails mid fault answer new) ⊎ StaysFailed mid fault answer new
-      → (t : Told) → answer ≡ Some t → P t ⊎ TellsDevice new.sink_has_failed t
+      → (t : FaultValue) → answer ≡ Some t → P t ⊎ TellsDevice new.sink_has_failed t
   named_by named (inl (inl all)) t e =
       ⊎_elim (λ p. inl p) (λ d. inr (subst (λ b. TellsDevice b t) (sym all.sink_served) d)) (named t (sym all.same_fault ∙ e))
   named_by named (inl (inr fails)) t e = inr (inl (some_is t write_failed (sym e ∙ fails.is), fails.sink_failed))
@@ -129,10 +129,10 @@ module _ (out mid new : Output) (fault answer : Option Told) where
       ⊎_elim (λ p. inl p) (λ d. inr (subst (λ (o : Output). TellsDevice o.sink_has_failed t) (sym stays.unchanged) d)) (named t (stays.was ∙ sym stays.is ∙ e))
 
   -- where it lies
-  pub placed_by : (t : Told) → answer ≡ Some t → lies_in_genome t.place ≡ true
+  pub placed_by : (t : FaultValue) → answer ≡ Some t → lies_in_genome t.place ≡ true
       → (FlushesAll mid fault answer new ⊎ FlushFails mid fault answer new) ⊎ StaysFailed mid fault answer new → fault ≡ Some t
   placed_by t e lies (inl (inl all)) = sym all.same_fault ∙ e
-  placed_by t e lies (inl (inr fails)) = absurd (false≢true (sym (ap (λ (f : Told). lies_in_genome f.place) (some_is t write_failed (sym e ∙ fails.is))) ∙ lies))
+  placed_by t e lies (inl (inr fails)) = absurd (false≢true (sym (ap (λ (f : FaultValue). lies_in_genome f.place) (some_is t write_failed (sym e ∙ fails.is))) ∙ lies))
   placed_by t e lies (inr stays) = stays.was ∙ sym stays.is ∙ e
 
 -- no line settles nothing
@@ -146,7 +146,7 @@ none_settle (Coverage zeros strand) chromosomes second = refl
 none_settle (BamToBed split cigar) chromosomes second = refl
 none_settle (MaskFasta how full) chromosomes second = refl
 
-none_settle_on : (command : Command) (chromosomes : Result (Option (List Entry)) Told) (second : Option Handed) → settles_on command chromosomes second [] ≡ []
+none_settle_on : (command : Command) (chromosomes : Result (Option (List Entry)) FaultValue) (second : Option Handed) → settles_on command chromosomes second [] ≡ []
 none_settle_on command (Err fault) second = refl
 none_settle_on command (Ok chromosomes) second = none_settle command chromosomes second
 
@@ -157,22 +157,22 @@ taken_all (Some taken) before e =
     omega (arith, ap length same, ap length (append-nil before))
 
 -- a fault of the first input lies there
-line_elsewhere : (kinds : Kind → Type 0) (input : Input) (t : Told) → is_of_genome input ≡ false → TellsLine kinds input t → lies_in_genome t.place ≡ true → ⊥
-line_elsewhere kinds input t other tells lies = false≢true (sym other ∙ sym (ap (λ (f : Told). lies_in_genome f.place) tells.is) ∙ lies)
+line_elsewhere : (kinds : Kind → Type 0) (input : Input) (t : FaultValue) → is_of_genome input ≡ false → TellsLine kinds input t → lies_in_genome t.place ≡ true → ⊥
+line_elsewhere kinds input t other tells lies = false≢true (sym other ∙ sym (ap (λ (f : FaultValue). lies_in_genome f.place) tells.is) ∙ lies)
 
-read_elsewhere : {A : Type 0} (left : A → Option (List ℕ)) (failed : A → Bool) (input : Input) (before after : A) (t : Told) → is_of_genome input ≡ false → TellsRead left failed input before after t → lies_in_genome t.place ≡ true → ⊥
-read_elsewhere left failed input before after t other tells lies = false≢true (sym other ∙ sym (ap (λ (f : Told). lies_in_genome f.place) tells.is) ∙ lies)
+read_elsewhere : {A : Type 0} (left : A → Option (List ℕ)) (failed : A → Bool) (input : Input) (before after : A) (t : FaultValue) → is_of_genome input ≡ false → TellsRead left failed input before after t → lies_in_genome t.place ≡ true → ⊥
+read_elsewhere left failed input before after t other tells lies = false≢true (sym other ∙ sym (ap (λ (f : FaultValue). lies_in_genome f.place) tells.is) ∙ lies)
 
-device_elsewhere : (b : Bool) (t : Told) → TellsDevice b t → lies_in_genome t.place ≡ true → ⊥
-device_elsewhere b t (inl write) lies = false≢true (sym (ap (λ (f : Told). lies_in_genome f.place) write.0) ∙ lies)
-device_elsewhere b t (inr memory) lies = false≢true (sym (ap (λ (f : Told). lies_in_genome f.place) memory) ∙ lies)
+device_elsewhere : (b : Bool) (t : FaultValue) → TellsDevice b t → lies_in_genome t.place ≡ true → ⊥
+device_elsewhere b t (inl write) lies = false≢true (sym (ap (λ (f : FaultValue). lies_in_genome f.place) write.0) ∙ lies)
+device_elsewhere b t (inr memory) lies = false≢true (sym (ap (λ (f : FaultValue). lies_in_genome f.place) memory) ∙ lies)
 
-input_elsewhere : {A : Type 0} (left : A → Option (List ℕ)) (failed : A → Bool) (kinds : Kind → Type 0) (input : Input) (before after : A) (t : Told) → is_of_genome input ≡ false
+input_elsewhere : {A : Type 0} (left : A → Option (List ℕ)) (failed : A → Bool) (kinds : Kind → Type 0) (input : Input) (before after : A) (t : FaultValue) → is_of_genome input ≡ false
     → TellsInput left failed kinds input before after t → lies_in_genome t.place ≡ true → ⊥
 input_elsewhere left failed kinds input before after t other (inl tells) lies = line_elsewhere kinds input t other tells lies
 input_elsewhere left failed kinds input before after t other (inr tells) lies = read_elsewhere left failed input before after t other tells lies
 
-if_elsewhere : {B : Type 0} (left : B → Option (List ℕ)) (failed : B → Bool) (kinds : Kind → Type 0) (input : Input) (before after : Option B) (t : Told) → is_of_genome input ≡ false
+if_elsewhere : {B : Type 0} (left : B → Option (List ℕ)) (failed : B → Bool) (kinds : Kind → Type 0) (input : Input) (before after : Option B) (t : FaultValue) → is_of_genome input ≡ false
     → TellsInputIf left failed kinds input before after t → lies_in_genome t.place ≡ true → ⊥
 if_elsewhere left failed kinds input None after t other tells lies = absurd tells
 if_elsewhere left failed kinds input (Some before) None t other tells lies = absurd tells
@@ -183,7 +183,7 @@ same_is_some : (table : Option Genome) → is_some (option_map entries table) �
 same_is_some None = refl
 same_is_some (Some table) = refl
 
-other_chromosomes : (chromosomes : Result (Option (List Entry)) Told) (entries : Option (List Entry)) (wrong : Told) → chromosomes ≡ Ok entries → chromosomes ≡ Err wrong → ⊥
+other_chromosomes : (chromosomes : Result (Option (List Entry)) FaultValue) (entries : Option (List Entry)) (wrong : FaultValue) → chromosomes ≡ Ok entries → chromosomes ≡ Err wrong → ⊥
 other_chromosomes chromosomes entries wrong o e = cc
 
 -- a failed write is reported only if the sink failed
@@ -198,7 +198,7 @@ write_of_if left failed kinds input (Some before) None tells = absurd tells
 write_of_if left failed kinds input (Some before) (Some after) tells = tells_no_write left failed kinds input before after tells
 
 -- an input that wasn't touched was read at most up to its first line
-near_untouched : (Beside : ℕ → Type 0) → ((n : ℕ) → Beside n) → (command : Command) (chromosomes : Result (Option (List Entry)) Told) (second : Option Handed) (text before : List ℕ) (left took more : Option (List ℕ)) → left ≡ Some text → took ≡ Some before → Grows took more
+near_untouched : (Beside : ℕ → Type 0) → ((n : ℕ) → Beside n) → (command : Command) (chromosomes : Result (Option (List Entry)) FaultValue) (second : Option Handed) (text before : List ℕ) (left took more : Option (List ℕ)) → left ≡ Some text → took ≡ Some before → Grows took more
     → (Failed Stops : Type 0) (later : Option (List ℕ)) → Failed ⊎ IsPutTo (length (before ++ [])) later → (Stops → later ≡ Some (before ++ []))
     → ReadsNoFurther Beside (settles_on command chromosomes second) text left before more Failed Stops later
 near_untouched Beside has command chromosomes second text before left took more e t g Failed Stops later kept exact = record {
@@ -215,14 +215,14 @@ near_untouched Beside has command chromosomes second text before left took more 
 
 module _ {G A B K : Type 0} (g_left : G → Option (List ℕ)) (g_failed : G → Bool) (a_left : A → Option (List ℕ)) (a_failed a_end : A → Bool) (b_left : B → Option (List ℕ)) (b_failed : B → Bool) (k_took : K → Option (List ℕ)) (k_failed : K → Bool)
     (command : Command) (genome genome_after : Option G) (first first_after : A) (second second_after : Option B) (out out_after : K) (begun mid new : Output) (put : begun.put ≡ k_took out) (took : begun.took ≡ k_took out) (served : begun.sink_has_failed ≡ k_failed out)
-    (took_after : k_took out_after ≡ new.took) (failed_after : k_failed out_after ≡ new.sink_has_failed) (fault answer : Option Told) (flushes : Flushes mid fault answer new) where
+    (took_after : k_took out_after ≡ new.took) (failed_after : k_failed out_after ≡ new.sink_has_failed) (fault answer : Option FaultValue) (flushes : Flushes mid fault answer new) where
   abbrev RunsSo : Type 0
   RunsSo = Runs g_left g_failed a_left a_failed a_end b_left b_failed k_took k_failed command genome first second out answer genome_after first_after second_after out_after
 
-  abbrev GenomeTells : Told → Type 0
+  abbrev GenomeTells : FaultValue → Type 0
   GenomeTells t = TellsInputIf g_left g_failed (IsOneOf is_genome_kind) FromGenome genome genome_after t
 
-  abbrev OthersTell : Told → Type 0
+  abbrev OthersTell : FaultValue → Type 0
   OthersTell t = TellsOther g_left g_failed a_left a_failed a_end b_left b_failed k_took k_failed command genome first first_after second second_after t
 
   -- how far the second input was read by the time that this many lines of the first were
@@ -238,14 +238,14 @@ module _ {G A B K : Type 0} (g_left : G → Option (List ℕ)) (g_failed : G →
     abbrev reported : Inputs → Report
     reported inputs = (behaviour_of command chromosomes).report inputs.first inputs.second
 
-    abbrev Tells : Told → Type 0
+    abbrev Tells : FaultValue → Type 0
     Tells t = TellsInput a_left a_failed (behaviour_of command chromosomes).FirstKinds First first first_after t ⊎ TellsInputIf b_left b_failed (behaviour_of command chromosomes).SecondKinds Second second second_after t
 
     write_of_others : Tells write_failed → ⊥
     write_of_others (inl tells) = tells_no_write a_left a_failed (behaviour_of command chromosomes).FirstKinds First first first_after tells
     write_of_others (inr tells) = write_of_if b_left b_failed (behaviour_of command chromosomes).SecondKinds Second second second_after tells
 
-    others_elsewhere : (t : Told) → Tells t ⊎ TellsDevice mid.sink_has_failed t → lies_in_genome t.place ≡ true → ⊥
+    others_elsewhere : (t : FaultValue) → Tells t ⊎ TellsDevice mid.sink_has_failed t → lies_in_genome t.place ≡ true → ⊥
     others_elsewhere t (inl (inl tells)) lies = input_elsewhere a_left a_failed (behaviour_of command chromosomes).FirstKinds First first first_after t refl tells lies
     others_elsewhere t (inl (inr tells)) lies = if_elsewhere b_left b_failed (behaviour_of command chromosomes).SecondKinds Second second second_after t refl tells lies
     others_elsewhere t (inr tells) lies = device_elsewhere mid.sink_has_failed t tells lies
@@ -253,7 +253,7 @@ module _ {G A B K : Type 0} (g_left : G → Option (List ℕ)) (g_failed : G →
     sink_failed : fault ≡ Some write_failed → mid.sink_has_failed ≡ true
     sink_failed e = write_by mid.sink_has_failed write_of_others (writes.named write_failed e)
 
-    of_others : (t : Told) → Tells t ⊎ TellsDevice mid.sink_has_failed t → (GenomeTells t ⊎ OthersTell t) ⊎ TellsDevice mid.sink_has_failed t
+    of_others : (t : FaultValue) → Tells t ⊎ TellsDevice mid.sink_has_failed t → (GenomeTells t ⊎ OthersTell t) ⊎ TellsDevice mid.sink_has_failed t
     of_others t (inl tells) = inl (inr (record { chromosomes = chromosomes; named = same_is_some table ∙ knows.named; tells = tells }))
     of_others t (inr tells) = inr tells
 
@@ -296,7 +296,7 @@ module _ {G A B K : Type 0} (g_left : G → Option (List ℕ)) (g_failed : G →
     }
 
   -- the genome file is at fault, and nothing else was touched
-  module _ (wrong : Told) (lacks : LacksChromosomes g_left g_failed genome genome_after wrong) (stops : StopsAtGenome first second begun wrong fault first_after second_after mid) where
+  module _ (wrong : FaultValue) (lacks : LacksChromosomes g_left g_failed genome genome_after wrong) (stops : StopsAtGenome first second begun wrong fault first_after second_after mid) where
     report_wrong : (inputs : Inputs) → chromosomes_of inputs.genome ≡ Err wrong → report_of command inputs ≡ record { output = []; fault = Some wrong }
     unfolding report_of
     report_wrong inputs e = ap (λ c. report_on command c inputs.first inputs.second) e
@@ -310,7 +310,7 @@ module _ {G A B K : Type 0} (g_left : G → Option (List ℕ)) (g_failed : G →
     no_write : fault ≡ Some write_failed → ⊥
     no_write e = lacks.no_write (some_is wrong write_failed (sym stops.is ∙ e))
 
-    genome_named : (t : Told) → TellsInputIf g_left g_failed (IsOneOf is_genome_kind) FromGenome genome genome_after wrong ⊎ (wrong ≡ no_memory) → wrong ≡ t
+    genome_named : (t : FaultValue) → TellsInputIf g_left g_failed (IsOneOf is_genome_kind) FromGenome genome genome_after wrong ⊎ (wrong ≡ no_memory) → wrong ≡ t
         → (GenomeTells t ⊎ OthersTell t) ⊎ TellsDevice mid.sink_has_failed t
     genome_named t (inl tells) e = inl (inl (subst (TellsInputIf g_left g_failed (IsOneOf is_genome_kind) FromGenome genome genome_after) e tells))
     genome_named t (inr memory) e = inr (inr (sym e ∙ memory))
@@ -348,4 +348,4 @@ module _ {G A B K : Type 0} (g_left : G → Option (List ℕ)) (g_failed : G →
 
   pub runs_by : (chromosomes : Result (Option Genome) Fault) → ReadsChromosomes g_left g_failed genome chromosomes genome_after → WritesOutput a_left a_failed a_end b_left b_failed command chromosomes first second begun fault first_after second_after mid → RunsSo
   runs_by (Ok table) knows writes = runs_written table knows writes
-  runs_by (Err wrong) lacks stops = runs_wrong (told wrong) lacks stops
+  runs_by (Err wrong) lacks stops = runs_wrong (fault_value wrong) lacks stops

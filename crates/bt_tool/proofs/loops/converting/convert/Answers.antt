@@ -1,6 +1,6 @@
 use Rattle.std.proofs.Common.{None, refl, sym, ap, ◌∙◌}
 use Rattle.bt_lines.specs.calls.Reader.{source_of}
-use Rattle.bt_lines.specs.calls.Names.{told}
+use Rattle.bt_lines.specs.calls.Names.{fault_value}
 use Rattle.bt_tool.proofs.lemmas.running.feed.ConvertLemmas.{own_up_to, writes_all, writes_up_to}
 use Rattle.bt_tool.proofs.lemmas.running.whole.OwnFailureLemmas.{kept_below, served_of, tells_nothing}
 use Rattle.bt_tool.proofs.loops.converting.convert.Goals as goal
@@ -17,7 +17,7 @@ returns-in-Err-clause-written g c =
     let reader = c.new-lines.ensures in
     let done = c.in-Err.ensures.converts in
     writes_up_to c.args.split c.args.cigar g.A.Source.left g.A.Source.has_failed g.A.Source.end_told c.args.first c.new-lines.result reader.source reader.input reader.none_taken.0 reader.none_fed reader.none_given reader.going.0 reader.lines reader.sound
-    c.new-converter.result c.new-converter.ensures c.args.out.now.output done.0 c.into_source-first.result (ap source_of done.1 ∙ sym c.into_source-first.ensures) c.convert_all-converted.new.out.output (told c.in-Err.fault) done.2
+    c.new-converter.result c.new-converter.ensures c.args.out.now.output done.0 c.into_source-first.result (ap source_of done.1 ∙ sym c.into_source-first.ensures) c.convert_all-converted.new.out.output (fault_value c.in-Err.fault) done.2
 
 pub returns-in-Ok-clause-own_failure : goal.returns-in-Ok-clause-own_failure
 returns-in-Ok-clause-own_failure g c = tells_nothing ⊥ _ ⊥ None refl
@@ -28,7 +28,7 @@ returns-in-Err-clause-own_failure g c =
     let done = c.in-Err.ensures.converts in
     own_up_to c.args.split c.args.cigar g.A.Source.left g.A.Source.has_failed g.A.Source.end_told c.args.first c.new-lines.result reader.source reader.input reader.none_taken.0 reader.none_fed reader.none_given reader.going.0 reader.lines reader.sound
     c.new-converter.result c.new-converter.ensures c.args.out.now.output done.0 c.into_source-first.result (ap source_of done.1 ∙ sym c.into_source-first.ensures) c.convert_all-converted.new.out.output g.A.Source.is_read
-    (kept_below g.A.Source.is_read c.new-lines.result done.0 c.convert_all-converted.new.lines done.1 done.3 c.convert_all-converted.ensures.own_failure) (told c.in-Err.fault) done.2
+    (kept_below g.A.Source.is_read c.new-lines.result done.0 c.convert_all-converted.new.lines done.1 done.3 c.convert_all-converted.ensures.own_failure) (fault_value c.in-Err.fault) done.2
 
 pub returns-in-Ok-clause-reads : goal.returns-in-Ok-clause-reads
 returns-in-Ok-clause-reads g c = λ never.

@@ -1,7 +1,7 @@
 use Rattle.std.proofs.Common.{◌∙◌, ap, arith, refl, subst, ⊎_elim}
 use Rattle.bt_lines.proofs.lemmas.reader.block.ReadsLemmas.{has_read_then, reads_same}
 use Rattle.bt_lines.specs.calls.LentLine.{line_seen}
-use Rattle.bt_lines.specs.calls.Names.{told}
+use Rattle.bt_lines.specs.calls.Names.{fault_value}
 use Rattle.bt_lines.specs.declared.fault.Input.{Input}
 use Rattle.bt_lines.specs.calls.Reader.{HasRead}
 use Rattle.bt_bed.proofs.lemmas.order.ResultLemmas.{passed_on}
@@ -28,7 +28,7 @@ returns-in_err-line-clause-converts g c =
     c.from_residual.ensures.1 (
       sam_reader c.next.follows.lender-at-none,
       refl,
-      stops_reading _ _ _ _ _ c.args.lines.now c.args.out.now.output c.loop-line.lines c.loop-line.out.output now.going c.next.follows.lender-at-none (told c.in_err-line.field-0.0) gives.answers gives.sound,
+      stops_reading _ _ _ _ _ c.args.lines.now c.args.out.now.output c.loop-line.lines c.loop-line.out.output now.going c.next.follows.lender-at-none (fault_value c.in_err-line.field-0.0) gives.answers gives.sound,
       λ input line e. e,
     )
 
@@ -70,7 +70,7 @@ returns-in_err-convert_line-clause-converts g c =
     let gives = rw (c.in_ok-line.was, c.in-Some.is) at c.next.follows.holds-at-none in
     let now = c.loop-line.invariant in
     let first = c.args.converter.now in
-    let fault = told c.in_err-convert_line.field-0.0 in
+    let fault = fault_value c.in_err-convert_line.field-0.0 in
     let line = line_seen c.in-Some.line in
     passed_on (λ r. ConvertsAll g.S.Source.left g.S.Source.has_failed g.S.Source.end_told c.args.converter.now c.args.lines.now c.args.out.now.output r c.next.follows.lender-at-none c.convert_line.new.out.output) c.from_residual-in_err-convert_line.result c.in_err-convert_line.field-0.0
     c.from_residual-in_err-convert_line.ensures.1

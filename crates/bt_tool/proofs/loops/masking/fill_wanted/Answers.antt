@@ -1,5 +1,5 @@
 use Rattle.std.proofs.Common.{sym, refl, ◌∙◌}
-use Rattle.bt_lines.specs.calls.Names.{told}
+use Rattle.bt_lines.specs.calls.Names.{fault_value}
 use Rattle.bt_lines.specs.calls.Reader.{HasRead}
 use Rattle.bt_lines.proofs.lemmas.reader.block.ReadsLemmas.{reads_same}
 use Rattle.bt_bed.specs.calls.Blocks.{below, view_of}
@@ -18,7 +18,7 @@ returns-in_err-fill-in-Line-clause-fills g c = λ run going.
     passed_on (λ r. Fills g.A.Source.left g.A.Source.has_failed g.A.Source.end_told g.B.Source.left g.B.Source.has_failed g.B.Source.end_told run c.args.lines.now (view_of c.args.records.now) c.args.mask.now r c.fill.new.self (view_of c.args.records.now) c.args.mask.now c.args.out.now.output)
     c.from_residual.result c.in_err-fill-in-Line.field-0.0 c.from_residual.ensures.1
     (stops_lines g.A.Source.left g.A.Source.has_failed g.A.Source.end_told g.B.Source.left g.B.Source.has_failed g.B.Source.end_told run going.0 c.args.lines.now (view_of c.args.records.now) c.args.mask.now c.args.out.now.output going.1
-    (sym c.want.ensures.is ∙ c.in-Line.is) (told c.in_err-fill-in-Line.field-0.0) c.fill.new.self fills.answers fills.kept)
+    (sym c.want.ensures.is ∙ c.in-Line.is) (fault_value c.in_err-fill-in-Line.field-0.0) c.fill.new.self fills.answers fills.kept)
 
 pub returns-in_err-fill-in-Line-clause-reads_first : goal.returns-in_err-fill-in-Line-clause-reads_first
 returns-in_err-fill-in-Line-clause-reads_first g c = λ none.
@@ -55,7 +55,7 @@ returns-in_err-fill-in-Bed-clause-fills g c = λ run going.
     passed_on (λ r. Fills g.A.Source.left g.A.Source.has_failed g.A.Source.end_told g.B.Source.left g.B.Source.has_failed g.B.Source.end_told run c.args.lines.now (view_of c.args.records.now) c.args.mask.now r c.args.lines.now (view_of c.fill-in-Bed.new.self) c.args.mask.now c.args.out.now.output)
     c.from_residual-in_err-fill-in-Bed.result c.in_err-fill-in-Bed.field-0.0 c.from_residual-in_err-fill-in-Bed.ensures.1
     (stops_records g.A.Source.left g.A.Source.has_failed g.A.Source.end_told g.B.Source.left g.B.Source.has_failed g.B.Source.end_told run going.0 c.args.lines.now (view_of c.args.records.now) c.args.mask.now c.args.out.now.output going.1
-    (sym c.want.ensures.is ∙ c.in-Bed.is) (told c.in_err-fill-in-Bed.field-0.0) (view_of c.fill-in-Bed.new.self)
+    (sym c.want.ensures.is ∙ c.in-Bed.is) (fault_value c.in_err-fill-in-Bed.field-0.0) (view_of c.fill-in-Bed.new.self)
     (block_stopped g.B.Source.left g.B.Source.has_failed g.B.Source.end_told g.B.Source.is_read c.args.records.now c.fill-in-Bed.new.self c.in_err-fill-in-Bed.field-0.0 fills))
 
 pub returns-in_err-fill-in-Bed-clause-reads_first : goal.returns-in_err-fill-in-Bed-clause-reads_first

@@ -1,6 +1,6 @@
 use Rattle.std.proofs.Common.{refl, sym, ◌∙◌, ap, None, Some}
 use Rattle.std.proofs.lemmas.Bool.{false≢true}
-use Rattle.bt_lines.specs.calls.Names.{told}
+use Rattle.bt_lines.specs.calls.Names.{fault_value}
 use Rattle.bt_lines.specs.calls.Reader.{source_of}
 use Rattle.bt_lines.specs.declared.fault.Input.TheVariants.{First, Second}
 use Rattle.bt_bed.specs.calls.Blocks.{below, view_of}
@@ -8,7 +8,7 @@ use Rattle.bt_bed.specs.model.input.GoodBlocks.{block_format}
 use Rattle.bt_bed.proofs.lemmas.laws.GoodBlocksLemmas.{good_in_blocks}
 use Rattle.bt_seq.specs.model.Sequences.{sequence_format}
 use Rattle.bt_tool.specs.model.report.MaskReport.{mask_reaches, mask_settles}
-use Rattle.bt_tool.specs.inside.pair.MaskLoop.{line_members, mask_making, mask_pair, nothing_reached}
+use Rattle.bt_tool.specs.inside.pair.MaskLoop.{line_members, mask_join, mask_pair, nothing_reached}
 use Rattle.bt_tool.proofs.lemmas.running.mask.MaskFacts.{mask_limits, mask_needs}
 use Rattle.bt_tool.proofs.lemmas.running.mask.MaskStart.{as_asked, begin_blocks, begin_lines, blocks_format, fresh_blocks, fresh_lines, masks_as_new}
 use Rattle.bt_tool.proofs.lemmas.running.pair.PairMet.{writes_both}
@@ -42,12 +42,12 @@ returns-in-Ok-clause-written g c =
     let begins_second = begin_blocks g.B.Source.left g.B.Source.end_told c.args.second Second c.new.result c.new-records.result records.below reader_2.source reader_2.input reader_2.none_taken.0 reader_2.none_fed reader_2.none_given reader_2.going.0 reader_2.lines records.good in
     let ended = ap source_of ends.1 ∙ sym c.into_source-first.ensures in
     let ended_second = sym (c.into_source-second.ensures ∙ ap source_of c.into_reader.ensures) in
-    let making = mask_making c.args.how in
+    let join = mask_join c.args.how in
     let pair = mask_pair g.A.Source.left g.A.Source.has_failed g.A.Source.end_told g.B.Source.left g.B.Source.has_failed g.B.Source.end_told c.args.how c.args.full (line_members c.args.full nothing_reached c.new-lines.result) (view_of c.new-records.result) in
-    writes_both making pair c.args.out.now.output (sequence_format c.args.full) block_format (λ two. good_in_blocks Second two) (mask_limits c.args.how) c.args.first c.args.second begins begins_second
+    writes_both join pair c.args.out.now.output (sequence_format c.args.full) block_format (λ two. good_in_blocks Second two) (mask_limits c.args.how) c.args.first c.args.second begins begins_second
     ends.0 (view_of c.mask_all-masked.new.records) c.into_source-first.result c.into_source-second.result ended ended_second fault c.mask_all-masked.new.out.output ends.2
     (mask_settles c.args.how c.args.full) (mask_reaches c.args.full)
-    (near_both making pair c.args.out.now.output (sequence_format c.args.full) block_format (λ two. good_in_blocks Second two) (mask_needs c.args.how) c.args.first c.args.second begins begins_second
+    (near_both join pair c.args.out.now.output (sequence_format c.args.full) block_format (λ two. good_in_blocks Second two) (mask_needs c.args.how) c.args.first c.args.second begins begins_second
     ends.0 (view_of c.mask_all-masked.new.records) c.into_source-first.result c.into_source-second.result ended ended_second fault c.mask_all-masked.new.out.output ends.2)
 
 pub returns-clause-written : goal.returns-clause-written
@@ -56,19 +56,19 @@ returns-clause-written g c =
     let reader_2 = c.new.ensures in
     let records = c.new-records.ensures in
     let stands = c.new-mask.ensures.stands in
-    let fault = Some (told c.in-Err.fault) in
+    let fault = Some (fault_value c.in-Err.fault) in
     let ends = as_asked g.A.Source.left g.A.Source.has_failed g.A.Source.end_told g.B.Source.left g.B.Source.has_failed g.B.Source.end_told c.new-lines.result (view_of c.new-records.result) c.args.out.now.output fault c.mask_all-masked.new.lines (view_of c.mask_all-masked.new.records) c.mask_all-masked.new.out.output
     c.new-mask.result.how c.new-mask.result.full c.args.how c.args.full stands.how_is stands.full_is c.in-Err.ensures.finishes in
     let begins = begin_lines g.A.Source.left g.A.Source.end_told c.args.full c.args.first First c.new-lines.result reader.source reader.input reader.none_taken.0 reader.none_fed reader.none_given reader.going.0 reader.lines in
     let begins_second = begin_blocks g.B.Source.left g.B.Source.end_told c.args.second Second c.new.result c.new-records.result records.below reader_2.source reader_2.input reader_2.none_taken.0 reader_2.none_fed reader_2.none_given reader_2.going.0 reader_2.lines records.good in
     let ended = ap source_of ends.1 ∙ sym c.into_source-first.ensures in
     let ended_second = sym (c.into_source-second.ensures ∙ ap source_of c.into_reader.ensures) in
-    let making = mask_making c.args.how in
+    let join = mask_join c.args.how in
     let pair = mask_pair g.A.Source.left g.A.Source.has_failed g.A.Source.end_told g.B.Source.left g.B.Source.has_failed g.B.Source.end_told c.args.how c.args.full (line_members c.args.full nothing_reached c.new-lines.result) (view_of c.new-records.result) in
-    writes_both making pair c.args.out.now.output (sequence_format c.args.full) block_format (λ two. good_in_blocks Second two) (mask_limits c.args.how) c.args.first c.args.second begins begins_second
+    writes_both join pair c.args.out.now.output (sequence_format c.args.full) block_format (λ two. good_in_blocks Second two) (mask_limits c.args.how) c.args.first c.args.second begins begins_second
     ends.0 (view_of c.mask_all-masked.new.records) c.into_source-first.result c.into_source-second.result ended ended_second fault c.mask_all-masked.new.out.output ends.2
     (mask_settles c.args.how c.args.full) (mask_reaches c.args.full)
-    (near_both making pair c.args.out.now.output (sequence_format c.args.full) block_format (λ two. good_in_blocks Second two) (mask_needs c.args.how) c.args.first c.args.second begins begins_second
+    (near_both join pair c.args.out.now.output (sequence_format c.args.full) block_format (λ two. good_in_blocks Second two) (mask_needs c.args.how) c.args.first c.args.second begins begins_second
     ends.0 (view_of c.mask_all-masked.new.records) c.into_source-first.result c.into_source-second.result ended ended_second fault c.mask_all-masked.new.out.output ends.2)
 
 pub returns-in-Ok-clause-own_failure : goal.returns-in-Ok-clause-own_failure
@@ -80,16 +80,16 @@ returns-clause-own_failure g c =
     let reader_2 = c.new.ensures in
     let records = c.new-records.ensures in
     let stands = c.new-mask.ensures.stands in
-    let fault = Some (told c.in-Err.fault) in
+    let fault = Some (fault_value c.in-Err.fault) in
     let ends = as_asked g.A.Source.left g.A.Source.has_failed g.A.Source.end_told g.B.Source.left g.B.Source.has_failed g.B.Source.end_told c.new-lines.result (view_of c.new-records.result) c.args.out.now.output fault c.mask_all-masked.new.lines (view_of c.mask_all-masked.new.records) c.mask_all-masked.new.out.output
     c.new-mask.result.how c.new-mask.result.full c.args.how c.args.full stands.how_is stands.full_is c.in-Err.ensures.finishes in
     let begins = begin_lines g.A.Source.left g.A.Source.end_told c.args.full c.args.first First c.new-lines.result reader.source reader.input reader.none_taken.0 reader.none_fed reader.none_given reader.going.0 reader.lines in
     let begins_second = begin_blocks g.B.Source.left g.B.Source.end_told c.args.second Second c.new.result c.new-records.result records.below reader_2.source reader_2.input reader_2.none_taken.0 reader_2.none_fed reader_2.none_given reader_2.going.0 reader_2.lines records.good in
     let ended = ap source_of ends.1 ∙ sym c.into_source-first.ensures in
     let ended_second = sym (c.into_source-second.ensures ∙ ap source_of c.into_reader.ensures) in
-    let making = mask_making c.args.how in
+    let join = mask_join c.args.how in
     let pair = mask_pair g.A.Source.left g.A.Source.has_failed g.A.Source.end_told g.B.Source.left g.B.Source.has_failed g.B.Source.end_told c.args.how c.args.full (line_members c.args.full nothing_reached c.new-lines.result) (view_of c.new-records.result) in
-    both_own making pair c.args.out.now.output g.A.Source.is_read g.B.Source.is_read (sequence_format c.args.full) block_format c.args.first c.args.second begins begins_second
+    both_own join pair c.args.out.now.output g.A.Source.is_read g.B.Source.is_read (sequence_format c.args.full) block_format c.args.first c.args.second begins begins_second
     ends.0 (view_of c.mask_all-masked.new.records) c.into_source-first.result c.into_source-second.result ended ended_second fault c.mask_all-masked.new.out.output ends.2
     (λ kind. false≢true kind) (λ kind. false≢true kind) (kept_below g.A.Source.is_read c.new-lines.result ends.0 c.mask_all-masked.new.lines ends.1 ends.3 c.mask_all-masked.ensures.own_failure) c.mask_all-masked.ensures.own_failure_second
 

@@ -1,7 +1,7 @@
 use Rattle.std.proofs.Common.{refl}
 use Rattle.bt_lines.proofs.lemmas.reader.block.ReadsLemmas.{has_read_then, reads_same}
 use Rattle.bt_lines.specs.calls.Reader.{HasRead}
-use Rattle.bt_lines.specs.calls.Names.{told}
+use Rattle.bt_lines.specs.calls.Names.{fault_value}
 use Rattle.bt_bed.specs.model.feature.LineKind.{IsBedKind}
 use Rattle.bt_bed.specs.calls.Records.{below, order_in, view_of}
 use Rattle.bt_bed.proofs.lemmas.order.ResultLemmas.{passed_on}
@@ -19,7 +19,7 @@ pub returns-in_err-fill-clause-reads : goal.returns-in_err-fill-clause-reads
 returns-in_err-fill-clause-reads g c =
     passed_on (λ r. ReadsRest g.B.Source.left g.B.Source.has_failed g.B.Source.end_told (IsBedKind (order_in c.args.second.now)) (view_of c.args.second.now) r (view_of c.fill.new.self)) c.from_residual.result c.in_err-fill.field-0.0
     c.from_residual.ensures.1
-    (reads_stop g.B.Source.left g.B.Source.has_failed g.B.Source.end_told (view_of c.args.second.now) (view_of c.loop-second.second) c.loop-second.invariant.0 (IsBedKind (order_in c.args.second.now)) (view_of c.fill.new.self) (told c.in_err-fill.field-0.0)
+    (reads_stop g.B.Source.left g.B.Source.has_failed g.B.Source.end_told (view_of c.args.second.now) (view_of c.loop-second.second) c.loop-second.invariant.0 (IsBedKind (order_in c.args.second.now)) (view_of c.fill.new.self) (fault_value c.in_err-fill.field-0.0)
     (is_stopped g.B.Source.left g.B.Source.has_failed g.B.Source.end_told g.B.Source.is_read c.loop-second.second c.fill.new.self c.in_err-fill.field-0.0 c.in_err-fill.ensures))
 
 pub returns-in_err-fill-clause-rest : goal.returns-in_err-fill-clause-rest

@@ -1,5 +1,5 @@
 use Rattle.std.proofs.Common.{ℕ, Option, refl, sym, ◌∙◌, subst, ap, None, Some}
-use Rattle.bt_lines.specs.calls.Names.{told}
+use Rattle.bt_lines.specs.calls.Names.{fault_value}
 use Rattle.bt_lines.specs.calls.Reader.{source_of}
 use Rattle.bt_lines.specs.declared.fault.Input.TheVariants.{First, Second}
 use Rattle.bt_bed.specs.model.input.GoodBed.{bed_format}
@@ -11,7 +11,7 @@ use Rattle.bt_sweep.specs.calls.SweepView.{state_of}
 use Rattle.bt_sweep.specs.declared.hits.hit_rule.HitRule.{HitRule}
 use Rattle.bt_sweep.specs.declared.output.shape.Shape.{Shape}
 use Rattle.bt_tool.specs.model.report.SweepReport.{intersect_reaches, intersect_settles}
-use Rattle.bt_tool.specs.inside.pair.SweepLoop.{SweepEnds, records_pair, sweep_making}
+use Rattle.bt_tool.specs.inside.pair.SweepLoop.{SweepEnds, records_pair, sweep_join}
 use Rattle.bt_tool.proofs.lemmas.running.pair.PairMet.{writes_both}
 use Rattle.bt_tool.proofs.lemmas.running.pair.PairNear.{near_both}
 use Rattle.bt_tool.proofs.lemmas.running.pair.StartLemmas.{begins_by, sweeps_start}
@@ -49,17 +49,17 @@ returns-in-Ok-clause-written g c =
     let order = g.O.ChromOrder.order c.args.order.now in
     let stands = c.new-sweep.ensures.stands in
     let ends = rw (records.order, stands.shape_is, stands.rule_is, stands.limit_is) at c.in-Ok.ensures.finishes in
-    let making = sweep_making order c.args.shape c.args.rule c.args.limit in
+    let join = sweep_join order c.args.shape c.args.rule c.args.limit in
     let pair = records_pair g.A.Source.left g.A.Source.has_failed g.A.Source.end_told g.B.Source.left g.B.Source.has_failed g.B.Source.end_told c.new-firsts.result c.new-seconds.result in
     let format = bed_format (sorting_of order) in
     let begins = begins_by g.A.Source.left order First c.args.first c.new.result c.new-firsts.result records.below reader.source reader.input reader.none_taken.0 reader.none_fed reader.going.0 reader.lines records.good in
     let begins_second = begins_by g.B.Source.left order Second c.args.second c.new-2.result c.new-seconds.result records_2.below reader_2.source reader_2.input reader_2.none_taken.0 reader_2.none_fed reader_2.going.0 reader_2.lines records_2.good in
     let ended = sym (c.into_source-first.ensures ∙ ap source_of c.into_reader.ensures) in
     let ended_second = sym (c.into_source-second.ensures ∙ ap source_of c.into_reader-2.ensures) in
-    writes_both making pair c.args.out.now.output format format (λ two. placed_good Second order two c.requires.total) (sweep_limits order c.args.shape c.args.rule c.args.limit) c.args.first c.args.second begins begins_second
+    writes_both join pair c.args.out.now.output format format (λ two. placed_good Second order two c.requires.total) (sweep_limits order c.args.shape c.args.rule c.args.limit) c.args.first c.args.second begins begins_second
     (view_of c.read_both-swept.new.first) (view_of c.read_both-swept.new.second) c.into_source-first.result c.into_source-second.result ended ended_second None c.read_both-swept.new.out.output ends
     (intersect_settles order c.args.shape c.args.rule) (intersect_reaches order)
-    (near_both making pair c.args.out.now.output format format (λ two. placed_good Second order two c.requires.total) (sweep_needs order c.args.shape c.args.rule c.args.limit) c.args.first c.args.second begins begins_second
+    (near_both join pair c.args.out.now.output format format (λ two. placed_good Second order two c.requires.total) (sweep_needs order c.args.shape c.args.rule c.args.limit) c.args.first c.args.second begins begins_second
     (view_of c.read_both-swept.new.first) (view_of c.read_both-swept.new.second) c.into_source-first.result c.into_source-second.result ended ended_second None c.read_both-swept.new.out.output ends)
 
 pub returns-clause-written : goal.returns-clause-written
@@ -69,20 +69,20 @@ returns-clause-written g c =
     let reader_2 = c.new-2.ensures in
     let records_2 = c.new-seconds.ensures in
     let order = g.O.ChromOrder.order c.args.order.now in
-    let fault = Some (told c.in-Err.fault) in
+    let fault = Some (fault_value c.in-Err.fault) in
     let stands = c.new-sweep.ensures.stands in
     let ends = rw (records.order, stands.shape_is, stands.rule_is, stands.limit_is) at c.in-Err.ensures.finishes in
-    let making = sweep_making order c.args.shape c.args.rule c.args.limit in
+    let join = sweep_join order c.args.shape c.args.rule c.args.limit in
     let pair = records_pair g.A.Source.left g.A.Source.has_failed g.A.Source.end_told g.B.Source.left g.B.Source.has_failed g.B.Source.end_told c.new-firsts.result c.new-seconds.result in
     let format = bed_format (sorting_of order) in
     let begins = begins_by g.A.Source.left order First c.args.first c.new.result c.new-firsts.result records.below reader.source reader.input reader.none_taken.0 reader.none_fed reader.going.0 reader.lines records.good in
     let begins_second = begins_by g.B.Source.left order Second c.args.second c.new-2.result c.new-seconds.result records_2.below reader_2.source reader_2.input reader_2.none_taken.0 reader_2.none_fed reader_2.going.0 reader_2.lines records_2.good in
     let ended = sym (c.into_source-first.ensures ∙ ap source_of c.into_reader.ensures) in
     let ended_second = sym (c.into_source-second.ensures ∙ ap source_of c.into_reader-2.ensures) in
-    writes_both making pair c.args.out.now.output format format (λ two. placed_good Second order two c.requires.total) (sweep_limits order c.args.shape c.args.rule c.args.limit) c.args.first c.args.second begins begins_second
+    writes_both join pair c.args.out.now.output format format (λ two. placed_good Second order two c.requires.total) (sweep_limits order c.args.shape c.args.rule c.args.limit) c.args.first c.args.second begins begins_second
     (view_of c.read_both-swept.new.first) (view_of c.read_both-swept.new.second) c.into_source-first.result c.into_source-second.result ended ended_second fault c.read_both-swept.new.out.output ends
     (intersect_settles order c.args.shape c.args.rule) (intersect_reaches order)
-    (near_both making pair c.args.out.now.output format format (λ two. placed_good Second order two c.requires.total) (sweep_needs order c.args.shape c.args.rule c.args.limit) c.args.first c.args.second begins begins_second
+    (near_both join pair c.args.out.now.output format format (λ two. placed_good Second order two c.requires.total) (sweep_needs order c.args.shape c.args.rule c.args.limit) c.args.first c.args.second begins begins_second
     (view_of c.read_both-swept.new.first) (view_of c.read_both-swept.new.second) c.into_source-first.result c.into_source-second.result ended ended_second fault c.read_both-swept.new.out.output ends)
 
 pub returns-in-Ok-clause-own_failure : goal.returns-in-Ok-clause-own_failure
@@ -95,19 +95,19 @@ returns-clause-own_failure g c =
     let reader_2 = c.new-2.ensures in
     let records_2 = c.new-seconds.ensures in
     let order = g.O.ChromOrder.order c.args.order.now in
-    let fault = Some (told c.in-Err.fault) in
+    let fault = Some (fault_value c.in-Err.fault) in
     let ends = subst (λ (l : Option ℕ). SweepEnds g.A.Source.left g.A.Source.has_failed g.A.Source.end_told g.B.Source.left g.B.Source.has_failed g.B.Source.end_told order c.args.shape c.args.rule l c.new-firsts.result c.new-seconds.result c.args.out.now.output fault c.read_both-swept.new.first c.read_both-swept.new.second c.read_both-swept.new.out.output) c.new-sweep.ensures.stands.limit_is
     (subst (λ (r : HitRule). SweepEnds g.A.Source.left g.A.Source.has_failed g.A.Source.end_told g.B.Source.left g.B.Source.has_failed g.B.Source.end_told order c.args.shape r (state_of c.new-sweep.result).limit c.new-firsts.result c.new-seconds.result c.args.out.now.output fault c.read_both-swept.new.first c.read_both-swept.new.second c.read_both-swept.new.out.output) c.new-sweep.ensures.stands.rule_is
     (subst (λ (s : Shape). SweepEnds g.A.Source.left g.A.Source.has_failed g.A.Source.end_told g.B.Source.left g.B.Source.has_failed g.B.Source.end_told order s (state_of c.new-sweep.result).rule (state_of c.new-sweep.result).limit c.new-firsts.result c.new-seconds.result c.args.out.now.output fault c.read_both-swept.new.first c.read_both-swept.new.second c.read_both-swept.new.out.output) c.new-sweep.ensures.stands.shape_is
     (subst (λ (o : Order). SweepEnds g.A.Source.left g.A.Source.has_failed g.A.Source.end_told g.B.Source.left g.B.Source.has_failed g.B.Source.end_told o (state_of c.new-sweep.result).shape (state_of c.new-sweep.result).rule (state_of c.new-sweep.result).limit c.new-firsts.result c.new-seconds.result c.args.out.now.output fault c.read_both-swept.new.first c.read_both-swept.new.second c.read_both-swept.new.out.output) records.order c.in-Err.ensures.finishes))) in
-    let making = sweep_making order c.args.shape c.args.rule c.args.limit in
+    let join = sweep_join order c.args.shape c.args.rule c.args.limit in
     let pair = records_pair g.A.Source.left g.A.Source.has_failed g.A.Source.end_told g.B.Source.left g.B.Source.has_failed g.B.Source.end_told c.new-firsts.result c.new-seconds.result in
     let format = bed_format (sorting_of order) in
     let begins = begins_by g.A.Source.left order First c.args.first c.new.result c.new-firsts.result records.below reader.source reader.input reader.none_taken.0 reader.none_fed reader.going.0 reader.lines records.good in
     let begins_second = begins_by g.B.Source.left order Second c.args.second c.new-2.result c.new-seconds.result records_2.below reader_2.source reader_2.input reader_2.none_taken.0 reader_2.none_fed reader_2.going.0 reader_2.lines records_2.good in
     let ended = sym (c.into_source-first.ensures ∙ ap source_of c.into_reader.ensures) in
     let ended_second = sym (c.into_source-second.ensures ∙ ap source_of c.into_reader-2.ensures) in
-    both_own making pair c.args.out.now.output g.A.Source.is_read g.B.Source.is_read format format c.args.first c.args.second begins begins_second
+    both_own join pair c.args.out.now.output g.A.Source.is_read g.B.Source.is_read format format c.args.first c.args.second begins begins_second
     (view_of c.read_both-swept.new.first) (view_of c.read_both-swept.new.second) c.into_source-first.result c.into_source-second.result ended ended_second fault c.read_both-swept.new.out.output ends
     (bed_no_read order) (swept_no_read order c.args.limit) c.read_both-swept.ensures.own_failure c.read_both-swept.ensures.own_failure_second
 

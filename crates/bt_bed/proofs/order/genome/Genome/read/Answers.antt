@@ -1,7 +1,7 @@
 use Rattle.std.proofs.Common.{◌≡◌, ap, refl, rules}
 use Rattle.bt_lines.proofs.lemmas.reader.block.ReadsLemmas.{has_read_then, reads_same}
 use Rattle.bt_lines.specs.calls.LentLine.{line_seen}
-use Rattle.bt_lines.specs.calls.Names.{told}
+use Rattle.bt_lines.specs.calls.Names.{fault_value}
 use Rattle.bt_lines.specs.declared.fault.Place.{Place}
 use Rattle.bt_lines.specs.declared.fault.Input.{Input}
 use Rattle.bt_lines.specs.calls.Reader.{fault_kept, input_of}
@@ -31,7 +31,7 @@ returns-in_err-add_line g c =
     passed_on (λ r. ReadsGenome g.S.Source.left g.S.Source.has_failed g.S.Source.end_told g.S.Source.is_read c.args.reader.now r c.next.follows.lender-at-none) c.from_residual-in_err-add_line.result c.in_err-add_line.field-0.0
     c.from_residual-in_err-add_line.ensures.1
     (record {
-      answers = going_err _ _ _ c.args.reader.now c.loop-genome.reader c.next.follows.lender-at-none (line_seen c.in-Some.line) c.loop-genome.genome _ (told c.in_err-add_line.field-0.0) c.loop-genome.invariant.0 gives.answers gives.sound at c.in_err-add_line.ensures.refused;
+      answers = going_err _ _ _ c.args.reader.now c.loop-genome.reader c.next.follows.lender-at-none (line_seen c.in-Some.line) c.loop-genome.genome _ (fault_value c.in_err-add_line.field-0.0) c.loop-genome.invariant.0 gives.answers gives.sound at c.in_err-add_line.ensures.refused;
       own_failure = refused_is_own Genome g.S.Source.is_read (fault_kept c.args.reader.now) c.args.reader.now c.next.follows.lender-at-none c.in_err-add_line.field-0.0
           (has_read_then g.S.Source.is_read c.args.reader.now c.loop-genome.reader c.next.follows.lender-at-none c.loop-genome.invariant.2 gives.own_failure) _ _ _ c.in_err-add_line.ensures.refused;
       sound = λ was. gives.sound (c.loop-genome.invariant.0.passed.sound was);
@@ -43,7 +43,7 @@ returns-in_err-line g c =
     passed_on (λ r. ReadsGenome g.S.Source.left g.S.Source.has_failed g.S.Source.end_told g.S.Source.is_read c.args.reader.now r c.next.follows.lender-at-none) c.from_residual.result c.in_err-line.field-0.0
     c.from_residual.ensures.1
     (record {
-      answers = going_fault _ _ _ c.args.reader.now c.loop-genome.reader c.next.follows.lender-at-none c.loop-genome.genome (told c.in_err-line.field-0.0) c.loop-genome.invariant.0 gives.answers;
+      answers = going_fault _ _ _ c.args.reader.now c.loop-genome.reader c.next.follows.lender-at-none c.loop-genome.genome (fault_value c.in_err-line.field-0.0) c.loop-genome.invariant.0 gives.answers;
       own_failure = read_is_own Genome g.S.Source.is_read (fault_kept c.args.reader.now) c.args.reader.now c.next.follows.lender-at-none c.in_err-line.field-0.0 c.loop-genome.reader c.loop-genome.invariant.2 c.loop-genome.invariant.0.going gives.own_failure;
       sound = λ was. gives.sound (c.loop-genome.invariant.0.passed.sound was);
     })

@@ -9,32 +9,32 @@ use Rattle.bt_bed.specs.calls.Batch.{chrom_in}
 use Rattle.bt_bed.specs.inside.FirstColumns.{EndsFirst}
 use Rattle.bt_bed.proofs.read.batch.Batch.parse.Goals as goal
 
-pub parse_leading-start-requires : goal.parse_leading-start-requires
-parse_leading-start-requires c =
+pub parse_number-start-requires : goal.parse_number-start-requires
+parse_number-start-requires c =
     let text = c.args.line.text.now in
     let name = c.args.self.now.name.now in
     let p = parsed_of name text (sym c.is_record_on.ensures ∙ c.if-not-is_record_on.false) in
     omega (arith, (parsed_name text name p.0 p.1 p.2).within)
 
-pub parse_leading-stop-requires : goal.parse_leading-stop-requires
-parse_leading-stop-requires c =
+pub parse_number-stop-requires : goal.parse_number-stop-requires
+parse_number-stop-requires c =
     let text = c.args.line.text.now in
     let name = c.args.self.now.name.now in
     let p = parsed_of name text (sym c.is_record_on.ensures ∙ c.if-not-is_record_on.false) in
-    omega (arith, parsed_inside text name p.0 p.1 p.2 c.parse_leading-start.result.end c.parse_leading-start.ensures.ends, length-drop (length name + 1) text)
+    omega (arith, parsed_inside text name p.0 p.1 p.2 c.parse_number-start.result.end c.parse_number-start.ensures.ends, length-drop (length name + 1) text)
 
 pub invariant_of-result : goal.invariant_of-result
 invariant_of-result c =
     let text = c.args.line.text.now in
     let name = c.args.self.now.name.now in
     let p = parsed_of name text (sym c.is_record_on.ensures ∙ c.if-not-is_record_on.false) in
-    let start = c.parse_leading-start.result in
-    let stop = c.parse_leading-stop.result in
+    let start = c.parse_number-start.result in
+    let stop = c.parse_number-stop.result in
     let third = sym (third_at text (length name) start.end) in
     record {
       named = parsed_name text name p.0 p.1 p.2;
-      bounds = parsed_bounds text name p.0 p.1 p.2 start.end c.parse_leading-start.ensures.ends stop.end (subst (λ l. EndsFirst l stop.end) third c.parse_leading-stop.ensures.ends)
-          start.value stop.value c.parse_leading-start.ensures.value (subst (λ l. IfSome (value_of (take stop.end l)) (λ v. stop.value ≡ v)) third c.parse_leading-stop.ensures.value);
+      bounds = parsed_bounds text name p.0 p.1 p.2 start.end c.parse_number-start.ensures.ends stop.end (subst (λ l. EndsFirst l stop.end) third c.parse_number-stop.ensures.ends)
+          start.value stop.value c.parse_number-start.ensures.value (subst (λ l. IfSome (value_of (take stop.end l)) (λ v. stop.value ≡ v)) third c.parse_number-stop.ensures.value);
       no_header = parsed_no_header text name p.0 p.1 p.2;
     }
 

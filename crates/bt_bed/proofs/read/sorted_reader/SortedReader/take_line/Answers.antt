@@ -5,7 +5,7 @@ use Rattle.bt_lines.specs.calls.Buffered.{lines_in}
 use Rattle.bt_lines.specs.calls.LentLine.{line_seen}
 use Rattle.bt_lines.specs.calls.Reader.{buffered_in as lines_buffered}
 use Rattle.bt_bed.proofs.lemmas.read.batch.SortedReaderLemmas.{found_buffered, found_in_order, found_of, found_some, skipped_of}
-use Rattle.bt_bed.specs.inside.Neighbours.{name_in}
+use Rattle.bt_bed.specs.inside.OrderedLookahead.{name_in}
 use Rattle.bt_bed.specs.calls.Run.{run_of}
 use Rattle.bt_bed.specs.calls.SortedReader.{buffered_in}
 use Rattle.bt_bed.proofs.read.sorted_reader.SortedReader.take_line.Goals as goal
@@ -15,13 +15,13 @@ returns-in_default-clause-takes g c = absurd (some_buffered c.args.self.now.read
 
 pub invariant_of-self-in-Ok-true : goal.invariant_of-self-in-Ok-true
 invariant_of-self-in-Ok-true g c =
-    let sorting = g.Q.Sorted.sorting c.args.self.now.neighbours.rule in
+    let sorting = g.Q.Sorted.sorting c.args.self.now.lookahead.rule in
     let line = line_seen c.in-Some.line in
     let first : lines_buffered c.args.self.now.reader ≡ line ∷ lines_in c.next.new.self = sym c.buffered-lines.ensures.lines ∙ c.in-Some.ensures.some.left_is in
     let taken = rw c.in-Ok-true.field-0-test at c.in-Ok-true.ensures in
-    let found = found_of sorting c.args.self.now.neighbours c.take_line.new.self c.in-Some.line.text.now taken in
+    let found = found_of sorting c.args.self.now.lookahead c.take_line.new.self c.in-Some.line.text.now taken in
     record {
-      ahead = λ e. found_some sorting c.args.self.now.neighbours c.take_line.new.self line (lines_in c.next.new.self) found.r found.says found.holds (lines_buffered c.args.self.now.reader) first;
+      ahead = λ e. found_some sorting c.args.self.now.lookahead c.take_line.new.self line (lines_in c.next.new.self) found.r found.says found.holds (lines_buffered c.args.self.now.reader) first;
       going = λ e. c.requires.going;
     }
 
@@ -34,13 +34,13 @@ consume-requires-in-Err g c = (lines_taken c.args.self.now.reader c.buffered-lin
 pub returns-in-Ok-true-clause-takes : goal.returns-in-Ok-true-clause-takes
 unfolding buffered_in
 returns-in-Ok-true-clause-takes g c =
-    let sorting = g.Q.Sorted.sorting c.args.self.now.neighbours.rule in
+    let sorting = g.Q.Sorted.sorting c.args.self.now.lookahead.rule in
     let line = line_seen c.in-Some.line in
     let more = lines_in c.next.new.self in
     let lines = lines_buffered c.args.self.now.reader in
     let first : lines ≡ line ∷ more = sym c.buffered-lines.ensures.lines ∙ c.in-Some.ensures.some.left_is in
     let taken = rw c.in-Ok-true.field-0-test at c.in-Ok-true.ensures in
-    let found = found_of sorting c.args.self.now.neighbours c.take_line.new.self c.in-Some.line.text.now taken in
+    let found = found_of sorting c.args.self.now.lookahead c.take_line.new.self c.in-Some.line.text.now taken in
     record {
       line = line;
       more = more;
@@ -51,8 +51,8 @@ returns-in-Ok-true-clause-takes g c =
         same = refl;
         ahead = refl;
         more = run_of (name_in c.take_line.new.self) found.r.start more;
-        buffered = found_buffered sorting c.args.self.now.neighbours c.take_line.new.self line more found.r found.says found.holds lines first;
-        in_order = found_in_order sorting c.args.self.now.neighbours c.take_line.new.self line more found.r found.says found.holds lines first;
+        buffered = found_buffered sorting c.args.self.now.lookahead c.take_line.new.self line more found.r found.says found.holds lines first;
+        in_order = found_in_order sorting c.args.self.now.lookahead c.take_line.new.self line more found.r found.says found.holds lines first;
       };
       keeps = taken.keeps;
     }
@@ -65,7 +65,7 @@ returns-in-Ok-false-clause-takes g c =
       more = lines_in c.next.new.self;
       first = sym c.buffered-lines.ensures.lines ∙ c.in-Some.ensures.some.left_is;
       takes = record {
-        says = skipped_of (g.Q.Sorted.sorting c.args.self.now.neighbours.rule) c.args.self.now.neighbours c.take_line.new.self c.in-Some.line.text.now taken;
+        says = skipped_of (g.Q.Sorted.sorting c.args.self.now.lookahead.rule) c.args.self.now.lookahead c.take_line.new.self c.in-Some.line.text.now taken;
         takes = record {
           consumed = c.consumed-consumed.result;
           are = lines_taken c.args.self.now.reader c.buffered-lines.result c.next.new.self c.consumed-consumed.result 1 c.buffered-lines.ensures.begins c.in-Some.ensures.passes c.consumed-consumed.ensures;

@@ -1,6 +1,6 @@
 use Rattle.std.proofs.Common.{Bool, ◌≡◌, ◌<◌, ◌∙◌, Ok, Err, Result, true, false, refl, rules, ◌∷◌, [], ◌-◌, ap, subst}
 use Rattle.std.proofs.lemmas.Bool.{cond-false, cond-true}
-use Rattle.bt_lines.specs.calls.Names.{told}
+use Rattle.bt_lines.specs.calls.Names.{fault_value}
 use Rattle.bt_lines.specs.calls.Putting.{FailsToPut}
 use Rattle.bt_lines.specs.declared.fault.Fault.{Fault}
 use Rattle.bt_bed.proofs.lemmas.order.ResultLemmas.{passed_on}
@@ -51,7 +51,7 @@ returns-in_err-put_interval-clause-does g c =
     let kept : kept_in chrom on listed ≡ placed_run chrom (run_at_hand on) ∷ [] = cond-true on.is_any (placed_run chrom (run_at_hand on) ∷ []) listed c.if-not-on.false in
     let lies : chrom ≡ r.chrom = ap (λ (m : Stranding). m.chrom) c.self.view_is ∙ c.requires in
     let far : on.stop < r.start - c.self.inside.gap = rw (c.saturating_sub-reach.ensures, c.start.ensures) at c.if-on-reach.true in
-    let cut : FailsToPut c.args.out.now.output (interval_line (placed_run chrom (run_at_hand on)).run) (told c.in_err-put_interval.field-0.0) c.put_interval.new.out.output = rw (c.as_slice-then-on-reach.ensures.value) at c.in_err-put_interval.ensures in
+    let cut : FailsToPut c.args.out.now.output (interval_line (placed_run chrom (run_at_hand on)).run) (fault_value c.in_err-put_interval.field-0.0) c.put_interval.new.out.output = rw (c.as_slice-then-on-reach.ensures.value) at c.in_err-put_interval.ensures in
     rw (← c.self.view_is)
     (passed_on (λ (result : Result (Unit {0}) Fault). TakesNext old r c.args.out.now.output result old c.put_interval.new.out.output)
     c.from_residual.result c.in_err-put_interval.field-0.0 c.from_residual.ensures.1

@@ -1,6 +1,6 @@
 use Rattle.std.proofs.Common.{List, ℕ, [], subst, sym, ◌∙◌}
 use Rattle.std.proofs.lemmas.Result.{err_from_is_err_and}
-use Rattle.bt_lines.specs.calls.Names.{told}
+use Rattle.bt_lines.specs.calls.Names.{fault_value}
 use Rattle.bt_lines.specs.calls.Putting.{FailsToAdd, Grown}
 use Rattle.bt_sweep.specs.inside.Pending.{pending_in}
 use Rattle.bt_sweep.proofs.lemmas.sweep.JoinLemmas.{joins_cut, joins_rest}
@@ -11,7 +11,7 @@ returns-in_err-put_pending-clause-joins g c =
     let e = err_from_is_err_and c.from_residual.result c.from_residual.ensures.1 in
     let joins = rw c.requires.pending at c.join_pending-joined.ensures.joins in
     let left = pending_in (g.A.Cursor.consumed c.join_pending-joined.new.firsts.cursor) c.join_pending-joined.new.firsts.from c.join_pending-joined.new.firsts.to in
-    let fails = subst (λ (l : List ℕ). FailsToAdd c.join_pending-joined.new.out.output l (told c.in_err-put_pending.field-0.0) c.put_pending.new.out.output) c.lines.ensures c.in_err-put_pending.ensures.puts in
+    let fails = subst (λ (l : List ℕ). FailsToAdd c.join_pending-joined.new.out.output l (fault_value c.in_err-put_pending.field-0.0) c.put_pending.new.out.output) c.lines.ensures c.in_err-put_pending.ensures.puts in
     rw (e.1, e.2)
     (joins_cut g.A.Cursor.gives g.A.Cursor.has_ended g.met.A.Cursor.gives_none g.met.A.Cursor.gives_more g.B.Cursor.gives g.B.Cursor.has_ended g.B.Cursor.line g.met.B.Cursor.gives_none g.met.B.Cursor.gives_more
     c.args.self.now (g.A.Record.Record.feature c.args.first) c.args.firsts.now.cursor c.args.seconds.now [] c.args.out.now.output

@@ -1,6 +1,6 @@
 use Rattle.std.proofs.Common.{[], ◌∷◌, Some, None, ℕ, ap, refl, subst, ◌∙◌}
 use Rattle.std.proofs.lemmas.Result.{err_from_is_err_and}
-use Rattle.bt_lines.specs.calls.Names.{told}
+use Rattle.bt_lines.specs.calls.Names.{fault_value}
 use Rattle.bt_bed.specs.model.order.Order.{IsTotal}
 use Rattle.bt_sweep.specs.inside.Joining.{AreDecidedOn}
 use Rattle.bt_sweep.specs.inside.Pending.{pending_in}
@@ -38,7 +38,7 @@ returns-in_err-waiting-clause-joins g c =
     (breaks_write g.A.Cursor.gives g.A.Cursor.has_ended g.met.A.Cursor.gives_none g.met.A.Cursor.gives_more g.B.Cursor.gives g.B.Cursor.has_ended g.B.Cursor.line g.met.B.Cursor.gives_none g.met.B.Cursor.gives_more
     c.args.self.now (g.A.Record.Record.feature c.args.first) c.args.firsts.now.cursor c.args.seconds.now (pending_in (g.A.Cursor.consumed c.args.firsts.now.cursor) c.args.firsts.now.from c.args.firsts.now.to) c.args.out.now.output
     cur c.loop-next.self c.loop-next.firsts.cursor c.loop-next.seconds left c.loop-next.out.output inv.going.0 b c.next.new.self gives_b on inv.going.1
-    c.write_up_to.new.firsts.cursor rest c.write_up_to.new.out.output (told c.in_err-waiting.field-0.0) cut)
+    c.write_up_to.new.firsts.cursor rest c.write_up_to.new.out.output (fault_value c.in_err-waiting.field-0.0) cut)
 
 pub returns-in_default-2-clause-joins : goal.returns-in_default-2-clause-joins
 returns-in_default-2-clause-joins g c =

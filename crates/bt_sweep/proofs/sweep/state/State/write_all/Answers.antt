@@ -1,6 +1,6 @@
 use Rattle.std.proofs.Common.{List, ℕ, [], option_map, subst}
 use Rattle.std.proofs.lemmas.Result.{err_from_is_err_and}
-use Rattle.bt_lines.specs.calls.Names.{told}
+use Rattle.bt_lines.specs.calls.Names.{fault_value}
 use Rattle.bt_lines.specs.model.Number.{max_number}
 use Rattle.bt_lines.specs.calls.Putting.{FailsToAdd, Grown}
 use Rattle.bt_sweep.specs.inside.Pending.{pending_in}
@@ -12,11 +12,11 @@ returns-in_err-put_pending-clause-writes g c =
     let e = err_from_is_err_and c.from_residual-in_err-put_pending.result c.from_residual-in_err-put_pending.ensures.1 in
     let w = rw c.requires.pending at c.in_ok-written.ensures.writes in
     let left = pending_in (g.A.Cursor.consumed c.write_up_to.new.firsts.cursor) c.write_up_to.new.firsts.from c.write_up_to.new.firsts.to in
-    let fails = subst (λ (l : List ℕ). FailsToAdd c.write_up_to.new.out.output l (told c.in_err-put_pending.field-0.0) c.put_pending.new.out.output) c.lines.ensures c.in_err-put_pending.ensures.puts in
+    let fails = subst (λ (l : List ℕ). FailsToAdd c.write_up_to.new.out.output l (fault_value c.in_err-put_pending.field-0.0) c.put_pending.new.out.output) c.lines.ensures c.in_err-put_pending.ensures.puts in
     rw (e.1, e.2)
     (cuts_rest g.A.Cursor.gives g.A.Cursor.has_ended g.met.A.Cursor.gives_none g.met.A.Cursor.gives_more max_number c.args.self.now (g.A.Record.Record.feature c.args.first)
     c.args.firsts.now.cursor [] c.args.out.now.output (option_map g.A.Record.Record.feature c.in_ok-written.written) c.write_up_to.new.self c.write_up_to.new.firsts.cursor left c.write_up_to.new.out.output c.put_pending.new.out.output
-    (told c.in_err-put_pending.field-0.0) w.0 fails)
+    (fault_value c.in_err-put_pending.field-0.0) w.0 fails)
 
 pub returns-clause-writes : goal.returns-clause-writes
 returns-clause-writes g c =

@@ -1,7 +1,7 @@
 use Rattle.std.proofs.Common.{◌≡◌, ◌≤◌, ◌∷◌, ◌++◌, ℕ, List, [], ap, filter, refl, subst, sym, ◌∙◌}
 use Rattle.std.specs.Prelude.{nat_lt}
 use Rattle.std.proofs.lemmas.Result.{err_from_is_err_and}
-use Rattle.bt_lines.specs.calls.Names.{told}
+use Rattle.bt_lines.specs.calls.Names.{fault_value}
 use Rattle.bt_bed.specs.model.feature.Feature.{Feature}
 use Rattle.bt_sweep.specs.inside.Pending.{IsQuiet, pending_in}
 use Rattle.bt_sweep.specs.calls.SweepState.{Sweeping}
@@ -27,7 +27,7 @@ returns-in_err-write-clause-writes g c =
     (cuts_off g.A.Cursor.gives g.A.Cursor.has_ended g.met.A.Cursor.gives_none g.met.A.Cursor.gives_more c.args.place c.args.self.now (g.A.Record.Record.feature c.args.first)
     c.args.firsts.now.cursor (pending_in (g.A.Cursor.consumed c.args.firsts.now.cursor) c.args.firsts.now.from c.args.firsts.now.to) c.args.out.now.output
     (g.A.Record.Record.feature c.loop-self.current) c.loop-self.self c.loop-self.firsts.cursor left c.loop-self.out.output c.loop-self.invariant.going
-    (told c.in_err-write.field-0.0) c.write.new.out.output (subst (λ (n : ℕ). n ≤ c.args.place) c.stop.ensures.is c.loop-self-test.true) c.in_err-write.ensures.puts)
+    (fault_value c.in_err-write.field-0.0) c.write.new.out.output (subst (λ (n : ℕ). n ≤ c.args.place) c.stop.ensures.is c.loop-self-test.true) c.in_err-write.ensures.puts)
 
 pub returns-in_default-clause-writes : goal.returns-in_default-clause-writes
 returns-in_default-clause-writes g c =

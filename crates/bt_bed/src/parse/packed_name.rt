@@ -1,0 +1,77 @@
+//! The name of a chromosome and the tab after it, as one number.
+
+ghost use Rattle.std.specs.Prelude.{◌≡◌, ◌*◌, ◌+◌, ◌-◌, ◌≤◌, ◌%◌, ◌^◌, [], ◌∷◌, ◌++◌, List, ℕ, IsTrue, length, take};
+ghost use Rattle.std.specs.Int.{from_le_bytes, w64};
+ghost use Rattle.bt_bed.specs.inside.PackedName.{HasKey, IsKey};
+
+// The longest name that has a key: with the tab after it it fills eight bytes.
+pub(crate) const LONGEST_KEYED: usize = 7;
+
+// What recognizes the lines on a chromosome by one comparison: their first eight bytes as one number, without those after
+// the tab. For a longer name it is unspecified.
+#[derive(Clone, Copy, Debug)]
+pub(crate) struct PackedName {
+    // The name and the tab, as the upper bytes of a number.
+    word: u64,
+    // What moves them there from the lower bytes, so that those after them are lost.
+    factor: u64,
+}
+
+impl PackedName {
+    // The key of a name.
+    pub(crate) fn of(name: &[u8]) -> PackedName
+        ensures { HasKey name.now result }
+    {
+        PackedName::new(&front_of(name), name)
+    }
+
+    // The key of a name, from eight bytes that begin with it and a tab.
+    #[inline(always)]
+    fn new(bytes: &[u8; 8], name: &[u8]) -> PackedName
+        requires { length name.now ≤ 7 → take (length name.now + 1) bytes.now ≡ name.now ++ 9 ∷ [] }
+        ensures { HasKey name.now result }
+    {
+        let factor = factor_of(name.len());
+        PackedName {
+            word: upper_word(bytes, factor),
+            factor,
+        }
+    }
+
+    // Whether a line that begins with these eight bytes begins with the name and a tab.
+    #[inline(always)]
+    pub(crate) fn begins(self, bytes: &[u8; 8]) -> bool
+        ensures { (name : List ℕ) → IsKey name self → IsTrue result
+            → take (length name + 1) bytes.now ≡ name ++ 9 ∷ [] }
+    {
+        upper_word(bytes, self.factor) == self.word
+    }
+}
+
+// Eight bytes that begin with a name and a tab, if it is a short one.
+fn front_of(name: &[u8]) -> [u8; 8]
+    ensures { length name.now ≤ 7 → take (length name.now + 1) result ≡ name.now ++ 9 ∷ [] }
+{
+    let mut bytes = [b'\t'; 8];
+    if name.len() > LONGEST_KEYED {
+        return bytes;
+    }
+    bytes[..name.len()].copy_from_slice(name);
+    bytes
+}
+
+// What moves a name of this length and a tab to the upper bytes of a number.
+#[inline(always)]
+fn factor_of(length: usize) -> u64
+    ensures { length ≤ 7 → result * 256 ^ (length + 1) ≡ 2 ^ 64 }
+{
+    1 << (8 * LONGEST_KEYED.saturating_sub(length))
+}
+
+// The first of these bytes as the upper bytes of a number.
+#[inline(always)]
+fn upper_word(bytes: &[u8; 8], factor: u64) -> u64
+    ensures { result ≡ (from_le_bytes w64 bytes.now * factor) % 2 ^ 64 }
+{
+    u64::from_le_bytes(*bytes).wrapping_mul(factor)
+}

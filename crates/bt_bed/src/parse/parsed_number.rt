@@ -1,0 +1,58 @@
+//! A number at the start of a text.
+
+ghost use Rattle.std.specs.Prelude.{◌≡◌, ◌≤◌, ◌+◌, IfSome, Some, drop, length, take};
+ghost use Rattle.bt_bed.specs.inside.FirstColumns.{EndsFirst, Leads};
+ghost use Rattle.bt_lines.specs.model.Number.{value_of};
+
+use crate::parse::parsing::behind;
+use bt_lines::{first_tab, number};
+
+// Its value, and where its column ends.
+#[derive(Clone, Copy, Debug)]
+pub(crate) struct ParsedNumber {
+    pub(crate) value: u64,
+    pub(crate) end: usize,
+}
+
+// That of the column that begins here, which denotes one. Its parts come by themselves, so that no memory is made ready
+// for both where few are asked for.
+#[inline(always)]
+pub(crate) fn parse_number(text: &[u8], from: usize) -> ParsedNumber
+    requires { from ≤ length text.now }
+    ensures ends { EndsFirst (drop from text.now) result.end }
+    ensures value { IfSome (value_of (take result.end (drop from text.now))) (λ value. result.value ≡ value) }
+{
+    let end = column_end(text, from);
+    ParsedNumber {
+        value: column_value(text, from, end),
+        end,
+    }
+}
+
+// Where the column that begins here ends, counted from there.
+#[cold]
+#[inline(never)]
+fn column_end(text: &[u8], from: usize) -> usize
+    requires { from ≤ length text.now }
+    ensures { EndsFirst (drop from text.now) result }
+{
+    let rest = behind(text, from);
+    match first_tab(rest) {
+        Some(end) => end,
+        None => rest.len(),
+    }
+}
+
+// What it denotes, or 0 where that is no number.
+#[cold]
+#[inline(never)]
+fn column_value(text: &[u8], from: usize, end: usize) -> u64
+    requires from { from ≤ length text.now }
+    requires end { end ≤ length (drop from text.now) }
+    ensures { IfSome (value_of (take end (drop from text.now))) (λ value. result ≡ value) }
+{
+    match number(&behind(text, from)[..end]) {
+        Some(value) => value,
+        None => 0,
+    }
+}

@@ -1,0 +1,154 @@
+//! The last record and the chromosome of the one ahead, sorted by some rule.
+
+use crate::parse::faults::at_line;
+use crate::parse::names::is_same_name;
+use crate::parse::parsing::parse_bed;
+use crate::read::sorted::Sorted;
+use crate::record::bed::BedRef;
+use bt_lines::{Fault, Kind, Place, no_memory};
+use std::alloc::Global;
+
+// What the next record is checked against. The names of chromosomes are in buffers that are used again. A record on the
+// chromosome of the last one has the name of that. Another one has its own in `ahead_name`, as long as it is ahead.
+#[derive(Drop)]
+pub(crate) struct OrderedLookahead<Q> {
+    pub(crate) rule: Q,
+    // The chromosome of the last record, while `last` is one.
+    last_name: Vec<u8>,
+    // The chromosome of the record ahead, if that is another one.
+    ahead_name: Vec<u8>,
+    // The start of the last record; `None` before the first.
+    last: Option<u64>,
+    // Whether the record ahead lies on another chromosome than the last.
+    is_elsewhere: bool,
+}
+
+#[tactic(auto, unfolding(crate::specs::inside::OrderedLookahead::last_in, crate::specs::inside::OrderedLookahead::name_in, crate::specs::inside::OrderedLookahead::start_in))]
+impl<Q: Sorted> OrderedLookahead<Q> {
+    ghost use Rattle.std.specs.Prelude.{◌≡◌, None, IsTrue, true};
+    ghost use Rattle.bt_bed.specs.calls.Bed.{feature_lent};
+    ghost use Rattle.bt_bed.specs.model.input.GoodBed.{locus_at};
+    ghost use Rattle.bt_bed.specs.model.order.Sorting.{falls_in};
+    ghost use Rattle.bt_bed.specs.inside.OrderedLookahead.{FitsOr, HoldsChrom, IsKnownLast, KeepsLast, MakesLast, TakesLine, goes_on, last_in, name_in, start_in};
+
+    // No record yet.
+    pub(crate) fn new(alloc: Global, rule: Q) -> OrderedLookahead<Q>
+        ensures rule { result.rule ≡ rule }
+        ensures last { last_in result ≡ None }
+    {
+        OrderedLookahead {
+            rule,
+            last_name: Vec::new(alloc),
+            ahead_name: Vec::new(alloc),
+            last: None,
+            is_elsewhere: false,
+        }
+    }
+
+    // The name of the chromosome of the record ahead.
+    pub(crate) fn name(&self) -> &[u8]
+        ensures { result.now ≡ name_in self.now }
+    {
+        if self.is_elsewhere {
+            self.ahead_name.as_slice()
+        } else {
+            self.last_name.as_slice()
+        }
+    }
+
+    // From where on records may start on that chromosome.
+    pub(crate) fn start(&self) -> u64
+        ensures { result ≡ start_in self.now }
+    {
+        match self.last {
+            Some(start) if !self.is_elsewhere => start,
+            _ => 0,
+        }
+    }
+
+    // Makes a record on the chromosome of the one ahead, which starts here, the last one.
+    pub(crate) fn advance(&mut self, start: u64)
+        ensures { MakesLast self.old start self.new }
+    {
+        if self.is_elsewhere {
+            std::mem::swap(&mut self.last_name, &mut self.ahead_name);
+            self.is_elsewhere = false;
+        }
+        self.last = Some(start);
+    }
+
+    // Takes the line that follows the last record's, and returns true if it has a record, which
+    // is ahead then.
+    pub(crate) fn take_line(&mut self, place: Place, text: &[u8]) -> Result<bool, Fault>
+        requires known { IsKnownLast (Q.sorting self.old.rule) (last_in self.old) }
+        ensures { TakesLine (Q.sorting self.old.rule) place text.now self.old result self.new }
+    {
+        let bed = match parse_bed(text) {
+            Ok(Some(bed)) => bed,
+            Ok(None) => return Ok(false),
+            Err(kind) => return Err(at_line(kind, place)),
+        };
+        let is_same = self.goes_on(bed.chrom);
+        if let Err(kind) = self.check(is_same, bed) {
+            return Err(at_line(kind, place));
+        }
+        if self.hold(is_same, bed.chrom) {
+            Ok(true)
+        } else {
+            Err(no_memory())
+        }
+    }
+
+    // Whether a chromosome is that of the last record.
+    fn goes_on(&self, chrom: &[u8]) -> bool
+        ensures { result ≡ goes_on self.now chrom.now }
+    {
+        self.last.is_some() && is_same_name(self.last_name.as_slice(), chrom)
+    }
+
+    // Whether a record fits after the last one, or what is wrong with it. Its chromosome isn't looked
+    // up again if it is that of the last record.
+    fn check(&self, is_same: bool, bed: BedRef<'_>) -> Result<(), Kind>
+        requires same { is_same ≡ goes_on self.now bed.chrom.now }
+        requires known { IsKnownLast (Q.sorting self.now.rule) (last_in self.now) }
+        ensures { FitsOr (Q.sorting self.now.rule) (last_in self.now) (feature_lent bed.entry) result }
+    {
+        if !is_same && !self.rule.knows(bed.chrom) {
+            return Err(Kind::UnknownChrom);
+        }
+        if self.falls_below(is_same, bed) {
+            return Err(Kind::OutOfOrder);
+        }
+        Ok(())
+    }
+
+    // Whether a record on a known chromosome lies below the last one.
+    fn falls_below(&self, is_same: bool, bed: BedRef<'_>) -> bool
+        requires same { is_same ≡ goes_on self.now bed.chrom.now }
+        requires last { IsKnownLast (Q.sorting self.now.rule) (last_in self.now) }
+        requires known { IsTrue ((Q.sorting self.now.rule).knows bed.chrom.now) }
+        ensures { result ≡ falls_in (Q.sorting self.now.rule) (last_in self.now)
+            (locus_at (feature_lent bed.entry)) }
+    {
+        match self.last {
+            Some(last) if is_same => bed.start < last,
+            Some(_) => self.rule.comes_before(bed.chrom, self.last_name.as_slice()),
+            None => false,
+        }
+    }
+
+    // Holds the chromosome of the record ahead: its name is copied if it is another than the last. It is false if
+    // there is no room for that.
+    fn hold(&mut self, is_same: bool, chrom: &[u8]) -> bool
+        requires same { is_same ≡ goes_on self.old chrom.now }
+        ensures keeps { KeepsLast self.old self.new }
+        ensures held { result ≡ true → HoldsChrom self.old chrom.now self.new }
+    {
+        self.is_elsewhere = !is_same;
+        if is_same {
+            return true;
+        }
+        self.ahead_name.clear();
+        self.ahead_name.extend_from_slice(chrom).is_ok()
+    }
+}

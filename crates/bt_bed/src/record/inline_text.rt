@@ -1,0 +1,98 @@
+//! The text of a record that is kept.
+
+ghost use Rattle.std.specs.Prelude.{◌≡◌, ◌+◌, ◌≤◌, ◌++◌, ◌-◌, length, take, IfOk, IfSome};
+
+use bt_lines::copy_piece;
+use std::alloc::{AllocError, Global};
+use std::marker::Model;
+
+// That many bytes stand inside. A record that is kept takes 64 bytes with them, and most names and further columns fit.
+const SHORT: usize = 31;
+
+// The bytes of a record that is kept, of which some at the end may be unspecified. A sweep keeps each record that it
+// holds: a short text stands inside, so that no memory is taken for it and none given back. A longer one is in a
+// buffer.
+#[derive(Debug, Drop)]
+pub(crate) struct InlineText {
+    form: Form,
+}
+
+#[derive(Debug, Drop)]
+enum Form {
+    Short([u8; SHORT]),
+    Long(Vec<u8>),
+}
+
+impl Model for InlineText {
+    ghost use Rattle.std.specs.Prelude.{ℕ, List};
+
+    ghost Value = { List ℕ };
+
+    ghost use Rattle.bt_bed.specs.inside.KeptForm.{bytes_of};
+
+    ghost view = { λ t. bytes_of t.form };
+}
+
+impl InlineText {
+    // A name and what comes after it, and how many bytes at its end are unspecified.
+    pub(crate) fn of(alloc: Global, name: &[u8], rest: &[u8]) -> Result<(InlineText, u32), AllocError>
+        ensures within { IfOk result (λ kept. kept.1 ≤ length kept.0) }
+        ensures filled { IfOk result (λ kept. take (length kept.0 - kept.1) kept.0 ≡ name.now ++ rest.now) }
+    {
+        let mut bytes = [0; SHORT];
+        if let Some(left) = put_both(&mut bytes, name, rest) {
+            let form = Form::Short(bytes);
+            return Ok((InlineText { form }, left));
+        }
+        let form = Form::Long(joined(alloc, name, rest)?);
+        Ok((InlineText { form }, 0))
+    }
+
+    // All its bytes.
+    #[inline(always)]
+    pub(crate) fn as_slice(&self) -> &[u8]
+        ensures { result.now ≡ self.now }
+    {
+        match &self.form {
+            Form::Short(bytes) => bytes,
+            Form::Long(text) => text.as_slice(),
+        }
+    }
+}
+
+// Writes two pieces over bytes from the first on, and returns how many are left after them. If the pieces don't fit, it
+// writes none.
+#[inline(always)]
+fn put_both(bytes: &mut [u8], piece: &[u8], next: &[u8]) -> Option<u32>
+    requires { length bytes.old ≤ SHORT }
+    ensures within { IfSome result (λ left. left ≤ length bytes.new) }
+    ensures put { IfSome result (λ left. take (length bytes.new - left) bytes.new ≡ piece.now ++ next.now) }
+{
+    let middle = piece.len();
+    let used = middle + next.len();
+    let left = left_after(bytes.len(), used)?;
+    copy_piece(&mut bytes[..middle], piece);
+    copy_piece(&mut bytes[middle..used], next);
+    Some(left)
+}
+
+// How many of `len` bytes are left after those that are used, if these fit.
+fn left_after(len: usize, used: usize) -> Option<u32>
+    requires { len ≤ SHORT }
+    ensures { IfSome result (λ left. left + used ≡ len) }
+{
+    if len < used {
+        return None;
+    }
+    Some((len - used) as u32)
+}
+
+// Two pieces, one after the other, for which memory is taken once.
+fn joined(alloc: Global, piece: &[u8], next: &[u8]) -> Result<Vec<u8>, AllocError>
+    ensures { IfOk result (λ text. text.items ≡ piece.now ++ next.now) }
+{
+    let mut text = Vec::with_capacity(alloc, piece.len() + next.len())?;
+    text.extend_from_slice(piece)?;
+    text.extend_from_slice(next)?;
+    Ok(text)
+}

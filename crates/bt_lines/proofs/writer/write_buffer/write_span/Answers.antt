@@ -1,0 +1,18 @@
+use Rattle.std.proofs.Common.{arith}
+use Rattle.std.proofs.lemmas.List.{length-set}
+use Rattle.bt_lines.proofs.lemmas.writer.SpanLemmas.{span_moved, span_written}
+use Rattle.bt_lines.proofs.writer.write_buffer.write_span.Goals as goal
+
+pub returns-clause-written : goal.returns-clause-written
+returns-clause-written c =
+    let stop = c.write_column-before_stop in
+    let start = c.write_column-first in
+    let text = c.args.text.now in
+    let same = length-set text 42 c.args.end in
+    let kept = stop.auto.text in
+    let long = start.auto.text in
+    let low = start.ensures.high in
+    let high = stop.ensures.high in
+    span_moved start.new.text start.result _ (omega arith)
+    (span_written text stop.new.text start.new.text c.args.start c.args.stop c.args.end stop.result start.result (omega arith) (omega arith) (omega arith)
+    stop.ensures.written start.ensures.written)
