@@ -49,12 +49,12 @@ pub trait Engine {
         records: &mut C,
         out: &mut Out<K>,
     ) -> Result<(), Fault>
-        ensures { FeedsBatch takes stands fault settled quiet wants C.gives C.has_ended self.old records.old out.old.output
+        ensures { FeedsBatch takes is_after fault settled quiet wants C.gives C.has_ended self.old records.old out.old.output
             result self.new records.new out.new.output };
 
     /// Takes the next record, and writes the lines that it settles. It fails as [`Engine::feed_batch`] does.
     fn feed<K: Sink>(&mut self, bed: &BedRef<'_>, out: &mut Out<K>) -> Result<(), Fault>
-        ensures feeds { Feeds takes stands fault settled self.old (feature_lent bed.now) out.old.output quiet
+        ensures feeds { Feeds takes is_after fault settled self.old (feature_lent bed.now) out.old.output quiet
             result self.new out.new.output }
         ensures memory { IsWanted wants fault self.old (feature_lent bed.now) result }
     {
@@ -66,9 +66,9 @@ pub trait Engine {
     /// Writes the lines that are still unsettled, after the last record. It fails with `WriteFailed`
     /// if they can't be written, and with the fault that was returned before, if one was.
     fn finish<K: Sink>(self, out: &mut Out<K>) -> Result<(), Fault>
-        ensures { Finishes takes stands fault settled whole self out.old.output result out.new.output };
+        ensures { Finishes takes is_after fault settled output self out.old.output result out.new.output };
 
     /// How many items it keeps.
     fn kept_len(&self) -> usize
-        ensures { KeepsHeld takes stands self.now held result };
+        ensures { KeepsHeld takes is_after self.now held result };
 }

@@ -53,7 +53,7 @@ pub(crate) trait Rule {
     // Goes on to the chromosome of this name, which may be the one that it is on, and writes the lines that this settles.
     fn enter<K: Sink>(&mut self, chrom: &[u8], out: &mut Out<K>) -> Result<(), Fault>
         ensures on { OnOk result (is_on self.new chrom.now) }
-        ensures enters { EnterAnswers does (Taken takes stands settled quiet wants does) self.old chrom.now out.old.output result self.new out.new.output };
+        ensures enters { EnterAnswers does (Taken takes is_after settled quiet wants does) self.old chrom.now out.old.output result self.new out.new.output };
 
     // What it keeps of the chromosome that it is on.
     fn on_chrom(&self) -> Self::OnChrom
@@ -70,7 +70,7 @@ pub(crate) trait Rule {
         ensures on { OnOk result (is_on (with_on self.new on.new) (R.feature «record».now).chrom) }
         ensures does { does (with_on self.old on.old) (R.feature «record».now) out.old.output result
             (with_on self.new on.new) out.new.output }
-        ensures feeds { RuleFeeds takes stands settled (with_on self.old on.old) (R.feature «record».now) out.old.output
+        ensures feeds { RuleFeeds takes is_after settled (with_on self.old on.old) (R.feature «record».now) out.old.output
             quiet result (with_on self.new on.new) out.new.output }
         ensures memory { WantsMemory wants (with_on self.old on.old) (R.feature «record».now) result };
 
@@ -80,11 +80,11 @@ pub(crate) trait Rule {
 
     // Writes the lines that are still unsettled, after the last record.
     fn finish<K: Sink>(self, out: &mut Out<K>) -> Result<(), Fault>
-        ensures { RuleFinishes takes stands settled self whole out.old.output result out.new.output };
+        ensures { RuleFinishes takes is_after settled self output out.old.output result out.new.output };
 
     // How many items of the output it keeps that aren't written.
     fn kept_len(&self) -> usize
-        ensures { KeepsHeld takes stands self.now held result };
+        ensures { KeepsHeld takes is_after self.now held result };
 }
 
 // A rule, and the failure that ended it, if there was one.
