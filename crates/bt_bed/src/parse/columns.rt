@@ -5,9 +5,9 @@ ghost use Rattle.bt_bed.specs.inside.FirstColumns.{BeginsWith, BeginsWithName, H
 ghost use Rattle.bt_bed.specs.inside.PackedName.{HasKey};
 ghost use Rattle.bt_lines.specs.model.Number.{value_of};
 
-use crate::parse::parsed_number::ParsedNumber;
-use crate::parse::packed_name::{LONGEST_KEYED, PackedName};
 use crate::parse::names::is_same_name;
+use crate::parse::packed_name::{LONGEST_KEYED, PackedName};
+use crate::parse::parsed_number::ParsedNumber;
 use bt_lines::{eight_digits, few_digits};
 use std::simd::prelude::*;
 

@@ -8,9 +8,9 @@ ghost use Rattle.bt_bed.specs.calls.Run.{is_on};
 ghost use Rattle.bt_bed.specs.model.feature.Record.{record_of};
 
 use crate::parse::columns::{LOOKAHEAD, begins_with_long, scan_columns};
-use crate::parse::parsed_number::parse_number;
-use crate::parse::packed_name::PackedName;
 use crate::parse::names::is_same_name;
+use crate::parse::packed_name::PackedName;
+use crate::parse::parsed_number::parse_number;
 use crate::parse::parsing::parse_bed;
 use crate::record::raw_record::RawRecord;
 use bt_lines::{BufferedLines, ConsumedLines, LineText};

@@ -77,11 +77,7 @@ impl<S: Source, Q: Sorted + Drop> SortedReader<S, Q> {
     {
         let lines = self.reader.buffered();
         if !self.is_ahead {
-            return Batch::new(
-                lines.none(),
-                self.lookahead.name(),
-                self.lookahead.start(),
-            );
+            return Batch::new(lines.none(), self.lookahead.name(), self.lookahead.start());
         }
         Batch::new(lines, self.lookahead.name(), self.lookahead.start())
     }

@@ -35,7 +35,11 @@ impl Model for InlineText {
 
 impl InlineText {
     // A name and what comes after it, and how many bytes at its end are unspecified.
-    pub(crate) fn of(alloc: Global, name: &[u8], rest: &[u8]) -> Result<(InlineText, u32), AllocError>
+    pub(crate) fn of(
+        alloc: Global,
+        name: &[u8],
+        rest: &[u8],
+    ) -> Result<(InlineText, u32), AllocError>
         ensures within { IfOk result (λ kept. kept.1 ≤ length kept.0) }
         ensures filled { IfOk result (λ kept. take (length kept.0 - kept.1) kept.0 ≡ name.now ++ rest.now) }
     {

@@ -1,8 +1,8 @@
 //! What a record is to those that take records.
 
 pub(crate) mod bed;
-pub(crate) mod kept_strand;
 pub(crate) mod inline_text;
+pub(crate) mod kept_strand;
 pub(crate) mod raw_record;
 pub(crate) mod rec;
 pub(crate) mod strand;

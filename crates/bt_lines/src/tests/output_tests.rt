@@ -289,7 +289,8 @@ fn nothing_is_held_behind_a_failure(rt: HostRuntime) -> Result<(), Fail> {
     let mut failed = Out::new(ScriptSink::new(rt.alloc(), BLOCK, Some(0)));
     failed.put(b"line")?;
     let is_told = failed.flush().is_err();
-    let is_held = failed.try_put_pair(b"line", b"\n") || failed.try_put_interval(b"chr1", 5, 9, b'\n');
+    let is_held = failed.try_put_pair(b"line", b"\n")
+        || failed.try_put_interval(b"chr1", 5, 9, b'\n');
     assert!(rt; is_told && !is_held);
     Ok(())
 }

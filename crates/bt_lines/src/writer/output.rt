@@ -13,7 +13,7 @@ use crate::fault::Fault;
 use crate::fault::faults::write_failed;
 use crate::reader::read_buffer::BLOCK;
 use crate::writer::copying::is_short;
-use crate::writer::write_buffer::{WriteBuffer, SPAN_ROOM};
+use crate::writer::write_buffer::{SPAN_ROOM, WriteBuffer};
 use std::marker::Model;
 
 /// Puts bytes to a sink in order, a block at a time: at most [`BLOCK`] bytes are held back until a
@@ -208,7 +208,11 @@ impl<K: Sink> Out<K> {
 // full blocks, as long as it takes each in full.
 #[cold]
 #[inline(never)]
-fn put_across<K: Sink>(sink: &mut K, held: &mut WriteBuffer, piece: &[u8]) -> Result<(), DeviceFailed>
+fn put_across<K: Sink>(
+    sink: &mut K,
+    held: &mut WriteBuffer,
+    piece: &[u8],
+) -> Result<(), DeviceFailed>
     requires fits { length held.old ≤ block_size }
     requires across { block_size < length held.old + length piece.now }
     ensures put { OnOk result (Appends (append_known (K.took sink.old) held.old)
@@ -227,7 +231,11 @@ fn put_across<K: Sink>(sink: &mut K, held: &mut WriteBuffer, piece: &[u8]) -> Re
 }
 
 // Hands the full blocks of a piece to the sink, and holds back what is left of it.
-fn put_blocks<K: Sink>(sink: &mut K, held: &mut WriteBuffer, piece: &[u8]) -> Result<(), DeviceFailed>
+fn put_blocks<K: Sink>(
+    sink: &mut K,
+    held: &mut WriteBuffer,
+    piece: &[u8],
+) -> Result<(), DeviceFailed>
     requires { held.old ≡ [] }
     ensures put { OnOk result (Appends (K.took sink.old) (append_known (K.took sink.new) held.new) piece.now) }
     ensures rest { OnOk result (length held.new ≡ length piece.now % block_size) }

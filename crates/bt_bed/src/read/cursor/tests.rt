@@ -60,7 +60,8 @@ fn buffered_records_are_given_in_order(rt: HostRuntime) -> Result<(), Fail> {
 fn ends_at<C: Cursor>(records: &mut C, offset: usize, is_canonical_line: bool) -> bool {
     match records.next() {
         None => false,
-        Some(record) => (records.offset(), record.is_canonical_line()) == (offset, is_canonical_line),
+        Some(record) => (records.offset(), record.is_canonical_line())
+            == (offset, is_canonical_line),
     }
 }
 
