@@ -2,7 +2,8 @@
 """Times the commands of this repository on sorted records that it makes itself.
 
     bench/compare.py [RECORDS] [--only WORDS] [--times N] [--discard]
-    bench/compare.py --results [RECORDS] [--times N] [--trial FILE]
+    bench/compare.py --results [RECORDS] [--times N] [--trial FILE] [--inputs FOLDER]
+    bench/compare.py --prepare [RECORDS] --inputs FOLDER
     bench/compare.py --check [--store] [--only WORDS]
 
 Prints, for each command and kind of record, for RECORDS records (5,000,000 where it is missing) and
@@ -18,7 +19,8 @@ with its input.
 
 With `--results` it measures in one run, on an idle machine, all that the pages and the charts say, into
 results.json, and writes them anew: results.py says what. With `--trial` the machine may be busy, and FILE is
-written instead, marked as a trial.
+written instead, marked as a trial. With `--inputs` the inputs stay in FOLDER, and those that are there are taken:
+`--prepare` only writes them, on all processors.
 
 With `--check` nothing is timed: the instructions a record of this program are compared with those in
 instructions.txt. It fails where a workload takes over 3 percent more than there, or isn't there, and says
@@ -550,9 +552,10 @@ def prepared(workload, folder, size):
     """The folder of a workload's inputs of this size, which are written unless they are there."""
     place = folder / f"{workload.data.name()}, {size}"
     if not place.exists():
-        place.mkdir()
-        write_genome(place / "genome.txt")
-        workload.data.write(place, size)
+        begun = Path(tempfile.mkdtemp(dir=folder))
+        write_genome(begun / "genome.txt")
+        workload.data.write(begun, size)
+        begun.rename(place)
     return place
 
 
@@ -662,6 +665,8 @@ def main():
     parser.add_argument("--discard", action="store_true")
     parser.add_argument("--results", action="store_true")
     parser.add_argument("--trial", metavar="FILE")
+    parser.add_argument("--inputs", metavar="FOLDER", type=Path)
+    parser.add_argument("--prepare", action="store_true")
     parser.add_argument("--check", action="store_true")
     parser.add_argument("--store", action="store_true")
     asked = parser.parse_args()
@@ -669,11 +674,15 @@ def main():
         parser.error("--times takes a number above 0")
     if asked.store and not asked.check:
         parser.error("--store goes with --check")
+    if asked.prepare and not asked.inputs:
+        parser.error("--prepare goes with --inputs")
     valgrind = shutil.which("valgrind")
-    if asked.results:
+    if asked.results or asked.prepare:
         import results  # pylint: disable=import-outside-toplevel,cyclic-import
 
-        sys.exit(results.measure(asked.records, asked.times, asked.trial))
+        if asked.prepare:
+            sys.exit(results.prepare(asked.inputs, asked.records))
+        sys.exit(results.measure(asked.records, asked.times, asked.trial, asked.inputs))
     if asked.check:
         sys.exit(check(valgrind, asked.only, asked.store) if valgrind else "valgrind isn't on PATH")
     compare_all(asked, valgrind)

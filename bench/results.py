@@ -21,6 +21,7 @@ import subprocess
 import sys
 import tempfile
 import time
+from concurrent.futures import ProcessPoolExecutor
 from pathlib import Path
 
 import chart
@@ -113,7 +114,6 @@ def measured(workload, others, folder, records, times, valgrind):
     place = compare.prepared(workload, folder, compare.COUNTED)
     run = compare.runs_of(workload, compare.NO_OTHERS, place)[0]
     row["instructions"] = round(compare.instructions_of(valgrind, run) / compare.lines_of(place / "records.bed"), 1)
-    shutil.rmtree(compare.prepared(workload, folder, records))
     return row
 
 
@@ -123,14 +123,29 @@ def grown(command, others, folder, sizes, times):
     for size in sizes:
         runs = timed(shown(command), others, folder, size, times)
         rows[str(size)] = {program: runs[program] for program in ("dunekettle", "bedtools") if program in runs}
-        shutil.rmtree(compare.prepared(shown(command), folder, size))
     ours = [row["dunekettle"]["kilobytes"] for row in rows.values()]
     if max(ours) > min(ours) + compare.SLACK:
         sys.exit(f"{command}: the memory grows with the input")
     return rows
 
 
-def measure(records, times, trial):
+def sizes_for(records):
+    """The sizes at which growth is measured."""
+    return [size * records // compare.TIMED for size in SIZES]
+
+
+def prepare(folder, records):
+    """Writes all inputs into a folder, on all processors: nothing is measured while they are written. Returns the exit status."""
+    folder.mkdir(parents=True, exist_ok=True)
+    wanted = [(it, size) for it in reported() for size in (records, records // 10, compare.COUNTED)]
+    wanted += [(shown(command), size) for command in SHOWN for size in sizes_for(records)]
+    inputs = {(it.data.name(), size): (it, folder, size) for it, size in wanted}
+    with ProcessPoolExecutor() as pool:
+        list(pool.map(compare.prepared, *zip(*inputs.values())))
+    return 0
+
+
+def measure(records, times, trial, inputs=None):
     """Measures all and writes it, and the pages unless it is a trial. Returns the exit status."""
     valgrind = shutil.which("valgrind")
     absent = [name for name in ("bedtools", "bedops", "samtools", "valgrind") if not shutil.which(name)]
@@ -143,12 +158,12 @@ def measure(records, times, trial):
         "commit": commit(), "date": time.strftime("%Y-%m-%d"), "machine": machine(), "records": records, "times": times, "is_trial": bool(trial),
         "bedtools": version_of(["bedtools", "--version"], r"v(\S+)"), "bedops": version_of(["bedops", "--version"], r"version:\s*(\S+)"),
     }
-    sizes = [size * records // compare.TIMED for size in SIZES]
-    with tempfile.TemporaryDirectory() as folder:
-        folder = Path(folder)
+    with tempfile.TemporaryDirectory() as own:
+        folder = inputs or Path(own)
+        prepare(folder, records)
         others = compare.found_others(folder)
         kept["workloads"] = [measured(workload, others, folder, records, times, valgrind) for workload in reported()]
-        kept["growth"] = {command: grown(command, others, folder, sizes, times) for command in SHOWN}
+        kept["growth"] = {command: grown(command, others, folder, sizes_for(records), times) for command in SHOWN}
     Path(trial or RESULTS).write_text(json.dumps(kept, indent=1) + "\n", encoding="utf-8")
     return 0 if trial else agree(kept, True)
 
