@@ -3,15 +3,7 @@
 
 ghost use Rattle.bt_laws.specs.parts.GenomeSplitLaws.{complement_divides, genomecov_divides, merge_genomes_divide};
 ghost use Rattle.bt_laws.specs.parts.MaskSplitLaws.{maskfasta_divides, repeated_names_divide};
-ghost use Rattle.bt_laws.specs.parts.OwnGenomeLaws.{
-  complement_shards_suffice,
-  genomecov_shards_suffice,
-  intersect_genomes_divide,
-  intersect_shards_suffice,
-  merge_shards_suffice,
-  subtract_genomes_divide,
-  subtract_shards_suffice,
-};
+ghost use Rattle.bt_laws.specs.parts.OwnGenomeLaws.{complement_shards_suffice, genomecov_shards_suffice, intersect_genomes_divide, intersect_shards_suffice, merge_shards_suffice, subtract_genomes_divide, subtract_shards_suffice};
 ghost use Rattle.bt_laws.specs.parts.Parts.{fronts_begin};
 ghost use Rattle.bt_laws.specs.parts.SplitLaws.{bamtobed_divides, intersect_divides, merge_divides, subtract_divides};
 

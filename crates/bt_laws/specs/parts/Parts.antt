@@ -32,14 +32,14 @@ AreOfLines [] = ⊤
 AreOfLines (text ∷ texts) = StandsBefore text (joined texts) × AreOfLines texts
 
 -- the record that a line says, if it says one
-abbrev pub record_in : Result (Option Feature) Kind → List Feature
-record_in (Err kind) = []
-record_in (Ok None) = []
-record_in (Ok (Some r)) = r ∷ []
+abbrev pub said_record : Result (Option Feature) Kind → List Feature
+said_record (Err kind) = []
+said_record (Ok None) = []
+said_record (Ok (Some r)) = r ∷ []
 
 -- the records that the lines of a text say, each line by itself: header lines may stand between them
-abbrev pub records_in : List ℕ → List Feature
-records_in text = flat_map (λ line. record_in (record_of line.text)) (text_lines text)
+abbrev pub said_records : List ℕ → List Feature
+said_records text = flat_map (λ line. said_record (record_of line.text)) (text_lines text)
 
 -- the chromosome of each record comes before those of all others; unknown ones are at fault anyway
 abbrev pub ComeBefore : Order → List Feature → List Feature → Type 0

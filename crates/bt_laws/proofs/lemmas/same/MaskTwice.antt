@@ -28,10 +28,8 @@ use Rattle.bt_tool.specs.model.report.RecordReport.{Report}
 use Rattle.bt_tool.specs.model.report.Report.{report_of}
 use Rattle.bt_tool.specs.model.report.SweepReport.{met_report}
 use Rattle.bt_tool.specs.declared.planning.plan_type.Command.TheVariants.{MaskFasta}
-use Rattle.bt_laws.specs.pipes.MaskPipes.{KeepsLines, layout_of, masked_keep_layout, masked_twice}
-use Rattle.bt_laws.specs.pipes.Pipes.{RunsWell}
-use Rattle.bt_laws.specs.same.SameLines.{Writes}
-use Rattle.bt_laws.specs.same.SameRuns.{piped}
+use Rattle.bt_laws.specs.same.MaskLaws.{KeepsLines, layout_of, masked_keep_layout, masked_twice}
+use Rattle.bt_laws.specs.Runs.{RunsWithoutFault, RunWrites, piped}
 use Rattle.bt_laws.proofs.lemmas.pipes.MaskPipes.{IsAgain, Stands, again_lines, with_text}
 use Rattle.bt_laws.proofs.lemmas.pipes.PipeLaws.{report_is, well_there}
 use Rattle.bt_laws.proofs.lemmas.same.RunsAgain.{report_there, writes_is}
@@ -73,7 +71,7 @@ masked_again (Hard mask) base = refl
 
 isnt_by : (how : MaskHow) → KeepsLines how → (byte : ℕ) → (byte ≤ 13) ⊎ (byte ≡ 62) → IsNot how byte
 isnt_by Soft keeps byte which = tt
-isnt_by (Hard mask) keeps byte (inl low) = λ same. omega (arith, keeps.0, same, low)
+isnt_by (Hard mask) keeps byte (inl low) = λ same. omega (arith, leb-true 33 mask (and_parts (leb 33 mask) (leb mask 126) keeps.0).0, same, low)
 isnt_by (Hard mask) keeps byte (inr is) = λ same. keeps.1 (same ∙ is)
 
 module _ (how : MaskHow) (keeps : KeepsLines how) where
@@ -210,7 +208,7 @@ size_by : (how : MaskHow) (records : List Feature) (header : Bool) (line : Seque
 size_by how records true line = refl
 size_by how records false line = size_of how (own_records line.names records) line.before line.text
 
-module _ (how : MaskHow) (full : Bool) (inputs : Inputs) (chromosomes : Option (List Entry)) (well : RunsWell (MaskFasta how full) inputs chromosomes) where
+module _ (how : MaskHow) (full : Bool) (inputs : Inputs) (chromosomes : Option (List Entry)) (well : RunsWithoutFault (MaskFasta how full) inputs chromosomes) where
   abbrev first : Good SequenceLine
   first = sequence_good full First inputs.first
 
@@ -289,7 +287,7 @@ module _ (how : MaskHow) (full : Bool) (inputs : Inputs) (chromosomes : Option (
         ∙ ap₂ (λ is fault. record { lines = flat_map (masked_line how records) is; fault = option_or fault (mask_rule how (names_of is) second).last }) read_items read_none
         ∙ ap₂ (λ l fault. record { lines = l; fault = fault }) (lines_again items) (ap (λ ns. (mask_rule how ns second).last) (names_same new_text items) ∙ nones.1)
 
-    pub twice : Writes (MaskFasta how full) (piped (MaskFasta how full) inputs) (report_of (MaskFasta how full) inputs).output
+    pub twice : RunWrites (MaskFasta how full) (piped (MaskFasta how full) inputs) (report_of (MaskFasta how full) inputs).output
     twice = writes_is (MaskFasta how full) (piped (MaskFasta how full) inputs) (report_of (MaskFasta how full) inputs).output
         (report_there (MaskFasta how full) (piped (MaskFasta how full) inputs) chromosomes well.genome
         ∙ ap (λ text. met_report (mask_met how (sequence_good full First (whole_text text)) second)) output_there
