@@ -86,7 +86,7 @@ known_names (n ∷ ns) = (
   all_so (λ m. is_some (rank_of ns m) ≡ true) (λ m. is_some (rank_of (n ∷ ns) m) ≡ true) ns (λ m e. some_rank (bytes_eq n m) (rank_of ns m) e) (known_names ns),
 )
 
-others : (n : List ℕ) (ns : List (List ℕ)) → is_among ns n ≡ false → AllByRecursion (λ m. bytes_eq n m ≡ false) ns
+pub others : (n : List ℕ) (ns : List (List ℕ)) → is_among ns n ≡ false → AllByRecursion (λ m. bytes_eq n m ≡ false) ns
 others n [] e = tt
 others n (m ∷ ns) e = let parts = or_parts (bytes_eq m n) (is_among ns n) e in (name_ne-sym m n parts.0, others n ns parts.1)
 

@@ -75,10 +75,10 @@ module _ (how : MaskHow) where
   both_lines keeps rs ss ts [] h = refl
   both_lines keeps rs ss ts (line ∷ lines) h = ap₂ (λ a b. a ++ b) (both_line keeps rs ss ts line h.0) (both_lines keeps rs ss ts lines h.1)
 
-abbrev bed_of : Inputs → Good Feature
+abbrev pub bed_of : Inputs → Good Feature
 bed_of inputs = block_good Second (or_empty inputs.second)
 
-same_lines : (how : MaskHow) (rs ss : List Feature) (lines : List SequenceLine) → AllByRecursion (λ (line : SequenceLine). (p : ℕ) → line.before ≤ p → p < bases_up_to line → list_any (covers p) (own_records line.names rs) ≡ list_any (covers p) (own_records line.names ss)) lines
+pub same_lines : (how : MaskHow) (rs ss : List Feature) (lines : List SequenceLine) → AllByRecursion (λ (line : SequenceLine). (p : ℕ) → line.before ≤ p → p < bases_up_to line → list_any (covers p) (own_records line.names rs) ≡ list_any (covers p) (own_records line.names ss)) lines
     → flat_map (masked_line how rs) lines ≡ flat_map (masked_line how ss) lines
 same_lines how rs ss [] h = refl
 same_lines how rs ss (line ∷ lines) h = ap₂ (λ a b. a ++ b) (same_line how rs ss line h.0) (same_lines how rs ss lines h.1)

@@ -51,7 +51,7 @@ kept_one : {A : Type 0} (t : A → Bool) (x : A) (xs : List A) (b : Bool) → t 
 kept_one t x xs true e h = (e, h)
 kept_one t x xs false e h = h
 
-kept_pass : {A : Type 0} (t : A → Bool) (xs : List A) → AllByRecursion (λ y. t y ≡ true) (filter t xs)
+pub kept_pass : {A : Type 0} (t : A → Bool) (xs : List A) → AllByRecursion (λ y. t y ≡ true) (filter t xs)
 kept_pass t [] = tt
 kept_pass t (x ∷ xs) = kept_one t x (filter t xs) (t x) refl (kept_pass t xs)
 
