@@ -2,7 +2,13 @@
 //! of a function that does nothing.
 
 ghost use Rattle.bt_laws.specs.pipes.ConvertPipes.{bamtobed_is_input};
-ghost use Rattle.bt_laws.specs.pipes.PipeExamples.{blocks_go_back, cuts_go_back, names_become_strands, pieces_go_back, returns_change_strands};
+ghost use Rattle.bt_laws.specs.pipes.PipeExamples.{
+  blocks_go_back,
+  cuts_go_back,
+  names_become_strands,
+  pieces_go_back,
+  returns_change_strands,
+};
 ghost use Rattle.bt_laws.specs.pipes.Pipes.{
   complement_is_input,
   cut_intersect_is_input,
@@ -15,7 +21,11 @@ ghost use Rattle.bt_laws.specs.pipes.Pipes.{
   subtract_is_input,
   whole_subtract_is_input,
 };
-ghost use Rattle.bt_laws.specs.pipes.PipesApart.{complement_writes_disjoint, genomecov_writes_disjoint, merge_writes_disjoint};
+ghost use Rattle.bt_laws.specs.pipes.PipesApart.{
+  complement_writes_disjoint,
+  genomecov_writes_disjoint,
+  merge_writes_disjoint,
+};
 
 /// What merge writes is an input, whose records are the runs.
 pub fn merge_goes_on()

@@ -73,7 +73,7 @@ PairsAddUp command genome parts =
     AddUp (map (on_texts command genome) parts) (on_texts command genome (joined_texts parts))
     × StopWithin (map (on_texts command genome) parts) (on_texts command genome (joined_texts parts))
 
--- both inputs are divided into whole lines
+-- both inputs are divided into complete lines
 abbrev pub ArePairs : List Texts → Type 0
 ArePairs parts =
     AreOfLines (map (λ part. part.first) parts) × AreOfLines (map (λ part. part.second) parts)

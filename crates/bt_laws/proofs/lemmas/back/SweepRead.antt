@@ -1,5 +1,5 @@
 -- The records that the lines of intersect and subtract are read as.
-use Rattle.std.proofs.Common.{◌≡◌, ℕ, suc, ◌<◌, ◌≤◌, Bool, true, false, List, [], ◌∷◌, ◌++◌, map, length, refl, sym, ap, ap₂, ◌∙◌, subst, arith, append_assoc, append-nil, decimal, eqb}
+use Rattle.std.proofs.Common.{◌≡◌, ℕ, ◌<◌, Bool, true, false, List, [], ◌∷◌, ◌++◌, map, length, refl, sym, ap, ap₂, ◌∙◌, subst, arith, append_assoc, append-nil, decimal, eqb}
 use Rattle.std.specs.Prelude.{IsTrue, bytes_eq, flat_map, replicate, if◌then◌else◌}
 use Rattle.std.specs.List.{AllByRecursion}
 use Rattle.std.specs.Io.BufRead.{ends_with_byte, strip_last}
@@ -12,7 +12,6 @@ use Rattle.bt_lines.proofs.lemmas.reader.lines.ColumnLemmas.{IsColumn, IsInside}
 use Rattle.bt_lines.proofs.lemmas.reader.lines.LinesLemmas.{strip_last-other}
 use Rattle.bt_bed.specs.model.feature.Feature.{Feature, interval_of, intervals_of}
 use Rattle.bt_bed.specs.model.feature.Record.{IsName, bed_text, columns_in, cut_to, is_kept, kept_columns, strand_named, strand_of}
-use Rattle.bt_bed.specs.declared.record.strand.Strand.{Strand}
 use Rattle.bt_bed.specs.declared.record.strand.Strand.TheVariants.{Plus, Minus, Dot}
 use Rattle.bt_bed.proofs.lemmas.parse.Kept.{kept_is_cut, pieces_are_columns}
 use Rattle.bt_bed.proofs.lemmas.parse.NameLemmas.{name_ne}

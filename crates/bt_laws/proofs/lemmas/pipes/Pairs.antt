@@ -1,5 +1,5 @@
 -- What holds of each element and each later one, by recursion on the list.
-use Rattle.std.proofs.Common.{ℕ, suc, ◌<◌, List, [], ◌∷◌, length, arith}
+use Rattle.std.proofs.Common.{suc, List, [], ◌∷◌, arith}
 use Rattle.std.specs.List.{AllByRecursion, AllPairs}
 use Rattle.std.proofs.lemmas.List.Elements.{All-from_recursion, recursion_from_All}
 use Rattle.std.proofs.lemmas.List.Kept.{AllPairs-cons}

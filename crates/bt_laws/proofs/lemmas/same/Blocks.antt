@@ -1,5 +1,5 @@
 -- The blocks of records that are contiguous: one for each chromosome.
-use Rattle.std.proofs.Common.{◌≡◌, ◌||◌, ◌&&◌, ℕ, Bool, true, false, cond, not, List, [], ◌∷◌, ◌++◌, map, filter, Option, Some, None, inl, inr, refl, sym, ap, ap₂, ◌∙◌, subst, leb, ltb}
+use Rattle.std.proofs.Common.{◌≡◌, ◌||◌, ◌&&◌, ℕ, Bool, true, false, cond, not, List, [], ◌∷◌, map, filter, Option, Some, None, inl, inr, refl, sym, ap, ap₂, ◌∙◌, subst, leb, ltb}
 use Rattle.std.specs.Prelude.{bytes_eq, flat_map, if◌then◌else◌}
 use Rattle.std.specs.List.{AllByRecursion, list_any}
 use Rattle.std.proofs.lemmas.Bool.{or_parts}

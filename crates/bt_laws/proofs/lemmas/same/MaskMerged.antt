@@ -1,6 +1,6 @@
 -- maskfasta by merge of a BED.
 use Rattle.std.proofs.Common.{◌≡◌, ℕ, suc, ◌<◌, Bool, true, false, List, [], ◌∷◌, map, length, Option, Some, None, Result, Ok, Err, refl, sym, ap, ap₂, ◌∙◌, subst, ltb}
-use Rattle.std.specs.Prelude.{bytes_eq, flat_map, is_some, if◌then◌else◌}
+use Rattle.std.specs.Prelude.{bytes_eq, is_some, if◌then◌else◌}
 use Rattle.std.specs.List.{AllByRecursion, list_any}
 use Rattle.std.specs.Option.{option_or}
 use Rattle.bt_lines.specs.model.Fault.{FaultValue, read_failed}
@@ -12,7 +12,6 @@ use Rattle.bt_lines.specs.declared.fault.Kind.{Kind}
 use Rattle.bt_lines.specs.declared.fault.Kind.TheVariants.{OutOfOrder, UnknownChrom}
 use Rattle.bt_bed.specs.model.feature.Feature.{Feature, intervals_of}
 use Rattle.bt_bed.specs.model.feature.Interval.{Interval, spans_on}
-use Rattle.bt_bed.specs.model.feature.IntervalLine.{interval_lines}
 use Rattle.bt_bed.specs.model.feature.Record.{record_of}
 use Rattle.bt_bed.specs.model.input.Good.{Good, good, good_from, good_with, items_in, or_else}
 use Rattle.bt_bed.specs.model.input.GoodBed.{bed_format, bed_good, line_says, locus_at, said_after}
@@ -28,10 +27,9 @@ use Rattle.bt_runs.specs.model.Counted.{counted}
 use Rattle.bt_runs.specs.model.Merged.{chromosomes, runs_of}
 use Rattle.bt_runs.specs.model.RunOrder.{ordered_runs}
 use Rattle.bt_runs.specs.declared.merge.merge_strand.MergeStrand.TheVariants.{All}
-use Rattle.bt_seq.specs.model.Masked.{covers, mask_met, mask_rule, masked_line, names_of, no_sequence}
+use Rattle.bt_seq.specs.model.Masked.{covers, mask_rule, names_of, no_sequence}
 use Rattle.bt_seq.specs.model.Owners.{own_records}
-use Rattle.bt_seq.specs.model.Sequences.{SequenceLine, bases_up_to, sequence_good}
-use Rattle.bt_seq.specs.declared.mask.mask_how.MaskHow.{MaskHow}
+use Rattle.bt_seq.specs.model.Sequences.{SequenceLine, sequence_good}
 use Rattle.bt_seq.proofs.lemmas.laws.LeftLemmas.{leave}
 use Rattle.bt_tool.specs.model.report.Behaviour.{order_of}
 use Rattle.bt_tool.specs.model.report.Inputs.{Inputs, or_empty}
@@ -40,7 +38,7 @@ use Rattle.bt_tool.specs.model.report.Report.{report_of}
 use Rattle.bt_tool.specs.model.report.SweepReport.{met_report}
 use Rattle.bt_tool.specs.model.report.Written.{Written, merge_written}
 use Rattle.bt_tool.specs.declared.planning.plan_type.Command.TheVariants.{MaskFasta, Merge}
-use Rattle.bt_laws.specs.Runs.{RunsWithoutFault, first_records, second_alone}
+use Rattle.bt_laws.specs.Runs.{RunsWithoutFault, second_alone}
 use Rattle.bt_laws.specs.pipes.Taken.{IsInput, three_columns}
 use Rattle.bt_laws.specs.same.MaskLaws.{masked_by_merged, with_merged_bed}
 use Rattle.bt_laws.proofs.lemmas.back.RunsBack.{merge_back, merge_placed}
@@ -51,7 +49,7 @@ use Rattle.bt_laws.proofs.lemmas.pipes.Covers.{SameCover, runs_cover, same_sym}
 use Rattle.bt_laws.proofs.lemmas.pipes.PipeLaws.{merge_whole, order_total, well_there}
 use Rattle.bt_laws.proofs.lemmas.same.Blocks.{leave_alike, own_alike}
 use Rattle.bt_laws.proofs.lemmas.same.MaskBoth.{bed_of, same_lines}
-use Rattle.bt_laws.proofs.lemmas.same.MaskTwice.{met_all, nones, output_there, second_none}
+use Rattle.bt_laws.proofs.lemmas.same.MaskTwice.{met_all, nones, output_there}
 use Rattle.bt_laws.proofs.lemmas.same.RunsAgain.{back, report_there, run_names, run_spans, writes_is}
 use Rattle.bt_laws.proofs.lemmas.same.SameSweeps.{cut_none, uncut}
 

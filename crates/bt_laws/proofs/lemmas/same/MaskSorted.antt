@@ -1,5 +1,5 @@
 -- maskfasta by two BEDs, and by one that has the records of both.
-use Rattle.std.proofs.Common.{◌≡◌, ◌||◌, ◌&&◌, ℕ, ◌<◌, ◌≤◌, Bool, true, false, cond, List, [], ◌∷◌, ◌++◌, append_assoc, append-nil, Option, Some, None, inl, inr, refl, sym, ap, ap₂, ◌∙◌, subst}
+use Rattle.std.proofs.Common.{◌≡◌, ◌||◌, ◌&&◌, ℕ, ◌<◌, ◌≤◌, Bool, true, false, cond, List, [], ◌∷◌, ◌++◌, append_assoc, Option, Some, None, inl, inr, refl, sym, ap, ap₂, ◌∙◌, subst}
 use Rattle.std.specs.Prelude.{◌⊎◌, bytes_eq, flat_map, is_some, IsPermutation}
 use Rattle.std.specs.List.{AllByRecursion, list_any}
 use Rattle.std.proofs.lemmas.Bool.{or_parts}
@@ -9,12 +9,11 @@ use Rattle.std.proofs.lemmas.List.Sorted.{list_any-IsPermutation}
 use Rattle.bt_lines.specs.model.Handed.{lines_handed}
 use Rattle.bt_lines.specs.declared.fault.Input.TheVariants.{First}
 use Rattle.bt_bed.specs.model.feature.Feature.{Feature}
-use Rattle.bt_bed.specs.model.input.Good.{Good, items_in}
 use Rattle.bt_bed.specs.model.order.Genome.{Entry}
 use Rattle.bt_bed.specs.model.order.Rank.{AreDistinct, is_among}
 use Rattle.bt_bed.proofs.lemmas.parse.NameLemmas.{cases_name, name_eq, name_ne-sym}
 use Rattle.bt_seq.specs.model.Masked.{covers, names_of, no_sequence}
-use Rattle.bt_seq.specs.model.Owners.{AreOfChrom, Block, Owned, blocks_by, items_if_last, items_of, left_at_last, left_by, names_behind, own_records, owned_from}
+use Rattle.bt_seq.specs.model.Owners.{AreOfChrom, Block, Owned, blocks_by, items_if_last, items_of, left_at_last, names_behind, own_records, owned_from}
 use Rattle.bt_seq.specs.model.Sequences.{SequenceLine, bases_up_to}
 use Rattle.bt_seq.specs.declared.mask.mask_how.MaskHow.{MaskHow}
 use Rattle.bt_seq.proofs.lemmas.laws.LeftLemmas.{leave, leave_all}
@@ -22,7 +21,7 @@ use Rattle.bt_seq.proofs.lemmas.laws.OwnerLemmas.{maximal_runs}
 use Rattle.bt_tool.specs.model.report.Inputs.{Inputs}
 use Rattle.bt_tool.specs.declared.planning.plan_type.Command.TheVariants.{MaskFasta}
 use Rattle.bt_laws.specs.Runs.{RunsWithoutFault}
-use Rattle.bt_laws.specs.same.MaskLaws.{HasDistinctNames, bed_records, is_masked, masked_by_sorted, sequence_lines, with_bed}
+use Rattle.bt_laws.specs.same.MaskLaws.{bed_records, is_masked, masked_by_sorted, sequence_lines, with_bed}
 use Rattle.bt_laws.proofs.lemmas.parts.order.PartOwners.{off_behind}
 use Rattle.bt_laws.proofs.lemmas.parts.report.PartMasked.{none_owned}
 use Rattle.bt_laws.proofs.lemmas.parts.text.PartLists.{all_so}
