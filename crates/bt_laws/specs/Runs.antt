@@ -55,3 +55,8 @@ with_second command inputs = record {
   first = inputs.first;
   second = Some (whole_text (of_second command inputs));
 }
+
+-- the inputs that these texts are, without a genome file
+abbrev pub two_texts : List ℕ → List ℕ → Inputs
+two_texts first second =
+    record { genome = None; first = whole_text first; second = Some (whole_text second) }

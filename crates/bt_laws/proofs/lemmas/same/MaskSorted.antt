@@ -56,7 +56,7 @@ record IsAfter (c n : List ℕ) (xs ys : Names) : Type 0 where
 abbrev Finds : List ℕ → List ℕ → Names → Names → Type 0
 Finds c n xs ys = IsBefore c n xs ys ⊎ (IsHere c n xs ys ⊎ IsAfter c n xs ys)
 
--- whether x is c decides what is behind it
+-- whether x is c decides what comes after it
 abbrev behind_by : Bool → Names → Option Names → Option Names
 behind_by b found more = cond b (Some found) more
 
@@ -148,7 +148,7 @@ module _ (t : Feature → Bool) (n : List ℕ) where
   all_here c [] h e = refl
   all_here c (r ∷ rs) h e = ap₂ (λ a b. (a && t r) || b) (ap (λ m. bytes_eq m n) h.0 ∙ e) (all_here c rs h.1 e)
 
-  -- behind its sequence no block has its name
+  -- after its sequence no block has its name
   later : (names : Names) (bs : List (Block Feature)) → is_among names n ≡ false → AllByRecursion IsOnIt bs → AreOwned (Some names) bs → list_any on_it (items_of bs) ≡ false
   later names [] off on owned = refl
   later names (b ∷ bs) off on owned = by_left (names_behind b.chrom names) refl owned (λ rest far more. later rest bs far on.1 more)

@@ -156,7 +156,7 @@ splits_as one two whole one_too two_too whole_too ones twos a b c d e f g splits
   begin = (splits.begin.0, ap₂ (λ x y. x ++ y) a d ∙ splits.begin.1 ∙ ap (λ x. x ++ splits.begin.0) (sym g));
 }
 
--- a front of what one part writes
+-- a prefix of what one part writes
 pub prefixes_begin_whole : prefixes_begin
 prefixes_begin_whole before later part whole front rest add none is = (
   rest ++ flat_map (λ p. p.output) later,
