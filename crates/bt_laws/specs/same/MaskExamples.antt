@@ -1,4 +1,4 @@
--- Why the law on two BEDs needs different names of the sequences.
+-- Why the law on two BEDs needs records that name one sequence each.
 use Rattle.std.specs.Prelude.{ℕ, false, List, codes}
 use Rattle.bt_seq.specs.declared.mask.mask_how.MaskHow.TheVariants.{Soft}
 use Rattle.bt_tool.specs.declared.planning.plan_type.Command.TheVariants.{MaskFasta}

@@ -1,13 +1,12 @@
 -- What maskfasta writes, as its input again.
 use Rattle.std.specs.Prelude.{◌≡◌, ◌≢◌, ◌<◌, ◌≤◌, ◌||◌, ℕ, ⊤, Bool, IsTrue, List, ◌++◌, map, length}
-use Rattle.std.specs.Prelude.{IsPermutation, Option, Some, None}
+use Rattle.std.specs.Prelude.{IsPermutation, Option, Some, None, bytes_eq, filter}
 use Rattle.std.specs.List.{AllByRecursion, list_any}
 use Rattle.bt_lines.specs.model.Handed.{Handed, whole_text}
 use Rattle.bt_lines.specs.declared.fault.Input.TheVariants.{First, Second}
 use Rattle.bt_lines.specs.declared.reader.line.LineEnd.{LineEnd}
 use Rattle.bt_bed.specs.model.feature.Feature.{Feature}
 use Rattle.bt_bed.specs.model.order.Genome.{Entry}
-use Rattle.bt_bed.specs.model.order.Rank.{AreDistinct}
 use Rattle.bt_bed.specs.model.input.Good.{items_in}
 use Rattle.bt_bed.specs.model.input.GoodBlocks.{block_good}
 use Rattle.bt_runs.specs.declared.merge.merge_strand.MergeStrand.TheVariants.{All}
@@ -128,16 +127,17 @@ masked_by_merged =
     → RunWrites (MaskFasta how full) (with_merged_bed genome inputs)
     (report_of (MaskFasta how full) inputs).output
 
--- no two sequences have one name
-abbrev pub HasDistinctNames : Bool → Inputs → Type 0
-HasDistinctNames full inputs = AreDistinct (names_of (sequence_lines full inputs))
+-- at most one of the sequences has the name of the record's chromosome
+abbrev pub NamesOne : List (List ℕ) → Feature → Type 0
+NamesOne names r = length (filter (λ name. bytes_eq name r.chrom) names) ≤ 1
 
 -- maskfasta by one BED and then by another is maskfasta by a BED that has the records of both, in
--- whichever order this is without a fault
+-- whichever order this is without a fault, where each record names one sequence
 abbrev pub masked_by_sorted : Type 0
 masked_by_sorted =
     (how : MaskHow) (full : Bool) (inputs other both : Inputs) (chromosomes : Option (List Entry))
-    → KeepsLines how → HasDistinctNames full inputs
+    → KeepsLines how
+    → AllByRecursion (NamesOne (names_of (sequence_lines full inputs))) (bed_records both)
     → RunsWithoutFault (MaskFasta how full) inputs chromosomes
     → RunsWithoutFault (MaskFasta how full) (with_bed inputs other) chromosomes
     → RunsWithoutFault (MaskFasta how full) (with_bed inputs both) chromosomes

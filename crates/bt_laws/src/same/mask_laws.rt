@@ -33,8 +33,8 @@ pub fn a_bed_may_be_merged()
     ensures { masked_by_merged }
 {}
 
-/// maskfasta by one BED and then by another is maskfasta by the records of both in one, if no two sequences have one
-/// name; with such names it may differ.
+/// maskfasta by one BED and then by another is maskfasta by the records of both in one, if no two sequences have the
+/// name of a record's chromosome; with such names it may differ.
 pub fn two_beds_may_be_one()
     ensures sorted { masked_by_sorted }
     ensures names { repeated_names_differ }

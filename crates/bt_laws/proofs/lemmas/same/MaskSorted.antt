@@ -1,8 +1,8 @@
 -- maskfasta by two BEDs, and by one that has the records of both.
-use Rattle.std.proofs.Common.{◌≡◌, ◌||◌, ◌&&◌, ℕ, ◌<◌, ◌≤◌, Bool, true, false, cond, List, [], ◌∷◌, ◌++◌, append_assoc, Option, Some, None, inl, inr, refl, sym, ap, ap₂, ◌∙◌, subst}
+use Rattle.std.proofs.Common.{◌≡◌, ◌||◌, ◌&&◌, ℕ, ◌<◌, ◌≤◌, Bool, true, false, cond, List, [], ◌∷◌, ◌++◌, append_assoc, Option, Some, None, inl, inr, refl, sym, ap, ap₂, ◌∙◌, subst, length, filter, arith}
 use Rattle.std.specs.Prelude.{◌⊎◌, bytes_eq, flat_map, is_some, IsPermutation}
 use Rattle.std.specs.List.{AllByRecursion, list_any}
-use Rattle.std.proofs.lemmas.Bool.{or_parts}
+use Rattle.std.proofs.lemmas.Bool.{cases_Bool, or_parts}
 use Rattle.std.proofs.lemmas.List.Elements.{recursion_from_All}
 use Rattle.std.proofs.lemmas.List.Folds.{list_any-append}
 use Rattle.std.proofs.lemmas.List.Sorted.{list_any-IsPermutation}
@@ -10,7 +10,7 @@ use Rattle.bt_lines.specs.model.Handed.{lines_handed}
 use Rattle.bt_lines.specs.declared.fault.Input.TheVariants.{First}
 use Rattle.bt_bed.specs.model.feature.Feature.{Feature}
 use Rattle.bt_bed.specs.model.order.Genome.{Entry}
-use Rattle.bt_bed.specs.model.order.Rank.{AreDistinct, is_among}
+use Rattle.bt_bed.specs.model.order.Rank.{is_among}
 use Rattle.bt_bed.proofs.lemmas.parse.NameLemmas.{cases_name, name_eq, name_ne-sym}
 use Rattle.bt_seq.specs.model.Masked.{covers, names_of, no_sequence}
 use Rattle.bt_seq.specs.model.Owners.{AreOfChrom, Block, Owned, blocks_by, items_if_last, items_of, left_at_last, names_behind, own_records, owned_from}
@@ -21,7 +21,7 @@ use Rattle.bt_seq.proofs.lemmas.laws.OwnerLemmas.{maximal_runs}
 use Rattle.bt_tool.specs.model.report.Inputs.{Inputs}
 use Rattle.bt_tool.specs.declared.planning.plan_type.Command.TheVariants.{MaskFasta}
 use Rattle.bt_laws.specs.Runs.{RunsWithoutFault}
-use Rattle.bt_laws.specs.same.MaskLaws.{bed_records, is_masked, masked_by_sorted, sequence_lines, with_bed}
+use Rattle.bt_laws.specs.same.MaskLaws.{NamesOne, bed_records, is_masked, masked_by_sorted, sequence_lines, with_bed}
 use Rattle.bt_laws.proofs.lemmas.parts.order.PartOwners.{off_behind}
 use Rattle.bt_laws.proofs.lemmas.parts.report.PartMasked.{none_owned}
 use Rattle.bt_laws.proofs.lemmas.parts.text.PartLists.{all_so}
@@ -192,17 +192,97 @@ module _ (t : Feature → Bool) (n : List ℕ) where
       (ap is_some (sym (leave_all (Some (xs ++ n ∷ ys)) rs)) ∙ owned)
       ∙ ap (list_any on_it) runs.0
 
--- ---- different names
+-- ---- a name that no record has
 
-distinct_around : (xs : Names) (n : List ℕ) (ys : Names) → AreDistinct (xs ++ n ∷ ys) → (is_among xs n ≡ false) × (is_among ys n ≡ false)
-distinct_around [] n ys distinct = (refl, distinct.0)
-distinct_around (x ∷ xs) n ys distinct =
-    let rest = distinct_around xs n ys distinct.1 in
-    (ap₂ (λ a b. a || b) (name_ne-sym n x (off_middle xs distinct.0)) rest.0, rest.1)
+abbrev Other : List ℕ → List ℕ → Names → Type 0
+Other c n zs = ((rest : Names) × (names_behind c (zs ++ n ∷ []) ≡ Some (rest ++ n ∷ []))) ⊎ (names_behind c (zs ++ n ∷ []) ≡ None)
+
+skip_behind : (c n z : List ℕ) (zs : Names) → bytes_eq z c ≡ false → Other c n zs → Other c n (z ∷ zs)
+skip_behind c n z zs other (inl found) = inl (found.0, ap (λ b. behind_by b (zs ++ n ∷ []) (names_behind c (zs ++ n ∷ []))) other ∙ found.1)
+skip_behind c n z zs other (inr none) = inr (ap (λ b. behind_by b (zs ++ n ∷ []) (names_behind c (zs ++ n ∷ []))) other ∙ none)
+
+-- another name is found before it, or not at all
+other_behind : (c n : List ℕ) (zs : Names) → bytes_eq c n ≡ false → Other c n zs
+other_behind c n [] e = inr (ap (λ b. behind_by b [] None) (name_ne-sym c n e))
+other_behind c n (z ∷ zs) e = elim (cases_name z c) [
+  | inl same ↦ inl (zs, ap (λ b. behind_by b (zs ++ n ∷ []) (names_behind c (zs ++ n ∷ []))) (name_eq z c same))
+  | inr other ↦ skip_behind c n z zs other (other_behind c n zs e)
+]
+
+abbrev is_on : List ℕ → Feature → Bool
+is_on n r = bytes_eq r.chrom n
+
+any_rest : (q : Feature → Bool) (xs ys : List Feature) → list_any q (xs ++ ys) ≡ false → list_any q ys ≡ false
+any_rest q [] ys e = e
+any_rest q (x ∷ xs) ys e = any_rest q xs ys (or_parts (q x) (list_any q (xs ++ ys)) e).1
+
+first_off : (n c : List ℕ) (xs more : List Feature) → AllByRecursion (λ (r : Feature). r.chrom ≡ c) xs → 0 < length xs → list_any (is_on n) (xs ++ more) ≡ false → (bytes_eq c n ≡ false) × (list_any (is_on n) more ≡ false)
+first_off n c [] more h some e = absurd (omega (arith, some))
+first_off n c (r ∷ rs) more h some e =
+    let parts = or_parts (bytes_eq r.chrom n) (list_any (is_on n) (rs ++ more)) e in
+    (subst (λ m. bytes_eq m n ≡ false) h.0 parts.0, any_rest (is_on n) rs more parts.1)
+
+abbrev IsFull : Block Feature → Type 0
+IsFull b = 0 < length b.items
+
+none_named : (t : Feature → Bool) (n : List ℕ) (zs : Names) (bs : List (Block Feature)) → AllByRecursion IsOnIt bs → AllByRecursion IsFull bs → list_any (is_on n) (items_of bs) ≡ false
+    → list_any t (own_of (owned_from (Some (zs ++ n ∷ [])) bs)) ≡ false
+none_named t n zs [] on full e = refl
+none_named t n zs (b ∷ bs) on full e =
+    let off = first_off n b.chrom b.items (items_of bs) on.0 full.0 e in
+    by_other (other_behind b.chrom n zs off.0) (λ rest. none_named t n rest bs on.1 full.1 off.1)
   where
-    off_middle : (zs : Names) → is_among (zs ++ n ∷ ys) x ≡ false → bytes_eq n x ≡ false
-    off_middle [] e = (or_parts (bytes_eq n x) (is_among ys x) e).0
-    off_middle (z ∷ zs) e = off_middle zs (or_parts (bytes_eq z x) (is_among (zs ++ n ∷ ys) x) e).1
+    by_other : Other b.chrom n zs → ((rest : Names) → list_any t (own_of (owned_from (Some (rest ++ n ∷ [])) bs)) ≡ false) → list_any t (own_of (owned_from (Some (zs ++ n ∷ [])) (b ∷ bs))) ≡ false
+    by_other (inl found) next =
+        ap (λ left. list_any t (items_if_last left b.items ++ own_of (owned_from left bs))) found.1
+        ∙ ap (λ l. list_any t (l ++ own_of (owned_from (Some (found.0 ++ n ∷ [])) bs))) (not_last found.0 n b.items) ∙ next found.0
+    by_other (inr none) next = ap (λ left. list_any t (items_if_last left b.items ++ own_of (owned_from left bs))) none ∙ ap (list_any t) (none_own bs)
+
+none_on_it : (t : Feature → Bool) (n : List ℕ) (zs : Names) (rs : List Feature) → list_any (is_on n) rs ≡ false → list_any t (own_records (zs ++ n ∷ []) rs) ≡ false
+none_on_it t n zs rs e =
+    let bs = blocks_by (λ (r : Feature). r.chrom) rs in
+    let runs = maximal_runs rs in
+    none_named t n zs bs (all_so AreOfChrom IsOnIt bs (λ b is. recursion_from_All (λ (r : Feature). r.chrom ≡ b.chrom) b.items is.chrom) runs.2) (all_so AreOfChrom IsFull bs (λ b is. is.some) runs.2)
+    (ap (list_any (is_on n)) runs.0 ∙ e)
+
+-- ---- names that come once
+
+abbrev named : List ℕ → Names → Names
+named n names = filter (λ name. bytes_eq name n) names
+
+none_few : (n : List ℕ) (ys : Names) → length (named n ys) ≤ 0 → is_among ys n ≡ false
+none_few n [] few = refl
+none_few n (y ∷ ys) few = elim (cases_Bool (bytes_eq y n)) [
+  | inl t ↦ absurd (omega (arith, subst (λ b. length (cond b (y ∷ named n ys) (named n ys)) ≤ 0) t few))
+  | inr f ↦ ap₂ (λ a b. a || b) f (none_few n ys (subst (λ b. length (cond b (y ∷ named n ys) (named n ys)) ≤ 0) f few))
+]
+
+some_one : (n : List ℕ) (xs ys : Names) → 0 < length (named n (xs ++ n ∷ ys))
+some_one n [] ys = subst (λ b. 0 < length (cond b (n ∷ named n ys) (named n ys))) (sym (name_eq n n refl)) (omega arith)
+some_one n (x ∷ xs) ys =
+    let rest = some_one n xs ys in
+    elim (bytes_eq x n) as (λ b. 0 < length (cond b (x ∷ named n (xs ++ n ∷ ys)) (named n (xs ++ n ∷ ys)))) [
+      | true ↦ omega arith
+      | false ↦ rest
+    ]
+
+once_around : (n : List ℕ) (xs ys : Names) → length (named n (xs ++ n ∷ ys)) ≤ 1 → (is_among xs n ≡ false) × (is_among ys n ≡ false)
+once_around n [] ys once =
+    let here : length (n ∷ named n ys) ≤ 1 = subst (λ b. length (cond b (n ∷ named n ys) (named n ys)) ≤ 1) (name_eq n n refl) once in
+    (refl, none_few n ys (omega (arith, here)))
+once_around n (x ∷ xs) ys once = elim (cases_Bool (bytes_eq x n)) [
+  | inl t ↦ absurd (omega (arith, subst (λ b. length (cond b (x ∷ named n (xs ++ n ∷ ys)) (named n (xs ++ n ∷ ys))) ≤ 1) t once, some_one n xs ys))
+  | inr f ↦
+      let rest = once_around n xs ys (subst (λ b. length (cond b (x ∷ named n (xs ++ n ∷ ys)) (named n (xs ++ n ∷ ys))) ≤ 1) f once) in
+      (ap₂ (λ a b. a || b) f rest.0, rest.1)
+]
+
+once_named : (n : List ℕ) (names : Names) (rs : List Feature) → AllByRecursion (NamesOne names) rs → list_any (is_on n) rs ≡ true → length (named n names) ≤ 1
+once_named n names [] h e = cc
+once_named n names (r ∷ rs) h e = elim (cases_name r.chrom n) [
+  | inl same ↦ subst (λ m. length (named m names) ≤ 1) same h.0
+  | inr other ↦ once_named n names rs h.1 (ap (λ b. b || list_any (is_on n) rs) (sym other) ∙ e)
+]
 
 -- names, up to the last of them
 record EndsWith (names : Names) : Type 0 where
@@ -219,19 +299,34 @@ module _ (t : Feature → Bool) (rs ss both : List Feature) (permuted : IsPermut
   both_by : (q : Feature → Bool) → list_any q both ≡ (list_any q rs || list_any q ss)
   both_by q = sym (list_any-IsPermutation q (rs ++ ss) both permuted) ∙ list_any-append q rs ss
 
-  both_own : (own more names : Names) → names ≡ own ++ more → AreDistinct names → is_some (leave (Some names) None rs) ≡ true → is_some (leave (Some names) None ss) ≡ true → is_some (leave (Some names) None both) ≡ true
-      → list_any t (own_records own both) ≡ (list_any t (own_records own rs) || list_any t (own_records own ss))
-  both_own [] more names e distinct one two all =
-      ap (list_any t) (past_own (blocks_by (λ r. r.chrom) both))
-      ∙ ap₂ (λ x y. list_any t x || list_any t y) (sym (past_own (blocks_by (λ r. r.chrom) rs))) (sym (past_own (blocks_by (λ r. r.chrom) ss)))
-  both_own (x ∷ xs) more names e distinct one two all =
-      let end = ends x xs in
-      let n = end.last in
-      let whole : names ≡ end.front ++ n ∷ more = e ∙ ap (λ l. l ++ more) end.is ∙ append_assoc end.front (n ∷ []) more in
-      let around = distinct_around end.front n more (subst AreDistinct whole distinct) in
-      let own : (qs : List Feature) → is_some (leave (Some names) None qs) ≡ true → list_any t (own_records (x ∷ xs) qs) ≡ list_any (on_it t n) qs =
-      λ qs owned. ap (λ l. list_any t (own_records l qs)) end.is ∙ own_on t n end.front more qs around.0 around.1 (subst (λ l. is_some (leave (Some l) None qs) ≡ true) whole owned) in
-      own both all ∙ both_by (on_it t n) ∙ ap₂ (λ a b. a || b) (sym (own rs one)) (sym (own ss two))
+  module _ (names : Names) (ones : AllByRecursion (NamesOne names) both) (one : is_some (leave (Some names) None rs) ≡ true) (two : is_some (leave (Some names) None ss) ≡ true) (all : is_some (leave (Some names) None both) ≡ true) where
+    -- of a name that a record has
+    some_own : (front : Names) (n : List ℕ) (more : Names) → names ≡ front ++ n ∷ more → list_any (is_on n) both ≡ true
+        → list_any t (own_records (front ++ n ∷ []) both) ≡ (list_any t (own_records (front ++ n ∷ []) rs) || list_any t (own_records (front ++ n ∷ []) ss))
+    some_own front n more whole some =
+        let around = once_around n front more (subst (λ l. length (named n l) ≤ 1) whole (once_named n names both ones some)) in
+        let own : (qs : List Feature) → is_some (leave (Some names) None qs) ≡ true → list_any t (own_records (front ++ n ∷ []) qs) ≡ list_any (on_it t n) qs =
+        λ qs owned. own_on t n front more qs around.0 around.1 (subst (λ l. is_some (leave (Some l) None qs) ≡ true) whole owned) in
+        own both all ∙ both_by (on_it t n) ∙ ap₂ (λ a b. a || b) (sym (own rs one)) (sym (own ss two))
+
+    no_own : (front : Names) (n : List ℕ) → list_any (is_on n) both ≡ false → list_any t (own_records (front ++ n ∷ []) both) ≡ (list_any t (own_records (front ++ n ∷ []) rs) || list_any t (own_records (front ++ n ∷ []) ss))
+    no_own front n none =
+        let parts = or_parts (list_any (is_on n) rs) (list_any (is_on n) ss) (sym (both_by (is_on n)) ∙ none) in
+        none_on_it t n front both none ∙ ap₂ (λ a b. a || b) (sym (none_on_it t n front rs parts.0)) (sym (none_on_it t n front ss parts.1))
+
+    both_own : (own more : Names) → names ≡ own ++ more → list_any t (own_records own both) ≡ (list_any t (own_records own rs) || list_any t (own_records own ss))
+    both_own [] more e =
+        ap (list_any t) (past_own (blocks_by (λ r. r.chrom) both))
+        ∙ ap₂ (λ x y. list_any t x || list_any t y) (sym (past_own (blocks_by (λ r. r.chrom) rs))) (sym (past_own (blocks_by (λ r. r.chrom) ss)))
+    both_own (x ∷ xs) more e =
+        let end = ends x xs in
+        let n = end.last in
+        let whole : names ≡ end.front ++ n ∷ more = e ∙ ap (λ l. l ++ more) end.is ∙ append_assoc end.front (n ∷ []) more in
+        subst (λ own. list_any t (own_records own both) ≡ (list_any t (own_records own rs) || list_any t (own_records own ss))) (sym end.is)
+        (elim (cases_Bool (list_any (is_on n) both)) [
+          | inl some ↦ some_own end.front n more whole some
+          | inr none ↦ no_own end.front n none
+        ])
 
 -- ---- the runs
 
@@ -243,11 +338,11 @@ module _ (how : MaskHow) (full : Bool) (inputs : Inputs) (chromosomes : Option (
       none_owned names bed.members (or_last (no_sequence names bed.members) bed.fault (nones how full inputs chromosomes well).1)
 
 pub by_sorted : masked_by_sorted
-by_sorted how full inputs other both chromosomes keeps distinct one two three permuted =
+by_sorted how full inputs other both chromosomes keeps ones one two three permuted =
     let lines = sequence_lines full inputs in
     let names = names_of lines in
     by_both how full inputs other both chromosomes keeps one two three
     (all_so (λ (line : SequenceLine). (more : Names) × (names ≡ line.names ++ more)) (λ line. (p : ℕ) → line.before ≤ p → p < bases_up_to line → is_masked both line p ≡ (is_masked inputs line p || is_masked other line p)) lines
-    (λ line begins p from to. both_own (covers p) (bed_records inputs) (bed_records other) (bed_records both) permuted line.names begins.0 names begins.1 distinct
-    (all_owned how full inputs chromosomes one) (all_owned how full (with_bed inputs other) chromosomes two) (all_owned how full (with_bed inputs both) chromosomes three))
+    (λ line begins p from to. both_own (covers p) (bed_records inputs) (bed_records other) (bed_records both) permuted names ones
+    (all_owned how full inputs chromosomes one) (all_owned how full (with_bed inputs other) chromosomes two) (all_owned how full (with_bed inputs both) chromosomes three) line.names begins.0 begins.1)
     (names_begin full First (lines_handed inputs.first)))
