@@ -1,5 +1,5 @@
 -- What maskfasta writes, as its input again.
-use Rattle.std.specs.Prelude.{◌≡◌, ◌≢◌, ◌<◌, ◌≤◌, ◌||◌, ℕ, ⊤, Bool, IsTrue, List, ◌++◌, map, length}
+use Rattle.std.specs.Prelude.{◌≡◌, ◌≢◌, ◌<◌, ◌≤◌, ◌||◌, ℕ, ⊤, Bool, List, ◌++◌, map, length}
 use Rattle.std.specs.Prelude.{IsPermutation, Option, Some, None, bytes_eq, filter}
 use Rattle.std.specs.List.{AllByRecursion, list_any}
 use Rattle.bt_lines.specs.model.Handed.{Handed, whole_text}
@@ -17,15 +17,14 @@ use Rattle.bt_seq.specs.declared.mask.mask_how.MaskHow.{MaskHow}
 use Rattle.bt_seq.specs.declared.mask.mask_how.MaskHow.TheVariants.{Soft, Hard}
 use Rattle.bt_tool.specs.model.report.Inputs.{Inputs, or_empty}
 use Rattle.bt_tool.specs.model.report.Report.{report_of}
-use Rattle.bt_tool.specs.model.usage.Character.{is_printable}
 use Rattle.bt_tool.specs.declared.planning.plan_type.Command.TheVariants.{MaskFasta, Merge}
 use Rattle.bt_laws.specs.Runs.{RunWrites, RunsWithoutFault, piped, second_alone}
 
--- A mask that can't begin a header or end a line: a printable character of ASCII, as options have it
--- anyway, and not `>`, with which a masked line may become a header.
+-- A mask that can't end a line, as a line feed or a carriage return does, or begin a header, as `>`
+-- does. Options allow printable characters of ASCII alone, so there it is any of these but `>`.
 abbrev pub KeepsLines : MaskHow → Type 0
 KeepsLines Soft = ⊤
-KeepsLines (Hard mask) = IsTrue (is_printable mask) × (mask ≢ 62)
+KeepsLines (Hard mask) = (mask ≢ 10) × (mask ≢ 13) × (mask ≢ 62)
 
 -- where a line is: its sequences' names, how many bases come before it, how many bytes it has,
 -- and its line end

@@ -69,14 +69,18 @@ masked_again (Hard mask) base = refl
 
 -- ---- masked bases
 
-isnt_by : (how : MaskHow) → KeepsLines how → (byte : ℕ) → (byte ≤ 13) ⊎ (byte ≡ 62) → IsNot how byte
-isnt_by Soft keeps byte which = tt
-isnt_by (Hard mask) keeps byte (inl low) = λ same. omega (arith, leb-true 33 mask (and_parts (leb 33 mask) (leb mask 126) keeps.0).0, same, low)
-isnt_by (Hard mask) keeps byte (inr is) = λ same. keeps.1 (same ∙ is)
+record KeepsApart (how : MaskHow) : Type 0 where
+  feed : IsNot how 10
+  return : IsNot how 13
+  header : IsNot how 62
+
+apart_by : (how : MaskHow) → KeepsLines how → KeepsApart how
+apart_by Soft keeps = record { feed = tt; return = tt; header = tt }
+apart_by (Hard mask) keeps = record { feed = keeps.0; return = keeps.1; header = keeps.2 }
 
 module _ (how : MaskHow) (keeps : KeepsLines how) where
-  isnt : (byte : ℕ) → (byte ≤ 13) ⊎ (byte ≡ 62) → IsNot how byte
-  isnt byte which = isnt_by how keeps byte which
+  apart : KeepsApart how
+  apart = apart_by how keeps
 
   module _ (records : List Feature) where
     abbrev kept_base : ℕ → ℕ → ℕ
@@ -104,15 +108,15 @@ module _ (how : MaskHow) (keeps : KeepsLines how) where
     clear_from position [] h = All-nil (λ b. eqb b 10 ≡ false)
     clear_from position (base ∷ bases) h =
         All-cons (λ b. eqb b 10 ≡ false) (kept_base position base) (masked_from how records (suc position) bases)
-        (kept_not position base 10 (isnt 10 (inl (omega arith))) (omega arith) (All-head (λ b. eqb b 10 ≡ false) base bases h)) (clear_from (suc position) bases (All-tail (λ b. eqb b 10 ≡ false) base bases h))
+        (kept_not position base 10 apart.feed (omega arith) (All-head (λ b. eqb b 10 ≡ false) base bases h)) (clear_from (suc position) bases (All-tail (λ b. eqb b 10 ≡ false) base bases h))
 
     pub header_from : (position : ℕ) (bases : List ℕ) → is_header bases ≡ false → is_header (masked_from how records position bases) ≡ false
     header_from position [] e = refl
-    header_from position (base ∷ bases) e = kept_not position base 62 (isnt 62 (inr refl)) (omega arith) e
+    header_from position (base ∷ bases) e = kept_not position base 62 apart.header (omega arith) e
 
     last_from : (position : ℕ) (bases : List ℕ) → ends_with_byte 13 bases ≡ false → ends_with_byte 13 (masked_from how records position bases) ≡ false
     last_from position [] e = e
-    last_from position (base ∷ []) e = kept_not position base 13 (isnt 13 (inl (omega arith))) (omega arith) e
+    last_from position (base ∷ []) e = kept_not position base 13 apart.return (omega arith) e
     last_from position (base ∷ next ∷ bases) e =
         ends_both 13 (kept_base position base ∷ []) (masked_from how records (suc position) (next ∷ bases)) (omega (arith, size_from (suc position) (next ∷ bases)))
         ∙ last_from (suc position) (next ∷ bases) (sym (ends_both 13 (base ∷ []) (next ∷ bases) (omega arith)) ∙ e)
