@@ -1,5 +1,6 @@
 -- Lemmas by theme.
 pub mod back
+pub mod counts
 pub mod length
 pub mod parts
 pub mod pipes

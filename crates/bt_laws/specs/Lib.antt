@@ -1,3 +1,5 @@
+pub mod Runs
+pub mod counts
 pub mod parts
 pub mod pipes
 pub mod same

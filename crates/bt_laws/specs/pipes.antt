@@ -1,6 +1,5 @@
 -- Outputs that are inputs of the next command.
 pub mod ConvertPipes
-pub mod MaskPipes
 pub mod PipeExamples
 pub mod Pipes
 pub mod PipesApart

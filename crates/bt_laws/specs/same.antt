@@ -1,8 +1,7 @@
 -- The same bytes by another way.
-pub mod DepthSum
 pub mod LengthLaws
-pub mod PairSides
-pub mod PartBases
+pub mod MaskExamples
+pub mod MaskLaws
 pub mod SameLines
 pub mod SameRuns
 pub mod SameSweeps

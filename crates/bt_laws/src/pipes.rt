@@ -2,17 +2,30 @@
 //! of a function that does nothing.
 
 ghost use Rattle.bt_laws.specs.pipes.ConvertPipes.{bamtobed_is_input};
-ghost use Rattle.bt_laws.specs.pipes.PipeExamples.{blocks_go_back, cuts_go_back, pieces_go_back};
+ghost use Rattle.bt_laws.specs.pipes.PipeExamples.{
+  blocks_go_back,
+  cuts_go_back,
+  names_become_strands,
+  pieces_go_back,
+  returns_change_strands,
+};
 ghost use Rattle.bt_laws.specs.pipes.Pipes.{
   complement_is_input,
   cut_intersect_is_input,
   genomecov_is_input,
   intersect_is_input,
+  kept_places_stay,
+  kept_records_stay,
+  kept_strands_stay,
   merge_is_input,
   subtract_is_input,
   whole_subtract_is_input,
 };
-ghost use Rattle.bt_laws.specs.pipes.PipesApart.{complement_writes_disjoint, genomecov_writes_disjoint, merge_writes_disjoint};
+ghost use Rattle.bt_laws.specs.pipes.PipesApart.{
+  complement_writes_disjoint,
+  genomecov_writes_disjoint,
+  merge_writes_disjoint,
+};
 
 /// What merge writes is an input, whose records are the runs.
 pub fn merge_goes_on()
@@ -40,6 +53,21 @@ pub fn intersect_goes_on()
 pub fn subtract_goes_on()
     ensures kept { whole_subtract_is_input }
     ensures cut { subtract_is_input }
+{}
+
+/// The records of the first input are read again as they are from -wa, -u, -v and subtract -A, if no last column ends
+/// with a carriage return; from -c, -wa -wb and -wo with their places, and with their strands, if no record of five
+/// columns lies on a chromosome named `+` or `-`.
+pub fn kept_records_are_read_again()
+    ensures records { kept_records_stay }
+    ensures places { kept_places_stay }
+    ensures strands { kept_strands_stay }
+{}
+
+/// Records that are read with another strand: by a carriage return, and by a chromosome named `+`.
+pub fn some_strands_change()
+    ensures returns { returns_change_strands }
+    ensures names { names_become_strands }
 {}
 
 /// What bamtobed writes without -split is an input, where the alignments are sorted.

@@ -12,7 +12,7 @@ ghost use Rattle.bt_laws.specs.parts.OwnGenomeLaws.{
   subtract_genomes_divide,
   subtract_shards_suffice,
 };
-ghost use Rattle.bt_laws.specs.parts.Parts.{fronts_begin};
+ghost use Rattle.bt_laws.specs.parts.Parts.{prefixes_begin};
 ghost use Rattle.bt_laws.specs.parts.SplitLaws.{bamtobed_divides, intersect_divides, merge_divides, subtract_divides};
 
 /// Alignments may be divided at any line.
@@ -48,13 +48,13 @@ pub fn parts_of_genomecov_add_up()
     ensures { genomecov_divides }
 {}
 
-/// FASTA text may be divided at headers, and the records that mask it so that each stands beside its sequence.
+/// FASTA text may be divided at headers, and the records that mask it so that each is in the part of its sequence.
 pub fn parts_of_maskfasta_add_up()
     ensures names { maskfasta_divides }
     ensures repeated { repeated_names_divide }
 {}
 
-/// Where each part has its own part of the genome file, runs of all parts without a fault are enough: nobody has to
+/// If each part has its own part of the genome file, runs of all parts without a fault are enough: nobody has to
 /// know on which chromosomes the records of a part lie, since one that lies elsewhere is a fault there.
 pub fn runs_without_a_fault_suffice()
     ensures merge { merge_shards_suffice }
@@ -64,8 +64,8 @@ pub fn runs_without_a_fault_suffice()
     ensures subtract { subtract_shards_suffice }
 {}
 
-/// A part whose read, write or memory fails has written a front of its output, as `run` promises. Behind the outputs
-/// of the parts before it that is a front of the output of the whole, where this is without a fault.
+/// A part whose read, write or memory fails has written a prefix of its output, as `run` promises. After the outputs
+/// of the parts before it that is a prefix of the output of the complete run, if this is without a fault.
 pub fn outputs_up_to_a_failure_begin_the_whole()
-    ensures { fronts_begin }
+    ensures { prefixes_begin }
 {}

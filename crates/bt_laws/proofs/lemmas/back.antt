@@ -7,4 +7,5 @@ pub mod ReadBack
 pub mod RunsBack
 pub mod SaidWell
 pub mod SweepBack
+pub mod SweepRead
 pub mod TailSays

@@ -1,11 +1,11 @@
 -- Lemmas on same.
 pub mod AlikeRecords
-pub mod DepthSum
+pub mod Blocks
 pub mod GapsHit
 pub mod MaskBoth
+pub mod MaskMerged
+pub mod MaskSorted
 pub mod MaskTwice
-pub mod PairSides
-pub mod PartBases
 pub mod RunsAgain
 pub mod SameLines
 pub mod SameSweeps

@@ -7,7 +7,7 @@ use Rattle.bt_bed.specs.model.order.Genome.{Entry, genome_names}
 use Rattle.bt_bed.specs.model.order.Rank.{is_among}
 use Rattle.bt_bed.specs.declared.record.strand.Strand.{Strand}
 use Rattle.bt_runs.specs.declared.merge.merge_strand.MergeStrand.{MergeStrand}
-use Rattle.bt_laws.specs.parts.Parts.{AddUp, AreOfLines, StopWithin, joined, records_in}
+use Rattle.bt_laws.specs.parts.Parts.{AddUp, AreOfLines, StopWithin, joined, said_records}
 use Rattle.bt_tool.specs.model.report.Report.{chromosomes_of}
 use Rattle.bt_laws.specs.parts.SplitLaws.{on_text}
 use Rattle.bt_tool.specs.declared.planning.plan_type.Command.{Command}
@@ -37,7 +37,7 @@ pub record AreShards (genome : Handed) (shards : List Shard) : Type 0 where
   pub parts : AllByRecursion (λ shard. chromosomes_of (Some shard.genome) ≡ Ok (Some shard.entries)) shards
   pub lines : AreOfLines (shard_texts shards)
   pub within : AllByRecursion (λ shard. AllByRecursion (LiesWithin shard.entries (all_entries shards))
-      (records_in shard.text)) shards
+      (said_records shard.text)) shards
 
 -- the runs on the parts, each with its own part of the genome file, add up to the run on the whole
 abbrev pub ShardsAddUp : Command → Handed → List Shard → Type 0

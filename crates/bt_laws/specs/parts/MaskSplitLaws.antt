@@ -9,7 +9,7 @@ use Rattle.bt_bed.specs.model.order.Rank.{is_among}
 use Rattle.bt_seq.specs.model.Owners.{left_after}
 use Rattle.bt_seq.specs.model.Sequences.{is_header, name_in}
 use Rattle.bt_seq.specs.declared.mask.mask_how.MaskHow.{MaskHow}
-use Rattle.bt_laws.specs.parts.Parts.{AddUp, StopWithin, Suffice, outputs_to_fault, records_in}
+use Rattle.bt_laws.specs.parts.Parts.{AddUp, StopWithin, Suffice, outputs_to_fault, said_records}
 use Rattle.bt_tool.specs.model.report.RecordReport.{Report}
 use Rattle.bt_laws.specs.parts.SplitLaws.{ArePairs, Texts, joined_texts, on_texts}
 use Rattle.bt_tool.specs.declared.planning.plan_type.Command.{Command}
@@ -37,7 +37,7 @@ AreAtHeaders (part ∷ parts) = AllByRecursion (λ later. IsTrue (begins_sequenc
 abbrev pub MasksNone : Bool → Texts → Texts → Type 0
 MasksNone full one other =
     AllByRecursion (λ r. IsFalse (is_among (sequence_names full other.first) r.chrom))
-    (records_in one.second)
+    (said_records one.second)
 
 -- no record is named as a sequence of another part than its own
 abbrev pub MaskTheirOwn : Bool → List Texts → Type 0
@@ -48,8 +48,8 @@ MaskTheirOwn full (part ∷ parts) =
 
 -- what the run of the whole writes goes on after what the parts write up to the first fault: where
 -- a record has no sequence, the sequences of the later parts are written as they are
-abbrev pub GoesOn : List Report → Report → Type 0
-GoesOn parts whole =
+abbrev pub WritesOn : List Report → Report → Type 0
+WritesOn parts whole =
     (option_map (λ fault. fault.kind) whole.fault ≡ Some NoSequence)
     × ((rest : List ℕ) × (whole.output ≡ outputs_to_fault parts ++ rest))
 
@@ -67,20 +67,20 @@ maskfasta_divides =
     (on_texts (MaskFasta how full) None (joined_texts parts))
     × (StopWithin (masked_parts (MaskFasta how full) parts)
     (on_texts (MaskFasta how full) None (joined_texts parts))
-    ⊎ GoesOn (masked_parts (MaskFasta how full) parts)
+    ⊎ WritesOn (masked_parts (MaskFasta how full) parts)
     (on_texts (MaskFasta how full) None (joined_texts parts)))
 
 -- the first of the later records, put after these, belongs to no sequence of these names
-abbrev pub HasNone : List (List ℕ) → List Feature → List Feature → Type 0
-HasNone names records [] = ⊤
-HasNone names records (r ∷ later) = left_after names (records ++ r ∷ []) ≡ None
+abbrev pub BelongsToNone : List (List ℕ) → List Feature → List Feature → Type 0
+BelongsToNone names records [] = ⊤
+BelongsToNone names records (r ∷ later) = left_after names (records ++ r ∷ []) ≡ None
 
 -- no block of records moves to a sequence of the part before its own, also where names are repeated
 abbrev pub NoneMoves : Bool → List Texts → Type 0
 NoneMoves full [] = ⊤
 NoneMoves full (part ∷ parts) =
-    HasNone (sequence_names full part.first) (records_in part.second)
-    (records_in (joined_texts parts).second)
+    BelongsToNone (sequence_names full part.first) (said_records part.second)
+    (said_records (joined_texts parts).second)
     × NoneMoves full parts
 
 -- maskfasta, where sequences of several parts may have one name

@@ -31,7 +31,7 @@ abbrev pub pair_texts : List PairShard → List Texts
 pair_texts shards = map (λ shard. shard.texts) shards
 
 -- the chromosomes of the whole genome file are those of the parts, and both inputs are divided into
--- whole lines
+-- complete lines
 pub record DividePairs (genome : Handed) (shards : List PairShard) : Type 0 where
   pub whole : chromosomes_of (Some genome) ≡ Ok (Some (pair_entries shards))
   pub parts : AllByRecursion (λ shard. chromosomes_of (Some shard.genome) ≡ Ok (Some shard.entries)) shards
@@ -63,8 +63,8 @@ intersect_genomes_divide = (shape : Shape) (rule : HitRule) → PairShardsAddUp 
 abbrev pub subtract_genomes_divide : Type 0
 subtract_genomes_divide = (whole : Bool) (rule : HitRule) → PairShardsAddUp (Subtract whole rule None)
 
--- the chromosomes of the whole genome file are those of the parts, and the text is divided into whole
--- lines: of its records nothing is said
+-- the chromosomes of the whole genome file are those of the parts, and the text is divided into complete
+-- lines: nothing is said of its records
 pub record DivideGenome (genome : Handed) (shards : List Shard) : Type 0 where
   pub whole : chromosomes_of (Some genome) ≡ Ok (Some (all_entries shards))
   pub parts : AllByRecursion (λ shard. chromosomes_of (Some shard.genome) ≡ Ok (Some shard.entries)) shards

@@ -22,24 +22,24 @@ ends_line (byte ∷ next ∷ bytes) = ends_line (next ∷ bytes)
 abbrev pub joined : List (List ℕ) → List ℕ
 joined texts = flat_map (λ text. text) texts
 
--- what stands after a text begins a line, or there is nothing
+-- what comes after a text begins a line, or is empty
 abbrev pub StandsBefore : List ℕ → List ℕ → Type 0
 StandsBefore text rest = IsTrue (ends_line text) ⊎ (rest ≡ [])
 
--- texts of whole lines; the last that isn't empty may lack its line feed
+-- texts of complete lines; the last that isn't empty may lack its line feed
 abbrev pub AreOfLines : List (List ℕ) → Type 0
 AreOfLines [] = ⊤
 AreOfLines (text ∷ texts) = StandsBefore text (joined texts) × AreOfLines texts
 
 -- the record that a line says, if it says one
-abbrev pub record_in : Result (Option Feature) Kind → List Feature
-record_in (Err kind) = []
-record_in (Ok None) = []
-record_in (Ok (Some r)) = r ∷ []
+abbrev pub said_record : Result (Option Feature) Kind → List Feature
+said_record (Err kind) = []
+said_record (Ok None) = []
+said_record (Ok (Some r)) = r ∷ []
 
--- the records that the lines of a text say, each line by itself: header lines may stand between them
-abbrev pub records_in : List ℕ → List Feature
-records_in text = flat_map (λ line. record_in (record_of line.text)) (text_lines text)
+-- the records that the lines of a text say, each line taken alone; there may be header lines among them
+abbrev pub said_records : List ℕ → List Feature
+said_records text = flat_map (λ line. said_record (record_of line.text)) (text_lines text)
 
 -- the chromosome of each record comes before those of all others; unknown ones are at fault anyway
 abbrev pub ComeBefore : Order → List Feature → List Feature → Type 0
@@ -75,10 +75,10 @@ Suffice parts whole =
     AllByRecursion (λ part. part.fault ≡ None) parts
     → (whole.fault ≡ None) × (whole.output ≡ flat_map (λ part. part.output) parts)
 
--- what the parts before one wrote, and a front of what this one writes, begin what the whole writes
-abbrev pub fronts_begin : Type 0
-fronts_begin =
-    (before later : List Report) (part whole : Report) (front rest : List ℕ)
-    → AddUp (before ++ part ∷ later) whole → whole.fault ≡ None → part.output ≡ front ++ rest
+-- what the parts before one wrote, and a prefix of what this one writes, begin what the whole writes
+abbrev pub prefixes_begin : Type 0
+prefixes_begin =
+    (before later : List Report) (part whole : Report) (prefix rest : List ℕ)
+    → AddUp (before ++ part ∷ later) whole → whole.fault ≡ None → part.output ≡ prefix ++ rest
     → (more : List ℕ)
-    × (whole.output ≡ flat_map (λ earlier. earlier.output) before ++ (front ++ more))
+    × (whole.output ≡ flat_map (λ earlier. earlier.output) before ++ (prefix ++ more))

@@ -8,7 +8,7 @@ use Rattle.bt_runs.specs.declared.merge.merge_strand.MergeStrand.{MergeStrand}
 use Rattle.bt_sweep.specs.declared.hits.hit_rule.HitRule.{HitRule}
 use Rattle.bt_sweep.specs.declared.output.shape.Shape.{Shape}
 use Rattle.bt_tool.specs.model.report.Behaviour.{order_of}
-use Rattle.bt_laws.specs.parts.Parts.{AddUp, AreOfLines, ComeBefore, StopWithin, joined, records_in}
+use Rattle.bt_laws.specs.parts.Parts.{AddUp, AreOfLines, ComeBefore, StopWithin, joined, said_records}
 use Rattle.bt_tool.specs.model.report.RecordReport.{Report}
 use Rattle.bt_tool.specs.model.report.Report.{chromosomes_of, report_of}
 use Rattle.bt_tool.specs.declared.planning.plan_type.Command.{Command}
@@ -35,7 +35,7 @@ bamtobed_divides =
 abbrev pub TextsAscend : Order → List (List ℕ) → Type 0
 TextsAscend order [] = ⊤
 TextsAscend order (text ∷ texts) =
-    ComeBefore order (records_in text) (records_in (joined texts)) × TextsAscend order texts
+    ComeBefore order (said_records text) (said_records (joined texts)) × TextsAscend order texts
 
 -- merge: records divided so, with one genome file for each part, or in bytewise order
 abbrev pub merge_divides : Type 0
@@ -65,7 +65,7 @@ on_texts command genome texts =
 
 -- the records of both inputs
 abbrev pub records_of : Texts → List Feature
-records_of texts = records_in texts.first ++ records_in texts.second
+records_of texts = said_records texts.first ++ said_records texts.second
 
 -- the runs on the parts of two inputs add up to the run on both, and stop within it
 abbrev pub PairsAddUp : Command → Option Handed → List Texts → Type 0
@@ -73,7 +73,7 @@ PairsAddUp command genome parts =
     AddUp (map (on_texts command genome) parts) (on_texts command genome (joined_texts parts))
     × StopWithin (map (on_texts command genome) parts) (on_texts command genome (joined_texts parts))
 
--- both inputs are divided into whole lines
+-- both inputs are divided into complete lines
 abbrev pub ArePairs : List Texts → Type 0
 ArePairs parts =
     AreOfLines (map (λ part. part.first) parts) × AreOfLines (map (λ part. part.second) parts)

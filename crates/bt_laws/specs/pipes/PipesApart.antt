@@ -1,5 +1,6 @@
 -- Outputs that go on where no two records may overlap.
 use Rattle.std.specs.Prelude.{◌≢◌, ℕ, Bool, List, Option}
+use Rattle.std.specs.List.{AllPairs}
 use Rattle.bt_bed.specs.model.feature.Feature.{intervals_of}
 use Rattle.bt_bed.specs.model.order.Genome.{Entry}
 use Rattle.bt_bed.specs.declared.record.strand.Strand.{Strand}
@@ -8,16 +9,15 @@ use Rattle.bt_runs.specs.declared.merge.merge_strand.MergeStrand.TheVariants.{Ea
 use Rattle.bt_tool.specs.model.report.Inputs.{Inputs}
 use Rattle.bt_tool.specs.declared.planning.plan_type.Command.{Command}
 use Rattle.bt_tool.specs.declared.planning.plan_type.Command.TheVariants.{Merge, Complement, Coverage}
-use Rattle.bt_laws.specs.pipes.Pipes.{RunsWell, first_records}
-use Rattle.bt_laws.specs.same.SameRuns.{piped}
-use Rattle.bt_laws.specs.pipes.Taken.{AreDisjoint, EachPair}
+use Rattle.bt_laws.specs.Runs.{RunsWithoutFault, first_records, piped}
+use Rattle.bt_laws.specs.pipes.Taken.{AreDisjoint}
 
 -- no two records of the output overlap, once it is the first input of the next command: the
 -- condition of intersect without a shape, of intersect -wb and of subtract
 abbrev pub WritesDisjoint : Command → Type 0
 WritesDisjoint command =
-    (inputs : Inputs) (chromosomes : Option (List Entry)) → RunsWell command inputs chromosomes
-    → EachPair AreDisjoint (intervals_of (first_records chromosomes (piped command inputs)))
+    (inputs : Inputs) (chromosomes : Option (List Entry)) → RunsWithoutFault command inputs chromosomes
+    → AllPairs AreDisjoint (intervals_of (first_records chromosomes (piped command inputs)))
 
 -- merge without -s, complement and genomecov
 abbrev pub merge_writes_disjoint : Type 0

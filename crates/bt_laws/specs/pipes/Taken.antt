@@ -1,6 +1,5 @@
 -- What a text is as an input of the next command, in an order of the chromosomes.
-use Rattle.std.specs.Prelude.{◌≡◌, ℕ, ◌<◌, ◌≤◌, ⊤, Bool, not, List, [], ◌∷◌, ◌++◌, None, codes, decimal}
-use Rattle.std.specs.List.{AllByRecursion}
+use Rattle.std.specs.Prelude.{◌≡◌, ℕ, ◌<◌, ◌≤◌, Bool, not, List, [], ◌++◌, None, codes, decimal}
 use Rattle.bt_lines.specs.model.Handed.{whole_text}
 use Rattle.bt_lines.specs.declared.fault.Input.{Input}
 use Rattle.bt_bed.specs.model.feature.Feature.{Feature}
@@ -22,19 +21,14 @@ abbrev pub three_columns : Interval → Feature
 three_columns r =
     record { chrom = r.chrom; start = r.start; stop = r.stop; strand = Dot; rest = [] }
 
--- what holds of each record and each one after it
-abbrev pub EachPair : {A : Type 0} → (A → A → Type 0) → List A → Type 0
-EachPair R [] = ⊤
-EachPair R (x ∷ xs) = AllByRecursion (R x) xs × EachPair R xs
-
 -- of two intervals in order, the first ends where the second starts, or before: they have no base
 -- in common
 abbrev pub AreDisjoint : Interval → Interval → Type 0
 AreDisjoint r s = r.chrom ≡ s.chrom → r.stop ≤ s.start
 
 -- the first ends before the second starts: nor do they touch
-abbrev pub AreApart : Interval → Interval → Type 0
-AreApart r s = r.chrom ≡ s.chrom → r.stop < s.start
+abbrev pub AreSeparate : Interval → Interval → Type 0
+AreSeparate r s = r.chrom ≡ s.chrom → r.stop < s.start
 
 -- a record of four columns: where an interval lies, and its depth
 abbrev pub four_columns : DepthInterval → Feature

@@ -14,10 +14,8 @@ use Rattle.bt_runs.specs.declared.merge.merge_strand.MergeStrand.TheVariants.{Al
 use Rattle.bt_tool.specs.model.report.Inputs.{Inputs}
 use Rattle.bt_tool.specs.model.report.Report.{report_of}
 use Rattle.bt_tool.specs.declared.planning.plan_type.Command.TheVariants.{Merge, Complement, Coverage}
-use Rattle.bt_laws.specs.pipes.Pipes.{RunsWell, first_records}
-use Rattle.bt_laws.specs.same.SameLines.{Writes}
-use Rattle.bt_laws.specs.same.SameRuns.{piped}
-use Rattle.bt_laws.specs.same.SameSweeps.{AreWithin}
+use Rattle.bt_laws.specs.Runs.{RunWrites, RunsWithoutFault, first_records, piped}
+use Rattle.bt_laws.specs.same.SameSweeps.{LieWithinLengths}
 
 -- a run cut at the length of its chromosome; one that starts there or past it is left out
 abbrev pub cut_at_length : List Entry → Interval → List Interval
@@ -31,18 +29,18 @@ cut_at_length entries r =
 abbrev pub complement_of_complement : Type 0
 complement_of_complement =
     (inputs : Inputs) (entries : List Entry)
-    → RunsWell (Complement false) inputs (Some entries)
+    → RunsWithoutFault (Complement false) inputs (Some entries)
     → AllByRecursion (λ entry. is_header entry.name ≡ false) entries
     → let runs = ordered_runs (order_of (Some entries)) 0 All (first_records (Some entries) inputs) in
-    Writes (Merge 0 All) inputs (interval_lines runs)
-    × Writes (Complement false) (piped (Complement false) inputs)
+    RunWrites (Merge 0 All) inputs (interval_lines runs)
+    × RunWrites (Complement false) (piped (Complement false) inputs)
     (interval_lines (flat_map (cut_at_length entries) runs))
 
 -- merge of genomecov -bg is merge, where the records lie within the lengths
 abbrev pub merge_of_genomecov : Type 0
 merge_of_genomecov =
     (d : ℕ) (inputs : Inputs) (entries : List Entry)
-    → RunsWell (Merge d All) inputs (Some entries)
-    → AreWithin entries (first_records (Some entries) inputs)
-    → Writes (Merge d All) (piped (Coverage false None) inputs)
+    → RunsWithoutFault (Merge d All) inputs (Some entries)
+    → LieWithinLengths entries (first_records (Some entries) inputs)
+    → RunWrites (Merge d All) (piped (Coverage false None) inputs)
     (report_of (Merge d All) inputs).output

@@ -1,6 +1,6 @@
 -- Which options of intersect and subtract write the same lines.
 use Rattle.std.specs.Prelude.{◌≡◌, ℕ, ◌==◌, List, [], ◌∷◌, map, filter, flat_map, nat_lt, decimal}
-use Rattle.std.specs.Prelude.{replicate, Option, None, true}
+use Rattle.std.specs.Prelude.{replicate, Option, true}
 use Rattle.bt_bed.specs.model.feature.Feature.{Feature}
 use Rattle.bt_bed.specs.model.order.Genome.{Entry}
 use Rattle.bt_bed.specs.model.feature.Record.{bed_text}
@@ -9,9 +9,8 @@ use Rattle.bt_sweep.specs.declared.hits.hit_rule.HitRule.{HitRule}
 use Rattle.bt_sweep.specs.declared.output.shape.Shape.TheVariants.{Count, Missing, Once, OrigA}
 use Rattle.bt_tool.specs.model.report.Inputs.{Inputs}
 use Rattle.bt_tool.specs.model.report.Report.{report_of}
-use Rattle.bt_tool.specs.declared.planning.plan_type.Command.{Command}
 use Rattle.bt_tool.specs.declared.planning.plan_type.Command.TheVariants.{Intersect, Subtract}
-use Rattle.bt_laws.specs.pipes.Pipes.{RunsWell, first_records}
+use Rattle.bt_laws.specs.Runs.{RunWrites, RunsWithoutFault, first_records}
 
 -- intersect -v is subtract -A with the same rule: the same bytes and the same fault, whatever the
 -- inputs
@@ -29,32 +28,27 @@ pub record Counted : Type 0 where
 abbrev pub own_line : Feature → List ℕ
 own_line r = line_with (bed_text r ∷ [])
 
--- a run without a fault that writes this
-pub record Writes (command : Command) (inputs : Inputs) (bytes : List ℕ) : Type 0 where
-  pub output : (report_of command inputs).output ≡ bytes
-  pub faultless : (report_of command inputs).fault ≡ None
-
 -- what intersect writes with -c, -u, -v and -wa, by one list of the records of the first input, in
 -- their order, with the numbers of those that hit them
-pub record AreCounted (rule : HitRule) (held : Option ℕ) (inputs : Inputs) (counts : List Counted) : Type 0 where
+pub record HaveCounts (rule : HitRule) (held : Option ℕ) (inputs : Inputs) (counts : List Counted) : Type 0 where
   -- -c writes each with its number
-  pub count : Writes (Intersect Count rule held) inputs
+  pub count : RunWrites (Intersect Count rule held) inputs
       (flat_map (λ c. line_with (bed_text c.at ∷ decimal c.hits ∷ [])) counts)
   -- -u writes those whose number isn't 0
-  pub once : Writes (Intersect Once rule held) inputs
+  pub once : RunWrites (Intersect Once rule held) inputs
       (flat_map (λ c. own_line c.at) (filter (λ c. nat_lt 0 c.hits) counts))
   -- -v writes the others
-  pub missing : Writes (Intersect Missing rule held) inputs
+  pub missing : RunWrites (Intersect Missing rule held) inputs
       (flat_map (λ c. own_line c.at) (filter (λ c. c.hits == 0) counts))
   -- -wa writes each as often as its number says
-  pub original : Writes (Intersect OrigA rule held) inputs
+  pub original : RunWrites (Intersect OrigA rule held) inputs
       (flat_map (λ c. flat_map own_line (replicate c.hits c.at)) counts)
 
 -- So -u and -v part the first input. It is enough that the run of -c is without a fault.
 abbrev pub counts_say_all : Type 0
 counts_say_all =
     (rule : HitRule) (held : Option ℕ) (inputs : Inputs) (chromosomes : Option (List Entry))
-    → RunsWell (Intersect Count rule held) inputs chromosomes
+    → RunsWithoutFault (Intersect Count rule held) inputs chromosomes
     → (counts : List Counted)
     × (map (λ c. c.at) counts ≡ first_records chromosomes inputs)
-    × AreCounted rule held inputs counts
+    × HaveCounts rule held inputs counts

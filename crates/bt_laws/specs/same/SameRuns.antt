@@ -1,7 +1,6 @@
 -- Runs of merge, complement and genomecov that write the same bytes.
 use Rattle.std.specs.Prelude.{◌≡◌, ◌≢◌, ◌==◌, ℕ, Bool, true, false, List, ◌∷◌, ◌++◌}
 use Rattle.std.specs.Prelude.{Option, None, map, filter, nat_lt}
-use Rattle.bt_lines.specs.model.Handed.{whole_text}
 use Rattle.bt_bed.specs.model.feature.Feature.{Feature}
 use Rattle.bt_bed.specs.model.order.Genome.{Entry}
 use Rattle.bt_bed.specs.model.feature.Interval.{Interval}
@@ -16,30 +15,21 @@ use Rattle.bt_tool.specs.model.report.Inputs.{Inputs}
 use Rattle.bt_tool.specs.model.report.Report.{report_of}
 use Rattle.bt_tool.specs.declared.planning.plan_type.Command.{Command}
 use Rattle.bt_tool.specs.declared.planning.plan_type.Command.TheVariants.{Merge, Complement, Coverage}
-use Rattle.bt_laws.specs.pipes.Pipes.{RunsWell, first_records}
-use Rattle.bt_laws.specs.same.SameLines.{Writes}
-
--- the inputs of the next run in a pipe: the output of the first run in place of its first input
-abbrev pub piped : Command → Inputs → Inputs
-piped command inputs = record {
-  genome = inputs.genome;
-  first = whole_text (report_of command inputs).output;
-  second = inputs.second;
-}
+use Rattle.bt_laws.specs.Runs.{RunWrites, RunsWithoutFault, first_records, piped}
 
 -- merge of merge is merge, with the same -d; the first may have been of one strand
 abbrev pub merge_of_merge : Type 0
 merge_of_merge =
     (d : ℕ) (strand : MergeStrand) (inputs : Inputs) (chromosomes : Option (List Entry))
-    → strand ≢ Each → RunsWell (Merge d strand) inputs chromosomes
-    → Writes (Merge d All) (piped (Merge d strand) inputs) (report_of (Merge d strand) inputs).output
+    → strand ≢ Each → RunsWithoutFault (Merge d strand) inputs chromosomes
+    → RunWrites (Merge d All) (piped (Merge d strand) inputs) (report_of (Merge d strand) inputs).output
 
 -- complement of merge is complement, with and without -L
 abbrev pub complement_of_merge : Type 0
 complement_of_merge =
     (limit : Bool) (inputs : Inputs) (chromosomes : Option (List Entry))
-    → RunsWell (Complement limit) inputs chromosomes
-    → Writes (Complement limit) (piped (Merge 0 All) inputs)
+    → RunsWithoutFault (Complement limit) inputs chromosomes
+    → RunWrites (Complement limit) (piped (Merge 0 All) inputs)
     (report_of (Complement limit) inputs).output
 
 -- the same records, except that two neighbours of one chromosome come the other way round; where
@@ -66,7 +56,7 @@ pub record IsRepeated (rs ss : List Feature) : Type 0 where
 abbrev pub WritesSame : (List Feature → List Feature → Type 0) → Command → Type 0
 WritesSame Alike command =
     (inputs others : Inputs) (chromosomes : Option (List Entry))
-    → RunsWell command inputs chromosomes → RunsWell command others chromosomes
+    → RunsWithoutFault command inputs chromosomes → RunsWithoutFault command others chromosomes
     → Alike (first_records chromosomes inputs) (first_records chromosomes others)
     → (report_of command inputs).output ≡ (report_of command others).output
 
@@ -99,18 +89,18 @@ without_depth r = record { chrom = r.chrom; start = r.start; stop = r.stop; dept
 abbrev pub depth_0_is_complement : Type 0
 depth_0_is_complement =
     (inputs : Inputs) (chromosomes : Option (List Entry))
-    → RunsWell (Coverage true None) inputs chromosomes
+    → RunsWithoutFault (Coverage true None) inputs chromosomes
     → let depths = coverage true None (entries_in chromosomes) (first_records chromosomes inputs) in
     let gaps = complement false (entries_in chromosomes) (first_records chromosomes inputs) in
-    Writes (Coverage true None) inputs (depth_lines depths)
-    × Writes (Complement false) inputs (interval_lines gaps)
+    RunWrites (Coverage true None) inputs (depth_lines depths)
+    × RunWrites (Complement false) inputs (interval_lines gaps)
     × (filter (λ r. r.depth == 0) depths ≡ map without_depth gaps)
 
 -- genomecov -bg is -bga without these lines
 abbrev pub bg_is_bga_above_0 : Type 0
 bg_is_bga_above_0 =
     (strand : Option Strand) (inputs : Inputs) (chromosomes : Option (List Entry))
-    → RunsWell (Coverage true strand) inputs chromosomes
+    → RunsWithoutFault (Coverage true strand) inputs chromosomes
     → let depths = coverage true strand (entries_in chromosomes) (first_records chromosomes inputs) in
-    Writes (Coverage true strand) inputs (depth_lines depths)
-    × Writes (Coverage false strand) inputs (depth_lines (filter (λ r. nat_lt 0 r.depth) depths))
+    RunWrites (Coverage true strand) inputs (depth_lines depths)
+    × RunWrites (Coverage false strand) inputs (depth_lines (filter (λ r. nat_lt 0 r.depth) depths))

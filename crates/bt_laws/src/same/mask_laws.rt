@@ -1,6 +1,15 @@
 //! What maskfasta writes, as its input again: each law is the contract of a function that does nothing.
 
-ghost use Rattle.bt_laws.specs.pipes.MaskPipes.{masked_by_both, masked_by_positions, masked_goes_on, masked_keep_layout, masked_twice};
+ghost use Rattle.bt_laws.specs.same.MaskExamples.{repeated_names_differ};
+ghost use Rattle.bt_laws.specs.same.MaskLaws.{
+  masked_by_both,
+  masked_by_merged,
+  masked_by_positions,
+  masked_by_sorted,
+  masked_goes_on,
+  masked_keep_layout,
+  masked_twice,
+};
 
 /// The sequences of the output have the names, lengths and lines of those of the input.
 pub fn masked_sequences_keep_their_lines()
@@ -17,4 +26,16 @@ pub fn masked_sequences_stay_masked()
 pub fn masked_positions_are_all()
     ensures alike { masked_by_positions }
     ensures both { masked_by_both }
+{}
+
+/// maskfasta by merge of a BED is maskfasta by the BED.
+pub fn a_bed_may_be_merged()
+    ensures { masked_by_merged }
+{}
+
+/// maskfasta by one BED and then by another is maskfasta by the records of both in one, if no two sequences have the
+/// name of a record's chromosome; with such names it may differ.
+pub fn two_beds_may_be_one()
+    ensures sorted { masked_by_sorted }
+    ensures names { repeated_names_differ }
 {}

@@ -23,7 +23,8 @@ use Rattle.bt_runs.specs.model.Depth.{DepthInterval, coverage, depth_line, depth
 use Rattle.bt_runs.specs.model.Gaps.{complement, gaps_of, gaps_on, is_asked}
 use Rattle.bt_runs.specs.model.Levels.{AreDisjointFrom, AreLevelsOf, HasValue, Level, levels_of}
 use Rattle.bt_runs.proofs.lemmas.coverage.LevelLemmas.{are_levels}
-use Rattle.bt_laws.specs.pipes.Taken.{AreApart, AreDisjoint, EachPair, IsInput, four_columns, is_no_header, three_columns}
+use Rattle.bt_laws.specs.pipes.Taken.{AreSeparate, AreDisjoint, IsInput, four_columns, is_no_header, three_columns}
+use Rattle.bt_laws.proofs.lemmas.pipes.Pairs.{EachPair}
 use Rattle.bt_laws.proofs.lemmas.back.Clear.{clear_tab}
 use Rattle.bt_laws.proofs.lemmas.back.Digits.{IsDigit, clear_number, decimal_digits, strip_number}
 use Rattle.bt_laws.proofs.lemmas.back.LinesBack.{Columns, IsColumns, lines_back, record_back, text_of_columns}
@@ -66,11 +67,11 @@ module _ (entries : List Entry) (chroms : AllByRecursion IsChrom entries) (disti
         (all_filter (λ e. ArePlaced file_order (part e)) asked entries (all_so (λ (e : Entry). IsTrue (file_order.knows e.name)) (λ e. ArePlaced file_order (part e)) entries
         (λ e known. spans_placed file_order e.name known 0 (gaps_of e.length (spans_on e.name (intervals_of records))) (gaps_apart e.length (spans_on e.name (intervals_of records))).0) entries_known))
 
-    pub gaps_pairs : EachPair AreApart (complement limit entries records)
+    pub gaps_pairs : EachPair AreSeparate (complement limit entries records)
     unfolding complement part
-    gaps_pairs = parts_pairs file_order file_total (λ (e : Entry). e.name) part on_entry AreApart (λ r s other same. absurd (other same)) (filter asked entries) (all_filter (λ (e : Entry). IsTrue (file_order.knows e.name)) asked entries entries_known)
+    gaps_pairs = parts_pairs file_order file_total (λ (e : Entry). e.name) part on_entry AreSeparate (λ r s other same. absurd (other same)) (filter asked entries) (all_filter (λ (e : Entry). IsTrue (file_order.knows e.name)) asked entries entries_known)
         (pairs_filter (λ (d e : Entry). Earlier file_order d.name e.name) asked entries entries_earlier)
-        (all_any (λ e. EachPair AreApart (part e)) (filter asked entries) (λ e. spans_apart e.name (gaps_of e.length (spans_on e.name (intervals_of records))) (apart_pairs 0 (gaps_of e.length (spans_on e.name (intervals_of records))) (gaps_apart e.length (spans_on e.name (intervals_of records))).0)))
+        (all_any (λ e. EachPair AreSeparate (part e)) (filter asked entries) (λ e. spans_apart e.name (gaps_of e.length (spans_on e.name (intervals_of records))) (apart_pairs 0 (gaps_of e.length (spans_on e.name (intervals_of records))) (gaps_apart e.length (spans_on e.name (intervals_of records))).0)))
 
     gaps_written : AllByRecursion IsWritten (complement limit entries records)
     unfolding complement part

@@ -25,7 +25,8 @@ use Rattle.bt_bed.specs.declared.record.strand.Strand.{Strand}
 use Rattle.bt_runs.proofs.lemmas.order.FileOrder.{some_placed}
 use Rattle.bt_runs.proofs.lemmas.order.NameOrder.{names_in_order}
 use Rattle.bt_runs.proofs.lemmas.order.OwnOrder.{distinct_chromosomes}
-use Rattle.bt_laws.specs.pipes.Taken.{AreApart, EachPair, IsInput, is_no_header, three_columns}
+use Rattle.bt_laws.specs.pipes.Taken.{AreSeparate, IsInput, is_no_header, three_columns}
+use Rattle.bt_laws.proofs.lemmas.pipes.Pairs.{EachPair}
 use Rattle.bt_laws.proofs.lemmas.back.LinesBack.{Columns, IsColumns, lines_back, record_back, text_of_columns}
 use Rattle.bt_laws.proofs.lemmas.parts.text.PartLists.{all_any, all_both, all_filter, all_flat_map, all_map, all_so, filter_all}
 use Rattle.bt_laws.proofs.lemmas.pipes.Placing.{Earlier, all_zip, apart_pairs, ascending_pairs, on_name, parts_pairs, parts_placed, spans_apart, spans_placed}
@@ -183,10 +184,10 @@ module _ (order : Order) (total : IsTotal order) where
     merge_placed = parts_placed order total (λ name. name) part (λ name. on_name name (runs_of gap (spans_on name (counted strand records)))) names names_earlier
         (all_so (λ name. IsTrue (order.knows name)) (λ name. ArePlaced order (part name)) names (λ name known. spans_placed order name known 0 (runs_of gap (spans_on name (counted strand records))) (runs_apart gap (spans_on name (counted strand records))).0) known_in_order)
 
-    pub merge_apart : EachPair AreApart (ordered_runs order gap strand records)
+    pub merge_apart : EachPair AreSeparate (ordered_runs order gap strand records)
     unfolding ordered_runs merged names part
-    merge_apart = parts_pairs order total (λ name. name) part (λ name. on_name name (runs_of gap (spans_on name (counted strand records)))) AreApart (λ r s other same. absurd (other same)) names known_in_order names_earlier
-        (all_any (λ name. EachPair AreApart (part name)) names (λ name. spans_apart name (runs_of gap (spans_on name (counted strand records))) (apart_pairs 0 (runs_of gap (spans_on name (counted strand records))) (runs_apart gap (spans_on name (counted strand records))).0)))
+    merge_apart = parts_pairs order total (λ name. name) part (λ name. on_name name (runs_of gap (spans_on name (counted strand records)))) AreSeparate (λ r s other same. absurd (other same)) names known_in_order names_earlier
+        (all_any (λ name. EachPair AreSeparate (part name)) names (λ name. spans_apart name (runs_of gap (spans_on name (counted strand records))) (apart_pairs 0 (runs_of gap (spans_on name (counted strand records))) (runs_apart gap (spans_on name (counted strand records))).0)))
 
     pub merge_runs : AllByRecursion IsRun (ordered_runs order gap strand records)
     unfolding ordered_runs

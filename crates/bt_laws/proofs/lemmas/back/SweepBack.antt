@@ -5,10 +5,11 @@ use Rattle.std.specs.List.{AllByRecursion}
 use Rattle.std.specs.Cmp.Lexicographic.{bytes_decides}
 use Rattle.std.specs.declared.cmp.Ordering.TheVariants.{Less, Equal}
 use Rattle.std.proofs.lemmas.Grind.{flat_map-append}
+use Rattle.std.proofs.lemmas.List.{map-append}
 use Rattle.bt_lines.specs.calls.LentLine.{NoLineFeed}
 use Rattle.bt_bed.specs.model.feature.Feature.{Feature, interval_of, intervals_of}
 use Rattle.bt_bed.specs.model.feature.Header.{is_header}
-use Rattle.bt_bed.specs.model.feature.Interval.{Interval, Span, placed_on}
+use Rattle.bt_bed.specs.model.feature.Interval.{Interval, Span}
 use Rattle.bt_bed.specs.model.order.Locus.{ArePlaced, IsPlacedBefore, IsUpTo, locus_of}
 use Rattle.bt_bed.specs.model.order.Order.{Order, IsTotal}
 use Rattle.bt_bed.specs.model.feature.Record.{bed_text, cut_to, is_kept}
@@ -22,8 +23,9 @@ use Rattle.bt_sweep.specs.declared.output.shape.Shape.{Shape}
 use Rattle.bt_sweep.specs.declared.output.shape.Shape.TheVariants.{Count, Cut, CutAndB, Missing, Once, OrigA, OrigBoth, Overlap, Pieces, Whole}
 use Rattle.bt_sweep.proofs.lemmas.laws.PieceLemmas.{are_pieces}
 use Rattle.bt_sweep.proofs.lemmas.laws.RuleLemmas.{hit_overlaps, overlap_parts}
-use Rattle.bt_laws.specs.pipes.SweepLines.{begins_with_a, cuts_of, cuts_written, line_count, places_written}
-use Rattle.bt_laws.specs.pipes.Taken.{AreDisjoint, EachPair, IsInput, is_no_header}
+use Rattle.bt_laws.specs.pipes.SweepLines.{begins_with_a, line_count}
+use Rattle.bt_laws.specs.pipes.Taken.{AreDisjoint, IsInput, is_no_header}
+use Rattle.bt_laws.proofs.lemmas.pipes.Pairs.{EachPair}
 use Rattle.bt_laws.proofs.lemmas.back.Clear.{clear_both, clear_tab}
 use Rattle.bt_laws.proofs.lemmas.back.Digits.{clear_number}
 use Rattle.bt_laws.proofs.lemmas.back.LinesBack.{Columns, IsColumns, lines_back, record_back, text_of_columns}
@@ -139,10 +141,10 @@ lines_as Whole a [] = alone_text (columns_at a a.rest)
 lines_as Whole a (b ∷ more) = refl
 
 module _ (shape : Shape) (rule : HitRule) (second : List Feature) where
-  part : Feature → List Columns
+  unfoldable pub part : Feature → List Columns
   part a = columns_for shape a (hits_among rule a second)
 
-  all_columns : List Feature → List Columns
+  unfoldable pub all_columns : List Feature → List Columns
   all_columns first = flat_map part first
 
   text_as : (first : List Feature) → intersect shape rule first second ≡ flat_map line_text (all_columns first)
@@ -153,7 +155,7 @@ module _ (shape : Shape) (rule : HitRule) (second : List Feature) where
 
 -- ---- each is written so
 
-kept_more : (rest more : List ℕ) → IsTrue (is_kept rest) → IsTrue (is_kept (rest ++ 9 ∷ more))
+pub kept_more : (rest more : List ℕ) → IsTrue (is_kept rest) → IsTrue (is_kept (rest ++ 9 ∷ more))
 kept_more [] more h = refl
 kept_more (byte ∷ bytes) more h = h
 
@@ -273,13 +275,9 @@ repeated_pairs : {A : Type 0} (R : A → A → Type 0) (n : ℕ) (x : A) → R x
 repeated_pairs R zero x p = tt
 repeated_pairs R (suc n) x p = (repeated (R x) n x p, repeated_pairs R n x p)
 
-map_both : (xs ys : List Columns) → map (λ (line : Columns). line.at) (xs ++ ys) ≡ map (λ line. line.at) xs ++ map (λ line. line.at) ys
-map_both [] ys = refl
-map_both (x ∷ xs) ys = ap (λ l. x.at ∷ l) (map_both xs ys)
-
-map_flat : (f : Feature → List Columns) (g : Feature → List Interval) (xs : List Feature) → ((x : Feature) → map (λ line. line.at) (f x) ≡ g x) → map (λ line. line.at) (flat_map f xs) ≡ flat_map g xs
-map_flat f g [] h = refl
-map_flat f g (x ∷ xs) h = map_both (f x) (flat_map f xs) ∙ ap₂ (λ a b. a ++ b) (h x) (map_flat f g xs h)
+pub map_flat : {A B C : Type 0} (h : B → C) (f : A → List B) (g : A → List C) (xs : List A) → ((x : A) → map h (f x) ≡ g x) → map h (flat_map f xs) ≡ flat_map g xs
+map_flat h f g [] e = refl
+map_flat h f g (x ∷ xs) e = map-append h (f x) (flat_map f xs) ∙ ap₂ (λ a b. a ++ b) (e x) (map_flat h f g xs e)
 
 no_headers : (lines : List Columns) → AllByRecursion (λ (line : Columns). is_header line.at.chrom ≡ false) lines → filter is_no_header (map record_back lines) ≡ map record_back lines
 no_headers lines h = filter_all is_no_header (map record_back lines) (all_map (λ r. is_no_header r ≡ true) record_back lines (all_so (λ (line : Columns). is_header line.at.chrom ≡ false) (λ line. not (is_header line.at.chrom) ≡ true) lines (λ line e. ap not e) h))
@@ -337,15 +335,15 @@ module _ (order : Order) (total : IsTotal order) (shape : Shape) (rule : HitRule
 
   -- lines that begin with records of the first input
   module _ (begins : begins_with_a shape ≡ true) where
-    places_are : map (λ (line : Columns). line.at) lines ≡ places_written shape rule first second
-    unfolding lines all_columns part
-    places_are = map_flat (part shape rule second) (λ a. replicate (line_count shape (length (hits_among rule a second))) (interval_of a)) first (λ a. part_at shape a (hits_among rule a second) begins)
-
     abbrev copies : Feature → List Interval
     copies a = replicate (line_count shape (length (hits_among rule a second))) (interval_of a)
 
-    copies_placed : ArePlaced order (places_written shape rule first second)
-    copies_placed = pairs_placed order total (places_written shape rule first second)
+    places_are : map (λ (line : Columns). line.at) lines ≡ flat_map copies first
+    unfolding lines all_columns part
+    places_are = map_flat (λ (line : Columns). line.at) (part shape rule second) copies first (λ a. part_at shape a (hits_among rule a second) begins)
+
+    copies_placed : ArePlaced order (flat_map copies first)
+    copies_placed = pairs_placed order total (flat_map copies first)
         (all_flat_map (λ (r : Interval). IsTrue (order.knows r.chrom)) copies first (all_so (λ (a : Feature). IsTrue (order.knows a.chrom)) (λ a. AllByRecursion (λ (r : Interval). IsTrue (order.knows r.chrom)) (copies a)) first
         (λ a known. repeated (λ (r : Interval). IsTrue (order.knows r.chrom)) (line_count shape (length (hits_among rule a second))) (interval_of a) known) known_all))
         (pairs_flat (UpTo order total) copies first
@@ -354,8 +352,9 @@ module _ (order : Order) (total : IsTotal order) (shape : Shape) (rule : HitRule
         (λ a b p q up. repeated (λ r. AllByRecursion (UpTo order total r) (copies b)) (line_count shape (length (hits_among rule a second))) (interval_of a) (repeated (UpTo order total (interval_of a)) (line_count shape (length (hits_among rule b second))) (interval_of b) up))
         (all_any (λ a. Unit {0}) first (λ a. tt)) (pairs_of_places order total first (placed_pairs order total (intervals_of first) placed))))
 
-    pub kept_back : (records : List Feature) × IsInput order (intersect shape rule first second) records × (intervals_of records ≡ places_written shape rule first second)
-    kept_back = (map record_back lines, lines_input (subst (ArePlaced order) (sym places_are) copies_placed), back_at lines ∙ places_are)
+    pub kept_back : IsInput order (intersect shape rule first second) (map record_back (all_columns shape rule second first))
+    unfolding lines
+    kept_back = lines_input (subst (ArePlaced order) (sym places_are) copies_placed)
 
 -- ---- lines whose start and end are cut, of records that have no base in common
 
@@ -392,27 +391,6 @@ part_within Count rule a is found e h = cc
 part_within Whole rule a is found e h = cc
 
 -- starts that don't fall
-at_columns : {B : Type 0} (f : B → Columns) (g : B → Interval) (bs : List B) → ((b : B) → (f b).at ≡ g b) → map (λ (line : Columns). line.at) (map f bs) ≡ map g bs
-at_columns f g [] h = refl
-at_columns f g (b ∷ bs) h = ap₂ (λ x y. x ∷ y) (h b) (at_columns f g bs h)
-
-cut_places : (shape : Shape) (a : Feature) (found : List Feature) → begins_with_a shape ≡ false → map (λ (line : Columns). line.at) (columns_for shape a found) ≡ cuts_of shape a found
-unfolding columns_for hit_columns piece_columns
-cut_places Cut a found e = at_columns (hit_columns Cut a) (λ b. interval_of (cut a b)) found (λ b. refl)
-cut_places CutAndB a found e = at_columns (hit_columns CutAndB a) (λ b. interval_of (cut a b)) found (λ b. refl)
-cut_places Pieces a found e = at_columns (piece_columns a) (placed_on a.chrom) (pieces a found) (λ p. refl)
-cut_places OrigA a found e = cc
-cut_places OrigBoth a found e = cc
-cut_places Overlap a found e = cc
-cut_places Once a found e = cc
-cut_places Missing a found e = cc
-cut_places Count a found e = cc
-cut_places Whole a found e = cc
-
-pub all_cut_places : (shape : Shape) (rule : HitRule) (first second : List Feature) → begins_with_a shape ≡ false → flat_map (λ a. map (λ (line : Columns). line.at) (columns_for shape a (hits_among rule a second))) first ≡ cuts_written shape rule first second
-all_cut_places shape rule [] second e = refl
-all_cut_places shape rule (a ∷ first) second e = ap₂ (λ x y. x ++ y) (cut_places shape a (hits_among rule a second) e) (all_cut_places shape rule first second e)
-
 abbrev Rise : Feature → Feature → Type 0
 Rise b c = b.start ≤ c.start
 
@@ -490,35 +468,22 @@ module _ (order : Order) (total : IsTotal order) where
         (λ a within known. all_so (IsWithin a) (λ (line : Columns). IsTrue (order.knows line.at.chrom)) (cut_part a) (λ line w. subst (λ name. IsTrue (order.knows name)) (sym w.same) known) within) all_within (all_known order first placed))))
         (pairs_map (UpTo order total) (λ (line : Columns). line.at) cut_lines cut_pairs)
 
-    pub cut_back : (records : List Feature) × IsInput order (intersect shape rule first second) records
-    unfolding cut_lines lines all_columns part
-    cut_back = (map record_back cut_lines, lines_input order total shape rule first second said said_second placed cut_placed)
-
-  -- the same, with where its records lie
-  pub cut_at : (shape : Shape) (rule : HitRule) (first second : List Feature) (said : AllByRecursion IsSaid first) (said_second : AllByRecursion IsSaid second) (placed : ArePlaced order (intervals_of first)) (placed_second : ArePlaced order (intervals_of second))
-      (apart : EachPair AreDisjoint (intervals_of first)) (cuts : begins_with_a shape ≡ false)
-      → (records : List Feature) × IsInput order (intersect shape rule first second) records × (intervals_of records ≡ flat_map (λ a. map (λ (line : Columns). line.at) (columns_for shape a (hits_among rule a second))) first)
+  pub cut_back : (shape : Shape) (rule : HitRule) (first second : List Feature) (said : AllByRecursion IsSaid first) (said_second : AllByRecursion IsSaid second) (placed : ArePlaced order (intervals_of first)) (placed_second : ArePlaced order (intervals_of second))
+      (apart : EachPair AreDisjoint (intervals_of first)) (cuts : begins_with_a shape ≡ false) → IsInput order (intersect shape rule first second) (map record_back (all_columns shape rule second first))
   unfolding cut_lines lines all_columns part
-  cut_at shape rule first second said said_second placed placed_second apart cuts =
-      let at = cut_lines shape rule first second said said_second placed placed_second apart cuts in (
-        map record_back at,
-        lines_input order total shape rule first second said said_second placed (cut_placed shape rule first second said said_second placed placed_second apart cuts),
-        back_at at ∙ map_flat (λ a. columns_for shape a (hits_among rule a second)) (λ a. map (λ (line : Columns). line.at) (columns_for shape a (hits_among rule a second))) first (λ a. refl),
-      )
+  cut_back shape rule first second said said_second placed placed_second apart cuts =
+      lines_input order total shape rule first second said said_second placed (cut_placed shape rule first second said said_second placed placed_second apart cuts)
 
   -- pieces of records that have no base in common have none
   pub pieces_back : (rule : HitRule) (first second : List Feature) → AllByRecursion IsSaid first → AllByRecursion IsSaid second → ArePlaced order (intervals_of first) → ArePlaced order (intervals_of second)
-      → EachPair AreDisjoint (intervals_of first) → (records : List Feature) × IsInput order (intersect Pieces rule first second) records × EachPair AreDisjoint (intervals_of records)
+      → EachPair AreDisjoint (intervals_of first) → EachPair AreDisjoint (intervals_of (map record_back (all_columns Pieces rule second first)))
   unfolding cut_lines lines all_columns part columns_for piece_columns
   pieces_back rule first second said said_second placed placed_second apart =
-      let cut = cut_lines Pieces rule first second said said_second placed placed_second apart refl in (
-        map record_back cut,
-        lines_input order total Pieces rule first second said said_second placed (cut_placed Pieces rule first second said said_second placed placed_second apart refl),
-        subst (EachPair AreDisjoint) (sym (back_at cut))
-            (pairs_map AreDisjoint (λ (line : Columns). line.at) cut
-            (pairs_flat (λ k l. AreDisjoint k.at l.at) (λ a. map (piece_columns a) (pieces a (hits_among rule a second))) first
-            (all_any _ first (λ a. pairs_map (λ k l. AreDisjoint k.at l.at) (piece_columns a) (pieces a (hits_among rule a second))
-            (pairs_so (λ p. Unit {0}) (λ (s t : Span). s.stop < t.start) (λ s t. AreDisjoint (piece_columns a s).at (piece_columns a t).at) (pieces a (hits_among rule a second)) (λ s t p q up same. omega (arith, up)) (all_any (λ p. Unit {0}) (pieces a (hits_among rule a second)) (λ p. tt))
-            (apart_pairs 0 (pieces a (hits_among rule a second)) (are_pieces a (hits_among rule a second)).apart))))
-            (cross_all Pieces rule first second said said_second placed placed_second apart refl (λ k l. AreDisjoint k.at l.at) cross_apart))),
-      )
+      let cut = cut_lines Pieces rule first second said said_second placed placed_second apart refl in
+      subst (EachPair AreDisjoint) (sym (back_at cut))
+      (pairs_map AreDisjoint (λ (line : Columns). line.at) cut
+      (pairs_flat (λ k l. AreDisjoint k.at l.at) (λ a. map (piece_columns a) (pieces a (hits_among rule a second))) first
+      (all_any _ first (λ a. pairs_map (λ k l. AreDisjoint k.at l.at) (piece_columns a) (pieces a (hits_among rule a second))
+      (pairs_so (λ p. Unit {0}) (λ (s t : Span). s.stop < t.start) (λ s t. AreDisjoint (piece_columns a s).at (piece_columns a t).at) (pieces a (hits_among rule a second)) (λ s t p q up same. omega (arith, up)) (all_any (λ p. Unit {0}) (pieces a (hits_among rule a second)) (λ p. tt))
+      (apart_pairs 0 (pieces a (hits_among rule a second)) (are_pieces a (hits_among rule a second)).apart))))
+      (cross_all Pieces rule first second said said_second placed placed_second apart refl (λ k l. AreDisjoint k.at l.at) cross_apart)))

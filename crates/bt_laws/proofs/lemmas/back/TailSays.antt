@@ -99,7 +99,7 @@ abbrev pub unless_header : List ℕ → Feature → Option Feature
 unless_header chrom r = cond (is_header chrom) None (Some r)
 
 module _ (chrom : List ℕ) (start stop : ℕ) (named : IsName chrom) (below : start < stop) (small : stop ≤ 999999999999) where
-  name_first : (tail : List ℕ) → columns_text chrom start stop tail ≡ chrom ++ 9 ∷ (decimal start ++ 9 ∷ (decimal stop ++ tail))
+  pub name_first : (tail : List ℕ) → columns_text chrom start stop tail ≡ chrom ++ 9 ∷ (decimal start ++ 9 ∷ (decimal stop ++ tail))
   name_first tail = simp append_assoc
 
   header_first : (tail : List ℕ) → is_header (columns_text chrom start stop tail) ≡ is_header chrom
@@ -111,7 +111,7 @@ module _ (chrom : List ℕ) (start stop : ℕ) (named : IsName chrom) (below : s
       written_feature (record_with chrom start stop tail) (record { named = named; non_empty = below; in_range = small; kept = kept; stranded = refl })
       (header_first tail ∙ e)
 
-  strip_columns : (tail : List ℕ) → strip_last 13 (columns_text chrom start stop tail) ≡ columns_text chrom start stop (strip_last 13 tail)
+  pub strip_columns : (tail : List ℕ) → strip_last 13 (columns_text chrom start stop tail) ≡ columns_text chrom start stop (strip_last 13 tail)
   strip_columns [] =
       let front = chrom ++ codes "\t" ++ decimal start ++ codes "\t" in
       let is : (tail : List ℕ) → columns_text chrom start stop tail ≡ front ++ (decimal stop ++ tail) = λ tail. simp append_assoc in
@@ -123,7 +123,7 @@ module _ (chrom : List ℕ) (start stop : ℕ) (named : IsName chrom) (below : s
       ap (strip_last 13) (is (byte ∷ bytes)) ∙ strip_both 13 front (byte ∷ bytes) (omega arith) ∙ sym (is (strip_last 13 (byte ∷ bytes)))
 
   -- what is kept of what follows is empty, or begins with a tab
-  kept_by : (tail : List ℕ) (b : Bool) → ends_with_byte 13 tail ≡ b → IsTrue (is_kept tail) → (some : List ℕ) → strip_last 13 tail ≡ some → IsTrue (is_kept some)
+  pub kept_by : (tail : List ℕ) (b : Bool) → ends_with_byte 13 tail ≡ b → IsTrue (is_kept tail) → (some : List ℕ) → strip_last 13 tail ≡ some → IsTrue (is_kept some)
   kept_by tail false e kept some is = subst (λ t. IsTrue (is_kept t)) (sym (strip_last-other 13 tail e) ∙ is) kept
   kept_by tail true e kept [] is = refl
   kept_by tail true e kept (byte ∷ bytes) is =

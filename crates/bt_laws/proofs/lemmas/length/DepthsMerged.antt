@@ -35,9 +35,8 @@ use Rattle.bt_tool.specs.model.report.Report.{report_of}
 use Rattle.bt_tool.specs.model.report.Written.{coverage_written, merge_written}
 use Rattle.bt_tool.specs.declared.planning.plan_type.Command.TheVariants.{Coverage, Merge}
 use Rattle.bt_laws.specs.same.LengthLaws.{merge_of_genomecov}
-use Rattle.bt_laws.specs.pipes.Pipes.{first_records}
-use Rattle.bt_laws.specs.same.SameRuns.{piped}
-use Rattle.bt_laws.specs.same.SameSweeps.{AreWithin}
+use Rattle.bt_laws.specs.Runs.{first_records, piped}
+use Rattle.bt_laws.specs.same.SameSweeps.{LieWithinLengths}
 use Rattle.bt_laws.specs.pipes.Taken.{IsInput, four_columns, is_no_header}
 use Rattle.bt_laws.proofs.lemmas.same.AlikeRecords.{alike_merged}
 use Rattle.bt_laws.proofs.lemmas.pipes.Covers.{SameCover, covered_some, some_covered}
@@ -136,7 +135,7 @@ within_by entries name r rs p same up (inl here) more = let there : r.stop ≤ l
 within_by entries name r rs p same up (inr there) more = more there
 
 -- what lies within the lengths
-covered_within : (entries : List Entry) (name : List ℕ) (records : List Feature) (p : ℕ) → AreWithin entries records → IsCovered (spans_on name (intervals_of records)) p → p < length_in entries name
+covered_within : (entries : List Entry) (name : List ℕ) (records : List Feature) (p : ℕ) → LieWithinLengths entries records → IsCovered (spans_on name (intervals_of records)) p → p < length_in entries name
 covered_within entries name [] p within c = absurd c
 covered_within entries name (r ∷ rs) p within c = elim (cases_name r.chrom name) [
   | inl same ↦ within_by entries name r rs p same within.0 (subst (λ b. IsCovered (cond b (span_of (interval_of r) ∷ spans_on name (intervals_of rs)) (spans_on name (intervals_of rs))) p) (name_eq r.chrom name same) c) (covered_within entries name rs p within.1)
@@ -163,7 +162,7 @@ none_hidden name (r ∷ rs) e said = elim (cases_name r.chrom name) [
   | inr other ↦ spans_on-elsewhere name (interval_of r) (intervals_of rs) other ∙ none_hidden name rs e said.1
 ]
 
-module _ (entries : List Entry) (distinct : AreDistinct (genome_names entries)) (records : List Feature) (said : AllByRecursion IsSaid records) (within : AreWithin entries records)
+module _ (entries : List Entry) (distinct : AreDistinct (genome_names entries)) (records : List Feature) (said : AllByRecursion IsSaid records) (within : LieWithinLengths entries records)
     (read : List Feature) (read_said : AllByRecursion IsSaid read) (is : read ≡ filter is_no_header (map four_columns (coverage false None entries records))) where
   same_bases : (name : List ℕ) → SameCover (spans_on name (intervals_of read)) (spans_on name (intervals_of records))
   unfolding coverage

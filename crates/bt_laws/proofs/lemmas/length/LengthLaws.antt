@@ -31,8 +31,7 @@ use Rattle.bt_tool.specs.model.report.Report.{report_of}
 use Rattle.bt_tool.specs.model.report.Written.{complement_written, merge_written}
 use Rattle.bt_tool.specs.declared.planning.plan_type.Command.TheVariants.{Complement, Merge}
 use Rattle.bt_laws.specs.same.LengthLaws.{complement_of_complement, cut_at_length}
-use Rattle.bt_laws.specs.pipes.Pipes.{first_records}
-use Rattle.bt_laws.specs.same.SameRuns.{piped}
+use Rattle.bt_laws.specs.Runs.{first_records, piped}
 use Rattle.bt_laws.specs.pipes.Taken.{IsInput, is_no_header, three_columns}
 use Rattle.bt_laws.proofs.lemmas.pipes.Covers.{runs_cover}
 use Rattle.bt_laws.proofs.lemmas.back.GapsBack.{gaps_back}

@@ -1,9 +1,10 @@
 -- The lines of alignments that are sorted are an input.
-use Rattle.std.proofs.Common.{◌≡◌, ◌||◌, ℕ, ◌+◌, ◌-◌, ◌<◌, ◌≤◌, Bool, true, false, cond, not, List, [], ◌∷◌, ◌++◌, append-nil, append_assoc, map, filter, length, Option, Some, None, Result, Ok, Err, inl, inr, refl, sym, ap, ap₂, ◌∙◌, subst, arith, eqb, leb, ltb, decimal}
-use Rattle.std.specs.Prelude.{codes, flat_map, if◌then◌else◌}
+use Rattle.std.proofs.Common.{◌≡◌, ◌||◌, ℕ, ◌+◌, ◌-◌, ◌<◌, ◌≤◌, Bool, true, false, cond, List, [], ◌∷◌, ◌++◌, append-nil, append_assoc, map, filter, length, Option, Some, None, Result, Ok, Err, inl, inr, refl, sym, ap, ap₂, ◌∙◌, subst, arith, eqb, leb, ltb, decimal}
+use Rattle.std.specs.Prelude.{codes, flat_map, if◌then◌else◌, option_map}
 use Rattle.std.specs.List.{AllByRecursion, join_with_byte}
+use Rattle.std.specs.Io.BufRead.{ends_with_byte, strip_last}
 use Rattle.std.proofs.lemmas.Bool.{cases_lt, false≢true, lt-ltb}
-use Rattle.std.proofs.lemmas.List.Elements.{All-cons, All-nil}
+use Rattle.std.proofs.lemmas.List.Elements.{All-append, All-cons, All-from_recursion, All-nil}
 use Rattle.std.proofs.lemmas.List.Splits.{join_with_byte-slice_split}
 use Rattle.bt_lines.specs.model.Handed.{lines_handed}
 use Rattle.bt_lines.specs.calls.LentLine.{NoLineFeed}
@@ -12,27 +13,29 @@ use Rattle.bt_lines.specs.declared.fault.Input.{Input}
 use Rattle.bt_lines.specs.declared.fault.Input.TheVariants.{First}
 use Rattle.bt_lines.specs.declared.fault.Kind.{Kind}
 use Rattle.bt_lines.specs.declared.fault.Kind.TheVariants.{StopTooLarge}
-use Rattle.bt_lines.proofs.lemmas.reader.lines.ColumnLemmas.{IsColumn}
-use Rattle.bt_bed.specs.model.feature.Feature.{intervals_of}
+use Rattle.bt_lines.proofs.lemmas.reader.lines.ColumnLemmas.{IsColumn, IsInside}
+use Rattle.bt_lines.proofs.lemmas.reader.lines.LinesLemmas.{strip_last-other, strip_last-push}
 use Rattle.bt_bed.specs.model.input.Good.{Good, good_from, good_with, items_in}
-use Rattle.bt_bed.specs.model.feature.Header.{is_header}
-use Rattle.bt_bed.specs.model.feature.Interval.{Interval}
 use Rattle.bt_bed.specs.model.order.Locus.{ArePlaced}
-use Rattle.bt_bed.specs.model.feature.Record.{IsName}
-use Rattle.bt_bed.proofs.lemmas.parse.Kept.{pieces_are_columns}
+use Rattle.bt_bed.specs.model.feature.Record.{IsName, columns_in, kept_columns, strand_named, strand_of}
+use Rattle.bt_bed.specs.declared.record.strand.Strand.TheVariants.{Plus, Minus}
+use Rattle.bt_bed.proofs.lemmas.parse.Kept.{kept_is_cut, pieces_are_columns}
+use Rattle.bt_bed.proofs.lemmas.parse.NameLemmas.{name_ne}
 use Rattle.bt_seq.specs.model.Alignment.{Alignment, Fields, alignment_at, alignment_of, columns_say, fields_of, fields_say, gives_nothing, is_skipped, max_flag, max_position, max_quality, value_up_to}
 use Rattle.bt_seq.specs.model.BedLines.{bed_lines, read_name, strand_sign}
-use Rattle.bt_seq.specs.model.Cigar.{length_of}
+use Rattle.bt_seq.specs.model.Cigar.{is_letter, length_of, onto_part, operations_in, operations_of_parts, parts_of, reference_length, with_part}
 use Rattle.bt_seq.specs.model.GoodSam.{sam_format}
 use Rattle.bt_tool.specs.model.report.ConvertReport.{alignment_lines}
 use Rattle.bt_tool.specs.model.report.Inputs.{Inputs}
 use Rattle.bt_tool.specs.model.report.Report.{chromosomes_of, report_of, report_on}
 use Rattle.bt_tool.specs.declared.planning.plan_type.Command.TheVariants.{BamToBed}
-use Rattle.bt_laws.specs.pipes.ConvertPipes.{aligned_at, alignments_of, bamtobed_is_input}
+use Rattle.bt_laws.specs.pipes.ConvertPipes.{aligned_at, aligned_record, alignments_of, bamtobed_is_input}
 use Rattle.bt_laws.specs.pipes.Taken.{IsInput, is_no_header}
 use Rattle.bt_laws.proofs.lemmas.back.Clear.{AreClear, clear_back, clear_both, clear_front, clear_tab}
 use Rattle.bt_laws.proofs.lemmas.back.Digits.{clear_number}
 use Rattle.bt_laws.proofs.lemmas.back.LinesBack.{Columns, IsColumns, lines_back, record_back, text_of_columns}
+use Rattle.bt_laws.proofs.lemmas.back.SweepRead.{number_column}
+use Rattle.bt_laws.proofs.lemmas.back.TailSays.{ends_both, record_with, strip_both}
 use Rattle.bt_laws.proofs.lemmas.parts.text.PartLists.{all_map, all_so}
 use Rattle.bt_laws.proofs.lemmas.back.SaidWell.{clear_handed}
 
@@ -60,6 +63,47 @@ clear_joined (part ∷ next ∷ rest) h =
 clear_columns : (text : List ℕ) → NoLineFeed text → AllByRecursion NoLineFeed (pieces 9 text)
 clear_columns text h = clear_joined (pieces 9 text) (subst NoLineFeed (sym (join_with_byte-slice_split 9 text)) h)
 
+-- ---- a CIGAR
+
+-- a carriage return at the end leaves a part without a letter
+parts_none : (text : List ℕ) → parts_of (text ++ 13 ∷ []) ≡ None
+parts_none [] = refl
+parts_none (byte ∷ bytes) =
+    ap (λ parts. if is_letter byte then with_part (record { digits = []; letter = byte }) parts else onto_part byte parts) (parts_none bytes)
+    ∙ elim (is_letter byte) as (λ (b : Bool). (if b then with_part (record { digits = []; letter = byte }) None else onto_part byte None) ≡ None) [
+      | true ↦ refl
+      | false ↦ refl
+    ]
+
+no_star : (text : List ℕ) → text ++ 13 ∷ [] ≡ 42 ∷ [] → ⊥
+no_star [] e = cc
+no_star (byte ∷ []) e = cc
+no_star (byte ∷ next ∷ bytes) e = cc
+
+none_in : (text : List ℕ) → operations_in (text ++ 13 ∷ []) ≡ None
+unfolding operations_in
+none_in text = ap operations_of_parts (parts_none text)
+
+no_length : (text : List ℕ) → length_of (text ++ 13 ∷ []) ≡ None
+no_length [] = ap (option_map reference_length) (none_in [])
+no_length (byte ∷ bytes) =
+    ap (λ (b : Bool). option_map reference_length (if b then Some [] else operations_in (byte ∷ (bytes ++ 13 ∷ [])))) (name_ne (byte ∷ (bytes ++ 13 ∷ [])) (codes "*") (no_star (byte ∷ bytes)))
+    ∙ ap (option_map reference_length) (none_in (byte ∷ bytes))
+
+record IsPlain (text : List ℕ) : Type 0 where
+  some : 0 < length text
+  plain : ends_with_byte 13 text ≡ false
+
+plain_by : (text : List ℕ) (span : ℕ) (b : Bool) → ends_with_byte 13 text ≡ b → length_of text ≡ Some span → b ≡ false
+plain_by text span false ends e = refl
+plain_by text span true ends e =
+    let none : length_of text ≡ None = ap length_of (sym (strip_last-push 13 text ends)) ∙ no_length (strip_last 13 text) in
+    absurd (let apart : None ≡ Some span = sym none ∙ e in cc)
+
+plain_cigar : (text : List ℕ) (span : ℕ) → length_of text ≡ Some span → IsPlain text
+plain_cigar [] span e = cc
+plain_cigar (byte ∷ bytes) span e = record { some = omega arith; plain = plain_by (byte ∷ bytes) span (ends_with_byte 13 (byte ∷ bytes)) refl e }
+
 -- ---- an alignment that a line said
 
 pub record IsAligned (a : Alignment) : Type 0 where
@@ -69,9 +113,15 @@ pub record IsAligned (a : Alignment) : Type 0 where
   pub clear_cigar : NoLineFeed a.cigar
   pub below : a.start < a.stop
   pub small : a.stop ≤ 999999999999
+  pub one_name : IsColumn a.name
+  pub one_cigar : IsColumn a.cigar
+  pub some_cigar : 0 < length a.cigar
+  pub plain_cigar : ends_with_byte 13 a.cigar ≡ false
 
 record AreColumns (fields : Fields) : Type 0 where
+  name : IsColumn fields.name
   chrom : IsColumn fields.chrom
+  cigar : IsColumn fields.cigar
   clear_chrom : NoLineFeed fields.chrom
   clear_name : NoLineFeed fields.name
   clear_cigar : NoLineFeed fields.cigar
@@ -89,13 +139,13 @@ fields_columns (a ∷ b ∷ c ∷ d ∷ []) fields h k e = cc
 fields_columns (a ∷ b ∷ c ∷ d ∷ f ∷ []) fields h k e = cc
 fields_columns (a ∷ b ∷ c ∷ d ∷ f ∷ g ∷ rest) fields h k e =
     subst AreColumns (fields_by (leb 5 (length rest)) (record { name = a; flag = b; chrom = c; position = d; quality = f; cigar = g }) fields e)
-    (record { chrom = h.1.1.0; clear_chrom = k.1.1.0; clear_name = k.0; clear_cigar = k.1.1.1.1.1.0 })
+    (record { name = h.0; chrom = h.1.1.0; cigar = h.1.1.1.1.1.0; clear_chrom = k.1.1.0; clear_name = k.0; clear_cigar = k.1.1.1.1.1.0 })
 
 module _ (fields : Fields) (are : AreColumns fields) where
-  large_by : (large : Bool) (flag position quality span : ℕ) (a : Alignment) → 0 < length fields.chrom → 0 < span → ltb 999999999999 (position - 1 + span) ≡ large
+  large_by : (large : Bool) (flag position quality span : ℕ) (a : Alignment) → 0 < length fields.chrom → IsPlain fields.cigar → 0 < span → ltb 999999999999 (position - 1 + span) ≡ large
       → cond large (Err StopTooLarge) (Ok (Some (alignment_at fields flag position quality span))) ≡ Ok (Some a) → IsAligned a
-  large_by true flag position quality span a some bases e is = cc
-  large_by false flag position quality span a some bases e is =
+  large_by true flag position quality span a some plain bases e is = cc
+  large_by false flag position quality span a some plain bases e is =
       let same : alignment_at fields flag position quality span ≡ a = cc in
       subst IsAligned same (record {
         named = record { some = some; one_column = are.chrom };
@@ -104,27 +154,31 @@ module _ (fields : Fields) (are : AreColumns fields) where
         clear_cigar = are.clear_cigar;
         below = omega (arith, bases);
         small = small_by (position - 1 + span) e;
+        one_name = are.name;
+        one_cigar = are.cigar;
+        some_cigar = plain.some;
+        plain_cigar = plain.plain;
       })
 
-  nothing_by : (nothing : Bool) (flag position quality span : ℕ) (a : Alignment) → 0 < length fields.chrom → gives_nothing flag fields.chrom position span ≡ nothing
+  nothing_by : (nothing : Bool) (flag position quality span : ℕ) (a : Alignment) → 0 < length fields.chrom → IsPlain fields.cigar → gives_nothing flag fields.chrom position span ≡ nothing
       → cond nothing (Ok None) (cond (ltb 999999999999 (position - 1 + span)) (Err StopTooLarge) (Ok (Some (alignment_at fields flag position quality span)))) ≡ Ok (Some a) → IsAligned a
-  nothing_by true flag position quality span a some e is = cc
-  nothing_by false flag position quality span a some e is = large_by (ltb 999999999999 (position - 1 + span)) flag position quality span a some (some_span span (or_last _ (eqb span 0) e)) refl is
+  nothing_by true flag position quality span a some plain e is = cc
+  nothing_by false flag position quality span a some plain e is = large_by (ltb 999999999999 (position - 1 + span)) flag position quality span a some plain (some_span span (or_last _ (eqb span 0) e)) refl is
 
-  columns_by : (flag : Option ℕ) (chrom : List ℕ) (position quality span : Option ℕ) (a : Alignment) → chrom ≡ fields.chrom → columns_say fields flag chrom position quality span ≡ Ok (Some a) → IsAligned a
-  columns_by None chrom position quality span a e is = cc
-  columns_by (Some flag) [] position quality span a e is = cc
-  columns_by (Some flag) (byte ∷ bytes) None quality span a e is = cc
-  columns_by (Some flag) (byte ∷ bytes) (Some position) None span a e is = cc
-  columns_by (Some flag) (byte ∷ bytes) (Some position) (Some quality) None a e is = cc
-  columns_by (Some flag) (byte ∷ bytes) (Some position) (Some quality) (Some span) a e is =
-      nothing_by (gives_nothing flag fields.chrom position span) flag position quality span a (subst (λ l. 0 < length l) e (omega arith)) refl is
+  columns_by : (flag : Option ℕ) (chrom : List ℕ) (position quality span : Option ℕ) (a : Alignment) → chrom ≡ fields.chrom → length_of fields.cigar ≡ span → columns_say fields flag chrom position quality span ≡ Ok (Some a) → IsAligned a
+  columns_by None chrom position quality span a e long is = cc
+  columns_by (Some flag) [] position quality span a e long is = cc
+  columns_by (Some flag) (byte ∷ bytes) None quality span a e long is = cc
+  columns_by (Some flag) (byte ∷ bytes) (Some position) None span a e long is = cc
+  columns_by (Some flag) (byte ∷ bytes) (Some position) (Some quality) None a e long is = cc
+  columns_by (Some flag) (byte ∷ bytes) (Some position) (Some quality) (Some span) a e long is =
+      nothing_by (gives_nothing flag fields.chrom position span) flag position quality span a (subst (λ l. 0 < length l) e (omega arith)) (plain_cigar fields.cigar span long) refl is
 
 said_by : (fields : Option Fields) (a : Alignment) → ((f : Fields) → fields ≡ Some f → AreColumns f) → fields_say fields ≡ Ok (Some a) → IsAligned a
 unfolding fields_say
 said_by None a h e = cc
 said_by (Some fields) a h e =
-    columns_by fields (h fields refl) (value_up_to max_flag fields.flag) fields.chrom (value_up_to max_position fields.position) (value_up_to max_quality fields.quality) (length_of fields.cigar) a refl e
+    columns_by fields (h fields refl) (value_up_to max_flag fields.flag) fields.chrom (value_up_to max_position fields.position) (value_up_to max_quality fields.quality) (length_of fields.cigar) a refl refl e
 
 skipped_by : (skipped : Bool) (said : Result (Option Alignment) Kind) (a : Alignment) → cond skipped (Ok None) said ≡ Ok (Some a) → said ≡ Ok (Some a)
 skipped_by true said a e = cc
@@ -204,13 +258,70 @@ places_are : (cigar : Bool) (all : List Alignment) → map (λ (line : Columns).
 places_are cigar [] = refl
 places_are cigar (a ∷ all) = ap (λ l. aligned_at a ∷ l) (places_are cigar all)
 
-read_places : (lines : List Columns) → intervals_of (filter is_no_header (map record_back lines)) ≡ filter (λ (r : Interval). not (is_header r.chrom)) (map (λ (line : Columns). line.at) lines)
-read_places [] = refl
-read_places (line ∷ lines) =
-    elim (not (is_header line.at.chrom)) as (λ b. intervals_of (cond b (record_back line ∷ filter is_no_header (map record_back lines)) (filter is_no_header (map record_back lines))) ≡ cond b (line.at ∷ filter (λ (r : Interval). not (is_header r.chrom)) (map (λ (line : Columns). line.at) lines)) (filter (λ (r : Interval). not (is_header r.chrom)) (map (λ (line : Columns). line.at) lines))) [
-      | true ↦ ap (λ rs. line.at ∷ rs) (read_places lines)
-      | false ↦ read_places lines
-    ]
+-- ---- the record that is read of it
+
+whole_tail : (front back tail : List ℕ) → tail ≡ front ++ back → 0 < length back → strip_last 13 back ≡ back → strip_last 13 tail ≡ tail
+whole_tail front back tail e some plain = ap (strip_last 13) e ∙ strip_both 13 front back some ∙ ap (λ l. front ++ l) plain ∙ sym e
+
+sign_some : (reverse : Bool) → 0 < length (strand_sign reverse)
+sign_some true = omega arith
+sign_some false = omega arith
+
+sign_plain : (reverse : Bool) → strip_last 13 (strand_sign reverse) ≡ strand_sign reverse
+sign_plain true = refl
+sign_plain false = refl
+
+tail_plain : (cigar : Bool) (a : Alignment) → IsAligned a → strip_last 13 (tail_of cigar a) ≡ tail_of cigar a
+unfolding cigar_tail
+tail_plain false a is = whole_tail (9 ∷ (read_name a ++ 9 ∷ (decimal a.quality ++ 9 ∷ []))) (strand_sign a.reverse) (tail_of false a) (simp (append_assoc, append-nil)) (sign_some a.reverse) (sign_plain a.reverse)
+tail_plain true a is =
+    whole_tail (9 ∷ (read_name a ++ 9 ∷ (decimal a.quality ++ 9 ∷ strand_sign a.reverse))) (9 ∷ a.cigar) (tail_of true a) (simp append_assoc) (omega arith)
+    (strip_last-other 13 (9 ∷ a.cigar) (ends_both 13 (9 ∷ []) a.cigar is.some_cigar ∙ is.plain_cigar))
+
+abbrev columns_after : Bool → Alignment → List (List ℕ)
+columns_after cigar a = decimal a.quality ∷ strand_sign a.reverse ∷ (if cigar then a.cigar ∷ [] else [])
+
+tail_kept : (cigar : Bool) (a : Alignment) → tail_of cigar a ≡ kept_columns (read_name a ∷ columns_after cigar a)
+unfolding cigar_tail
+tail_kept false a = refl
+tail_kept true a = ap (λ l. 9 ∷ (read_name a ++ 9 ∷ (decimal a.quality ++ 9 ∷ (strand_sign a.reverse ++ l)))) (sym (append-nil (9 ∷ a.cigar)))
+
+column_both : (xs ys : List ℕ) → IsColumn xs → IsColumn ys → IsColumn (xs ++ ys)
+column_both xs ys h k = All-append IsInside xs ys h k
+
+column_if : (b : Bool) (text : List ℕ) → IsColumn text → IsColumn (if b then text else [])
+column_if true text h = h
+column_if false text h = All-nil IsInside
+
+segment_column : (number : ℕ) → IsInside number → IsColumn (47 ∷ number ∷ [])
+segment_column number inside = All-from_recursion IsInside (47 ∷ number ∷ []) (refl, (inside, tt))
+
+name_column : (a : Alignment) → IsColumn a.name → IsColumn (read_name a)
+name_column a h = column_both a.name _ h (column_both _ _ (column_if a.first (codes "/1") (segment_column 49 refl)) (column_if a.last (codes "/2") (segment_column 50 refl)))
+
+sign_column : (reverse : Bool) → IsColumn (strand_sign reverse)
+sign_column true = All-from_recursion IsInside (45 ∷ []) (refl, tt)
+sign_column false = All-from_recursion IsInside (43 ∷ []) (refl, tt)
+
+after_columns : (cigar : Bool) (a : Alignment) → IsAligned a → AllByRecursion IsColumn (columns_after cigar a)
+after_columns false a is = (number_column a.quality, (sign_column a.reverse, tt))
+after_columns true a is = (number_column a.quality, (sign_column a.reverse, (is.one_cigar, tt)))
+
+sign_named : (reverse : Bool) → strand_named (strand_sign reverse) ≡ (if reverse then Minus else Plus)
+sign_named true = refl
+sign_named false = refl
+
+strand_is : (cigar : Bool) (a : Alignment) → IsAligned a → strand_of (columns_in (kept_columns (read_name a ∷ columns_after cigar a))) ≡ (if a.reverse then Minus else Plus)
+strand_is cigar a is = ap strand_of (kept_is_cut (read_name a) (columns_after cigar a) (name_column a is.one_name) (after_columns cigar a is)) ∙ sign_named a.reverse
+
+record_is : (cigar : Bool) (a : Alignment) → IsAligned a → record_back (aligned_columns cigar a) ≡ aligned_record cigar a
+record_is cigar a is =
+    ap (record_with a.chrom a.start a.stop) (tail_plain cigar a is ∙ tail_kept cigar a)
+    ∙ ap (λ s. record { chrom = a.chrom; start = a.start; stop = a.stop; strand = s; rest = kept_columns (read_name a ∷ columns_after cigar a) }) (strand_is cigar a is)
+
+records_are : (cigar : Bool) (all : List Alignment) → AllByRecursion IsAligned all → map record_back (map (aligned_columns cigar) all) ≡ map (aligned_record cigar) all
+records_are cigar [] are = refl
+records_are cigar (a ∷ all) are = ap₂ (λ r rs. r ∷ rs) (record_is cigar a are.0) (records_are cigar all are.1)
 
 output_is : (inputs : Inputs) (cigar : Bool) → inputs.genome ≡ None → (report_of (BamToBed false cigar) inputs).output ≡ alignment_lines false cigar (alignments_of inputs)
 unfolding report_of
@@ -220,9 +331,9 @@ pub bamtobed_input : bamtobed_is_input
 unfolding report_of
 bamtobed_input cigar inputs order total none placed =
     let all = alignments_of inputs in
+    let aligned = aligned_lines First (lines_handed inputs.first) (clear_handed inputs.first) in
     let lines = map (aligned_columns cigar) all in
-    let are = all_map IsColumns (aligned_columns cigar) all (all_so IsAligned (λ a. IsColumns (aligned_columns cigar a)) all (columns_aligned cigar) (aligned_lines First (lines_handed inputs.first) (clear_handed inputs.first))) in (
-      filter is_no_header (map record_back lines),
-      subst (λ text. IsInput order text (filter is_no_header (map record_back lines))) (sym (output_is inputs cigar none ∙ lines_as cigar all)) (lines_back order total lines are (subst (ArePlaced order) (sym (places_are cigar all)) placed)),
-      read_places lines ∙ ap (filter (λ (r : Interval). not (is_header r.chrom))) (places_are cigar all),
-    )
+    let are = all_map IsColumns (aligned_columns cigar) all (all_so IsAligned (λ a. IsColumns (aligned_columns cigar a)) all (columns_aligned cigar) aligned) in
+    subst (λ text. IsInput order text (filter is_no_header (map (aligned_record cigar) all))) (sym (output_is inputs cigar none ∙ lines_as cigar all))
+    (subst (λ rs. IsInput order (flat_map (λ line. text_of_columns line ++ 10 ∷ []) lines) (filter is_no_header rs)) (records_are cigar all aligned)
+    (lines_back order total lines are (subst (ArePlaced order) (sym (places_are cigar all)) placed)))

@@ -19,7 +19,7 @@ use Rattle.bt_runs.proofs.lemmas.coverage.LevelLemmas.{are_levels, looser, only_
 use Rattle.bt_tool.specs.model.report.Behaviour.{entries_in, order_of}
 use Rattle.bt_tool.specs.model.report.Written.{complement_written, coverage_written}
 use Rattle.bt_tool.specs.declared.planning.plan_type.Command.TheVariants.{Complement, Coverage}
-use Rattle.bt_laws.specs.pipes.Pipes.{first_records}
+use Rattle.bt_laws.specs.Runs.{first_records}
 use Rattle.bt_laws.specs.same.SameRuns.{bg_is_bga_above_0, depth_0_is_complement, without_depth}
 use Rattle.bt_laws.proofs.lemmas.pipes.PipeLaws.{complement_whole, genomecov_whole}
 use Rattle.bt_laws.proofs.lemmas.same.RunsAgain.{fault_as, told_same}

@@ -1,7 +1,7 @@
 -- The reports whose outputs go on as inputs.
 use Rattle.std.proofs.Common.{append-nil, append_assoc, ◌≡◌, ℕ, Bool, true, false, List, [], ◌∷◌, ◌++◌, map, filter, Option, Some, None, Result, Ok, Err, refl, sym, ap, ◌∙◌, subst}
 use Rattle.std.specs.Prelude.{◌≢◌, flat_map, if◌then◌else◌}
-use Rattle.std.specs.List.{AllByRecursion, list_all}
+use Rattle.std.specs.List.{AllByRecursion, AllPairs, list_all}
 use Rattle.std.specs.Option.{option_or}
 use Rattle.bt_lines.specs.model.Fault.{FaultValue}
 use Rattle.bt_lines.specs.model.Handed.{Handed}
@@ -46,14 +46,17 @@ use Rattle.bt_tool.specs.model.report.SweepReport.{met_within}
 use Rattle.bt_tool.specs.model.report.Written.{Written, complement_written, coverage_written, merge_written}
 use Rattle.bt_tool.specs.declared.planning.plan_type.Command.{Command}
 use Rattle.bt_tool.specs.declared.planning.plan_type.Command.TheVariants.{Complement, Coverage, Intersect, Merge, Subtract}
-use Rattle.bt_laws.specs.pipes.Pipes.{IsInputAt, RunsWell, complement_is_input, cut_intersect_is_input, first_records, genomecov_is_input, intersect_is_input, merge_is_input, second_records, subtract_is_input, whole_subtract_is_input}
-use Rattle.bt_laws.specs.pipes.SweepLines.{begins_with_a, cuts_written, places_written}
-use Rattle.bt_laws.specs.pipes.Taken.{AreApart, AreDisjoint, EachPair, IsInput, four_columns, is_no_header, three_columns}
+use Rattle.bt_laws.specs.Runs.{RunsWithoutFault, first_records, second_records}
+use Rattle.bt_laws.specs.pipes.Pipes.{complement_is_input, cut_intersect_is_input, genomecov_is_input, intersect_is_input, kept_places_stay, kept_records_stay, kept_strands_stay, merge_is_input, subtract_is_input, whole_subtract_is_input}
+use Rattle.bt_laws.specs.pipes.SweepLines.{begins_with_a, records_written}
+use Rattle.bt_laws.specs.pipes.Taken.{AreSeparate, AreDisjoint, IsInput, four_columns, is_no_header, three_columns}
+use Rattle.bt_laws.proofs.lemmas.pipes.Pairs.{EachPair, pairs_all, pairs_each}
 use Rattle.bt_laws.proofs.lemmas.back.GapsBack.{coverage_back, depths_disjoint, gaps_back, gaps_pairs}
 use Rattle.bt_laws.proofs.lemmas.parts.report.PartShards.{distinct_in}
 use Rattle.bt_laws.proofs.lemmas.back.RunsBack.{intervals_back, merge_apart, merge_back, runs_back, strands_written}
-use Rattle.bt_laws.proofs.lemmas.back.SaidWell.{IsChrom, genome_chroms, good_are_said}
-use Rattle.bt_laws.proofs.lemmas.back.SweepBack.{all_cut_places, cut_at, kept_back, pieces_back}
+use Rattle.bt_laws.proofs.lemmas.back.SaidWell.{IsChrom, IsSaid, genome_chroms, good_are_said}
+use Rattle.bt_laws.proofs.lemmas.back.SweepBack.{cut_back, kept_back, pieces_back}
+use Rattle.bt_laws.proofs.lemmas.back.SweepRead.{all_read, places_stay, records_stay, strands_stay}
 
 -- ---- the order in use
 
@@ -79,7 +82,7 @@ whole_by : {A : Type 0} (written : Written A) (members : List A) (fault : Option
 whole_by written members None e = refl
 whole_by written members (Some fault) e = cc
 
-module _ (command : Command) (inputs : Inputs) (chromosomes : Option (List Entry)) (well : RunsWell command inputs chromosomes) where
+module _ (command : Command) (inputs : Inputs) (chromosomes : Option (List Entry)) (well : RunsWithoutFault command inputs chromosomes) where
   pub report_is : report_of command inputs ≡ (behaviour_of command chromosomes).report inputs.first inputs.second
   unfolding report_of
   report_is = ap (λ found. report_on command found inputs.first inputs.second) well.genome
@@ -92,7 +95,7 @@ module _ (command : Command) (inputs : Inputs) (chromosomes : Option (List Entry
 
 -- ---- merge
 
-pub merge_whole : (d : ℕ) (strand : MergeStrand) (inputs : Inputs) (chromosomes : Option (List Entry)) → RunsWell (Merge d strand) inputs chromosomes
+pub merge_whole : (d : ℕ) (strand : MergeStrand) (inputs : Inputs) (chromosomes : Option (List Entry)) → RunsWithoutFault (Merge d strand) inputs chromosomes
     → (report_of (Merge d strand) inputs).output ≡ (merge_written (order_of chromosomes) d strand).whole (first_records chromosomes inputs)
 merge_whole d strand inputs chromosomes well =
     output_is (Merge d strand) inputs chromosomes well
@@ -111,13 +114,13 @@ module _ (d : ℕ) (inputs : Inputs) (chromosomes : Option (List Entry)) where
   placed : ArePlaced order_used (intervals_of merged_records)
   placed = placed_good First order_used inputs.first total
 
-  pooled : (strand : MergeStrand) → RunsWell (Merge d strand) inputs chromosomes → (report_of (Merge d strand) inputs).output ≡ interval_lines (ordered_runs order_used d strand merged_records)
-      → (runs : List Interval) × ((report_of (Merge d strand) inputs).output ≡ interval_lines runs) × IsInput order_used (report_of (Merge d strand) inputs).output (map three_columns runs) × (strand ≢ Each → EachPair AreApart runs)
+  pooled : (strand : MergeStrand) → RunsWithoutFault (Merge d strand) inputs chromosomes → (report_of (Merge d strand) inputs).output ≡ interval_lines (ordered_runs order_used d strand merged_records)
+      → (runs : List Interval) × ((report_of (Merge d strand) inputs).output ≡ interval_lines runs) × IsInput order_used (report_of (Merge d strand) inputs).output (map three_columns runs) × (strand ≢ Each → AllPairs AreSeparate runs)
   pooled strand well e = (
     ordered_runs order_used d strand merged_records,
     e,
     subst (λ text. IsInput order_used text (map three_columns (ordered_runs order_used d strand merged_records))) (sym e) (merge_back order_used total d strand merged_records (good_are_said First order_used inputs.first) placed),
-    λ other. merge_apart order_used total d strand merged_records (good_are_said First order_used inputs.first) placed,
+    λ other. pairs_all AreSeparate (ordered_runs order_used d strand merged_records) (merge_apart order_used total d strand merged_records (good_are_said First order_used inputs.first) placed),
   )
 
 pub merge_input : merge_is_input
@@ -139,7 +142,7 @@ merge_input d Each inputs chromosomes well =
 
 -- ---- complement and genomecov
 
-module _ (limit : Bool) (inputs : Inputs) (chromosomes : Option (List Entry)) (well : RunsWell (Complement limit) inputs chromosomes) where
+module _ (limit : Bool) (inputs : Inputs) (chromosomes : Option (List Entry)) (well : RunsWithoutFault (Complement limit) inputs chromosomes) where
   abbrev gaps_of_run : List Interval
   gaps_of_run = complement limit (entries_in chromosomes) (first_records chromosomes inputs)
 
@@ -149,7 +152,7 @@ module _ (limit : Bool) (inputs : Inputs) (chromosomes : Option (List Entry)) (w
 
 gaps_input : (limit : Bool) (genome : Option Handed) (chromosomes : Option (List Entry)) (records : List Feature) → chromosomes_of genome ≡ Ok chromosomes
     → IsInput (order_of chromosomes) (interval_lines (complement limit (entries_in chromosomes) records)) (filter is_no_header (map three_columns (complement limit (entries_in chromosomes) records)))
-    × EachPair AreApart (complement limit (entries_in chromosomes) records)
+    × EachPair AreSeparate (complement limit (entries_in chromosomes) records)
 unfolding complement
 gaps_input limit genome None records e = (intervals_back byte_order bytes_total [] tt tt, tt)
 gaps_input limit genome (Some entries) records e =
@@ -161,7 +164,7 @@ complement_input limit inputs chromosomes well =
     let e = complement_whole limit inputs chromosomes well in
     let is = gaps_input limit inputs.genome chromosomes (first_records chromosomes inputs) well.genome in
     let gaps = complement limit (entries_in chromosomes) (first_records chromosomes inputs) in
-    (gaps, e, subst (λ text. IsInput (order_of chromosomes) text (filter is_no_header (map three_columns gaps))) (sym e) is.0, is.1)
+    (gaps, e, subst (λ text. IsInput (order_of chromosomes) text (filter is_no_header (map three_columns gaps))) (sym e) is.0, pairs_all AreSeparate gaps is.1)
 
 depths_input : (zeros : Bool) (strand : Option Strand) (genome : Option Handed) (chromosomes : Option (List Entry)) (records : List Feature) → chromosomes_of genome ≡ Ok chromosomes
     → IsInput (order_of chromosomes) (depth_lines (coverage zeros strand (entries_in chromosomes) records)) (filter is_no_header (map four_columns (coverage zeros strand (entries_in chromosomes) records)))
@@ -172,7 +175,7 @@ depths_input zeros strand genome (Some entries) records e =
     let known = chroms_of genome entries e in
     (coverage_back entries known.0 known.1 zeros strand records, depths_disjoint entries known.0 known.1 zeros strand records)
 
-pub genomecov_whole : (zeros : Bool) (strand : Option Strand) (inputs : Inputs) (chromosomes : Option (List Entry)) → RunsWell (Coverage zeros strand) inputs chromosomes
+pub genomecov_whole : (zeros : Bool) (strand : Option Strand) (inputs : Inputs) (chromosomes : Option (List Entry)) → RunsWithoutFault (Coverage zeros strand) inputs chromosomes
     → (report_of (Coverage zeros strand) inputs).output ≡ depth_lines (coverage zeros strand (entries_in chromosomes) (first_records chromosomes inputs))
 genomecov_whole zeros strand inputs chromosomes well =
     output_is (Coverage zeros strand) inputs chromosomes well
@@ -183,7 +186,7 @@ genomecov_input zeros strand inputs chromosomes well =
     let depths = coverage zeros strand (entries_in chromosomes) (first_records chromosomes inputs) in
     let e = genomecov_whole zeros strand inputs chromosomes well in
     let is = depths_input zeros strand inputs.genome chromosomes (first_records chromosomes inputs) well.genome in
-    (depths, e, subst (λ text. IsInput (order_of chromosomes) text (filter is_no_header (map four_columns depths))) (sym e) is.0, is.1)
+    (depths, e, subst (λ text. IsInput (order_of chromosomes) text (filter is_no_header (map four_columns depths))) (sym e) is.0, pairs_all AreDisjoint (map interval_at depths) is.1)
 
 -- ---- two inputs
 
@@ -236,24 +239,35 @@ module _ (shape : Shape) (rule : HitRule) (chromosomes : Option (List Entry)) (i
   abbrev seconds : List Feature
   seconds = second_records chromosomes inputs
 
-  kept_input : begins_with_a shape ≡ true → IsInputAt (order_of chromosomes) (intersect shape rule firsts seconds) (places_written shape rule firsts seconds)
+  said : AllByRecursion IsSaid firsts
+  said = good_are_said First (order_of chromosomes) inputs.first
+
+  said_second : AllByRecursion IsSaid seconds
+  said_second = good_are_said Second (order_of chromosomes) (or_empty inputs.second)
+
+  first_placed : ArePlaced (order_of chromosomes) (intervals_of firsts)
+  first_placed = placed_good First (order_of chromosomes) inputs.first (order_total chromosomes)
+
+  second_placed : ArePlaced (order_of chromosomes) (intervals_of seconds)
+  second_placed = placed_good Second (order_of chromosomes) (or_empty inputs.second) (order_total chromosomes)
+
+  kept_input : begins_with_a shape ≡ true → IsInput (order_of chromosomes) (intersect shape rule firsts seconds) (records_written shape rule firsts seconds)
   kept_input begins =
-      kept_back (order_of chromosomes) (order_total chromosomes) shape rule firsts seconds (good_are_said First (order_of chromosomes) inputs.first) (good_are_said Second (order_of chromosomes) (or_empty inputs.second))
-      (placed_good First (order_of chromosomes) inputs.first (order_total chromosomes)) begins
+      subst (IsInput (order_of chromosomes) (intersect shape rule firsts seconds)) (all_read shape rule firsts seconds)
+      (kept_back (order_of chromosomes) (order_total chromosomes) shape rule firsts seconds said said_second first_placed begins)
 
-  cut_input : begins_with_a shape ≡ false → EachPair AreDisjoint (intervals_of firsts) → IsInputAt (order_of chromosomes) (intersect shape rule firsts seconds) (cuts_written shape rule firsts seconds)
+  pub cut_input : begins_with_a shape ≡ false → AllPairs AreDisjoint (intervals_of firsts) → IsInput (order_of chromosomes) (intersect shape rule firsts seconds) (records_written shape rule firsts seconds)
   cut_input cuts apart =
-      let at = cut_at (order_of chromosomes) (order_total chromosomes) shape rule firsts seconds (good_are_said First (order_of chromosomes) inputs.first) (good_are_said Second (order_of chromosomes) (or_empty inputs.second))
-      (placed_good First (order_of chromosomes) inputs.first (order_total chromosomes)) (placed_good Second (order_of chromosomes) (or_empty inputs.second) (order_total chromosomes)) apart cuts in
-      (at.0, at.1, at.2 ∙ all_cut_places shape rule firsts seconds cuts)
+      subst (IsInput (order_of chromosomes) (intersect shape rule firsts seconds)) (all_read shape rule firsts seconds)
+      (cut_back (order_of chromosomes) (order_total chromosomes) shape rule firsts seconds said said_second first_placed second_placed (pairs_each AreDisjoint (intervals_of firsts) apart) cuts)
 
-pub intersect_whole : (shape : Shape) (rule : HitRule) (held : Option ℕ) (inputs : Inputs) (chromosomes : Option (List Entry)) → RunsWell (Intersect shape rule held) inputs chromosomes
+pub intersect_whole : (shape : Shape) (rule : HitRule) (held : Option ℕ) (inputs : Inputs) (chromosomes : Option (List Entry)) → RunsWithoutFault (Intersect shape rule held) inputs chromosomes
     → (report_of (Intersect shape rule held) inputs).output ≡ intersect shape rule (first_records chromosomes inputs) (second_records chromosomes inputs)
 intersect_whole shape rule held inputs chromosomes well =
     output_is (Intersect shape rule held) inputs chromosomes well
     ∙ swept_whole (order_of chromosomes) shape rule held (bed_good First (order_of chromosomes) inputs.first) (bed_good Second (order_of chromosomes) (or_empty inputs.second)) (well_there (Intersect shape rule held) inputs chromosomes well)
 
-pub subtract_whole : (whole : Bool) (rule : HitRule) (held : Option ℕ) (inputs : Inputs) (chromosomes : Option (List Entry)) → RunsWell (Subtract whole rule held) inputs chromosomes
+pub subtract_whole : (whole : Bool) (rule : HitRule) (held : Option ℕ) (inputs : Inputs) (chromosomes : Option (List Entry)) → RunsWithoutFault (Subtract whole rule held) inputs chromosomes
     → (report_of (Subtract whole rule held) inputs).output ≡ intersect (subtract_shape whole) rule (first_records chromosomes inputs) (second_records chromosomes inputs)
 subtract_whole whole rule held inputs chromosomes well =
     output_is (Subtract whole rule held) inputs chromosomes well
@@ -261,24 +275,35 @@ subtract_whole whole rule held inputs chromosomes well =
 
 pub intersect_input : intersect_is_input
 intersect_input shape rule held inputs chromosomes begins well =
-    subst (λ text. IsInputAt (order_of chromosomes) text (places_written shape rule (first_records chromosomes inputs) (second_records chromosomes inputs))) (sym (intersect_whole shape rule held inputs chromosomes well))
+    subst (λ text. IsInput (order_of chromosomes) text (records_written shape rule (first_records chromosomes inputs) (second_records chromosomes inputs))) (sym (intersect_whole shape rule held inputs chromosomes well))
     (kept_input shape rule chromosomes inputs begins)
 
 pub whole_subtract_input : whole_subtract_is_input
 whole_subtract_input rule held inputs chromosomes well =
-    subst (λ text. IsInputAt (order_of chromosomes) text (places_written Whole rule (first_records chromosomes inputs) (second_records chromosomes inputs))) (sym (subtract_whole true rule held inputs chromosomes well))
+    subst (λ text. IsInput (order_of chromosomes) text (records_written Whole rule (first_records chromosomes inputs) (second_records chromosomes inputs))) (sym (subtract_whole true rule held inputs chromosomes well))
     (kept_input Whole rule chromosomes inputs refl)
+
+pub kept_records : kept_records_stay
+kept_records shape rule inputs chromosomes alone plain = records_stay shape rule (first_records chromosomes inputs) (second_records chromosomes inputs) alone (said shape rule chromosomes inputs) plain
+
+pub kept_places : kept_places_stay
+kept_places shape rule inputs chromosomes begins = places_stay shape rule (first_records chromosomes inputs) (second_records chromosomes inputs) begins
+
+pub kept_strands : kept_strands_stay
+kept_strands shape rule inputs chromosomes begins alone unsigned =
+    strands_stay shape rule (first_records chromosomes inputs) (second_records chromosomes inputs) begins alone (said shape rule chromosomes inputs) (said_second shape rule chromosomes inputs) unsigned
 
 pub cut_intersect_input : cut_intersect_is_input
 cut_intersect_input shape rule held inputs chromosomes cuts well apart =
-    subst (λ text. IsInputAt (order_of chromosomes) text (cuts_written shape rule (first_records chromosomes inputs) (second_records chromosomes inputs))) (sym (intersect_whole shape rule held inputs chromosomes well)) (cut_input shape rule chromosomes inputs cuts apart)
+    subst (λ text. IsInput (order_of chromosomes) text (records_written shape rule (first_records chromosomes inputs) (second_records chromosomes inputs))) (sym (intersect_whole shape rule held inputs chromosomes well)) (cut_input shape rule chromosomes inputs cuts apart)
 
 pub subtract_input : subtract_is_input
 subtract_input rule held inputs chromosomes well apart =
-    let places = cuts_written Pieces rule (first_records chromosomes inputs) (second_records chromosomes inputs) in
-    let at = cut_input Pieces rule chromosomes inputs refl apart in
-    let back = pieces_back (order_of chromosomes) (order_total chromosomes) rule (first_records chromosomes inputs) (second_records chromosomes inputs) (good_are_said First (order_of chromosomes) inputs.first) (good_are_said Second (order_of chromosomes) (or_empty inputs.second))
-    (placed_good First (order_of chromosomes) inputs.first (order_total chromosomes)) (placed_good Second (order_of chromosomes) (or_empty inputs.second) (order_total chromosomes)) apart in (
-      subst (λ text. IsInputAt (order_of chromosomes) text places) (sym (subtract_whole false rule held inputs chromosomes well)) at,
-      subst (EachPair AreDisjoint) (ap intervals_of (sym (back.1.records_are First) ∙ at.1.records_are First) ∙ at.2) back.2,
+    let firsts = first_records chromosomes inputs in
+    let seconds = second_records chromosomes inputs in
+    let left = records_written Pieces rule firsts seconds in
+    let back = pieces_back (order_of chromosomes) (order_total chromosomes) rule firsts seconds (said Pieces rule chromosomes inputs) (said_second Pieces rule chromosomes inputs)
+    (first_placed Pieces rule chromosomes inputs) (second_placed Pieces rule chromosomes inputs) (pairs_each AreDisjoint (intervals_of firsts) apart) in (
+      subst (λ text. IsInput (order_of chromosomes) text left) (sym (subtract_whole false rule held inputs chromosomes well)) (cut_input Pieces rule chromosomes inputs refl apart),
+      pairs_all AreDisjoint (intervals_of left) (subst (λ rs. EachPair AreDisjoint (intervals_of rs)) (all_read Pieces rule firsts seconds) back),
     )

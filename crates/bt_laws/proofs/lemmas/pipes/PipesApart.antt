@@ -1,12 +1,14 @@
 -- Outputs whose records don't overlap.
 use Rattle.std.proofs.Common.{List, map, filter, sym, subst}
+use Rattle.std.specs.List.{AllPairs}
 use Rattle.bt_lines.specs.declared.fault.Input.TheVariants.{First}
 use Rattle.bt_bed.specs.model.feature.Feature.{Feature, interval_of, intervals_of}
 use Rattle.bt_bed.specs.model.feature.Interval.{Interval}
 use Rattle.bt_runs.specs.calls.CoveredLevels.{interval_at}
 use Rattle.bt_runs.specs.model.Depth.{DepthInterval}
 use Rattle.bt_laws.specs.pipes.PipesApart.{complement_writes_disjoint, genomecov_writes_disjoint, merge_writes_disjoint}
-use Rattle.bt_laws.specs.pipes.Taken.{AreDisjoint, EachPair, four_columns, is_no_header, three_columns}
+use Rattle.bt_laws.specs.pipes.Taken.{AreDisjoint, AreSeparate, four_columns, is_no_header, three_columns}
+use Rattle.bt_laws.proofs.lemmas.pipes.Pairs.{EachPair, pairs_all, pairs_each}
 use Rattle.bt_laws.proofs.lemmas.pipes.PipeLaws.{complement_input, genomecov_input, merge_input}
 use Rattle.bt_laws.proofs.lemmas.pipes.Placing.{apart_disjoint, pairs_filter, pairs_from_map, pairs_map}
 
@@ -17,22 +19,23 @@ of_three rs h = pairs_map (λ (r s : Feature). AreDisjoint (interval_of r) (inte
 of_four : (rs : List DepthInterval) → EachPair AreDisjoint (map interval_at rs) → EachPair (λ (r s : Feature). AreDisjoint (interval_of r) (interval_of s)) (map four_columns rs)
 of_four rs h = pairs_map (λ (r s : Feature). AreDisjoint (interval_of r) (interval_of s)) four_columns rs (pairs_from_map AreDisjoint interval_at rs h)
 
-places_apart : (rs : List Feature) → EachPair (λ (r s : Feature). AreDisjoint (interval_of r) (interval_of s)) rs → EachPair AreDisjoint (intervals_of rs)
-places_apart rs h = pairs_map AreDisjoint interval_of rs h
+-- the places of records that are read of these
+places_apart : (rs : List Feature) → EachPair (λ (r s : Feature). AreDisjoint (interval_of r) (interval_of s)) rs → AllPairs AreDisjoint (intervals_of rs)
+places_apart rs h = pairs_all AreDisjoint (intervals_of rs) (pairs_map AreDisjoint interval_of rs h)
 
 pub merge_disjoint : merge_writes_disjoint
 merge_disjoint d strand other inputs chromosomes well =
     let is = merge_input d strand inputs chromosomes well in
-    subst (λ rs. EachPair AreDisjoint (intervals_of rs)) (sym (is.2.records_are First)) (places_apart (map three_columns is.0) (of_three is.0 (apart_disjoint is.0 (is.3 other))))
+    subst (λ rs. AllPairs AreDisjoint (intervals_of rs)) (sym (is.2.records_are First)) (places_apart (map three_columns is.0) (of_three is.0 (apart_disjoint is.0 (pairs_each AreSeparate is.0 (is.3 other)))))
 
 pub complement_disjoint : complement_writes_disjoint
 complement_disjoint limit inputs chromosomes well =
     let is = complement_input limit inputs chromosomes well in
-    subst (λ rs. EachPair AreDisjoint (intervals_of rs)) (sym (is.2.records_are First))
-    (places_apart (filter is_no_header (map three_columns is.0)) (pairs_filter (λ (r s : Feature). AreDisjoint (interval_of r) (interval_of s)) is_no_header (map three_columns is.0) (of_three is.0 (apart_disjoint is.0 is.3))))
+    subst (λ rs. AllPairs AreDisjoint (intervals_of rs)) (sym (is.2.records_are First))
+    (places_apart (filter is_no_header (map three_columns is.0)) (pairs_filter (λ (r s : Feature). AreDisjoint (interval_of r) (interval_of s)) is_no_header (map three_columns is.0) (of_three is.0 (apart_disjoint is.0 (pairs_each AreSeparate is.0 is.3)))))
 
 pub genomecov_disjoint : genomecov_writes_disjoint
 genomecov_disjoint zeros strand inputs chromosomes well =
     let is = genomecov_input zeros strand inputs chromosomes well in
-    subst (λ rs. EachPair AreDisjoint (intervals_of rs)) (sym (is.2.records_are First))
-    (places_apart (filter is_no_header (map four_columns is.0)) (pairs_filter (λ (r s : Feature). AreDisjoint (interval_of r) (interval_of s)) is_no_header (map four_columns is.0) (of_four is.0 is.3)))
+    subst (λ rs. AllPairs AreDisjoint (intervals_of rs)) (sym (is.2.records_are First))
+    (places_apart (filter is_no_header (map four_columns is.0)) (pairs_filter (λ (r s : Feature). AreDisjoint (interval_of r) (interval_of s)) is_no_header (map four_columns is.0) (of_four is.0 (pairs_each AreDisjoint (map interval_at is.0) is.3))))

@@ -13,7 +13,8 @@ use Rattle.bt_bed.proofs.lemmas.parse.NameLemmas.{name_ne-sym}
 use Rattle.bt_runs.specs.model.RunOrder.{AreAscending, AreKnown}
 use Rattle.bt_runs.proofs.lemmas.laws.Standing.{cmp_less, less_cmp}
 use Rattle.bt_runs.proofs.lemmas.order.FileOrder.{rank_of-here, rank_of-later}
-use Rattle.bt_laws.specs.pipes.Taken.{AreApart, AreDisjoint, EachPair}
+use Rattle.bt_laws.specs.pipes.Taken.{AreSeparate, AreDisjoint}
+use Rattle.bt_laws.proofs.lemmas.pipes.Pairs.{EachPair}
 use Rattle.bt_laws.proofs.lemmas.parts.text.PartLists.{all_any, all_both, all_filter, all_flat_map, all_map, all_so}
 
 -- ---- pairs
@@ -85,7 +86,7 @@ known_names (n ∷ ns) = (
   all_so (λ m. is_some (rank_of ns m) ≡ true) (λ m. is_some (rank_of (n ∷ ns) m) ≡ true) ns (λ m e. some_rank (bytes_eq n m) (rank_of ns m) e) (known_names ns),
 )
 
-others : (n : List ℕ) (ns : List (List ℕ)) → is_among ns n ≡ false → AllByRecursion (λ m. bytes_eq n m ≡ false) ns
+pub others : (n : List ℕ) (ns : List (List ℕ)) → is_among ns n ≡ false → AllByRecursion (λ m. bytes_eq n m ≡ false) ns
 others n [] e = tt
 others n (m ∷ ns) e = let parts = or_parts (bytes_eq m n) (is_among ns n) e in (name_ne-sym m n parts.0, others n ns parts.1)
 
@@ -163,11 +164,11 @@ pub apart_pairs : (first : ℕ) (spans : List Span) → AreApartFrom first spans
 apart_pairs first [] h = tt
 apart_pairs first (s ∷ ss) h = (apart_behind (s.stop + 1) s.stop ss (omega arith) h.2, apart_pairs (s.stop + 1) ss h.2)
 
-pub spans_apart : (name : List ℕ) (spans : List Span) → EachPair (λ (s t : Span). s.stop < t.start) spans → EachPair AreApart (map (placed_on name) spans)
-spans_apart name spans h = pairs_map AreApart (placed_on name) spans (pairs_so (λ s. Unit {0}) (λ (s t : Span). s.stop < t.start) (λ s t. AreApart (placed_on name s) (placed_on name t)) spans (λ s t p q less same. less) (all_any (λ s. Unit {0}) spans (λ s. tt)) h)
+pub spans_apart : (name : List ℕ) (spans : List Span) → EachPair (λ (s t : Span). s.stop < t.start) spans → EachPair AreSeparate (map (placed_on name) spans)
+spans_apart name spans h = pairs_map AreSeparate (placed_on name) spans (pairs_so (λ s. Unit {0}) (λ (s t : Span). s.stop < t.start) (λ s t. AreSeparate (placed_on name s) (placed_on name t)) spans (λ s t p q less same. less) (all_any (λ s. Unit {0}) spans (λ s. tt)) h)
 
-pub apart_disjoint : (rs : List Interval) → EachPair AreApart rs → EachPair AreDisjoint rs
-apart_disjoint rs h = pairs_so (λ r. Unit {0}) AreApart AreDisjoint rs (λ r s p q apart same. omega (arith, apart same)) (all_any (λ r. Unit {0}) rs (λ r. tt)) h
+pub apart_disjoint : (rs : List Interval) → EachPair AreSeparate rs → EachPair AreDisjoint rs
+apart_disjoint rs h = pairs_so (λ r. Unit {0}) AreSeparate AreDisjoint rs (λ r s p q apart same. omega (arith, apart same)) (all_any (λ r. Unit {0}) rs (λ r. tt)) h
 
 module _ (order : Order) (name : List ℕ) (known : IsTrue (order.knows name)) where
   spans_before : (first : ℕ) (s : Span) (ss : List Span) → s.start ≤ first → AreApartFrom first ss → IsPlacedBefore order (placed_on name s) (map (placed_on name) ss)

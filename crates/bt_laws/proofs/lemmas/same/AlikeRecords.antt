@@ -24,7 +24,7 @@ use Rattle.bt_tool.specs.model.report.Behaviour.{entries_in, order_of}
 use Rattle.bt_tool.specs.model.report.Inputs.{Inputs}
 use Rattle.bt_tool.specs.model.report.Report.{report_of}
 use Rattle.bt_tool.specs.declared.planning.plan_type.Command.TheVariants.{Complement, Merge}
-use Rattle.bt_laws.specs.pipes.Pipes.{RunsWell, first_records}
+use Rattle.bt_laws.specs.Runs.{RunsWithoutFault, first_records}
 use Rattle.bt_laws.specs.same.SameRuns.{AreExchanged, IsRepeated, exchanged_complement, exchanged_genomecov, exchanged_merge, repeated_complement, repeated_merge}
 use Rattle.bt_laws.proofs.lemmas.pipes.Covers.{SameCover, depth_both, same_by_depth, same_gaps, same_levels, same_runs}
 use Rattle.bt_laws.proofs.lemmas.parts.text.PartLists.{all_any, filter_all, filter_same, flat_map_same}
@@ -155,7 +155,7 @@ exchanged_depths zeros strand entries rs ss is =
 
 -- ---- the reports
 
-merge_alike : (d : ℕ) (strand : MergeStrand) (inputs others : Inputs) (chromosomes : Option (List Entry)) → strand ≢ Each → RunsWell (Merge d strand) inputs chromosomes → RunsWell (Merge d strand) others chromosomes
+merge_alike : (d : ℕ) (strand : MergeStrand) (inputs others : Inputs) (chromosomes : Option (List Entry)) → strand ≢ Each → RunsWithoutFault (Merge d strand) inputs chromosomes → RunsWithoutFault (Merge d strand) others chromosomes
     → IsAlike (first_records chromosomes inputs) (first_records chromosomes others) → (report_of (Merge d strand) inputs).output ≡ (report_of (Merge d strand) others).output
 merge_alike d Each inputs others chromosomes other one two is = absurd (other refl)
 merge_alike d All inputs others chromosomes other one two is =
@@ -163,7 +163,7 @@ merge_alike d All inputs others chromosomes other one two is =
 merge_alike d (One strand) inputs others chromosomes other one two is =
     merge_whole d (One strand) inputs chromosomes one ∙ ap interval_lines (alike_runs (order_of chromosomes) d (One strand) (first_records chromosomes inputs) (first_records chromosomes others) is) ∙ sym (merge_whole d (One strand) others chromosomes two)
 
-complement_alike : (limit : Bool) (inputs others : Inputs) (chromosomes : Option (List Entry)) → RunsWell (Complement limit) inputs chromosomes → RunsWell (Complement limit) others chromosomes
+complement_alike : (limit : Bool) (inputs others : Inputs) (chromosomes : Option (List Entry)) → RunsWithoutFault (Complement limit) inputs chromosomes → RunsWithoutFault (Complement limit) others chromosomes
     → IsAlike (first_records chromosomes inputs) (first_records chromosomes others) → (report_of (Complement limit) inputs).output ≡ (report_of (Complement limit) others).output
 complement_alike limit inputs others chromosomes one two is =
     complement_whole limit inputs chromosomes one ∙ ap interval_lines (alike_gaps limit (entries_in chromosomes) (first_records chromosomes inputs) (first_records chromosomes others) is) ∙ sym (complement_whole limit others chromosomes two)

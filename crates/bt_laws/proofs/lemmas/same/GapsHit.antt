@@ -30,10 +30,10 @@ use Rattle.bt_tool.specs.model.report.RecordReport.{Report}
 use Rattle.bt_tool.specs.model.report.Report.{chromosomes_of}
 use Rattle.bt_tool.specs.model.report.Written.{complement_written}
 use Rattle.bt_tool.specs.declared.planning.plan_type.Command.TheVariants.{Complement, Intersect, Subtract}
-use Rattle.bt_laws.specs.pipes.Pipes.{first_records, second_records}
-use Rattle.bt_laws.specs.same.SameLines.{Writes}
-use Rattle.bt_laws.specs.same.SameSweeps.{AreWithin, of_second, subtract_by_complement, with_second}
-use Rattle.bt_laws.specs.pipes.Taken.{AreApart, EachPair, IsInput, is_no_header, three_columns}
+use Rattle.bt_laws.specs.Runs.{first_records, second_records, RunWrites, of_second, with_second}
+use Rattle.bt_laws.specs.same.SameSweeps.{LieWithinLengths, subtract_by_complement}
+use Rattle.bt_laws.specs.pipes.Taken.{AreSeparate, IsInput, is_no_header, three_columns}
+use Rattle.bt_laws.proofs.lemmas.pipes.Pairs.{EachPair}
 use Rattle.bt_laws.proofs.lemmas.back.GapsBack.{gaps_back, gaps_pairs}
 use Rattle.bt_laws.proofs.lemmas.parts.text.PartLists.{all_any, all_map, all_so, filter_all, flat_map_same}
 use Rattle.bt_laws.proofs.lemmas.pipes.PipeLaws.{chroms_of, intersect_whole, subtract_whole, well_there}
@@ -121,7 +121,7 @@ covered_cut a [] p from to c = absurd c
 covered_cut a (g ∷ found) p from to (inl here) = inl (omega (arith, here.0, from), omega (arith, here.1, to))
 covered_cut a (g ∷ found) p from to (inr there) = inr (covered_cut a found p from to there)
 
-module _ (a : Feature) (bs gs : List Feature) (size : ℕ) (within : a.stop ≤ size) (said : AllByRecursion IsSaid gs) (apart : EachPair (λ g h. AreApart (interval_of g) (interval_of h)) gs)
+module _ (a : Feature) (bs gs : List Feature) (size : ℕ) (within : a.stop ≤ size) (said : AllByRecursion IsSaid gs) (apart : EachPair (λ g h. AreSeparate (interval_of g) (interval_of h)) gs)
     (are : spans_on a.chrom (intervals_of gs) ≡ gaps_of size (spans_on a.chrom (intervals_of bs))) where
   abbrev found : List Feature
   found = hits_among any_overlap a gs
@@ -130,8 +130,8 @@ module _ (a : Feature) (bs gs : List Feature) (size : ℕ) (within : a.stop ≤ 
   found_hits = all_hits any_overlap a gs said
 
   found_apart : EachPair (λ g h. (cut_span a g).stop < (cut_span a h).start) found
-  found_apart = pairs_so (Hit any_overlap a) (λ g h. AreApart (interval_of g) (interval_of h)) (λ g h. (cut_span a g).stop < (cut_span a h).start) found
-      (λ g h one two far. omega (arith, far (sym (hit_name any_overlap a g one.1) ∙ hit_name any_overlap a h two.1))) found_hits (pairs_filter (λ g h. AreApart (interval_of g) (interval_of h)) (hits any_overlap a) gs apart)
+  found_apart = pairs_so (Hit any_overlap a) (λ g h. AreSeparate (interval_of g) (interval_of h)) (λ g h. (cut_span a g).stop < (cut_span a h).start) found
+      (λ g h one two far. omega (arith, far (sym (hit_name any_overlap a g one.1) ∙ hit_name any_overlap a h two.1))) found_hits (pairs_filter (λ g h. AreSeparate (interval_of g) (interval_of h)) (hits any_overlap a) gs apart)
 
   cut_apart : AreApartFrom 0 (map (cut_span a) found)
   cut_apart = from_pairs 0 (map (cut_span a) found) (all_map (λ (s : Span). (0 ≤ s.start) × (s.start < s.stop)) (cut_span a) found (all_so (Hit any_overlap a) (λ g. (0 ≤ (cut_span a g).start) × ((cut_span a g).start < (cut_span a g).stop)) found (λ g hit. (omega arith, cut_bounds any_overlap a g hit.1)) found_hits))
@@ -185,9 +185,9 @@ module _ (inputs : Inputs) (entries : List Entry) (genome : chromosomes_of input
   gaps_said : AllByRecursion IsSaid gap_records
   gaps_said = subst (AllByRecursion IsSaid) (second_input.records_are Second) (good_are_said Second order (whole_text (of_second (Complement false) inputs)))
 
-  gaps_far : EachPair (λ (g h : Feature). AreApart (interval_of g) (interval_of h)) gap_records
-  gaps_far = pairs_filter (λ (g h : Feature). AreApart (interval_of g) (interval_of h)) is_no_header (map three_columns gaps)
-      (pairs_map (λ (g h : Feature). AreApart (interval_of g) (interval_of h)) three_columns gaps (gaps_pairs entries known.0 known.1 false seconds))
+  gaps_far : EachPair (λ (g h : Feature). AreSeparate (interval_of g) (interval_of h)) gap_records
+  gaps_far = pairs_filter (λ (g h : Feature). AreSeparate (interval_of g) (interval_of h)) is_no_header (map three_columns gaps)
+      (pairs_map (λ (g h : Feature). AreSeparate (interval_of g) (interval_of h)) three_columns gaps (gaps_pairs entries known.0 known.1 false seconds))
 
   one_line : (a : Feature) → IsSaid a → a.stop ≤ length_in entries a.chrom → lines_for Cut any_overlap a gap_records ≡ lines_for Pieces any_overlap a seconds
   unfolding lines_for
@@ -195,11 +195,11 @@ module _ (inputs : Inputs) (entries : List Entry) (genome : chromosomes_of input
       cut_lines a (hits_among any_overlap a gap_records)
       ∙ ap (flat_map (piece_line a)) (left_in_gaps a seconds gap_records (length_in entries a.chrom) within gaps_said gaps_far (unhidden a.chrom gaps is.no_header ∙ complement_spans entries seconds a.chrom known.1))
 
-  all_lines : (as_read : List Feature) → AllByRecursion IsSaid as_read → AreWithin entries as_read → intersect Cut any_overlap as_read gap_records ≡ intersect Pieces any_overlap as_read seconds
+  all_lines : (as_read : List Feature) → AllByRecursion IsSaid as_read → LieWithinLengths entries as_read → intersect Cut any_overlap as_read gap_records ≡ intersect Pieces any_overlap as_read seconds
   all_lines as_read said within = flat_map_same (λ a. lines_for Cut any_overlap a gap_records) (λ a. lines_for Pieces any_overlap a seconds) as_read (all_zip IsSaid (λ (a : Feature). a.stop ≤ length_in entries a.chrom) (λ a. lines_for Cut any_overlap a gap_records ≡ lines_for Pieces any_overlap a seconds) as_read one_line said within)
 
-  pub by_gaps : (bed_good First order inputs.first).fault ≡ None → AreWithin entries (first_records (Some entries) inputs)
-      → Writes (Intersect Cut any_overlap None) (with_second (Complement false) inputs) (intersect Pieces any_overlap (first_records (Some entries) inputs) seconds)
+  pub by_gaps : (bed_good First order inputs.first).fault ≡ None → LieWithinLengths entries (first_records (Some entries) inputs)
+      → RunWrites (Intersect Cut any_overlap None) (with_second (Complement false) inputs) (intersect Pieces any_overlap (first_records (Some entries) inputs) seconds)
   by_gaps first_none within = sweeps_from (Intersect Cut any_overlap None) (with_second (Complement false) inputs) (Some entries) (intersect Pieces any_overlap (first_records (Some entries) inputs) seconds) genome
       (met_none order Cut any_overlap (bed_good First order inputs.first) (bed_good Second order (whole_text (of_second (Complement false) inputs))) first_none (second_input.faultless Second))
       (λ well. intersect_whole Cut any_overlap None (with_second (Complement false) inputs) (Some entries) well ∙ ap (intersect Cut any_overlap (first_records (Some entries) inputs)) (second_input.records_are Second)
@@ -208,5 +208,5 @@ module _ (inputs : Inputs) (entries : List Entry) (genome : chromosomes_of input
 pub subtract_gaps : subtract_by_complement
 subtract_gaps held inputs entries well within =
     let none = nones Pieces held inputs (Some entries) (well_there (Subtract false any_overlap held) inputs (Some entries) well) in
-    subst (Writes (Intersect Cut any_overlap None) (with_second (Complement false) inputs)) (sym (subtract_whole false any_overlap held inputs (Some entries) well))
+    subst (RunWrites (Intersect Cut any_overlap None) (with_second (Complement false) inputs)) (sym (subtract_whole false any_overlap held inputs (Some entries) well))
     (by_gaps inputs entries well.genome none.1 none.0 within)

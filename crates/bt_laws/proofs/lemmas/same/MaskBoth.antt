@@ -21,8 +21,8 @@ use Rattle.bt_tool.specs.model.report.RecordReport.{Report}
 use Rattle.bt_tool.specs.model.report.Report.{report_of}
 use Rattle.bt_tool.specs.model.report.SweepReport.{met_report}
 use Rattle.bt_tool.specs.declared.planning.plan_type.Command.TheVariants.{MaskFasta}
-use Rattle.bt_laws.specs.pipes.MaskPipes.{KeepsLines, lines_in, masked_by_both, masked_by_positions, masked_goes_on, with_bed}
-use Rattle.bt_laws.specs.same.SameRuns.{piped}
+use Rattle.bt_laws.specs.same.MaskLaws.{KeepsLines, sequence_lines, masked_by_both, masked_by_positions, masked_goes_on, with_bed}
+use Rattle.bt_laws.specs.Runs.{piped}
 use Rattle.bt_laws.proofs.lemmas.pipes.MaskPipes.{with_text}
 use Rattle.bt_laws.proofs.lemmas.same.MaskTwice.{header_from, masked_again, met_all, names_same, nones, output_there, read_items, read_none, second_none}
 use Rattle.bt_laws.proofs.lemmas.same.RunsAgain.{report_there, writes_is}
@@ -75,10 +75,10 @@ module _ (how : MaskHow) where
   both_lines keeps rs ss ts [] h = refl
   both_lines keeps rs ss ts (line ∷ lines) h = ap₂ (λ a b. a ++ b) (both_line keeps rs ss ts line h.0) (both_lines keeps rs ss ts lines h.1)
 
-abbrev bed_of : Inputs → Good Feature
+abbrev pub bed_of : Inputs → Good Feature
 bed_of inputs = block_good Second (or_empty inputs.second)
 
-same_lines : (how : MaskHow) (rs ss : List Feature) (lines : List SequenceLine) → AllByRecursion (λ (line : SequenceLine). (p : ℕ) → line.before ≤ p → p < bases_up_to line → list_any (covers p) (own_records line.names rs) ≡ list_any (covers p) (own_records line.names ss)) lines
+pub same_lines : (how : MaskHow) (rs ss : List Feature) (lines : List SequenceLine) → AllByRecursion (λ (line : SequenceLine). (p : ℕ) → line.before ≤ p → p < bases_up_to line → list_any (covers p) (own_records line.names rs) ≡ list_any (covers p) (own_records line.names ss)) lines
     → flat_map (masked_line how rs) lines ≡ flat_map (masked_line how ss) lines
 same_lines how rs ss [] h = refl
 same_lines how rs ss (line ∷ lines) h = ap₂ (λ a b. a ++ b) (same_line how rs ss line h.0) (same_lines how rs ss lines h.1)
@@ -86,12 +86,12 @@ same_lines how rs ss (line ∷ lines) h = ap₂ (λ a b. a ++ b) (same_line how 
 pub by_positions : masked_by_positions
 by_positions how full inputs other chromosomes one two same =
     output_there how full inputs chromosomes one
-    ∙ same_lines how (items_in (bed_of inputs)) (items_in (bed_of other)) (lines_in full inputs) same
+    ∙ same_lines how (items_in (bed_of inputs)) (items_in (bed_of other)) (sequence_lines full inputs) same
     ∙ sym (output_there how full (with_bed inputs other) chromosomes two)
 
 pub by_both : masked_by_both
 by_both how full inputs other both chromosomes keeps one two three same =
-    let lines = lines_in full inputs in
+    let lines = sequence_lines full inputs in
     let mask = items_in (bed_of inputs) in
     let text = flat_map (masked_line how mask) lines in
     let read = sequence_good full First (whole_text text) in
@@ -109,7 +109,7 @@ by_both how full inputs other both chromosomes keeps one two three same =
 
 pub goes_on : masked_goes_on
 goes_on how next full inputs other chromosomes keeps one two =
-    let lines = lines_in full inputs in
+    let lines = sequence_lines full inputs in
     let mask = items_in (bed_of inputs) in
     let read = sequence_good full First (whole_text (flat_map (masked_line how mask) lines)) in
     let none : (mask_met next read (bed_of other)).fault ≡ None =

@@ -28,10 +28,8 @@ use Rattle.bt_tool.specs.model.report.RecordReport.{Report}
 use Rattle.bt_tool.specs.model.report.Report.{report_of}
 use Rattle.bt_tool.specs.model.report.SweepReport.{met_report}
 use Rattle.bt_tool.specs.declared.planning.plan_type.Command.TheVariants.{MaskFasta}
-use Rattle.bt_laws.specs.pipes.MaskPipes.{KeepsLines, layout_of, masked_keep_layout, masked_twice}
-use Rattle.bt_laws.specs.pipes.Pipes.{RunsWell}
-use Rattle.bt_laws.specs.same.SameLines.{Writes}
-use Rattle.bt_laws.specs.same.SameRuns.{piped}
+use Rattle.bt_laws.specs.same.MaskLaws.{KeepsLines, layout_of, masked_keep_layout, masked_twice}
+use Rattle.bt_laws.specs.Runs.{RunsWithoutFault, RunWrites, piped}
 use Rattle.bt_laws.proofs.lemmas.pipes.MaskPipes.{IsAgain, Stands, again_lines, with_text}
 use Rattle.bt_laws.proofs.lemmas.pipes.PipeLaws.{report_is, well_there}
 use Rattle.bt_laws.proofs.lemmas.same.RunsAgain.{report_there, writes_is}
@@ -71,14 +69,18 @@ masked_again (Hard mask) base = refl
 
 -- ---- masked bases
 
-isnt_by : (how : MaskHow) → KeepsLines how → (byte : ℕ) → (byte ≤ 13) ⊎ (byte ≡ 62) → IsNot how byte
-isnt_by Soft keeps byte which = tt
-isnt_by (Hard mask) keeps byte (inl low) = λ same. omega (arith, keeps.0, same, low)
-isnt_by (Hard mask) keeps byte (inr is) = λ same. keeps.1 (same ∙ is)
+record KeepsApart (how : MaskHow) : Type 0 where
+  feed : IsNot how 10
+  return : IsNot how 13
+  header : IsNot how 62
+
+apart_by : (how : MaskHow) → KeepsLines how → KeepsApart how
+apart_by Soft keeps = record { feed = tt; return = tt; header = tt }
+apart_by (Hard mask) keeps = record { feed = keeps.0; return = keeps.1; header = keeps.2 }
 
 module _ (how : MaskHow) (keeps : KeepsLines how) where
-  isnt : (byte : ℕ) → (byte ≤ 13) ⊎ (byte ≡ 62) → IsNot how byte
-  isnt byte which = isnt_by how keeps byte which
+  apart : KeepsApart how
+  apart = apart_by how keeps
 
   module _ (records : List Feature) where
     abbrev kept_base : ℕ → ℕ → ℕ
@@ -106,15 +108,15 @@ module _ (how : MaskHow) (keeps : KeepsLines how) where
     clear_from position [] h = All-nil (λ b. eqb b 10 ≡ false)
     clear_from position (base ∷ bases) h =
         All-cons (λ b. eqb b 10 ≡ false) (kept_base position base) (masked_from how records (suc position) bases)
-        (kept_not position base 10 (isnt 10 (inl (omega arith))) (omega arith) (All-head (λ b. eqb b 10 ≡ false) base bases h)) (clear_from (suc position) bases (All-tail (λ b. eqb b 10 ≡ false) base bases h))
+        (kept_not position base 10 apart.feed (omega arith) (All-head (λ b. eqb b 10 ≡ false) base bases h)) (clear_from (suc position) bases (All-tail (λ b. eqb b 10 ≡ false) base bases h))
 
     pub header_from : (position : ℕ) (bases : List ℕ) → is_header bases ≡ false → is_header (masked_from how records position bases) ≡ false
     header_from position [] e = refl
-    header_from position (base ∷ bases) e = kept_not position base 62 (isnt 62 (inr refl)) (omega arith) e
+    header_from position (base ∷ bases) e = kept_not position base 62 apart.header (omega arith) e
 
     last_from : (position : ℕ) (bases : List ℕ) → ends_with_byte 13 bases ≡ false → ends_with_byte 13 (masked_from how records position bases) ≡ false
     last_from position [] e = e
-    last_from position (base ∷ []) e = kept_not position base 13 (isnt 13 (inl (omega arith))) (omega arith) e
+    last_from position (base ∷ []) e = kept_not position base 13 apart.return (omega arith) e
     last_from position (base ∷ next ∷ bases) e =
         ends_both 13 (kept_base position base ∷ []) (masked_from how records (suc position) (next ∷ bases)) (omega (arith, size_from (suc position) (next ∷ bases)))
         ∙ last_from (suc position) (next ∷ bases) (sym (ends_both 13 (base ∷ []) (next ∷ bases) (omega arith)) ∙ e)
@@ -210,7 +212,7 @@ size_by : (how : MaskHow) (records : List Feature) (header : Bool) (line : Seque
 size_by how records true line = refl
 size_by how records false line = size_of how (own_records line.names records) line.before line.text
 
-module _ (how : MaskHow) (full : Bool) (inputs : Inputs) (chromosomes : Option (List Entry)) (well : RunsWell (MaskFasta how full) inputs chromosomes) where
+module _ (how : MaskHow) (full : Bool) (inputs : Inputs) (chromosomes : Option (List Entry)) (well : RunsWithoutFault (MaskFasta how full) inputs chromosomes) where
   abbrev first : Good SequenceLine
   first = sequence_good full First inputs.first
 
@@ -289,7 +291,7 @@ module _ (how : MaskHow) (full : Bool) (inputs : Inputs) (chromosomes : Option (
         ∙ ap₂ (λ is fault. record { lines = flat_map (masked_line how records) is; fault = option_or fault (mask_rule how (names_of is) second).last }) read_items read_none
         ∙ ap₂ (λ l fault. record { lines = l; fault = fault }) (lines_again items) (ap (λ ns. (mask_rule how ns second).last) (names_same new_text items) ∙ nones.1)
 
-    pub twice : Writes (MaskFasta how full) (piped (MaskFasta how full) inputs) (report_of (MaskFasta how full) inputs).output
+    pub twice : RunWrites (MaskFasta how full) (piped (MaskFasta how full) inputs) (report_of (MaskFasta how full) inputs).output
     twice = writes_is (MaskFasta how full) (piped (MaskFasta how full) inputs) (report_of (MaskFasta how full) inputs).output
         (report_there (MaskFasta how full) (piped (MaskFasta how full) inputs) chromosomes well.genome
         ∙ ap (λ text. met_report (mask_met how (sequence_good full First (whole_text text)) second)) output_there

@@ -37,9 +37,8 @@ use Rattle.bt_tool.specs.model.report.Report.{chromosomes_of, report_of, report_
 use Rattle.bt_tool.specs.model.report.Written.{Written, complement_written, merge_written}
 use Rattle.bt_tool.specs.declared.planning.plan_type.Command.{Command}
 use Rattle.bt_tool.specs.declared.planning.plan_type.Command.TheVariants.{Complement, Merge}
-use Rattle.bt_laws.specs.pipes.Pipes.{RunsWell, first_records}
-use Rattle.bt_laws.specs.same.SameLines.{Writes}
-use Rattle.bt_laws.specs.same.SameRuns.{complement_of_merge, merge_of_merge, piped}
+use Rattle.bt_laws.specs.Runs.{RunsWithoutFault, first_records, RunWrites, piped}
+use Rattle.bt_laws.specs.same.SameRuns.{complement_of_merge, merge_of_merge}
 use Rattle.bt_laws.specs.pipes.Taken.{IsInput, three_columns}
 use Rattle.bt_laws.proofs.lemmas.same.AlikeRecords.{gaps_by}
 use Rattle.bt_laws.proofs.lemmas.pipes.Covers.{SameCover, runs_again, runs_cover}
@@ -52,7 +51,7 @@ kept_one : {A : Type 0} (t : A → Bool) (x : A) (xs : List A) (b : Bool) → t 
 kept_one t x xs true e h = (e, h)
 kept_one t x xs false e h = h
 
-kept_pass : {A : Type 0} (t : A → Bool) (xs : List A) → AllByRecursion (λ y. t y ≡ true) (filter t xs)
+pub kept_pass : {A : Type 0} (t : A → Bool) (xs : List A) → AllByRecursion (λ y. t y ≡ true) (filter t xs)
 kept_pass t [] = tt
 kept_pass t (x ∷ xs) = kept_one t x (filter t xs) (t x) refl (kept_pass t xs)
 
@@ -227,7 +226,7 @@ complement_on limit inputs chromosomes text records genome first is =
     report_there (Complement limit) inputs chromosomes genome
     ∙ writes_by (complement_written (entries_in chromosomes) limit) records good.fault (items_in good) (ap (λ t. (bed_good First (order_of chromosomes) t).fault) first ∙ is.faultless First) (ap (λ t. items_in (bed_good First (order_of chromosomes) t)) first ∙ is.records_are First)
 
-pub writes_is : (command : Command) (inputs : Inputs) (bytes : List ℕ) → report_of command inputs ≡ record { output = bytes; fault = None } → Writes command inputs bytes
+pub writes_is : (command : Command) (inputs : Inputs) (bytes : List ℕ) → report_of command inputs ≡ record { output = bytes; fault = None } → RunWrites command inputs bytes
 writes_is command inputs bytes e = record { output = ap (λ (r : Report). r.output) e; faultless = ap (λ (r : Report). r.fault) e }
 
 -- what is known of the records of a run
@@ -250,9 +249,9 @@ module _ (chromosomes_in : Option (List Entry)) (inputs : Inputs) where
   there_input : (d : ℕ) (strand : MergeStrand) → IsInput order_in (interval_lines (ordered_runs order_in d strand as_read)) (map three_columns (ordered_runs order_in d strand as_read))
   there_input d strand = merge_back order_in (order_total chromosomes_in) d strand as_read (good_are_said First order_in inputs.first) read_placed
 
-merged_by : (d : ℕ) (strand : MergeStrand) (inputs : Inputs) (chromosomes_in : Option (List Entry)) → RunsWell (Merge d strand) inputs chromosomes_in
+merged_by : (d : ℕ) (strand : MergeStrand) (inputs : Inputs) (chromosomes_in : Option (List Entry)) → RunsWithoutFault (Merge d strand) inputs chromosomes_in
     → (report_of (Merge d strand) inputs).output ≡ interval_lines (ordered_runs (order_of chromosomes_in) d strand (first_records chromosomes_in inputs))
-    → Writes (Merge d All) (piped (Merge d strand) inputs) (report_of (Merge d strand) inputs).output
+    → RunWrites (Merge d All) (piped (Merge d strand) inputs) (report_of (Merge d strand) inputs).output
 merged_by d strand inputs chromosomes_in well e =
     let order = order_of chromosomes_in in
     let records = first_records chromosomes_in inputs in
@@ -269,9 +268,9 @@ merge_twice d (One strand) inputs chromosomes_in other well = merged_by d (One s
 
 -- ---- complement of merge
 
-pub fault_as : (command other : Command) (inputs : Inputs) (chromosomes_in : Option (List Entry)) → RunsWell command inputs chromosomes_in
+pub fault_as : (command other : Command) (inputs : Inputs) (chromosomes_in : Option (List Entry)) → RunsWithoutFault command inputs chromosomes_in
     → (((behaviour_of command chromosomes_in).report inputs.first inputs.second).fault ≡ ((behaviour_of other chromosomes_in).report inputs.first inputs.second).fault)
-    → RunsWell other inputs chromosomes_in
+    → RunsWithoutFault other inputs chromosomes_in
 fault_as command other inputs chromosomes_in well same = record {
   genome = well.genome;
   faultless =

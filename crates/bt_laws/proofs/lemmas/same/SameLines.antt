@@ -26,8 +26,8 @@ use Rattle.bt_tool.specs.model.report.Inputs.{Inputs, or_empty}
 use Rattle.bt_tool.specs.model.report.Report.{chromosomes_of, report_of, report_on}
 use Rattle.bt_tool.specs.model.report.SweepReport.{met_report, met_within}
 use Rattle.bt_tool.specs.declared.planning.plan_type.Command.TheVariants.{Intersect, Subtract}
-use Rattle.bt_laws.specs.pipes.Pipes.{RunsWell, first_records, second_records}
-use Rattle.bt_laws.specs.same.SameLines.{Counted, Writes, counts_say_all, missing_is_whole, own_line}
+use Rattle.bt_laws.specs.Runs.{RunsWithoutFault, first_records, second_records, RunWrites}
+use Rattle.bt_laws.specs.same.SameLines.{Counted, counts_say_all, missing_is_whole, own_line}
 use Rattle.bt_laws.proofs.lemmas.parts.text.PartLists.{all_any, flat_map_same}
 use Rattle.bt_laws.proofs.lemmas.parts.report.PartSweep.{written_same}
 use Rattle.bt_laws.proofs.lemmas.pipes.PipeLaws.{intersect_whole}
@@ -77,7 +77,7 @@ same_fault order one other rule limit first second =
     let yours = sweep_rule order other rule (items_in seen) seen.fault in
     fault_by (list_all mine.decided (items_in first)) (flat_map mine.lines (items_in first)) (written mine (items_in first)) (flat_map yours.lines (items_in first)) (written yours (items_in first)) first.fault seen.fault seen.fault
 
-pub other_shape : (one other : Shape) (rule : HitRule) (held : Option ℕ) (inputs : Inputs) (chromosomes : Option (List Entry)) → RunsWell (Intersect one rule held) inputs chromosomes → RunsWell (Intersect other rule held) inputs chromosomes
+pub other_shape : (one other : Shape) (rule : HitRule) (held : Option ℕ) (inputs : Inputs) (chromosomes : Option (List Entry)) → RunsWithoutFault (Intersect one rule held) inputs chromosomes → RunsWithoutFault (Intersect other rule held) inputs chromosomes
 unfolding report_of
 other_shape one other rule held inputs chromosomes well = record {
   genome = well.genome;
@@ -88,8 +88,8 @@ other_shape one other rule held inputs chromosomes well = record {
       ∙ well.faultless;
 }
 
-pub writes_lines : (shape : Shape) (rule : HitRule) (held : Option ℕ) (inputs : Inputs) (chromosomes : Option (List Entry)) → RunsWell (Intersect shape rule held) inputs chromosomes
-    → Writes (Intersect shape rule held) inputs (intersect shape rule (first_records chromosomes inputs) (second_records chromosomes inputs))
+pub writes_lines : (shape : Shape) (rule : HitRule) (held : Option ℕ) (inputs : Inputs) (chromosomes : Option (List Entry)) → RunsWithoutFault (Intersect shape rule held) inputs chromosomes
+    → RunWrites (Intersect shape rule held) inputs (intersect shape rule (first_records chromosomes inputs) (second_records chromosomes inputs))
 writes_lines shape rule held inputs chromosomes well = record { output = intersect_whole shape rule held inputs chromosomes well; faultless = well.faultless }
 
 -- ---- numbers of hits
@@ -142,13 +142,13 @@ pub counts_all : counts_say_all
 counts_all rule held inputs chromosomes well =
     let firsts = first_records chromosomes inputs in
     let seconds = second_records chromosomes inputs in
-    let writes : (shape : Shape) → Writes (Intersect shape rule held) inputs (intersect shape rule firsts seconds) = λ shape. writes_lines shape rule held inputs chromosomes (other_shape Count shape rule held inputs chromosomes well) in (
+    let writes : (shape : Shape) → RunWrites (Intersect shape rule held) inputs (intersect shape rule firsts seconds) = λ shape. writes_lines shape rule held inputs chromosomes (other_shape Count shape rule held inputs chromosomes well) in (
       map (counted rule seconds) firsts,
       records_counted rule seconds firsts,
       record {
-        count = subst (Writes (Intersect Count rule held) inputs) (count_lines rule seconds firsts) (writes Count);
-        once = subst (Writes (Intersect Once rule held) inputs) (once_lines rule seconds firsts) (writes Once);
-        missing = subst (Writes (Intersect Missing rule held) inputs) (missing_of rule seconds firsts) (writes Missing);
-        original = subst (Writes (Intersect OrigA rule held) inputs) (original_lines rule seconds firsts) (writes OrigA);
+        count = subst (RunWrites (Intersect Count rule held) inputs) (count_lines rule seconds firsts) (writes Count);
+        once = subst (RunWrites (Intersect Once rule held) inputs) (once_lines rule seconds firsts) (writes Once);
+        missing = subst (RunWrites (Intersect Missing rule held) inputs) (missing_of rule seconds firsts) (writes Missing);
+        original = subst (RunWrites (Intersect OrigA rule held) inputs) (original_lines rule seconds firsts) (writes OrigA);
       },
     )

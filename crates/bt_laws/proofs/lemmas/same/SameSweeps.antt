@@ -46,9 +46,8 @@ use Rattle.bt_tool.specs.model.report.SweepReport.{met_within}
 use Rattle.bt_tool.specs.model.report.Written.{Written, merge_written}
 use Rattle.bt_tool.specs.declared.planning.plan_type.Command.{Command}
 use Rattle.bt_tool.specs.declared.planning.plan_type.Command.TheVariants.{Intersect, Merge, Subtract}
-use Rattle.bt_laws.specs.pipes.Pipes.{RunsWell, first_records, second_records}
-use Rattle.bt_laws.specs.same.SameLines.{Writes}
-use Rattle.bt_laws.specs.same.SameSweeps.{merged_second_missing, merged_second_once, merged_second_subtract, of_second, with_second, one_base}
+use Rattle.bt_laws.specs.Runs.{RunsWithoutFault, first_records, second_records, RunWrites, of_second, with_second}
+use Rattle.bt_laws.specs.same.SameSweeps.{merged_second_missing, merged_second_once, merged_second_subtract, one_base}
 use Rattle.bt_laws.specs.pipes.Taken.{IsInput, three_columns}
 use Rattle.bt_laws.proofs.lemmas.pipes.Covers.{SameCover, runs_cover, same_sym}
 use Rattle.bt_laws.proofs.lemmas.parts.text.PartLists.{all_any, all_so, filter_all, flat_map_same}
@@ -265,9 +264,9 @@ output_by written members None e = refl
 output_by written members (Some fault) e = cc
 
 pub sweeps_from : (command : Command) (inputs : Inputs) (chromosomes : Option (List Entry)) (bytes : List ℕ) → chromosomes_of inputs.genome ≡ Ok chromosomes
-    → ((behaviour_of command chromosomes).report inputs.first inputs.second).fault ≡ None → (RunsWell command inputs chromosomes → (report_of command inputs).output ≡ bytes) → Writes command inputs bytes
+    → ((behaviour_of command chromosomes).report inputs.first inputs.second).fault ≡ None → (RunsWithoutFault command inputs chromosomes → (report_of command inputs).output ≡ bytes) → RunWrites command inputs bytes
 sweeps_from command inputs chromosomes bytes genome none output =
-    let well : RunsWell command inputs chromosomes = record { genome = genome; faultless = ap (λ (r : Report). r.fault) (report_there command inputs chromosomes genome) ∙ none } in
+    let well : RunsWithoutFault command inputs chromosomes = record { genome = genome; faultless = ap (λ (r : Report). r.fault) (report_there command inputs chromosomes genome) ∙ none } in
     record { output = output well; faultless = well.faultless }
 
 module _ (inputs : Inputs) (chromosomes : Option (List Entry)) (genome : chromosomes_of inputs.genome ≡ Ok chromosomes) (none : (bed_good Second (order_of chromosomes) (or_empty inputs.second)).fault ≡ None) where
@@ -313,11 +312,11 @@ module _ (inputs : Inputs) (chromosomes : Option (List Entry)) (genome : chromos
         sym (intersect_sees shape see (first_records chromosomes inputs) seconds (items_in (bed_good Second order (whole_text (of_second (Merge 0 All) inputs)))) (good_are_said Second order (or_empty inputs.second)) (good_are_said Second order (whole_text (of_second (Merge 0 All) inputs)))
         (λ name. subst (λ rs. SameCover (spans_on name (intervals_of seconds)) (spans_on name (intervals_of rs))) (sym (second_input.records_are Second)) (same_bases name)))
 
-    intersect_merged : Writes (Intersect shape any_overlap None) (with_second (Merge 0 All) inputs) (intersect shape any_overlap (first_records chromosomes inputs) seconds)
+    intersect_merged : RunWrites (Intersect shape any_overlap None) (with_second (Merge 0 All) inputs) (intersect shape any_overlap (first_records chromosomes inputs) seconds)
     intersect_merged = sweeps_from (Intersect shape any_overlap None) (with_second (Merge 0 All) inputs) chromosomes (intersect shape any_overlap (first_records chromosomes inputs) seconds) genome merged_fault
         (λ well. intersect_whole shape any_overlap None (with_second (Merge 0 All) inputs) chromosomes well ∙ merged_lines)
 
-  subtract_merged : (bed_good First order inputs.first).fault ≡ None → Writes (Subtract false any_overlap None) (with_second (Merge 0 All) inputs) (intersect Pieces any_overlap (first_records chromosomes inputs) seconds)
+  subtract_merged : (bed_good First order inputs.first).fault ≡ None → RunWrites (Subtract false any_overlap None) (with_second (Merge 0 All) inputs) (intersect Pieces any_overlap (first_records chromosomes inputs) seconds)
   subtract_merged first_none = sweeps_from (Subtract false any_overlap None) (with_second (Merge 0 All) inputs) chromosomes (intersect Pieces any_overlap (first_records chromosomes inputs) seconds) genome (merged_fault Pieces pieces_see first_none)
       (λ well. subtract_whole false any_overlap None (with_second (Merge 0 All) inputs) chromosomes well ∙ merged_lines Pieces pieces_see first_none)
 
@@ -326,16 +325,16 @@ module _ (shape : Shape) (held : Option ℕ) (inputs : Inputs) (chromosomes : Op
       → ((bed_good First (order_of chromosomes) inputs.first).fault ≡ None) × ((bed_good Second (order_of chromosomes) (or_empty inputs.second)).fault ≡ None)
   nones e = met_faultless (order_of chromosomes) shape any_overlap held (bed_good First (order_of chromosomes) inputs.first) (bed_good Second (order_of chromosomes) (or_empty inputs.second)) e
 
-  by_intersect : (both : Bool) → SeesBases shape → RunsWell (Intersect shape (one_base both) held) inputs chromosomes → Writes (Intersect shape (one_base both) None) (with_second (Merge 0 All) inputs) (report_of (Intersect shape (one_base both) held) inputs).output
+  by_intersect : (both : Bool) → SeesBases shape → RunsWithoutFault (Intersect shape (one_base both) held) inputs chromosomes → RunWrites (Intersect shape (one_base both) None) (with_second (Merge 0 All) inputs) (report_of (Intersect shape (one_base both) held) inputs).output
   by_intersect both see well =
       let order = order_of chromosomes in
       let firsts = first_records chromosomes inputs in
       let seconds = second_records chromosomes inputs in
       let none = met_faultless order shape (one_base both) held (bed_good First order inputs.first) (bed_good Second order (or_empty inputs.second)) (well_there (Intersect shape (one_base both) held) inputs chromosomes well) in
       let merged = intersect_merged inputs chromosomes well.genome none.1 shape see none.0 in
-      let merged_well : RunsWell (Intersect shape any_overlap None) (with_second (Merge 0 All) inputs) chromosomes = record { genome = well.genome; faultless = merged.faultless } in
+      let merged_well : RunsWithoutFault (Intersect shape any_overlap None) (with_second (Merge 0 All) inputs) chromosomes = record { genome = well.genome; faultless = merged.faultless } in
       let merged_none = met_faultless order shape any_overlap None (bed_good First order inputs.first) (bed_good Second order (whole_text (of_second (Merge 0 All) inputs))) (well_there (Intersect shape any_overlap None) (with_second (Merge 0 All) inputs) chromosomes merged_well) in
-      subst (Writes (Intersect shape (one_base both) None) (with_second (Merge 0 All) inputs)) (sym (intersect_whole shape (one_base both) held inputs chromosomes well ∙ one_base_lines both shape firsts seconds))
+      subst (RunWrites (Intersect shape (one_base both) None) (with_second (Merge 0 All) inputs)) (sym (intersect_whole shape (one_base both) held inputs chromosomes well ∙ one_base_lines both shape firsts seconds))
       (sweeps_from (Intersect shape (one_base both) None) (with_second (Merge 0 All) inputs) chromosomes (intersect shape any_overlap firsts seconds) well.genome
       (met_none order shape (one_base both) (bed_good First order inputs.first) (bed_good Second order (whole_text (of_second (Merge 0 All) inputs))) merged_none.0 merged_none.1)
       (λ again. intersect_whole shape (one_base both) None (with_second (Merge 0 All) inputs) chromosomes again
@@ -351,5 +350,5 @@ missing_merged both held inputs chromosomes well = by_intersect Missing held inp
 pub subtracts_merged : merged_second_subtract
 subtracts_merged held inputs chromosomes well =
     let none = nones Pieces held inputs chromosomes (well_there (Subtract false any_overlap held) inputs chromosomes well) in
-    subst (Writes (Subtract false any_overlap None) (with_second (Merge 0 All) inputs)) (sym (subtract_whole false any_overlap held inputs chromosomes well))
+    subst (RunWrites (Subtract false any_overlap None) (with_second (Merge 0 All) inputs)) (sym (subtract_whole false any_overlap held inputs chromosomes well))
     (subtract_merged inputs chromosomes well.genome none.1 none.0)

@@ -19,7 +19,7 @@ use Rattle.bt_bed.specs.model.feature.Record.{record_of}
 use Rattle.bt_bed.specs.model.order.Sorting.{falls_in, is_less, sorting_of}
 use Rattle.bt_bed.proofs.lemmas.order.RankLemmas.{among_ranked}
 use Rattle.bt_laws.specs.parts.GenomeSplitLaws.{LiesWithin}
-use Rattle.bt_laws.specs.parts.Parts.{ComeBefore, StandsBefore, record_in, records_in}
+use Rattle.bt_laws.specs.parts.Parts.{ComeBefore, StandsBefore, said_record, said_records}
 use Rattle.bt_laws.proofs.lemmas.parts.text.PartBed.{alike_records, records_on}
 use Rattle.bt_laws.proofs.lemmas.parts.text.PartLines.{alike_lines, lines_join}
 use Rattle.bt_laws.proofs.lemmas.parts.text.PartLists.{all_back, all_front, all_so}
@@ -27,12 +27,12 @@ use Rattle.bt_laws.proofs.lemmas.parts.order.PartRanks.{Agree, Within, first_agr
 use Rattle.std.proofs.lemmas.Grind.{flat_map-append}
 
 -- the records of two texts
-pub records_both : (one two : List ℕ) → StandsBefore one two → records_in (one ++ two) ≡ records_in one ++ records_in two
+pub records_both : (one two : List ℕ) → StandsBefore one two → said_records (one ++ two) ≡ said_records one ++ said_records two
 records_both one two ends =
     let split = lines_join 1 one two ends in
     ap records_on split.1
     ∙ flat_map-append _ (text_lines one) (lines_from split.0 two)
-    ∙ ap (λ rs. records_in one ++ rs) (alike_records (lines_from split.0 two) (text_lines two) (alike_lines split.0 1 two))
+    ∙ ap (λ rs. said_records one ++ rs) (alike_records (lines_from split.0 two) (text_lines two) (alike_lines split.0 1 two))
 
 module _ (mine yours : Order) (P : List ℕ → Type 0) (agree : Agree mine yours P) (input : Input) where
   abbrev Mine : Option Locus → Type 0
@@ -53,7 +53,7 @@ module _ (mine yours : Order) (P : List ℕ → Type 0) (agree : Agree mine your
   agree_kept n last r true false ms ys e = ap (λ (g : Good Feature). record { members = record { line = n; item = r } ∷ g.members; fault = g.fault }) e
   agree_kept n last r false falls ms ys e = refl
 
-  agree_with : (n : ℕ) (last : Option Locus) (said : Result (Option Feature) Kind) (ms ys : Option Locus → Good Feature) → Mine last → AllByRecursion (λ r. P r.chrom) (record_in said)
+  agree_with : (n : ℕ) (last : Option Locus) (said : Result (Option Feature) Kind) (ms ys : Option Locus → Good Feature) → Mine last → AllByRecursion (λ r. P r.chrom) (said_record said)
       → ((now : Option Locus) → Mine now → ms now ≡ ys now)
       → good_with (bed_format (sorting_of mine)) input n last (said_after (sorting_of mine) last said) ms ≡ good_with (bed_format (sorting_of yours)) input n last (said_after (sorting_of yours) last said) ys
   agree_with n last (Err kind) ms ys m p h = refl
@@ -68,8 +68,8 @@ module _ (mine yours : Order) (P : List ℕ → Type 0) (agree : Agree mine your
   agree_good last [] m p = refl
   agree_good last (line ∷ lines) m p =
       agree_with line.number last (record_of line.text) (λ now. good_from (bed_format (sorting_of mine)) input now lines) (λ now. good_from (bed_format (sorting_of yours)) input now lines) m
-      (all_front _ (record_in (record_of line.text)) (records_on lines) p)
-      (λ now is. agree_good now lines is (all_back _ (record_in (record_of line.text)) (records_on lines) p))
+      (all_front _ (said_record (record_of line.text)) (records_on lines) p)
+      (λ now is. agree_good now lines is (all_back _ (said_record (record_of line.text)) (records_on lines) p))
 
 -- names of the entries of both parts
 pub names_both : (ones twos : List Entry) → genome_names (ones ++ twos) ≡ genome_names ones ++ genome_names twos

@@ -27,7 +27,7 @@ use Rattle.bt_sweep.specs.declared.hits.hit_rule.HitRule.{HitRule}
 use Rattle.bt_sweep.specs.declared.output.shape.Shape.{Shape}
 use Rattle.bt_laws.specs.parts.GenomeSplitLaws.{LiesWithin}
 use Rattle.bt_laws.specs.parts.OwnGenomeLaws.{PairShard, intersect_genomes_divide, pair_entries, pair_texts, subtract_genomes_divide}
-use Rattle.bt_laws.specs.parts.Parts.{AddUp, AreOfLines, ComeBefore, StopWithin, joined, records_in}
+use Rattle.bt_laws.specs.parts.Parts.{AddUp, AreOfLines, ComeBefore, StopWithin, joined, said_records}
 use Rattle.bt_tool.specs.model.report.RecordReport.{Report}
 use Rattle.bt_tool.specs.model.report.Report.{chromosomes_of}
 use Rattle.bt_laws.specs.parts.SplitLaws.{ArePairs, PairsAscend, Texts, joined_texts, on_texts, records_of}
@@ -95,12 +95,12 @@ module _ (mine yours : List (List ℕ)) (agree : Agree (rank_order mine) (rank_o
   abbrev In : Feature → Type 0
   In r = Within yours mine r.chrom
 
-  good_same : (input : Input) (text : List ℕ) → AllByRecursion In (records_in text)
+  good_same : (input : Input) (text : List ℕ) → AllByRecursion In (said_records text)
       → good (bed_format (sorting_of (rank_order mine))) input (text_lines text) ≡ good (bed_format (sorting_of (rank_order yours))) input (text_lines text)
   good_same input text h = agree_good (rank_order mine) (rank_order yours) (Within yours mine) agree input None (text_lines text) tt h
 
-  good_within : (input : Input) (text : List ℕ) → AllByRecursion In (records_in text) → AllByRecursion In (items_in (good (bed_format (sorting_of (rank_order yours))) input (text_lines text)))
-  good_within input text h = items_all (rank_order yours) (ranks_total yours) input In None (text_lines text) (all_so _ _ (records_in text) (λ r i known. i) h)
+  good_within : (input : Input) (text : List ℕ) → AllByRecursion In (said_records text) → AllByRecursion In (items_in (good (bed_format (sorting_of (rank_order yours))) input (text_lines text)))
+  good_within input text h = items_all (rank_order yours) (ranks_total yours) input In None (text_lines text) (all_so _ _ (said_records text) (λ r i known. i) h)
 
   decides_same : (a b : Feature) → In a → In b → decides (rank_order mine) a b ≡ decides (rank_order yours) a b
   decides_same a b one two = ap (λ o. not (is_below_at o b.start a.stop)) (agree.compare b.chrom a.chrom two one)
@@ -117,20 +117,20 @@ module _ (mine yours : List (List ℕ)) (agree : Agree (rank_order mine) (rank_o
   pub own_report : (texts : Texts) → AllByRecursion In (records_of texts)
       → pair_report (rank_order mine) (ranks_total mine) shape rule texts.first texts.second ≡ pair_report (rank_order yours) (ranks_total yours) shape rule texts.first texts.second
   own_report texts h =
-      let first = all_front _ (records_in texts.first) (records_in texts.second) h in
-      let second = all_back _ (records_in texts.first) (records_in texts.second) h in
+      let first = all_front _ (said_records texts.first) (said_records texts.second) h in
+      let second = all_back _ (said_records texts.first) (said_records texts.second) h in
       ap₂ (λ (a b : Good Feature). sweep_report (rank_order mine) shape rule (items_in a) a.fault (items_in b) b.fault) (good_same First texts.first first) (good_same Second texts.second second)
       ∙ sweep_same _ _ _ _ (good_within First texts.first first) (good_within Second texts.second second)
 
 -- ---- parts in the order of the whole genome file
 
 -- what holds of the records of each text, holds of those of all
-joined_all : (P : Feature → Type 0) (texts : List (List ℕ)) → AreOfLines texts → AllByRecursion (λ text. AllByRecursion P (records_in text)) texts → AllByRecursion P (records_in (joined texts))
+joined_all : (P : Feature → Type 0) (texts : List (List ℕ)) → AreOfLines texts → AllByRecursion (λ text. AllByRecursion P (said_records text)) texts → AllByRecursion P (said_records (joined texts))
 unfolding lines_from
 joined_all P [] lines h = tt
-joined_all P (t ∷ []) lines h = subst (λ text. AllByRecursion P (records_in text)) (sym (append-nil t)) h.0
+joined_all P (t ∷ []) lines h = subst (λ text. AllByRecursion P (said_records text)) (sym (append-nil t)) h.0
 joined_all P (t ∷ u ∷ ts) lines h =
-    subst (AllByRecursion P) (sym (records_both t (joined (u ∷ ts)) lines.0)) (all_both P (records_in t) (records_in (joined (u ∷ ts))) h.0 (joined_all P (u ∷ ts) lines.1 h.1))
+    subst (AllByRecursion P) (sym (records_both t (joined (u ∷ ts)) lines.0)) (all_both P (said_records t) (said_records (joined (u ∷ ts))) h.0 (joined_all P (u ∷ ts) lines.1 h.1))
 
 module _ (whole : List Entry) (distinct : AreDistinct (genome_names whole)) where
   abbrev Lies : PairShard → Type 0
@@ -157,11 +157,11 @@ module _ (whole : List Entry) (distinct : AreDistinct (genome_names whole)) wher
   lie_joined : (shards : List PairShard) → ArePairs (pair_texts shards) → AllByRecursion Lies shards → AllByRecursion (LiesWithin (pair_entries shards) whole) (records_of (joined_texts (pair_texts shards)))
   lie_joined shards lines h =
       let all = lie_all shards h in
-      all_both _ (records_in (joined (map (λ (p : Texts). p.first) (pair_texts shards)))) (records_in (joined (map (λ (p : Texts). p.second) (pair_texts shards))))
+      all_both _ (said_records (joined (map (λ (p : Texts). p.first) (pair_texts shards)))) (said_records (joined (map (λ (p : Texts). p.second) (pair_texts shards))))
       (joined_all _ (map (λ (p : Texts). p.first) (pair_texts shards)) lines.0
-      (all_map _ _ (pair_texts shards) (all_map _ _ shards (all_so _ _ shards (λ s k. all_front _ (records_in s.texts.first) (records_in s.texts.second) k) all))))
+      (all_map _ _ (pair_texts shards) (all_map _ _ shards (all_so _ _ shards (λ s k. all_front _ (said_records s.texts.first) (said_records s.texts.second) k) all))))
       (joined_all _ (map (λ (p : Texts). p.second) (pair_texts shards)) lines.1
-      (all_map _ _ (pair_texts shards) (all_map _ _ shards (all_so _ _ shards (λ s k. all_back _ (records_in s.texts.first) (records_in s.texts.second) k) all))))
+      (all_map _ _ (pair_texts shards) (all_map _ _ shards (all_so _ _ shards (λ s k. all_back _ (said_records s.texts.first) (said_records s.texts.second) k) all))))
 
   -- where these are the names before the parts
   module _ (before : List (List ℕ)) where

@@ -35,7 +35,7 @@ off_found name (x ∷ xs) e =
     ap (λ b. cond b (Some xs) (names_behind name xs)) parts.0 ∙ off_found name xs parts.1
 
 -- what isn't among names isn't among those behind another
-off_behind : (name other : List ℕ) (xs now : Names) → is_among xs name ≡ false → names_behind other xs ≡ Some now → (is_among now name ≡ false) × (bytes_eq other name ≡ false)
+pub off_behind : (name other : List ℕ) (xs now : Names) → is_among xs name ≡ false → names_behind other xs ≡ Some now → (is_among now name ≡ false) × (bytes_eq other name ≡ false)
 off_behind name other [] now off e = cc
 off_behind name other (x ∷ xs) now off e =
     let parts = or_parts (bytes_eq x name) (is_among xs name) off in

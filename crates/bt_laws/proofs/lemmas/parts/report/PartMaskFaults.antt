@@ -24,7 +24,7 @@ use Rattle.bt_seq.specs.model.Sequences.{SequenceLine, bases_up_to, is_header, s
 use Rattle.bt_seq.specs.declared.mask.mask_how.MaskHow.{MaskHow}
 use Rattle.bt_lines.specs.model.Lines.{end_bytes}
 use Rattle.bt_laws.specs.parts.MaskSplitLaws.{MasksNone, sequence_names}
-use Rattle.bt_laws.specs.parts.Parts.{records_in}
+use Rattle.bt_laws.specs.parts.Parts.{said_records}
 use Rattle.bt_tool.specs.model.report.RecordReport.{Report}
 use Rattle.bt_laws.specs.parts.SplitLaws.{Texts}
 use Rattle.bt_laws.proofs.lemmas.parts.text.PartBlocks.{BeginsElsewhere, among_from, faulty_same, first_front, fresh_joint}
@@ -219,7 +219,7 @@ module _ (how : MaskHow) (full : Bool) where
         elsewhere (r ∷ rs) gone = apart_next (N one.first) rest (R one.second) kept r rs gone
 
         joint : (R (one.second ++ two.second) ≡ R one.second ++ R two.second) × (is_none (B (one.second ++ two.second)).fault ≡ is_none (B two.second).fault)
-        joint = fresh_joint Second one.second two.second are.second records (elsewhere (records_in two.second) (lost_on lines (records_in two.second) off_one))
+        joint = fresh_joint Second one.second two.second are.second records (elsewhere (said_records two.second) (lost_on lines (said_records two.second) off_one))
 
         first_output : (report_on one).output ≡ flat_map (masked_line how (R one.second)) (items_in (F one.first))
         first_output = sound_output how (F one.first) (B one.second) records

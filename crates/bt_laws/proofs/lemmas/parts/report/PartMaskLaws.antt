@@ -6,7 +6,7 @@ use Rattle.bt_lines.specs.model.Fault.{FaultValue}
 use Rattle.bt_lines.specs.model.Lines.{lines_from}
 use Rattle.bt_bed.specs.model.input.Good.{good_from}
 use Rattle.bt_seq.specs.declared.mask.mask_how.MaskHow.{MaskHow}
-use Rattle.bt_laws.specs.parts.MaskSplitLaws.{AreAtHeaders, GoesOn, MaskTheirOwn, NoneMoves, begins_sequence, maskfasta_divides, repeated_names_divide}
+use Rattle.bt_laws.specs.parts.MaskSplitLaws.{AreAtHeaders, WritesOn, MaskTheirOwn, NoneMoves, begins_sequence, maskfasta_divides, repeated_names_divide}
 use Rattle.bt_laws.specs.parts.Parts.{AddUp, StopWithin, outputs_to_fault, unless_fault}
 use Rattle.bt_tool.specs.model.report.RecordReport.{Report}
 use Rattle.bt_laws.specs.parts.SplitLaws.{ArePairs, Texts, joined_texts, on_texts}
@@ -122,7 +122,7 @@ module _ (how : MaskHow) (full : Bool) where
   ends_all (t ∷ []) own = inl (subst (λ r. StopWithin (T t ∷ []) r) (sym (alone t)) (stop_one (T t)))
   ends_all (t ∷ u ∷ ts) own = end_by t u ts own (T t).fault refl (ends_all (u ∷ ts) (own_less t (u ∷ ts) own))
 
-  own_stop : (parts : List Texts) → OwnFit parts → StopWithin (map T parts) (T (joined_texts parts)) ⊎ GoesOn (map T parts) (T (joined_texts parts))
+  own_stop : (parts : List Texts) → OwnFit parts → StopWithin (map T parts) (T (joined_texts parts)) ⊎ WritesOn (map T parts) (T (joined_texts parts))
   own_stop parts own = elim (ends_all parts own) [
     | inl stops ↦ inl stops
     | inr goes ↦ inr (lacks_kind how full (joined_texts parts) goes.0, goes.1)

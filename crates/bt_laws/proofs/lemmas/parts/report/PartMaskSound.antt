@@ -15,8 +15,8 @@ use Rattle.bt_seq.proofs.lemmas.sam.TagLemmas.{last_from}
 use Rattle.bt_seq.specs.model.Masked.{masked_line, names_of}
 use Rattle.bt_seq.specs.model.Sequences.{SequenceLine, sequence_format}
 use Rattle.bt_seq.specs.declared.mask.mask_how.MaskHow.{MaskHow}
-use Rattle.bt_laws.specs.parts.MaskSplitLaws.{HasNone, MasksNone, begins_sequence, sequence_names}
-use Rattle.bt_laws.specs.parts.Parts.{StandsBefore, records_in}
+use Rattle.bt_laws.specs.parts.MaskSplitLaws.{BelongsToNone, MasksNone, begins_sequence, sequence_names}
+use Rattle.bt_laws.specs.parts.Parts.{StandsBefore, said_records}
 use Rattle.bt_tool.specs.model.report.RecordReport.{Report}
 use Rattle.bt_laws.specs.parts.SplitLaws.{Texts}
 use Rattle.bt_laws.proofs.lemmas.parts.text.PartBlocks.{BeginsElsewhere, calm_joint, fresh_joint, sound_from}
@@ -82,7 +82,7 @@ module _ (how : MaskHow) (full : Bool) where
       elsewhere [] lost = tt
       elsewhere (r ∷ rs) lost = apart_next (fasta_names one.first) rest_of.0 (block_records one.second) rest_of.1 r rs lost
 
-      records_two : block_records two.second ≡ records_in two.second
+      records_two : block_records two.second ≡ said_records two.second
       records_two = sound_from Second None (text_lines two.second) second.records
 
       records_both : (block_records (one.second ++ two.second) ≡ block_records one.second ++ block_records two.second) × ((blocks_of (one.second ++ two.second)).fault ≡ None)
@@ -108,7 +108,7 @@ module _ (how : MaskHow) (full : Bool) where
           ∙ sym (ap₂ (λ a b. a ++ b) (sound_output how (fasta_of one.first) (blocks_of one.second) first.records) (sound_output how (fasta_of two.first) (blocks_of two.second) second.records))
 
     -- names may be repeated
-    pub two_suffice : HasNone (sequence_names full one.first) (records_in one.second) (records_in two.second) → (texts_report one).fault ≡ None → (texts_report two).fault ≡ None
+    pub two_suffice : BelongsToNone (sequence_names full one.first) (said_records one.second) (said_records two.second) → (texts_report one).fault ≡ None → (texts_report two).fault ≡ None
         → ((texts_report (joined_two one two)).fault ≡ None) × ((texts_report (joined_two one two)).output ≡ (texts_report one).output ++ (texts_report two).output)
     two_suffice has e d =
         let first = report_sound how (fasta_of one.first) (blocks_of one.second) e in
@@ -116,17 +116,17 @@ module _ (how : MaskHow) (full : Bool) where
         let lost = lost_here first second has in
         (sound_report how (fasta_of (one.first ++ two.first)) (blocks_of (one.second ++ two.second)) (whole_sound first second lost), whole_output first second lost)
       where
-        as_lost : (names : List (List ℕ)) (ones twos : List Feature) → HasNone names ones twos → IsLost names ones twos
+        as_lost : (names : List (List ℕ)) (ones twos : List Feature) → BelongsToNone names ones twos → IsLost names ones twos
         as_lost names ones [] has = tt
         as_lost names ones (r ∷ twos) has = leave_all (Some names) (ones ++ r ∷ []) ∙ has
 
-        lost_here : IsSound (fasta_of one.first) (blocks_of one.second) → IsSound (fasta_of two.first) (blocks_of two.second) → HasNone (sequence_names full one.first) (records_in one.second) (records_in two.second)
+        lost_here : IsSound (fasta_of one.first) (blocks_of one.second) → IsSound (fasta_of two.first) (blocks_of two.second) → BelongsToNone (sequence_names full one.first) (said_records one.second) (said_records two.second)
             → IsLost (fasta_names one.first) (block_records one.second) (block_records two.second)
         lost_here first second has =
             subst (λ names. IsLost names (block_records one.second) (block_records two.second)) (sym (names_grown full First one.first first.lines))
             (subst (λ ones. IsLost (sequence_names full one.first) ones (block_records two.second)) (sym (sound_from Second None (text_lines one.second) first.records))
-            (subst (λ twos. IsLost (sequence_names full one.first) (records_in one.second) twos) (sym (sound_from Second None (text_lines two.second) second.records))
-            (as_lost (sequence_names full one.first) (records_in one.second) (records_in two.second) has)))
+            (subst (λ twos. IsLost (sequence_names full one.first) (said_records one.second) twos) (sym (sound_from Second None (text_lines two.second) second.records))
+            (as_lost (sequence_names full one.first) (said_records one.second) (said_records two.second) has)))
 
     -- no record is named as a sequence of the other part
     module _ (off_two : MasksNone full one two) (off_one : MasksNone full two one) where

@@ -4,7 +4,7 @@ use Rattle.std.specs.Prelude.{flat_map, is_none}
 use Rattle.std.proofs.lemmas.Grind.{flat_map-append}
 use Rattle.bt_lines.specs.model.Fault.{FaultValue}
 use Rattle.bt_bed.specs.model.input.Good.{Good, items_in}
-use Rattle.bt_laws.specs.parts.Parts.{AddUp, StopWithin, fronts_begin, outputs_to_fault, unless_fault}
+use Rattle.bt_laws.specs.parts.Parts.{AddUp, StopWithin, prefixes_begin, outputs_to_fault, unless_fault}
 use Rattle.bt_tool.specs.model.report.RecordReport.{Report, good_report, report_by}
 use Rattle.bt_tool.specs.model.report.Written.{Written}
 use Rattle.bt_laws.proofs.lemmas.parts.order.PartGood.{IsJoint, IsJointBy}
@@ -156,9 +156,9 @@ splits_as one two whole one_too two_too whole_too ones twos a b c d e f g splits
   begin = (splits.begin.0, ap₂ (λ x y. x ++ y) a d ∙ splits.begin.1 ∙ ap (λ x. x ++ splits.begin.0) (sym g));
 }
 
--- a front of what one part writes
-pub fronts_begin_whole : fronts_begin
-fronts_begin_whole before later part whole front rest add none is = (
+-- a prefix of what one part writes
+pub prefixes_begin_whole : prefixes_begin
+prefixes_begin_whole before later part whole front rest add none is = (
   rest ++ flat_map (λ p. p.output) later,
   add.output none ∙ flat_map-append (λ (p : Report). p.output) before (part ∷ later)
       ∙ ap (λ l. flat_map (λ (p : Report). p.output) before ++ l) (ap (λ l. l ++ flat_map (λ (p : Report). p.output) later) is ∙ append_assoc front rest (flat_map (λ (p : Report). p.output) later)),

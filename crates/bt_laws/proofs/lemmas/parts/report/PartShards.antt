@@ -39,7 +39,7 @@ use Rattle.bt_runs.proofs.lemmas.coverage.DepthSteps.{settles_depths}
 use Rattle.bt_runs.proofs.lemmas.complement.GapSteps.{settles_gaps}
 use Rattle.bt_runs.proofs.lemmas.laws.SettlingLemmas.{begins}
 use Rattle.bt_laws.specs.parts.GenomeSplitLaws.{AreShards, LiesWithin, Shard, ShardsAddUp, all_entries, complement_divides, genomecov_divides, merge_genomes_divide, shard_texts}
-use Rattle.bt_laws.specs.parts.Parts.{AreOfLines, StandsBefore, joined, records_in}
+use Rattle.bt_laws.specs.parts.Parts.{AreOfLines, StandsBefore, joined, said_records}
 use Rattle.bt_tool.specs.model.report.RecordReport.{Report, good_report}
 use Rattle.bt_tool.specs.model.report.Report.{chromosomes_of, of_file, report_of, report_on}
 use Rattle.bt_laws.specs.parts.SplitLaws.{on_text}
@@ -279,7 +279,7 @@ module _ (W : List Entry → Written Feature) (command : Command)
       not_there false b e = refl
 
   module _ (e_one e_two : List Entry) (one two : List ℕ) (distinct : AreDistinct (genome_names (e_one ++ e_two))) (ends : StandsBefore one two)
-      (within_one : AllByRecursion (LiesWithin e_one (e_one ++ e_two)) (records_in one)) (within_two : AllByRecursion (LiesWithin e_two (e_one ++ e_two)) (records_in two)) where
+      (within_one : AllByRecursion (LiesWithin e_one (e_one ++ e_two)) (said_records one)) (within_two : AllByRecursion (LiesWithin e_two (e_one ++ e_two)) (said_records two)) where
     one_same : good_of (e_one ++ e_two) one ≡ good_of e_one one
     one_same = agree_good _ _ _ (agree_first e_one e_two) First None (text_lines one) tt within_one
 
@@ -289,7 +289,7 @@ module _ (W : List Entry → Written Feature) (command : Command)
     joint : IsJoint (good_of e_one one) (good_of e_two two) (good_of (e_one ++ e_two) (one ++ two))
     joint = subst (λ g. IsJoint g (good_of e_two two) (good_of (e_one ++ e_two) (one ++ two))) one_same
         (subst (λ g. IsJoint (good_of (e_one ++ e_two) one) g (good_of (e_one ++ e_two) (one ++ two))) two_same
-        (bed_joint (rank_order (genome_names (e_one ++ e_two))) (ranks_total (genome_names (e_one ++ e_two))) one two (within_before e_one e_two distinct (records_in one) (records_in two) within_one within_two) First ends))
+        (bed_joint (rank_order (genome_names (e_one ++ e_two))) (ranks_total (genome_names (e_one ++ e_two))) one two (within_before e_one e_two distinct (said_records one) (said_records two) within_one within_two) First ends))
 
     abbrev order_of_both : Order
     order_of_both = rank_order (genome_names (e_one ++ e_two))
@@ -312,7 +312,7 @@ module _ (W : List Entry → Written Feature) (command : Command)
       second_placed = subst (λ (g : Good Feature). ArePlaced order_of_both (intervals_of (items_in g))) two_same (placed_lines First order_of_both (text_lines two) total_of_both);
       early = subst (λ (g : Good Feature). Earlier order_of_both total_of_both (items_in g) (items_in (good_of e_two two))) one_same
           (subst (λ (g : Good Feature). Earlier order_of_both total_of_both (items_in (good_of (e_one ++ e_two) one)) (items_in g)) two_same
-          (good_earlier order_of_both total_of_both one two (within_before e_one e_two distinct (records_in one) (records_in two) within_one within_two) First First));
+          (good_earlier order_of_both total_of_both one two (within_before e_one e_two distinct (said_records one) (said_records two) within_one within_two) First First));
     }
 
     both_reports : Adds (report_in e_one one) (report_in e_two two) (report_in (e_one ++ e_two) (one ++ two)) × Stops (report_in e_one one) (report_in e_two two) (report_in (e_one ++ e_two) (one ++ two))
@@ -327,7 +327,7 @@ module _ (W : List Entry → Written Feature) (command : Command)
   record Fit (shards : List Shard) : Type 0 where
     distinct : AreDistinct (genome_names (all_entries shards))
     lines : AreOfLines (shard_texts shards)
-    within : AllByRecursion (λ shard. AllByRecursion (LiesWithin shard.entries (all_entries shards)) (records_in shard.text)) shards
+    within : AllByRecursion (λ shard. AllByRecursion (LiesWithin shard.entries (all_entries shards)) (said_records shard.text)) shards
 
   back_distinct : (xs ys : List (List ℕ)) → AreDistinct (xs ++ ys) → AreDistinct ys
   back_distinct [] ys d = d
@@ -343,21 +343,21 @@ module _ (W : List Entry → Written Feature) (command : Command)
   fit_less t ts fit = record {
     distinct = back_distinct (genome_names t.entries) (genome_names (all_entries ts)) (subst AreDistinct (names_both t.entries (all_entries ts)) fit.distinct);
     lines = lines_less t.text (shard_texts ts) fit.lines;
-    within = all_so _ _ ts (λ s h. all_so _ _ (records_in s.text) (λ r k here. k (among_more t.entries (all_entries ts) r.chrom here)) h) fit.within.1;
+    within = all_so _ _ ts (λ s h. all_so _ _ (said_records s.text) (λ r k here. k (among_more t.entries (all_entries ts) r.chrom here)) h) fit.within.1;
   }
 
-  within_all : (whole : List Entry) (shards : List Shard) → AreOfLines (shard_texts shards) → AllByRecursion (λ shard. AllByRecursion (LiesWithin shard.entries whole) (records_in shard.text)) shards
-      → AllByRecursion (LiesWithin (all_entries shards) whole) (records_in (joined (shard_texts shards)))
+  within_all : (whole : List Entry) (shards : List Shard) → AreOfLines (shard_texts shards) → AllByRecursion (λ shard. AllByRecursion (LiesWithin shard.entries whole) (said_records shard.text)) shards
+      → AllByRecursion (LiesWithin (all_entries shards) whole) (said_records (joined (shard_texts shards)))
   unfolding lines_from
   within_all whole [] lines h = tt
   within_all whole (t ∷ []) lines h =
-      subst (λ text. AllByRecursion (LiesWithin (t.entries ++ []) whole) (records_in text)) (sym (append-nil t.text))
-      (subst (λ es. AllByRecursion (LiesWithin es whole) (records_in t.text)) (sym (append-nil t.entries)) h.0)
+      subst (λ text. AllByRecursion (LiesWithin (t.entries ++ []) whole) (said_records text)) (sym (append-nil t.text))
+      (subst (λ es. AllByRecursion (LiesWithin es whole) (said_records t.text)) (sym (append-nil t.entries)) h.0)
   within_all whole (t ∷ u ∷ ts) lines h =
       subst (λ rs. AllByRecursion (LiesWithin (t.entries ++ all_entries (u ∷ ts)) whole) rs) (sym (records_both t.text (joined (shard_texts (u ∷ ts))) lines.0))
-      (all_both _ (records_in t.text) (records_in (joined (shard_texts (u ∷ ts))))
-      (all_so _ _ (records_in t.text) (λ r k here. among_less t.entries (all_entries (u ∷ ts)) r.chrom (k here)) h.0)
-      (all_so _ _ (records_in (joined (shard_texts (u ∷ ts)))) (λ r k here. among_more t.entries (all_entries (u ∷ ts)) r.chrom (k here)) (within_all whole (u ∷ ts) lines.1 h.1)))
+      (all_both _ (said_records t.text) (said_records (joined (shard_texts (u ∷ ts))))
+      (all_so _ _ (said_records t.text) (λ r k here. among_less t.entries (all_entries (u ∷ ts)) r.chrom (k here)) h.0)
+      (all_so _ _ (said_records (joined (shard_texts (u ∷ ts)))) (λ r k here. among_more t.entries (all_entries (u ∷ ts)) r.chrom (k here)) (within_all whole (u ∷ ts) lines.1 h.1)))
 
   on_shard : Shard → Report
   on_shard shard = report_in shard.entries shard.text

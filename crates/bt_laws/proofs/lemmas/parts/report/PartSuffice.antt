@@ -25,7 +25,7 @@ use Rattle.bt_sweep.specs.declared.hits.hit_rule.HitRule.{HitRule}
 use Rattle.bt_sweep.specs.declared.output.shape.Shape.{Shape}
 use Rattle.bt_laws.specs.parts.GenomeSplitLaws.{AreShards, LiesWithin, Shard, ShardsAddUp, all_entries}
 use Rattle.bt_laws.specs.parts.OwnGenomeLaws.{PairShard, PairShardsAddUp, PairShardsSuffice, PairsLieWithin, ShardsSuffice, complement_shards_suffice, genomecov_shards_suffice, intersect_shards_suffice, merge_shards_suffice, pair_entries, subtract_shards_suffice}
-use Rattle.bt_laws.specs.parts.Parts.{AddUp, Suffice, record_in, records_in}
+use Rattle.bt_laws.specs.parts.Parts.{AddUp, Suffice, said_record, said_records}
 use Rattle.bt_tool.specs.model.report.RecordReport.{Report, good_report, report_by}
 use Rattle.bt_tool.specs.model.report.Report.{chromosomes_of, report_of, report_on}
 use Rattle.bt_laws.specs.parts.SplitLaws.{Texts, on_text, on_texts, records_of}
@@ -53,7 +53,7 @@ module _ (order : Order) (input : Input) where
   known_kept n last r rest more next false f is e = cc
 
   known_with : (n : ℕ) (last : Option Locus) (said : Result (Option Feature) Kind) (rest : Option Locus → Good Feature) (more : List Feature) → ((now : Option Locus) → (rest now).fault ≡ None → Known more)
-      → (good_with (bed_format (sorting_of order)) input n last (said_after (sorting_of order) last said) rest).fault ≡ None → Known (record_in said ++ more)
+      → (good_with (bed_format (sorting_of order)) input n last (said_after (sorting_of order) last said) rest).fault ≡ None → Known (said_record said ++ more)
   known_with n last (Err kind) rest more next e = cc
   known_with n last (Ok None) rest more next e = next last e
   known_with n last (Ok (Some r)) rest more next e = known_kept n last r rest more next (order.knows r.chrom) (falls_in (sorting_of order) last (locus_at r)) refl e
@@ -64,9 +64,9 @@ module _ (order : Order) (input : Input) where
   known_from last (m ∷ ms) e = known_with m.number last (record_of m.text) (λ now. good_from (bed_format (sorting_of order)) input now ms) (records_on ms) (λ now d. known_from now ms d) e
 
 -- on those of the part's genome file
-lies : (own whole : List Entry) (input : Input) (text : List ℕ) → (good (bed_format (sorting_of (rank_order (genome_names own)))) input (text_lines text)).fault ≡ None → AllByRecursion (LiesWithin own whole) (records_in text)
+lies : (own whole : List Entry) (input : Input) (text : List ℕ) → (good (bed_format (sorting_of (rank_order (genome_names own)))) input (text_lines text)).fault ≡ None → AllByRecursion (LiesWithin own whole) (said_records text)
 lies own whole input text e =
-    all_so _ _ (records_in text) (λ r known here. sym (among_ranked (genome_names own) r.chrom) ∙ known) (known_from (rank_order (genome_names own)) input None (text_lines text) e)
+    all_so _ _ (said_records text) (λ r known here. sym (among_ranked (genome_names own) r.chrom) ∙ known) (known_from (rank_order (genome_names own)) input None (text_lines text) e)
 
 all_unmapped : {A B : Type 0} (P : B → Type 0) (f : A → B) (xs : List A) → AllByRecursion P (map f xs) → AllByRecursion (λ x. P (f x)) xs
 all_unmapped P f [] h = tt
@@ -89,7 +89,7 @@ module _ (W : List Entry → Written Feature) (command : Command)
   report_fault written rs (Some fault) = refl
 
   shard_lies : (whole : List Entry) (shard : Shard) → chromosomes_of (Some shard.genome) ≡ Ok (Some shard.entries) → (on_text command (Some shard.genome) shard.text).fault ≡ None
-      → AllByRecursion (LiesWithin shard.entries whole) (records_in shard.text)
+      → AllByRecursion (LiesWithin shard.entries whole) (said_records shard.text)
   unfolding report_of
   shard_lies whole shard has e =
       let text_good = good (bed_format (sorting_of (rank_order (genome_names shard.entries)))) First (text_lines shard.text) in
@@ -130,7 +130,7 @@ module _ (command : Command) (shape : Shape) (rule : HitRule)
       let first = good (bed_format (sorting_of order)) First (text_lines shard.texts.first) in
       let second = good (bed_format (sorting_of order)) Second (text_lines shard.texts.second) in
       let none = report_none order shape rule (items_in first) first.fault (items_in second) second.fault (ap (λ (r : Report). r.fault) (sym (is shard.genome shard.entries has shard.texts)) ∙ e) in
-      all_both _ (records_in shard.texts.first) (records_in shard.texts.second) (lies shard.entries whole First shard.texts.first none.0) (lies shard.entries whole Second shard.texts.second none.1)
+      all_both _ (said_records shard.texts.first) (said_records shard.texts.second) (lies shard.entries whole First shard.texts.first none.0) (lies shard.entries whole Second shard.texts.second none.1)
 
   pairs_suffice : PairShardsSuffice command
   pairs_suffice genome shards are all =

@@ -18,20 +18,20 @@ use Rattle.bt_bed.specs.model.feature.Record.{record_of}
 use Rattle.bt_bed.specs.model.order.Sorting.{falls_in, sorting_of}
 use Rattle.bt_bed.proofs.lemmas.laws.GoodBedLemmas.{line_said}
 use Rattle.bt_bed.proofs.lemmas.order.SortingLemmas.{places_sorted}
-use Rattle.bt_laws.specs.parts.Parts.{ComeBefore, StandsBefore, record_in, records_in}
+use Rattle.bt_laws.specs.parts.Parts.{ComeBefore, StandsBefore, said_record, said_records}
 use Rattle.bt_laws.proofs.lemmas.parts.order.PartGood.{IsJoint, LeadsOn, good_joint}
 use Rattle.bt_laws.proofs.lemmas.parts.text.PartLines.{AreAlike, alike_lines}
 use Rattle.bt_laws.proofs.lemmas.parts.text.PartLists.{all_back, all_front, all_so}
 
 -- the records that lines say
 abbrev pub records_on : List TextLine → List Feature
-records_on lines = flat_map (λ line. record_in (record_of line.text)) lines
+records_on lines = flat_map (λ line. said_record (record_of line.text)) lines
 
 pub alike_records : (ls ms : List TextLine) → AreAlike ls ms → records_on ls ≡ records_on ms
 alike_records [] [] h = refl
 alike_records [] (m ∷ ms) h = absurd h
 alike_records (l ∷ ls) [] h = absurd h
-alike_records (l ∷ ls) (m ∷ ms) h = ap (λ t. record_in (record_of t) ++ records_on ls) h.0 ∙ ap (λ rs. record_in (record_of m.text) ++ rs) (alike_records ls ms h.2)
+alike_records (l ∷ ls) (m ∷ ms) h = ap (λ t. said_record (record_of t) ++ records_on ls) h.0 ∙ ap (λ rs. said_record (record_of m.text) ++ rs) (alike_records ls ms h.2)
 
 module _ (order : Order) (total : IsTotal order) where
   -- the name, where it is known, comes before the chromosomes of the records
@@ -60,7 +60,7 @@ module _ (order : Order) (total : IsTotal order) where
     fresh_by n r rest true false h = refl
     fresh_by n r rest false falls h = refl
 
-    fresh_with : (n : ℕ) (said : Result (Option Feature) Kind) (rest : Option Locus → Good Feature) → Leading last.chrom (record_in said) → rest (Some last) ≡ rest None
+    fresh_with : (n : ℕ) (said : Result (Option Feature) Kind) (rest : Option Locus → Good Feature) → Leading last.chrom (said_record said) → rest (Some last) ≡ rest None
         → good_with (bed_format (sorting_of order)) input n (Some last) (said_after (sorting_of order) (Some last) said) rest
         ≡ good_with (bed_format (sorting_of order)) input n None (said_after (sorting_of order) None said) rest
     fresh_with n (Err kind) rest leads same = refl
@@ -73,50 +73,50 @@ module _ (order : Order) (total : IsTotal order) where
     unfolding good_from line_says
     fresh_from [] leads = refl
     fresh_from (m ∷ ms) leads =
-        fresh_with m.number (record_of m.text) (λ now. good_from (bed_format (sorting_of order)) input now ms) (all_front _ (record_in (record_of m.text)) (records_on ms) leads)
-        (fresh_from ms (all_back _ (record_in (record_of m.text)) (records_on ms) leads))
+        fresh_with m.number (record_of m.text) (λ now. good_from (bed_format (sorting_of order)) input now ms) (all_front _ (said_record (record_of m.text)) (records_on ms) leads)
+        (fresh_from ms (all_back _ (said_record (record_of m.text)) (records_on ms) leads))
 
   -- the members are among the records that the lines say, and their chromosomes are known
   module _ (input : Input) (Q : Feature → Type 0) where
     items_with : (last : Option Locus) (line : TextLine) (rest : Option Locus → Good Feature) → ((now : Option Locus) → AllByRecursion Q (items_in (rest now)))
-        → AllByRecursion (λ r. IsTrue (order.knows r.chrom) → Q r) (record_in (record_of line.text))
+        → AllByRecursion (λ r. IsTrue (order.knows r.chrom) → Q r) (said_record (record_of line.text))
         → (said : Result (Option Feature) Kind) → line_says (sorting_of order) last line.text ≡ said → AllByRecursion Q (items_in (good_with (bed_format (sorting_of order)) input line.number last said rest))
     items_with last line rest h q (Err kind) e = tt
     items_with last line rest h q (Ok None) e = h last
     items_with last line rest h q (Ok (Some r)) e =
         let said = line_said (sorting_of order) last line.text r e in
-        let one : AllByRecursion (λ r. IsTrue (order.knows r.chrom) → Q r) (r ∷ []) = subst (λ w. AllByRecursion (λ r. IsTrue (order.knows r.chrom) → Q r) (record_in w)) said.says q in
+        let one : AllByRecursion (λ r. IsTrue (order.knows r.chrom) → Q r) (r ∷ []) = subst (λ w. AllByRecursion (λ r. IsTrue (order.knows r.chrom) → Q r) (said_record w)) said.says q in
         (one.0 said.known, h (Some (locus_at r)))
 
     pub items_all : (last : Option Locus) (lines : List TextLine) → AllByRecursion (λ r. IsTrue (order.knows r.chrom) → Q r) (records_on lines) → AllByRecursion Q (items_in (good_from (bed_format (sorting_of order)) input last lines))
     unfolding good_from
     items_all last [] q = tt
     items_all last (line ∷ lines) q =
-        items_with last line (λ now. good_from (bed_format (sorting_of order)) input now lines) (λ now. items_all now lines (all_back _ (record_in (record_of line.text)) (records_on lines) q))
-        (all_front _ (record_in (record_of line.text)) (records_on lines) q) (line_says (sorting_of order) last line.text) refl
+        items_with last line (λ now. good_from (bed_format (sorting_of order)) input now lines) (λ now. items_all now lines (all_back _ (said_record (record_of line.text)) (records_on lines) q))
+        (all_front _ (said_record (record_of line.text)) (records_on lines) q) (line_says (sorting_of order) last line.text) refl
 
   -- each of these records comes before each of the others
   abbrev pub Earlier : List Feature → List Feature → Type 0
   Earlier ones twos = AllByRecursion (λ r. AllByRecursion (λ s. order.compare r.chrom s.chrom ≡ Less) twos) ones
 
-  module _ (one two : List ℕ) (before : ComeBefore order (records_in one) (records_in two)) where
+  module _ (one two : List ℕ) (before : ComeBefore order (said_records one) (said_records two)) where
     abbrev Leads : Option Locus → Type 0
     Leads None = Unit {0}
-    Leads (Some last) = IsTrue (order.knows last.chrom) × Leading last.chrom (records_in two)
+    Leads (Some last) = IsTrue (order.knows last.chrom) × Leading last.chrom (said_records two)
 
     fresh : (input : Input) (n : ℕ) (last : Option Locus) → Leads last → good_from (bed_format (sorting_of order)) input last (lines_from n two) ≡ good_from (bed_format (sorting_of order)) input None (lines_from n two)
     fresh input n None leads = refl
     fresh input n (Some last) leads = fresh_from input last leads.0 (lines_from n two) (subst (Leading last.chrom) (alike_records (text_lines two) (lines_from n two) (alike_lines 1 n two)) leads.1)
 
-    lead_line : (line : TextLine) → AllByRecursion (λ r. Leading r.chrom (records_in two)) (record_in (record_of line.text)) → LeadsOn (bed_format (sorting_of order)) Leads line
+    lead_line : (line : TextLine) → AllByRecursion (λ r. Leading r.chrom (said_records two)) (said_record (record_of line.text)) → LeadsOn (bed_format (sorting_of order)) Leads line
     lead_line line h last r leads e =
         let said = line_said (sorting_of order) last line.text r e in
-        let is : AllByRecursion (λ r. Leading r.chrom (records_in two)) (r ∷ []) = subst (λ w. AllByRecursion (λ r. Leading r.chrom (records_in two)) (record_in w)) said.says h in
+        let is : AllByRecursion (λ r. Leading r.chrom (said_records two)) (r ∷ []) = subst (λ w. AllByRecursion (λ r. Leading r.chrom (said_records two)) (said_record w)) said.says h in
         (said.known, is.0)
 
-    lead_lines : (ls : List TextLine) → AllByRecursion (λ r. Leading r.chrom (records_in two)) (records_on ls) → AllByRecursion (LeadsOn (bed_format (sorting_of order)) Leads) ls
+    lead_lines : (ls : List TextLine) → AllByRecursion (λ r. Leading r.chrom (said_records two)) (records_on ls) → AllByRecursion (LeadsOn (bed_format (sorting_of order)) Leads) ls
     lead_lines [] h = tt
-    lead_lines (l ∷ ls) h = (lead_line l (all_front _ (record_in (record_of l.text)) (records_on ls) h), lead_lines ls (all_back _ (record_in (record_of l.text)) (records_on ls) h))
+    lead_lines (l ∷ ls) h = (lead_line l (all_front _ (said_record (record_of l.text)) (records_on ls) h), lead_lines ls (all_back _ (said_record (record_of l.text)) (records_on ls) h))
 
     -- what is good of both texts
     pub bed_joint : (input : Input) → StandsBefore one two
@@ -128,6 +128,6 @@ module _ (order : Order) (total : IsTotal order) where
     pub good_earlier : (input other : Input) → Earlier (items_in (good (bed_format (sorting_of order)) input (text_lines one))) (items_in (good (bed_format (sorting_of order)) other (text_lines two)))
     good_earlier input other =
         items_all input (λ r. AllByRecursion (λ s. order.compare r.chrom s.chrom ≡ Less) (items_in (good (bed_format (sorting_of order)) other (text_lines two)))) None (text_lines one)
-        (all_so (λ r. Leading r.chrom (records_in two)) _ (records_in one)
-        (λ r leads known. items_all other (λ s. order.compare r.chrom s.chrom ≡ Less) None (text_lines two) (all_so _ _ (records_in two) (λ s h is. h known is) leads))
+        (all_so (λ r. Leading r.chrom (said_records two)) _ (said_records one)
+        (λ r leads known. items_all other (λ s. order.compare r.chrom s.chrom ≡ Less) None (text_lines two) (all_so _ _ (said_records two) (λ s h is. h known is) leads))
         before)

@@ -17,7 +17,7 @@ use Rattle.bt_bed.specs.model.feature.Record.{record_of}
 use Rattle.bt_bed.specs.model.order.Sorting.{block_sorting, falls_in}
 use Rattle.bt_seq.proofs.lemmas.laws.LeftLemmas.{is_last}
 use Rattle.bt_seq.proofs.lemmas.sam.TagLemmas.{last_from}
-use Rattle.bt_laws.specs.parts.Parts.{StandsBefore, record_in, records_in}
+use Rattle.bt_laws.specs.parts.Parts.{StandsBefore, said_record, said_records}
 use Rattle.bt_laws.proofs.lemmas.parts.text.PartBed.{alike_records, records_on}
 use Rattle.bt_laws.proofs.lemmas.parts.order.PartGood.{IsLike, like_from, none_like}
 use Rattle.bt_laws.proofs.lemmas.parts.text.PartLines.{alike_lines, lines_join}
@@ -48,7 +48,7 @@ module _ (input : Input) where
   kept_with n last false r rest e = refl
 
   fresh_with : (n : ℕ) (last : Option Locus) (said : Result (Option Feature) Kind) (rest : Option Locus → Good Feature) (more : List Feature)
-      → (BeginsElsewhere (name_at last) more → rest last ≡ rest None) → BeginsElsewhere (name_at last) (record_in said ++ more)
+      → (BeginsElsewhere (name_at last) more → rest last ≡ rest None) → BeginsElsewhere (name_at last) (said_record said ++ more)
       → good_with block_format input n last (said_after block_sorting last said) rest ≡ good_with block_format input n None (said_after block_sorting None said) rest
   fresh_with n last (Err kind) rest more same h = refl
   fresh_with n last (Ok None) rest more same h = same h
@@ -86,7 +86,7 @@ module _ (input : Input) where
   sound_kept n last false r rest more same e = ap (λ (l : List Feature). r ∷ l) (same e)
 
   sound_with : (n : ℕ) (last : Option Locus) (said : Result (Option Feature) Kind) (rest : Option Locus → Good Feature) (more : List Feature) → ((now : Option Locus) → (rest now).fault ≡ None → items_in (rest now) ≡ more)
-      → (good_with block_format input n last (said_after block_sorting last said) rest).fault ≡ None → items_in (good_with block_format input n last (said_after block_sorting last said) rest) ≡ record_in said ++ more
+      → (good_with block_format input n last (said_after block_sorting last said) rest).fault ≡ None → items_in (good_with block_format input n last (said_after block_sorting last said) rest) ≡ said_record said ++ more
   sound_with n last (Err kind) rest more same e = cc
   sound_with n last (Ok None) rest more same e = same last e
   sound_with n last (Ok (Some r)) rest more same e = sound_kept n last (falls_in block_sorting last (locus_at r)) r rest more (same (Some (locus_at r))) e
@@ -103,7 +103,7 @@ module _ (input : Input) where
   among_kept P n last false r rest p h = (p, h)
 
   among_with : (P : Feature → Type 0) (n : ℕ) (last : Option Locus) (said : Result (Option Feature) Kind) (rest : Option Locus → Good Feature) → ((now : Option Locus) → AllByRecursion P (items_in (rest now)))
-      → AllByRecursion P (record_in said) → AllByRecursion P (items_in (good_with block_format input n last (said_after block_sorting last said) rest))
+      → AllByRecursion P (said_record said) → AllByRecursion P (items_in (good_with block_format input n last (said_after block_sorting last said) rest))
   among_with P n last (Err kind) rest h p = tt
   among_with P n last (Ok None) rest h p = h last
   among_with P n last (Ok (Some r)) rest h p = among_kept P n last (falls_in block_sorting last (locus_at r)) r rest p.0 (h (Some (locus_at r)))
@@ -113,8 +113,8 @@ module _ (input : Input) where
   unfolding good_from line_says
   among_from P last [] h = tt
   among_from P last (m ∷ ms) h =
-      among_with P m.number last (record_of m.text) (λ now. good_from block_format input now ms) (λ now. among_from P now ms (all_back P (record_in (record_of m.text)) (records_on ms) h))
-      (all_front P (record_in (record_of m.text)) (records_on ms) h)
+      among_with P m.number last (record_of m.text) (λ now. good_from block_format input now ms) (λ now. among_from P now ms (all_back P (said_record (record_of m.text)) (records_on ms) h))
+      (all_front P (said_record (record_of m.text)) (records_on ms) h)
 
   -- ---- two texts
 
@@ -155,13 +155,13 @@ module _ (input : Input) where
     put_none None g h e = refl
     put_none (Some fault) g h e = cc
 
-    elsewhere : BeginsElsewhere (last_from None (items_in First-good)) (records_in two) → BeginsElsewhere (name_at Last) (records_on Lines-behind)
+    elsewhere : BeginsElsewhere (last_from None (items_in First-good)) (said_records two) → BeginsElsewhere (name_at Last) (records_on Lines-behind)
     elsewhere h =
         subst (λ last. BeginsElsewhere last (records_on Lines-behind)) (sym (reached_last None (items_in First-good)))
         (subst (BeginsElsewhere (last_from None (items_in First-good))) (alike_records (text_lines two) Lines-behind (alike_lines 1 (lines_join 1 one two ends).0 two)) h)
 
     -- where those of the second text begin on another chromosome
-    pub fresh_joint : First-good.fault ≡ None → BeginsElsewhere (last_from None (items_in First-good)) (records_in two) → AreJoint
+    pub fresh_joint : First-good.fault ≡ None → BeginsElsewhere (last_from None (items_in First-good)) (said_records two) → AreJoint
     fresh_joint none h =
         joint_of First-good (good_from block_format input None Lines-behind) like_two
         (whole_is ∙ put_none First-good.fault First-good (good_from block_format input Last Lines-behind) none

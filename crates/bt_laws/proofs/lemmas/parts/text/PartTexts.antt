@@ -25,7 +25,7 @@ use Rattle.bt_sweep.specs.model.Subtract.{subtract_shape}
 use Rattle.bt_sweep.specs.declared.hits.hit_rule.HitRule.{HitRule}
 use Rattle.bt_sweep.specs.declared.output.shape.Shape.{Shape}
 use Rattle.bt_tool.specs.model.report.Behaviour.{order_of}
-use Rattle.bt_laws.specs.parts.Parts.{AreOfLines, ComeBefore, StandsBefore, joined, records_in}
+use Rattle.bt_laws.specs.parts.Parts.{AreOfLines, ComeBefore, StandsBefore, joined, said_records}
 use Rattle.bt_tool.specs.model.report.RecordReport.{Report, good_report}
 use Rattle.bt_tool.specs.model.report.Report.{chromosomes_of, report_of, report_on}
 use Rattle.bt_laws.specs.parts.SplitLaws.{ArePairs, PairsAscend, Texts, TextsAscend, intersect_divides, joined_texts, merge_divides, on_text, on_texts, subtract_divides}
@@ -67,7 +67,7 @@ module _ (order : Order) (total : IsTotal order) where
   abbrev pub merge_report : ℕ → MergeStrand → List ℕ → Report
   merge_report d strand text = good_report (merge_written order d strand) (bed_text_good First text)
 
-  module _ (d : ℕ) (strand : MergeStrand) (one two : List ℕ) (ends : StandsBefore one two) (before : ComeBefore order (records_in one) (records_in two)) where
+  module _ (d : ℕ) (strand : MergeStrand) (one two : List ℕ) (ends : StandsBefore one two) (before : ComeBefore order (said_records one) (said_records two)) where
     pub merge_adds : Adds (merge_report d strand one) (merge_report d strand two) (merge_report d strand (one ++ two))
     merge_adds = good_adds (merge_written order d strand) (merge_written order d strand) (merge_written order d strand) (bed_text_good First one) (bed_text_good First two) (bed_text_good First (one ++ two))
         (bed_joint order total one two before First ends) (merge_split d strand one two (good_earlier order total one two before First First))
@@ -97,9 +97,9 @@ module _ (order : Order) (total : IsTotal order) where
   known_all input text = items_all order total input (λ r. IsTrue (order.knows r.chrom)) None (text_lines text) (all_any _ _ (λ r known. known))
 
   module _ (shape : Shape) (rule : HitRule) (a_one b_one a_two b_two : List ℕ) (a_ends : StandsBefore a_one a_two) (b_ends : StandsBefore b_one b_two)
-      (before : ComeBefore order (records_in a_one ++ records_in b_one) (records_in a_two ++ records_in b_two)) where
-    parts : ComeBefore order (records_in a_one) (records_in a_two) × ComeBefore order (records_in a_one) (records_in b_two) × ComeBefore order (records_in b_one) (records_in a_two) × ComeBefore order (records_in b_one) (records_in b_two)
-    parts = came (records_in a_one) (records_in b_one) (records_in a_two) (records_in b_two) before
+      (before : ComeBefore order (said_records a_one ++ said_records b_one) (said_records a_two ++ said_records b_two)) where
+    parts : ComeBefore order (said_records a_one) (said_records a_two) × ComeBefore order (said_records a_one) (said_records b_two) × ComeBefore order (said_records b_one) (said_records a_two) × ComeBefore order (said_records b_one) (said_records b_two)
+    parts = came (said_records a_one) (said_records b_one) (said_records a_two) (said_records b_two) before
 
     split : AreSplit order total (text_records First a_one) (text_records First a_two) (text_records Second b_one) (text_records Second b_two)
     split =

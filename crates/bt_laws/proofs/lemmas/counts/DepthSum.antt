@@ -16,8 +16,8 @@ use Rattle.bt_runs.specs.model.Gaps.{length_in}
 use Rattle.bt_runs.specs.model.Levels.{Begun, Level, begun_after, begun_at, ended_after, ended_at, levels_from, levels_of, next_begun, next_ended}
 use Rattle.bt_runs.proofs.lemmas.order.ChromosomeLemmas.{spans_on-elsewhere, spans_on-here}
 use Rattle.bt_runs.proofs.lemmas.coverage.LevelLemmas.{levels_more}
-use Rattle.bt_laws.specs.same.DepthSum.{bases_below, depth_bases, depths_sum}
-use Rattle.bt_laws.specs.pipes.Pipes.{first_records}
+use Rattle.bt_laws.specs.counts.DepthSum.{bases_below, depth_bases, depths_sum}
+use Rattle.bt_laws.specs.Runs.{first_records}
 use Rattle.bt_laws.proofs.lemmas.pipes.Covers.{depth_both}
 use Rattle.bt_laws.proofs.lemmas.pipes.PipeLaws.{chroms_of, genomecov_whole}
 

@@ -25,9 +25,8 @@ use Rattle.bt_sweep.proofs.lemmas.laws.RuleLemmas.{enough_of_nothing}
 use Rattle.bt_tool.specs.model.report.Behaviour.{order_of}
 use Rattle.bt_tool.specs.model.report.Inputs.{or_empty}
 use Rattle.bt_tool.specs.declared.planning.plan_type.Command.TheVariants.{Intersect}
-use Rattle.bt_laws.specs.same.PairSides.{IsEven, Pair, exchanged, pair_line, pairs_have_two_sides, pairs_of, turned}
-use Rattle.bt_laws.specs.pipes.Pipes.{first_records, second_records}
-use Rattle.bt_laws.specs.same.SameLines.{Writes}
+use Rattle.bt_laws.specs.counts.PairSides.{IsMutual, HitPair, exchanged, pair_line, pairs_have_two_sides, pairs_of, with_sides_exchanged}
+use Rattle.bt_laws.specs.Runs.{first_records, second_records, RunWrites}
 use Rattle.bt_laws.proofs.lemmas.pipes.PipeLaws.{intersect_whole, well_there}
 use Rattle.bt_laws.proofs.lemmas.same.SameLines.{writes_lines}
 use Rattle.bt_laws.proofs.lemmas.same.SameSweeps.{cut_none, like_from, met_faultless, met_none, other_input, sweeps_from, uncut}
@@ -64,12 +63,12 @@ enough_by : (x y both : Bool) → both ≡ true → (x && (not both || y)) ≡ (
 enough_by x y true e = and_swap x y
 enough_by x y false e = cc
 
-enough_swap : (rule : HitRule) (bases : ℕ) (a b : Feature) → IsEven rule → is_enough rule bases a b ≡ is_enough rule bases b a
+enough_swap : (rule : HitRule) (bases : ℕ) (a b : Feature) → IsMutual rule → is_enough rule bases a b ≡ is_enough rule bases b a
 unfolding is_enough
 enough_swap rule bases a b (inl none) = enough_of_nothing rule bases a b none ∙ sym (enough_of_nothing rule bases b a none)
 enough_swap rule bases a b (inr both) = enough_by (has_fraction rule.billionths bases a) (has_fraction rule.billionths bases b) rule.both both
 
-hits_swap : (rule : HitRule) (a b : Feature) → IsEven rule → hits rule a b ≡ hits rule b a
+hits_swap : (rule : HitRule) (a b : Feature) → IsMutual rule → hits rule a b ≡ hits rule b a
 unfolding hits strands_agree
 hits_swap rule a b even =
     ap₂ (λ n e. ltb 0 n && ((not rule.same_strand || is_strand a.strand b.strand) && e)) (shared_swap a b) (enough_swap rule (shared_bases a b) a b even ∙ ap (λ n. is_enough rule n b a) (shared_swap a b))
@@ -93,12 +92,12 @@ module _ {A B : Type 0} where
 
 -- ---- pairs from both sides
 
-module _ (rule : HitRule) (even : IsEven rule) where
+module _ (rule : HitRule) (even : IsMutual rule) where
   -- those of the second side, by the first
-  abbrev turned_of : Feature → List Feature → List Pair
+  abbrev turned_of : Feature → List Feature → List HitPair
   turned_of b as_read = map (λ a. record { left = b; right = a }) (filter (hits rule b) as_read)
 
-  one_of : Feature → Feature → List Pair
+  one_of : Feature → Feature → List HitPair
   one_of a b = cond (hits rule b a) (record { left = b; right = a } ∷ []) []
 
   one_more : (a : Feature) (as_read : List Feature) (b : Feature) → turned_of b (a ∷ as_read) ≡ one_of a b ++ turned_of b as_read
@@ -113,12 +112,12 @@ module _ (rule : HitRule) (even : IsEven rule) where
   all_more a as_read [] = refl
   all_more a as_read (b ∷ bs) = ap₂ (λ x y. x ++ y) (one_more a as_read b) (all_more a as_read bs)
 
-  of_one : (a : Feature) (bs : List Feature) → map turned (map (λ (b : Feature). record { left = a; right = b }) (hits_among rule a bs)) ≡ flat_map (one_of a) bs
+  of_one : (a : Feature) (bs : List Feature) → map with_sides_exchanged (map (λ (b : Feature). record { left = a; right = b }) (hits_among rule a bs)) ≡ flat_map (one_of a) bs
   unfolding one_of
   of_one a [] = refl
   of_one a (b ∷ bs) =
-      ap (λ h. map turned (map (λ (b : Feature). record { left = a; right = b }) (cond h (b ∷ hits_among rule a bs) (hits_among rule a bs)))) (hits_swap rule a b even)
-      ∙ elim (hits rule b a) as (λ h. map turned (map (λ (b : Feature). record { left = a; right = b }) (cond h (b ∷ hits_among rule a bs) (hits_among rule a bs))) ≡ cond h (record { left = b; right = a } ∷ []) [] ++ flat_map (one_of a) bs) [
+      ap (λ h. map with_sides_exchanged (map (λ (b : Feature). record { left = a; right = b }) (cond h (b ∷ hits_among rule a bs) (hits_among rule a bs)))) (hits_swap rule a b even)
+      ∙ elim (hits rule b a) as (λ h. map with_sides_exchanged (map (λ (b : Feature). record { left = a; right = b }) (cond h (b ∷ hits_among rule a bs) (hits_among rule a bs))) ≡ cond h (record { left = b; right = a } ∷ []) [] ++ flat_map (one_of a) bs) [
         | true ↦ ap (λ l. record { left = b; right = a } ∷ l) (of_one a bs)
         | false ↦ of_one a bs
       ]
@@ -127,16 +126,16 @@ module _ (rule : HitRule) (even : IsEven rule) where
   no_pairs [] = refl
   no_pairs (b ∷ bs) = no_pairs bs
 
-  pub turned_pairs : (as_read bs : List Feature) → IsPermutation (map turned (pairs_of rule as_read bs)) (pairs_of rule bs as_read)
+  pub turned_pairs : (as_read bs : List Feature) → IsPermutation (map with_sides_exchanged (pairs_of rule as_read bs)) (pairs_of rule bs as_read)
   turned_pairs [] bs = subst (IsPermutation []) (sym (no_pairs bs)) (IsPermutation-refl [])
   turned_pairs (a ∷ as_read) bs =
       let rest = turned_pairs as_read bs in
-      let front : map turned (pairs_of rule (a ∷ as_read) bs) ≡ flat_map (one_of a) bs ++ map turned (pairs_of rule as_read bs) =
-      map-append turned (map (λ (b : Feature). record { left = a; right = b }) (hits_among rule a bs)) (pairs_of rule as_read bs) ∙ ap (λ l. l ++ map turned (pairs_of rule as_read bs)) (of_one a bs) in
+      let front : map with_sides_exchanged (pairs_of rule (a ∷ as_read) bs) ≡ flat_map (one_of a) bs ++ map with_sides_exchanged (pairs_of rule as_read bs) =
+      map-append with_sides_exchanged (map (λ (b : Feature). record { left = a; right = b }) (hits_among rule a bs)) (pairs_of rule as_read bs) ∙ ap (λ l. l ++ map with_sides_exchanged (pairs_of rule as_read bs)) (of_one a bs) in
       subst (λ l. IsPermutation l (pairs_of rule bs (a ∷ as_read))) (sym front)
-      (subst (IsPermutation (flat_map (one_of a) bs ++ map turned (pairs_of rule as_read bs))) (sym (all_more a as_read bs))
-      (IsPermutation-trans (flat_map (one_of a) bs ++ map turned (pairs_of rule as_read bs)) (flat_map (one_of a) bs ++ pairs_of rule bs as_read) (flat_map (λ b. one_of a b ++ turned_of b as_read) bs)
-      (IsPermutation-append_right (flat_map (one_of a) bs) (map turned (pairs_of rule as_read bs)) (pairs_of rule bs as_read) rest) (both_maps (one_of a) (λ b. turned_of b as_read) bs)))
+      (subst (IsPermutation (flat_map (one_of a) bs ++ map with_sides_exchanged (pairs_of rule as_read bs))) (sym (all_more a as_read bs))
+      (IsPermutation-trans (flat_map (one_of a) bs ++ map with_sides_exchanged (pairs_of rule as_read bs)) (flat_map (one_of a) bs ++ pairs_of rule bs as_read) (flat_map (λ b. one_of a b ++ turned_of b as_read) bs)
+      (IsPermutation-append_right (flat_map (one_of a) bs) (map with_sides_exchanged (pairs_of rule as_read bs)) (pairs_of rule bs as_read) rest) (both_maps (one_of a) (λ b. turned_of b as_read) bs)))
 
 -- ---- the lines
 
@@ -171,7 +170,7 @@ two_sides rule held inputs chromosomes even well =
     let two = other_second order inputs.first nones.0 in
     let lines : intersect OrigBoth rule (first_records chromosomes (exchanged inputs)) (second_records chromosomes (exchanged inputs)) ≡ flat_map pair_line (pairs_of rule seconds firsts) =
     ap₂ (intersect OrigBoth rule) one.0 two.0 ∙ pair_lines rule seconds firsts in (
-      subst (Writes (Intersect OrigBoth rule held) inputs) (pair_lines rule firsts seconds) (writes_lines OrigBoth rule held inputs chromosomes well),
+      subst (RunWrites (Intersect OrigBoth rule held) inputs) (pair_lines rule firsts seconds) (writes_lines OrigBoth rule held inputs chromosomes well),
       sweeps_from (Intersect OrigBoth rule None) (exchanged inputs) chromosomes (flat_map pair_line (pairs_of rule seconds firsts)) well.genome
           (met_none order OrigBoth rule (bed_good First order (or_empty inputs.second)) (bed_good Second order inputs.first) one.1 two.1)
           (λ there. intersect_whole OrigBoth rule None (exchanged inputs) chromosomes there ∙ lines),

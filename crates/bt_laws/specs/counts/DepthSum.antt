@@ -7,8 +7,7 @@ use Rattle.bt_runs.specs.model.Depth.{DepthInterval, coverage, depth_lines, is_c
 use Rattle.bt_runs.specs.model.Gaps.{length_in}
 use Rattle.bt_tool.specs.model.report.Inputs.{Inputs}
 use Rattle.bt_tool.specs.declared.planning.plan_type.Command.TheVariants.{Coverage}
-use Rattle.bt_laws.specs.pipes.Pipes.{RunsWell, first_records}
-use Rattle.bt_laws.specs.same.SameLines.{Writes}
+use Rattle.bt_laws.specs.Runs.{RunWrites, RunsWithoutFault, first_records}
 
 -- depth times length of an interval
 abbrev pub depth_bases : DepthInterval → ℕ
@@ -23,9 +22,9 @@ bases_below entries r = min r.stop (length_in entries r.chrom) - r.start
 abbrev pub depths_sum : Type 0
 depths_sum =
     (strand : Option Strand) (inputs : Inputs) (entries : List Entry)
-    → RunsWell (Coverage false strand) inputs (Some entries)
+    → RunsWithoutFault (Coverage false strand) inputs (Some entries)
     → let depths = coverage false strand entries (first_records (Some entries) inputs) in
-    Writes (Coverage false strand) inputs (depth_lines depths)
+    RunWrites (Coverage false strand) inputs (depth_lines depths)
     × (sum_by depth_bases depths
     ≡ sum_by (bases_below entries)
     (filter (λ r. is_counted_by strand r.strand) (first_records (Some entries) inputs)))

@@ -2,35 +2,29 @@
 use Rattle.std.proofs.Common.{◌≡◌, ℕ, ◌<◌, ◌≤◌, false, cond, List, [], ◌∷◌, ◌++◌, map, inl, inr, refl, sym, ap, ◌∙◌, subst}
 use Rattle.std.specs.Prelude.{◌⊎◌, bytes_eq, flat_map}
 use Rattle.std.proofs.lemmas.Bool.{cases_Bool, false≢true}
-use Rattle.bt_lines.specs.declared.fault.Input.TheVariants.{First, Second}
 use Rattle.bt_bed.specs.model.feature.Feature.{Feature, interval_of, intervals_of}
 use Rattle.bt_bed.specs.model.feature.Interval.{Interval, Span, placed_on, span_of, spans_on}
+use Rattle.bt_bed.specs.model.feature.Record.{cut_to}
 use Rattle.bt_bed.specs.model.feature.Stretches.{IsCovered}
-use Rattle.bt_bed.proofs.lemmas.laws.GoodBedLemmas.{placed_good}
 use Rattle.bt_bed.proofs.lemmas.parse.NameLemmas.{cases_name, name_eq}
 use Rattle.bt_runs.specs.model.Merged.{is_covered}
 use Rattle.bt_runs.proofs.lemmas.merge.Bridging.{covered_left, covered_parts, covered_right, is_covered-Decides}
 use Rattle.bt_runs.proofs.lemmas.order.ChromosomeLemmas.{spans_on-append}
 use Rattle.bt_sweep.specs.model.Hits.{any_overlap, hits_among}
-use Rattle.bt_sweep.specs.model.IntersectLines.{intersect}
 use Rattle.bt_sweep.specs.model.Pieces.{pieces, spans_of}
 use Rattle.bt_sweep.specs.declared.output.shape.Shape.TheVariants.{Cut, Pieces}
 use Rattle.bt_sweep.proofs.lemmas.laws.PieceLemmas.{are_pieces}
-use Rattle.bt_tool.specs.model.report.Behaviour.{order_of}
-use Rattle.bt_tool.specs.model.report.Inputs.{or_empty}
 use Rattle.bt_tool.specs.model.report.RecordReport.{Report}
 use Rattle.bt_tool.specs.declared.planning.plan_type.Command.TheVariants.{Intersect, Subtract}
-use Rattle.bt_laws.specs.same.PartBases.{PartBases, intersect_and_subtract_part}
-use Rattle.bt_laws.specs.pipes.Pipes.{IsInputAt, RunsWell, first_records, second_records}
+use Rattle.bt_laws.specs.Runs.{RunsWithoutFault, first_records, second_records}
+use Rattle.bt_laws.specs.counts.PartBases.{PartBases, intersect_and_subtract_part}
+use Rattle.bt_laws.specs.pipes.SweepLines.{read_alone, records_for, records_written}
 use Rattle.bt_laws.proofs.lemmas.same.GapsHit.{covered_cut, cut_covered, cut_span}
-use Rattle.bt_laws.proofs.lemmas.pipes.PipeLaws.{intersect_whole, order_total, subtract_whole}
+use Rattle.bt_laws.proofs.lemmas.pipes.PipeLaws.{cut_intersect_input, subtract_input}
 use Rattle.bt_laws.proofs.lemmas.same.RunsAgain.{here_all, none_there, report_there}
-use Rattle.bt_laws.proofs.lemmas.back.SaidWell.{good_are_said}
 use Rattle.bt_laws.proofs.lemmas.same.SameLines.{other_shape}
 use Rattle.bt_laws.proofs.lemmas.same.SameSweeps.{hit_back, hit_to}
-use Rattle.bt_laws.proofs.lemmas.back.SweepBack.{columns_for, cut_at, hit_columns, piece_columns}
-use Rattle.bt_laws.proofs.lemmas.back.LinesBack.{Columns}
-use Rattle.bt_laws.proofs.lemmas.parts.text.PartLists.{all_any, flat_map_same}
+use Rattle.bt_laws.proofs.lemmas.back.SweepBack.{map_flat}
 
 -- ---- spans of each record, on its chromosome
 
@@ -126,47 +120,32 @@ module _ (bs : List Feature) where
     not_both = λ name p c d. (places_so lefts (λ n q. HasBase n q → ⊥) as_read left_so name p d).1 (places_so cuts HasBase as_read cut_so name p c).1;
   }
 
--- ---- the lines lie there
+-- ---- the records lie there
 
-cut_each : (a : Feature) (found : List Feature) → map (λ (line : Columns). line.at) (columns_for Cut a found) ≡ map (placed_on a.chrom) (map (cut_span a) found)
-unfolding columns_for hit_columns
+cut_each : (a : Feature) (found : List Feature) → intervals_of (records_for Cut a found) ≡ map (placed_on a.chrom) (map (cut_span a) found)
 cut_each a [] = refl
 cut_each a (b ∷ found) = ap (λ l. placed_on a.chrom (cut_span a b) ∷ l) (cut_each a found)
 
-left_spans : (a : Feature) (ps : List Span) → map (λ (line : Columns). line.at) (map (piece_columns a) ps) ≡ map (placed_on a.chrom) ps
-unfolding piece_columns
+left_spans : (a : Feature) (ps : List Span) → intervals_of (map (λ (p : Span). read_alone (cut_to p.start p.stop a)) ps) ≡ map (placed_on a.chrom) ps
 left_spans a [] = refl
 left_spans a (p ∷ ps) = ap (λ l. placed_on a.chrom p ∷ l) (left_spans a ps)
 
-left_each : (a : Feature) (found : List Feature) → map (λ (line : Columns). line.at) (columns_for Pieces a found) ≡ map (placed_on a.chrom) (pieces a found)
-unfolding columns_for
-left_each a found = left_spans a (pieces a found)
+cut_places : (bs as_read : List Feature) → intervals_of (records_written Cut any_overlap as_read bs) ≡ places (cuts bs) as_read
+cut_places bs as_read = map_flat interval_of (λ a. records_for Cut a (hits_among any_overlap a bs)) (λ a. map (placed_on a.chrom) (cuts bs a)) as_read (λ a. cut_each a (hits_among any_overlap a bs))
 
-cut_places : (bs as_read : List Feature) → flat_map (λ a. map (λ (line : Columns). line.at) (columns_for Cut a (hits_among any_overlap a bs))) as_read ≡ places (cuts bs) as_read
-cut_places bs as_read = flat_map_same _ _ as_read (all_any _ as_read (λ a. cut_each a (hits_among any_overlap a bs)))
-
-left_places : (bs as_read : List Feature) → flat_map (λ a. map (λ (line : Columns). line.at) (columns_for Pieces a (hits_among any_overlap a bs))) as_read ≡ places (lefts bs) as_read
-left_places bs as_read = flat_map_same _ _ as_read (all_any _ as_read (λ a. left_each a (hits_among any_overlap a bs)))
+left_places : (bs as_read : List Feature) → intervals_of (records_written Pieces any_overlap as_read bs) ≡ places (lefts bs) as_read
+left_places bs as_read = map_flat interval_of (λ a. records_for Pieces a (hits_among any_overlap a bs)) (λ a. map (placed_on a.chrom) (lefts bs a)) as_read (λ a. left_spans a (lefts bs a))
 
 -- ---- the runs
 
 pub parts_of_first : intersect_and_subtract_part
 parts_of_first held inputs chromosomes well apart =
-    let order = order_of chromosomes in
-    let total = order_total chromosomes in
     let firsts = first_records chromosomes inputs in
     let seconds = second_records chromosomes inputs in
-    let said = good_are_said First order inputs.first in
-    let said_second = good_are_said Second order (or_empty inputs.second) in
-    let placed = placed_good First order inputs.first total in
-    let placed_second = placed_good Second order (or_empty inputs.second) total in
     let pieces_well = other_shape Cut Pieces any_overlap held inputs chromosomes well in
-    let subtract_well : RunsWell (Subtract false any_overlap held) inputs chromosomes = record { genome = well.genome; faultless = ap (λ (r : Report). r.fault) (report_there (Subtract false any_overlap held) inputs chromosomes well.genome ∙ sym (report_there (Intersect Pieces any_overlap held) inputs chromosomes well.genome)) ∙ pieces_well.faultless } in (
-      places (cuts seconds) firsts,
-      places (lefts seconds) firsts,
-      subst (λ text. IsInputAt order text (places (cuts seconds) firsts)) (sym (intersect_whole Cut any_overlap held inputs chromosomes well))
-          (subst (λ at. IsInputAt order (intersect Cut any_overlap firsts seconds) at) (cut_places seconds firsts) (cut_at order total Cut any_overlap firsts seconds said said_second placed placed_second apart refl)),
-      subst (λ text. IsInputAt order text (places (lefts seconds) firsts)) (sym (subtract_whole false any_overlap held inputs chromosomes subtract_well))
-          (subst (λ at. IsInputAt order (intersect Pieces any_overlap firsts seconds) at) (left_places seconds firsts) (cut_at order total Pieces any_overlap firsts seconds said said_second placed placed_second apart refl)),
-      bases_part seconds firsts,
+    let subtract_well : RunsWithoutFault (Subtract false any_overlap held) inputs chromosomes = record { genome = well.genome; faultless = ap (λ (r : Report). r.fault) (report_there (Subtract false any_overlap held) inputs chromosomes well.genome ∙ sym (report_there (Intersect Pieces any_overlap held) inputs chromosomes well.genome)) ∙ pieces_well.faultless } in (
+      cut_intersect_input Cut any_overlap held inputs chromosomes refl well apart,
+      (subtract_input any_overlap held inputs chromosomes subtract_well apart).0,
+      subst (λ cut_at. PartBases (intervals_of firsts) cut_at (intervals_of (records_written Pieces any_overlap firsts seconds))) (sym (cut_places seconds firsts))
+          (subst (PartBases (intervals_of firsts) (places (cuts seconds) firsts)) (sym (left_places seconds firsts)) (bases_part seconds firsts)),
     )

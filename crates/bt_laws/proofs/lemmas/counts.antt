@@ -1,0 +1,4 @@
+-- Lemmas on counts.
+pub mod DepthSum
+pub mod PairSides
+pub mod PartBases

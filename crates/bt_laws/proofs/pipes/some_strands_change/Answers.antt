@@ -1,0 +1,19 @@
+use Rattle.std.proofs.Common.{refl}
+use Rattle.std.specs.Fmt.{digits}
+use Rattle.bt_lines.specs.model.Lines.{lines_from}
+use Rattle.bt_lines.specs.model.Number.{value_of}
+use Rattle.bt_bed.specs.model.input.Good.{good_from}
+use Rattle.bt_bed.specs.model.input.GoodBed.{line_says}
+use Rattle.bt_bed.specs.model.feature.Record.{record_of}
+use Rattle.bt_sweep.specs.model.Hits.{has_fraction, hits, is_enough, strands_agree}
+use Rattle.bt_sweep.specs.model.IntersectLines.{lines_for}
+use Rattle.bt_tool.specs.model.report.Report.{report_of}
+use Rattle.bt_laws.proofs.pipes.some_strands_change.Goals as goal
+
+pub returns-clause-returns : goal.returns-clause-returns
+unfolding report_of good_from lines_from line_says record_of value_of lines_for hits strands_agree is_enough has_fraction digits
+returns-clause-returns c = record { written = refl; before = refl; after = refl }
+
+pub returns-clause-names : goal.returns-clause-names
+unfolding report_of good_from lines_from line_says record_of value_of lines_for hits strands_agree is_enough has_fraction digits
+returns-clause-names c = record { written = refl; before = refl; after = refl }

@@ -1,0 +1,4 @@
+-- Sums, pairs and bases.
+pub mod DepthSum
+pub mod PairSides
+pub mod PartBases
