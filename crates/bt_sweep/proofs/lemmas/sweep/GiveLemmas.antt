@@ -26,7 +26,7 @@ use Rattle.bt_sweep.specs.declared.hits.hit_rule.HitRule.{HitRule}
 use Rattle.bt_sweep.specs.declared.sweep.phase.Phase.{Phase}
 use Rattle.bt_sweep.specs.declared.sweep.phase.Phase.TheVariants.{Both, First}
 use Rattle.bt_sweep.specs.declared.output.shape.Shape.{Shape}
-use Rattle.bt_sweep.specs.declared.sweep.want.Want.TheVariants.{A as WantA, B as WantB, Nothing}
+use Rattle.bt_sweep.specs.declared.sweep.want.Want.TheVariants.{A as WantA, Nothing}
 use Rattle.bt_sweep.proofs.lemmas.sweep.KeepLemmas.{keeps_held, keeps_lines, keeps_rising, keeps_taken}
 use Rattle.bt_sweep.proofs.lemmas.laws.HitLemmas.{before_lines}
 use Rattle.bt_sweep.proofs.lemmas.sweep.StandLemmas.{keeps_entered, keeps_of, none_waits, stops_b}
