@@ -1,6 +1,9 @@
 -- What calls do, as contracts say it.
 pub mod Advancing
 pub mod Held
+pub mod HeldIndex
+pub mod HeldList
+pub mod Joining
 pub mod Standing
 pub mod Steps
 pub mod SweepState

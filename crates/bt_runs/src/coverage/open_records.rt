@@ -14,19 +14,19 @@ use std::marker::Model;
 pub(crate) struct OpenSpan {
     // At most the position of the records.
     pub(crate) start: u64,
-    // The position, or past it.
+    // Where it ends. The position may be past it, until the records are settled.
     pub(crate) stop: u64,
 }
 
-// The counted records of a chromosome that end at a position or past it, in file order. Their ends are
-// kept beside them, so that the least of these is at hand.
+// The counted records of a chromosome, of which those are open that end at a position or past it. The others are dropped by
+// the next `settle`.
 #[derive(Drop, Debug)]
 pub(crate) struct OpenRecords {
-    // The position, on a chromosome that its owner knows. It never falls but where `clear` sets it.
+    // The position, on a chromosome that its owner knows. Only `clear` lowers it.
     at: u64,
     // In file order.
     spans: VecDeque<OpenSpan>,
-    // The end of each.
+    // The ends of those that are open.
     ends: OpenEnds,
 }
 

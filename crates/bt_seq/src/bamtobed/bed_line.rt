@@ -36,7 +36,7 @@ pub(crate) fn put_line<K: Sink>(
     ensures { Puts out.old.output (bed_line with_cigar (alignment_lent sam.now)
         (record { start = start; stop = stop })) result out.new.output }
 {
-    if hold_line(sam, start, stop, with_cigar, &mut [0; LINE_ROOM], out) {
+    if try_put_line(sam, start, stop, with_cigar, out) {
         return Ok(());
     }
     put_pieces(sam, start, stop, with_cigar, out)
@@ -60,24 +60,24 @@ fn put_pieces<K: Sink>(
 }
 
 // Puts the line of a block by one test of the room and returns true, if name and CIGAR aren't long and there is room.
-// Else nothing is put. What the text holds is unspecified before and after.
+// Else nothing is put.
 #[inline(always)]
-fn hold_line<K: Sink>(
+fn try_put_line<K: Sink>(
     sam: &SamRef<'_>,
     start: u64,
     stop: u64,
     with_cigar: bool,
-    text: &mut [u8; LINE_ROOM],
     out: &mut Out<K>,
 ) -> bool
-    ensures held { result ≡ true → PutsAll out.old.output (bed_line with_cigar (alignment_lent sam.now)
+    ensures put { result ≡ true → PutsAll out.old.output (bed_line with_cigar (alignment_lent sam.now)
         (record { start = start; stop = stop })) out.new.output }
     ensures unchanged { result ≡ false → out.new.output ≡ out.old.output }
 {
     if !is_short(sam, with_cigar) {
         return false;
     }
-    let first = write_behind(sam, start, stop, with_cigar, text);
+    let mut text = [0; LINE_ROOM];
+    let first = write_behind(sam, start, stop, with_cigar, &mut text);
     out.try_put_pair(sam.chrom, &text[first..])
 }
 

@@ -246,7 +246,7 @@ impl MaskState {
         *lines = through.lines;
         self.window.stand_at(through.before, through.bases);
         let put = put_line(copied, b"", out);
-        self.has_written(put)
+        self.finish_write(put)
     }
 
     // Whether a sequence has begun, nothing is held, and bases after the last line are known to be decided.
@@ -364,7 +364,7 @@ impl MaskState {
     {
         if self.window.is_empty() {
             let written = put_text(text, ending, out);
-            return self.has_written(written);
+            return self.finish_write(written);
         }
         self.keep(text, ending)?;
         self.write(out)
@@ -377,11 +377,11 @@ impl MaskState {
     {
         self.window.mask(self.text.as_mut_slice(), self.how);
         let written = put_text(self.text.as_slice(), self.ending, out);
-        self.has_written(written)
+        self.finish_write(written)
     }
 
     // Wants the next line, if the last one was written.
-    fn has_written(&mut self, written: Result<(), Fault>) -> Result<(), Fault>
+    fn finish_write(&mut self, written: Result<(), Fault>) -> Result<(), Fault>
         ensures same { result ≡ written }
         ensures next { IsOk written → self.new ≡ record self.old { waiting = None; want = MaskWant.Line } }
         ensures stops { IsErr written → self.new.want ≡ MaskWant.Nothing }

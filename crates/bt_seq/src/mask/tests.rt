@@ -255,7 +255,7 @@ fn bases_are_masked_as_asked_for(rt: HostRuntime) {
 }
 
 // Whether a sink that fails after `good` bytes has taken the row's first ones, and that is reported.
-fn is_cut_at(alloc: Global, row: &Row, good: usize) -> bool {
+fn cuts_at(alloc: Global, row: &Row, good: usize) -> bool {
     let mut lines = LineReader::new(alloc, ScriptSource::new(row.0, 7, None), Input::First);
     let second = LineReader::new(alloc, ScriptSource::new(row.1, 7, None), Input::Second);
     let mut blocks = Blocks::new(alloc, second);
@@ -282,7 +282,7 @@ const CUT: Row = (
 // The least number of bytes, below this one, that a sink takes of the row's without that.
 fn first_not_cut(alloc: Global, row: &Row, count: usize) -> Option<usize> {
     for good in 0..count {
-        if !is_cut_at(alloc, row, good) {
+        if !cuts_at(alloc, row, good) {
             return Some(good);
         }
     }

@@ -1,5 +1,5 @@
 -- What a sweep does with records of both inputs that come one after another.
-use Rattle.std.specs.Prelude.{◌≡◌, ◌⊎◌, ℕ, ◌<◌, ⊤, Bool, true, false, List, [], ◌∷◌, ◌++◌, Option, Some, None}
+use Rattle.std.specs.Prelude.{◌≡◌, ◌⊎◌, ℕ, ◌<◌, ⊤, true, List, [], ◌∷◌, ◌++◌, Option, Some, None}
 use Rattle.std.specs.Prelude.{IfSome, IsOk, Result, Ok, Err, is_some, option_to_list}
 use Rattle.bt_lines.specs.model.Fault.{FaultValue, no_memory}
 use Rattle.bt_lines.specs.calls.Names.{fault_value}
@@ -10,7 +10,7 @@ use Rattle.bt_bed.specs.model.feature.Feature.{Feature, intervals_of}
 use Rattle.bt_bed.specs.model.order.Locus.{ArePlaced}
 use Rattle.bt_bed.specs.model.order.Order.{Order}
 use Rattle.bt_sweep.specs.model.IntersectLines.{intersect}
-use Rattle.bt_sweep.specs.inside.Joining.{AreDecided, CannotBeHeld, ComesNext, LeavesLast, TakenEach}
+use Rattle.bt_sweep.specs.calls.Joining.{AreDecided, CannotBeHeld, ComesNext, LeavesLast, TakenEach}
 use Rattle.bt_sweep.specs.calls.Standing.{Stage, StandsAt, given}
 use Rattle.bt_sweep.specs.calls.SweepState.{Sweeping, want_in}
 use Rattle.bt_sweep.specs.declared.hits.hit_rule.HitRule.{HitRule}
@@ -143,7 +143,7 @@ module _ {U V : Type 0} (a_gives : U → List Feature → U → Type 0) (a_ended
       AdvancesSo new to_a to_b grown × StopsFor (want_in new) to_a to_b
   Advances (Err fault) new to_a to_b grown = FailsAt (fault_value fault) to_a to_b grown
 
-  -- the same, but the one that waited before is written, and what comes behind it isn't looked at
+  -- the one that waited before is written, and what comes after it isn't looked at
   abbrev pub HasWritten : Sweeping → Type 0
   HasWritten new = (is_some old.current ≡ true) × (new.current ≡ None)
 
@@ -162,17 +162,16 @@ IsIdle old from_a from_b out result new to_a to_b grown =
 abbrev pub NoneGiven : Unit {0} → List Feature → Unit {0} → Type 0
 NoneGiven from firsts to = firsts ≡ []
 
--- of the second input alone, for the record that waits, if one does: whether it still does
+-- of the second input alone, for the record that waits, if one does
 module _ {V : Type 0} (b_gives : V → List Feature → V → Type 0) (b_ended : V → Type 0) (b_line : V → ℕ)
     (order : Order) (old : Sweeping) (from_b : V) (out : Output) where
-  -- where one does, there is none of the second input
-  abbrev pub IsLeft : Bool → Sweeping → V → Type 0
-  IsLeft true new to_b = (want_in new ≡ B) × b_ended to_b
-  IsLeft false new to_b = new.current ≡ None
+  -- it still waits, and there is none of the second input, or none waits
+  abbrev pub IsLeftOrNone : Sweeping → V → Type 0
+  IsLeftOrNone new to_b = ((want_in new ≡ B) × b_ended to_b) ⊎ (new.current ≡ None)
 
-  abbrev pub DecidesCurrent : Result Bool Fault → Sweeping → V → Output → Type 0
-  DecidesCurrent (Ok is_left) new to_b grown =
+  abbrev pub DecidesCurrent : {T : Type 0} → Result T Fault → Sweeping → V → Output → Type 0
+  DecidesCurrent (Ok done) new to_b grown =
       AdvancesSo NoneGiven (λ u. ⊤) b_gives b_ended b_line order old tt from_b out new tt to_b grown
-      × IsLeft is_left new to_b
+      × IsLeftOrNone new to_b
   DecidesCurrent (Err fault) new to_b grown =
       FailsAt NoneGiven (λ u. ⊤) b_gives b_ended b_line order old tt from_b out (fault_value fault) tt to_b grown

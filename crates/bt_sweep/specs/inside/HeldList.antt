@@ -1,11 +1,7 @@
--- The records in a list of held ones.
-use Rattle.std.specs.Prelude.{◌<◌, List}
+-- Room in a list of held records.
+use Rattle.std.specs.Prelude.{◌<◌}
 use Rattle.std.specs.VecDeque.{deque_capacity, deque_len}
-use Rattle.bt_bed.specs.model.feature.Feature.{Feature}
 use Rattle.bt_sweep.specs.declared.active.held_list.HeldList.{HeldList}
-
-abbrev pub records_in : HeldList → List Feature
-records_in held = held.records.items
 
 -- there is room for one more
 abbrev pub HasRoom : HeldList → Type 0

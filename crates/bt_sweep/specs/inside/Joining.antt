@@ -1,24 +1,19 @@
 -- What runs of steps over records of both inputs come to. Callers know them by `Advancing`.
-use Rattle.std.specs.Prelude.{◌≡◌, ◌⊎◌, ℕ, ◌<◌, ◌≤◌, ⊤, true, false, All, IfSome, List, [], ◌∷◌, ◌++◌, Option, filter}
+use Rattle.std.specs.Prelude.{◌≡◌, ◌⊎◌, ℕ, ◌<◌, ◌≤◌, ⊤, true, All, IfSome, List, [], ◌∷◌, ◌++◌, Option}
 use Rattle.std.specs.Prelude.{None, Some, Result, Ok, Err, length, option_map, option_to_list}
-use Rattle.std.specs.List.{list_all}
-use Rattle.bt_lines.specs.model.Fault.{FaultValue, no_memory}
+use Rattle.bt_lines.specs.model.Fault.{FaultValue}
 use Rattle.bt_lines.specs.calls.Names.{fault_value}
 use Rattle.bt_lines.specs.model.Number.{max_number}
 use Rattle.bt_lines.specs.calls.Output.{Output}
 use Rattle.bt_lines.specs.calls.Putting.{FailsToAdd, Grown}
 use Rattle.bt_lines.specs.declared.fault.Fault.{Fault}
-use Rattle.bt_lines.specs.declared.fault.Input.TheVariants.{Second}
-use Rattle.bt_lines.specs.declared.fault.Kind.TheVariants.{TooManyHeld}
 use Rattle.bt_bed.specs.model.feature.Feature.{Feature, intervals_of}
-use Rattle.bt_bed.specs.model.feature.LineKind.{fault_at_line}
 use Rattle.bt_bed.specs.model.order.Locus.{ArePlaced}
 use Rattle.bt_bed.specs.model.order.Order.{Order, IsTotal}
-use Rattle.bt_sweep.specs.model.Deciding.{decided, decides}
 use Rattle.bt_sweep.specs.calls.Held.{CanHit}
+use Rattle.bt_sweep.specs.calls.Joining.{AreDecided, CannotBeHeld, ComesNext, LeavesLast, TakenEach}
 use Rattle.bt_sweep.specs.model.IntersectLines.{intersect}
-use Rattle.bt_sweep.specs.calls.Standing.{HoldsFor, held_for, is_held}
-use Rattle.bt_sweep.specs.calls.Steps.{has_room}
+use Rattle.bt_sweep.specs.calls.Standing.{HoldsFor}
 use Rattle.bt_sweep.specs.calls.SweepState.{Sweeping}
 use Rattle.bt_sweep.specs.declared.hits.hit_rule.HitRule.{HitRule}
 use Rattle.bt_sweep.specs.declared.output.shape.Shape.{Shape}
@@ -90,29 +85,8 @@ abbrev pub Cuts : Feature → List Feature → List Feature → Sweeping → Lis
     → Output → Type 0
 Cuts = CutsFor IsTotal
 
--- the records of the second input decide each
-abbrev pub AreDecided : Order → List Feature → List Feature → Type 0
-AreDecided order as_given bs = list_all (λ a. decided order a bs) as_given ≡ true
-
--- a record of the second input was taken while one of these of the first was the first that those taken
--- leave undecided, and no more of them were held for it then than the limit allows
-pub record TakenFor (order : Order) (limit : Option ℕ) (as_given taken : List Feature) (b : Feature)
-    : Type 0 where
-  pub before : List Feature
-  pub a : Feature
-  pub after : List Feature
-  pub parts : as_given ≡ before ++ a ∷ after
-  pub settled : AreDecided order before (taken ++ b ∷ [])
-  pub undecided : decides order a b ≡ false
-  pub within : IfSome limit (λ most. length (filter (is_held a) (taken ++ b ∷ [])) ≤ most)
-
--- so was each of these, one after another
-abbrev pub TakenEach : Order → Option ℕ → List Feature → List Feature → List Feature → Type 0
-TakenEach order limit as_given taken [] = ⊤
-TakenEach order limit as_given taken (b ∷ more) =
-    TakenFor order limit as_given taken b × TakenEach order limit as_given (taken ++ b ∷ []) more
-
--- the same in such orders, wherever it stands with `first` given last
+-- each was taken for one that those taken leave undecided, in such orders, wherever it stands with `first`
+-- given last
 abbrev pub TakesEachFor : (Order → Type 0) → Feature → List Feature → List Feature → Sweeping → Type 0
 TakesEachFor For first firsts seconds old =
     (order : Order) (shape : Shape) (rule : HitRule) (limit : Option ℕ) (before taken : List Feature)
@@ -181,17 +155,6 @@ pub record SkipsAll {B : Type 0} (gives : B → List Feature → B → Type 0) (
   pub given : gives from seconds to
   pub on : LieOn name seconds
   pub ended : has_ended to
-
--- a record that has to be held can't be: for want of room, or of memory
-abbrev pub CannotBeHeld : Option ℕ → Feature → List Feature → ℕ → FaultValue → Type 0
-CannotBeHeld limit last taken line fault =
-    ((has_room limit (length (held_for (Some last) taken)) ≡ false)
-    × (fault ≡ fault_at_line Second line TooManyHeld))
-    ⊎ ((has_room limit (length (held_for (Some last) taken)) ≡ true) × (fault ≡ no_memory))
-
--- the record that a cursor gives next, if one is told
-abbrev pub ComesNext : {B : Type 0} → (B → List Feature → B → Type 0) → B → Option Feature → Type 0
-ComesNext {B} gives to next = IfSome next (λ b. (after : B) × gives to (b ∷ []) after)
 
 -- records of both inputs, from `first` of the first on
 module _ {A B : Type 0} (a_gives : A → List Feature → A → Type 0) (a_ended : A → Type 0)
@@ -274,12 +237,7 @@ Joins a_gives a_ended b_gives b_ended b_line For Settles Leaves feature old firs
     Breaks a_gives a_ended b_gives b_ended b_line For Settles old first from_a from_b pending out (fault_value fault)
     to_a to_b left grown
 
--- the record of the second input that was taken last leaves it undecided
-abbrev pub LeavesLast : Order → List Feature → Feature → Type 0
-LeavesLast order seconds a =
-    (before : List Feature) (b : Feature) → seconds ≡ before ++ b ∷ [] → decides order a b ≡ false
-
--- in every order that knows its chromosome
+-- the last of these leaves it undecided, in every order that knows its chromosome
 abbrev pub LeavesOn : List Feature → Feature → Type 0
 LeavesOn seconds a =
     (order : Order) → IsTotal order → order.knows a.chrom ≡ true → LeavesLast order seconds a

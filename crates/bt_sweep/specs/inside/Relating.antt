@@ -1,6 +1,5 @@
 -- Where the records of the second input lie beside those of the first.
 use Rattle.std.specs.Prelude.{◌≡◌, ◌⊎◌, ℕ, true, List, [], ◌∷◌}
-use Rattle.std.specs.List.{list_all}
 use Rattle.std.specs.declared.cmp.Ordering.{Ordering}
 use Rattle.std.specs.declared.cmp.Ordering.TheVariants.{Less, Equal, Greater}
 use Rattle.bt_bed.specs.model.feature.Feature.{Feature}
@@ -9,12 +8,6 @@ use Rattle.bt_sweep.specs.declared.sweep.phase.Phase.{Phase}
 use Rattle.bt_sweep.specs.declared.sweep.phase.Phase.TheVariants.{First}
 use Rattle.bt_sweep.specs.declared.sweep.relation.Relation.{Relation}
 use Rattle.bt_sweep.specs.declared.sweep.relation.Relation.TheVariants.{Unknown, Before, Beside, After}
-
--- the chromosome of each record that a cursor gives is known
-abbrev pub GivesKnown : {B : Type 0} → (B → List Feature → B → Type 0) → Order → B → Type 0
-GivesKnown {B} gives order from =
-    (records : List Feature) (to : B) → gives from records to
-    → list_all (λ r. order.knows r.chrom) records ≡ true
 
 module _ {B : Type 0} (gives : B → List Feature → B → Type 0) (has_ended : B → Type 0) (name : List ℕ)
     (order : Order) (phase : Phase) (chrom : List ℕ) (seconds : B) where

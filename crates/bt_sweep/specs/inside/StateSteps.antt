@@ -15,8 +15,8 @@ use Rattle.bt_sweep.specs.calls.Steps.{has_room}
 use Rattle.bt_sweep.specs.calls.SweepState.{Sweeping}
 use Rattle.bt_sweep.specs.declared.sweep.phase.Phase.TheVariants.{Over}
 use Rattle.bt_sweep.specs.declared.output.shape.Shape.{Shape}
-use Rattle.bt_sweep.specs.declared.sweep.unmatched.Unmatched.{Unmatched}
-use Rattle.bt_sweep.specs.declared.sweep.unmatched.Unmatched.TheVariants.{Nothing, Itself, Counted}
+use Rattle.bt_sweep.specs.declared.output.unmatched.Unmatched.{Unmatched}
+use Rattle.bt_sweep.specs.declared.output.unmatched.Unmatched.TheVariants.{Nothing, Itself, Counted}
 
 -- whether the records lie on the chromosome, if there are any
 abbrev pub are_on : List Feature → List ℕ → Bool

@@ -4,7 +4,7 @@ ghost use Rattle.std.specs.Prelude.{◌≡◌, ℕ, ◌+◌, ◌^◌, ◌<◌, �
 ghost use Rattle.std.specs.BTreeMap.{IsUnchanged, get, is_at};
 ghost use Rattle.std.specs.Ordering.{nat_cmp};
 ghost use Rattle.bt_sweep.specs.inside.Ends.{CountsEnds};
-ghost use Rattle.bt_sweep.specs.inside.HeldList.{records_in};
+ghost use Rattle.bt_sweep.specs.calls.HeldList.{records_in};
 
 use crate::active::held::Held;
 use crate::active::held_list::HeldList;
@@ -25,7 +25,7 @@ pub struct HeldIndex {
 
 impl HeldIndex {
     ghost use Rattle.std.specs.Prelude.{◌≡◌, [], false, filter, nat_lt};
-    ghost use Rattle.bt_sweep.specs.inside.HeldIndex.{indexed_records};
+    ghost use Rattle.bt_sweep.specs.calls.HeldIndex.{indexed_records};
 
     /// No records. It doesn't allocate.
     pub fn new(alloc: Global) -> HeldIndex
@@ -56,7 +56,7 @@ impl HeldIndex {
 }
 
 impl Held for HeldIndex {
-    ghost use Rattle.bt_sweep.specs.inside.HeldIndex.{indexed_records};
+    ghost use Rattle.bt_sweep.specs.calls.HeldIndex.{indexed_records};
 
     ghost records = { indexed_records };
 

@@ -25,7 +25,8 @@ pub struct HeldList {
 
 impl HeldList {
     ghost use Rattle.std.specs.Prelude.{◌≡◌, [], IsTrue, false, filter, nat_lt};
-    ghost use Rattle.bt_sweep.specs.inside.HeldList.{HasRoom, records_in};
+    ghost use Rattle.bt_sweep.specs.calls.HeldList.{records_in};
+    ghost use Rattle.bt_sweep.specs.inside.HeldList.{HasRoom};
 
     /// No record. It doesn't allocate.
     pub fn new(alloc: Global) -> HeldList
@@ -85,7 +86,7 @@ impl HeldList {
 }
 
 impl Held for HeldList {
-    ghost use Rattle.bt_sweep.specs.inside.HeldList.{records_in};
+    ghost use Rattle.bt_sweep.specs.calls.HeldList.{records_in};
 
     ghost records = { records_in };
 

@@ -37,7 +37,8 @@ fn start_of<H: Held>(held: &H, index: usize) -> Option<u64> {
 // first and of the last.
 type Left = (u64, usize, Option<u64>, Option<u64>);
 
-fn is_left<H: Held>(held: &mut H, want: &Left) -> bool {
+// Drops the records that ended at the place, and compares what is left.
+fn leaves<H: Held>(held: &mut H, want: &Left) -> bool {
     held.drop_ended(want.0);
     let count = held.len();
     let first = start_of(held, 0);
@@ -48,7 +49,7 @@ fn is_left<H: Held>(held: &mut H, want: &Left) -> bool {
 // The first place at which something else is left.
 fn first_otherwise<H: Held>(held: &mut H, rows: &[Left]) -> Option<u64> {
     for row in rows {
-        if !is_left(held, row) {
+        if !leaves(held, row) {
             return Some(row.0);
         }
     }
@@ -69,7 +70,7 @@ fn check<H: Held>(
     let are_added = push_all(alloc, &mut held, lines)?;
     let found = first_otherwise(&mut held, rows);
     held.clear();
-    let is_clear = is_left(&mut held, &NOTHING);
+    let is_clear = leaves(&mut held, &NOTHING);
     assert_eq!(rt; (are_added, found, is_clear), (true, None, true));
     Ok(())
 }

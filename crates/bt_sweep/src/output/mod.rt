@@ -2,5 +2,6 @@
 
 pub(crate) mod pieces;
 pub(crate) mod shape;
+pub(crate) mod source_record;
+pub(crate) mod unmatched;
 pub(crate) mod writing;
-pub(crate) mod written;

@@ -15,8 +15,8 @@ use crate::hits::hit_rule::HitRule;
 use crate::hits::started::count_started;
 use crate::output::pieces::put_pieces;
 use crate::output::shape::Shape;
-use crate::output::written::{Written, put_written};
-use crate::sweep::unmatched::put_unmatched;
+use crate::output::source_record::{SourceRecord, put_record};
+use crate::output::unmatched::put_unmatched;
 use bt_bed::{BedRef, Rec, Record, put_bed, put_cut};
 use bt_lines::{Fault, Out, Sink, put_number};
 
@@ -37,17 +37,17 @@ pub(crate) fn put_against<R: Record, H: Held, K: Sink>(
     if held.len() == 0 {
         return put_unmatched(shape, a, out);
     }
-    put_lines(shape, rule, &Written::of(a), held, out)
+    put_lines(shape, rule, &SourceRecord::of(a), held, out)
 }
 
 // Puts the lines of a record against these, which can hit it and come by their starts. Those that start
-// at its end or after it are passed over. It takes no memory.
+// at its end or after it are skipped. It doesn't allocate.
 #[tactic(auto, using(crate::proofs::lemmas::output::OpenLemmas::on_name))]
 #[inline(always)]
 pub(crate) fn put_lines<H: Held, K: Sink>(
     shape: Shape,
     rule: HitRule,
-    a: &Written<'_>,
+    a: &SourceRecord<'_>,
     held: &H,
     out: &mut Out<K>,
 ) -> Result<(), Fault>
@@ -64,26 +64,26 @@ pub(crate) fn put_lines<H: Held, K: Sink>(
         Shape::Once => put_where(is_any_hit(rule, bed, held), a, out),
         Shape::Missing | Shape::Whole => put_where(!is_any_hit(rule, bed, held), a, out),
         Shape::Cut | Shape::OrigA | Shape::CutAndB | Shape::OrigBoth | Shape::Overlap => {
-            put_hits(shape, rule, a, held, count_started(held, bed.stop), out)
+            put_hits(shape, rule, a, held, out)
         }
         Shape::Pieces => put_pieces(rule, bed, held, count_started(held, bed.stop), out),
     }
 }
 
-// Puts a line for each of so many held records from the first that hits the record.
+// Puts a line for each held record that hits the record, if they come by their starts.
 #[inline(always)]
 fn put_hits<H: Held, K: Sink>(
     shape: Shape,
     rule: HitRule,
-    a: &Written<'_>,
+    a: &SourceRecord<'_>,
     held: &H,
-    count: usize,
     out: &mut Out<K>,
 ) -> Result<(), Fault>
     requires { AreOn a.now.bed.chrom.now (H.records held.now) }
-    ensures { Adds out.old.output (flat_map (hit_line shape (feature_lent a.now.bed))
-        (hits_among rule (feature_lent a.now.bed) (take count (H.records held.now)))) result out.new.output }
+    ensures { AreRising (H.records held.now) → Adds out.old.output (flat_map (hit_line shape (feature_lent a.now.bed))
+        (hits_among rule (feature_lent a.now.bed) (H.records held.now))) result out.new.output }
 {
+    let count = count_started(held, a.bed.stop);
     for index in 0..count {
         put_if_hit(shape, rule, a, held.nth(index), out)?;
     }
@@ -95,7 +95,7 @@ fn put_hits<H: Held, K: Sink>(
 fn put_if_hit<K: Sink>(
     shape: Shape,
     rule: HitRule,
-    a: &Written<'_>,
+    a: &SourceRecord<'_>,
     b: Option<&Rec>,
     out: &mut Out<K>,
 ) -> Result<(), Fault>
@@ -117,7 +117,7 @@ fn put_if_hit<K: Sink>(
 #[inline(always)]
 fn put_hit<K: Sink>(
     shape: Shape,
-    a: &Written<'_>,
+    a: &SourceRecord<'_>,
     b: &BedRef<'_>,
     out: &mut Out<K>,
 ) -> Result<(), Fault>
@@ -129,7 +129,7 @@ fn put_hit<K: Sink>(
     let stop = bed.stop.min(b.stop);
     match shape {
         Shape::Cut => put_cut(bed, start, stop, b"\n", out),
-        Shape::OrigA => put_written(a, b"\n", out),
+        Shape::OrigA => put_record(a, b"\n", out),
         Shape::CutAndB => put_both(bed, start, stop, b, out),
         Shape::OrigBoth => put_beside(a, b, out),
         Shape::Overlap => put_overlap(a, b, stop.saturating_sub(start), out),
@@ -139,11 +139,11 @@ fn put_hit<K: Sink>(
 
 // Puts the record's line where it is to be written, and nothing else.
 #[inline(always)]
-fn put_where<K: Sink>(is_put: bool, a: &Written<'_>, out: &mut Out<K>) -> Result<(), Fault>
+fn put_where<K: Sink>(is_put: bool, a: &SourceRecord<'_>, out: &mut Out<K>) -> Result<(), Fault>
     ensures { Adds out.old.output (cond is_put (line_with (bed_text (feature_lent a.now.bed) ∷ [])) []) result out.new.output }
 {
     if is_put {
-        return put_written(a, b"\n", out);
+        return put_record(a, b"\n", out);
     }
     Ok(())
 }
@@ -165,25 +165,25 @@ fn put_both<K: Sink>(
 
 // Puts a record and a number.
 #[inline(never)]
-fn put_counted<K: Sink>(a: &Written<'_>, count: u64, out: &mut Out<K>) -> Result<(), Fault>
+fn put_counted<K: Sink>(a: &SourceRecord<'_>, count: u64, out: &mut Out<K>) -> Result<(), Fault>
     ensures { Puts out.old.output (line_with (bed_text (feature_lent a.now.bed) ∷ decimal count ∷ [])) result out.new.output }
 {
-    put_written(a, b"\t", out)?;
+    put_record(a, b"\t", out)?;
     put_number(count, b"\n", out)
 }
 
 // Puts two records.
-fn put_beside<K: Sink>(a: &Written<'_>, b: &BedRef<'_>, out: &mut Out<K>) -> Result<(), Fault>
+fn put_beside<K: Sink>(a: &SourceRecord<'_>, b: &BedRef<'_>, out: &mut Out<K>) -> Result<(), Fault>
     ensures { Puts out.old.output (line_with (bed_text (feature_lent a.now.bed)
         ∷ bed_text (feature_lent b.now) ∷ [])) result out.new.output }
 {
-    put_written(a, b"\t", out)?;
+    put_record(a, b"\t", out)?;
     put_bed(b, b"\n", out)
 }
 
 // Puts two records and a number.
 fn put_overlap<K: Sink>(
-    a: &Written<'_>,
+    a: &SourceRecord<'_>,
     b: &BedRef<'_>,
     count: u64,
     out: &mut Out<K>,
@@ -191,6 +191,6 @@ fn put_overlap<K: Sink>(
     ensures { Puts out.old.output (line_with (bed_text (feature_lent a.now.bed)
         ∷ bed_text (feature_lent b.now) ∷ decimal count ∷ [])) result out.new.output }
 {
-    put_written(a, b"\t", out)?;
-    put_counted(&Written::of_bed(*b), count, out)
+    put_record(a, b"\t", out)?;
+    put_counted(&SourceRecord::of_bed(*b), count, out)
 }

@@ -30,14 +30,13 @@ pub(crate) fn plain_intersect(
 {
     let mut text = Vec::new(alloc);
     for a in first {
-        write_lines(alloc, shape, rule, a, second, &mut text)?;
+        write_lines(shape, rule, a, second, &mut text)?;
     }
     Ok(text)
 }
 
 // Adds what is written of a record against these.
 fn write_lines(
-    alloc: Global,
     shape: Shape,
     rule: HitRule,
     a: &Rec,
@@ -57,7 +56,7 @@ fn write_lines(
         Shape::Cut | Shape::OrigA | Shape::CutAndB | Shape::OrigBoth | Shape::Overlap => {
             write_hits(shape, rule, &a, second, text)
         }
-        Shape::Pieces => write_pieces(alloc, rule, &a, second, text),
+        Shape::Pieces => write_pieces(rule, &a, second, text),
     }
 }
 
@@ -135,7 +134,6 @@ fn write_hit(
 
 // Adds a line for each piece of the record that those which hit it leave.
 fn write_pieces(
-    alloc: Global,
     rule: HitRule,
     a: &BedRef<'_>,
     second: &[Rec],
@@ -144,7 +142,7 @@ fn write_pieces(
     ensures { OnOk result (text.new.items ≡ text.old.items ++ flat_map (piece_line (feature_lent a.now))
         (pieces (feature_lent a.now) (hits_among rule (feature_lent a.now) second.now))) }
 {
-    let mut found = find_pieces(alloc, rule, a, second)?;
+    let mut found = find_pieces(*text.allocator(), rule, a, second)?;
     while let Some(piece) = found.pop() {
         write_line(a, piece.start, piece.stop, text)?;
     }

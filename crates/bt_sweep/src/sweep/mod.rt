@@ -5,7 +5,6 @@ pub(crate) mod phase;
 pub(crate) mod reach;
 pub(crate) mod relation;
 pub(crate) mod state;
-pub(crate) mod unmatched;
 pub(crate) mod want;
 
 ghost use Rattle.std.specs.Prelude.{◌≡◌, IsTrue, Some};
@@ -50,9 +49,11 @@ impl<'o, H: Held, O: ChromOrder> Sweep<'o, H, O> {
     ghost use Rattle.bt_sweep.specs.calls.Steps.{EndsB, GivesA, GivesB};
     ghost use Rattle.bt_sweep.specs.calls.Advancing.{Advances, AdvancesOn, DecidesCurrent, IsIdle, IsThis, Settles};
     ghost use Rattle.bt_sweep.specs.calls.Held.{CanHit};
-    ghost use Rattle.bt_sweep.specs.inside.Joining.{Joins, LeavesLast};
+    ghost use Rattle.bt_sweep.specs.calls.Joining.{LeavesLast};
+    ghost use Rattle.bt_sweep.specs.inside.Joining.{Joins};
     ghost use Rattle.bt_sweep.specs.inside.Pending.{line_in, pending_in};
-    ghost use Rattle.bt_sweep.specs.inside.Relating.{EndsWhile, GivesKnown};
+    ghost use Rattle.bt_sweep.specs.calls.Joining.{GivesKnown};
+    ghost use Rattle.bt_sweep.specs.inside.Relating.{EndsWhile};
     ghost use Rattle.bt_sweep.specs.calls.SweepView.{order_of, state_of};
     ghost use Rattle.bt_sweep.specs.calls.SweepState.{want_in};
 
@@ -113,12 +114,10 @@ impl<'o, H: Held, O: ChromOrder> Sweep<'o, H, O> {
         ensures stops { OnErr result (want_in (state_of self.new) ≡ Want.Nothing) }
         ensures order { order_of self.new ≡ order_of self.old }
     {
-        if !self.state.waits() {
-            return self.go_on(a, b, out);
-        }
-        match self.is_current_left(b, out) {
-            Ok(_) => Ok(()),
-            Err(fault) => Err(fault),
+        match self.state.want() {
+            Want::A => self.go_on(a, b, out),
+            Want::B => self.decide_current(b, out),
+            Want::Nothing => Ok(()),
         }
     }
 
@@ -214,12 +213,12 @@ impl<'o, H: Held, O: ChromOrder> Sweep<'o, H, O> {
         self.state.put(&current.as_bed(), out)
     }
 
-    // Whether there is a record that waits, and it still does after these of the second input.
-    fn is_current_left<B: Cursor, K: Sink>(
+    // Writes the record that waits if one of these of the second input decides it. Those before that one are taken.
+    fn decide_current<B: Cursor, K: Sink>(
         &mut self,
         b: &mut B,
         out: &mut Out<K>,
-    ) -> Result<bool, Fault>
+    ) -> Result<(), Fault>
         requires known_b { GivesKnown B.gives (order_of self.old) b.old }
         ensures decides { DecidesCurrent B.gives B.has_ended B.line (order_of self.old) (state_of self.old) b.old
             out.old.output result (state_of self.new) b.new out.new.output }
@@ -228,37 +227,32 @@ impl<'o, H: Held, O: ChromOrder> Sweep<'o, H, O> {
         ensures order { order_of self.new ≡ order_of self.old }
     {
         let Some(current) = self.state.take_current() else {
-            return Ok(false);
+            return Ok(());
         };
         let bed = current.as_bed();
         let mut none = Pending::new(Single::none(bed.chrom));
         let Some(_) = self.decide(bed, &mut none, b, out)? else {
-            return Ok(false);
+            return Ok(());
         };
         self.state.put_back(current);
-        Ok(true)
+        Ok(())
     }
 
-    // Takes records of both inputs, where none of the first waits.
+    // Takes records of both inputs, while none of the first waits.
     fn go_on<A: Cursor, B: Cursor, K: Sink>(
         &mut self,
         a: &mut A,
         b: &mut B,
         out: &mut Out<K>,
     ) -> Result<(), Fault>
-        requires none { (state_of self.old).current ≡ None }
+        requires want { want_in (state_of self.old) ≡ Want.A }
         requires known_a { GivesKnown A.gives (order_of self.old) a.old }
         requires known_b { GivesKnown B.gives (order_of self.old) b.old }
         ensures advances { Advances A.gives A.has_ended B.gives B.has_ended B.line (order_of self.old) (state_of self.old)
             a.old b.old out.old.output result (state_of self.new) a.new b.new out.new.output }
-        ensures idle { want_in (state_of self.old) ≡ Want.Nothing
-            → IsIdle (state_of self.old) a.old b.old out.old.output result (state_of self.new) a.new b.new out.new.output }
         ensures stops { OnErr result (want_in (state_of self.new) ≡ Want.Nothing) }
         ensures order { order_of self.new ≡ order_of self.old }
     {
-        if let Phase::Over = self.state.phase() {
-            return Ok(());
-        }
         let mut firsts = Pending::new(*a);
         let Some(first) = firsts.next() else {
             return Ok(());

@@ -1,7 +1,8 @@
 //! Where the records of the second input lie beside those of the first.
 
 ghost use Rattle.std.specs.Prelude.{IsTrue};
-ghost use Rattle.bt_sweep.specs.inside.Relating.{GivesKnown, Relates};
+ghost use Rattle.bt_sweep.specs.calls.Joining.{GivesKnown};
+ghost use Rattle.bt_sweep.specs.inside.Relating.{Relates};
 
 use crate::sweep::phase::Phase;
 use bt_bed::{ChromOrder, Cursor};

@@ -1,6 +1,6 @@
 //! What a sweep keeps, and its steps.
 
-ghost use Rattle.std.specs.Prelude.{◌≡◌, ◌∷◌, ◌++◌, ◌<◌, [], All, IfErr, IfOk, IfSome, IsTrue, None, Some, false, filter, is_some, nat_lt, true, OnOk, OnErr};
+ghost use Rattle.std.specs.Prelude.{◌≡◌, ◌∷◌, ◌++◌, ◌<◌, [], All, IfErr, IfOk, IfSome, IsTrue, None, Some, false, filter, nat_lt, true, OnOk, OnErr};
 ghost use Rattle.bt_lines.specs.calls.Names.{fault_value};
 ghost use Rattle.bt_lines.specs.model.Number.{max_number};
 ghost use Rattle.bt_lines.specs.calls.Putting.{Adds};
@@ -16,10 +16,10 @@ ghost use Rattle.bt_sweep.specs.calls.SweepState.{want_in};
 use crate::active::held::Held;
 use crate::hits::hit_rule::HitRule;
 use crate::output::shape::Shape;
+use crate::output::unmatched::{Unmatched, unmatched_in};
 use crate::output::writing::put_against;
 use crate::sweep::pending::{Pending, put_copied};
 use crate::sweep::phase::Phase;
-use crate::sweep::unmatched::{Unmatched, unmatched_in};
 use crate::sweep::want::Want;
 use bt_bed::{Cursor, Rec, Record, at_line, is_same_name};
 use bt_lines::{Fault, Input, Kind, MAX_NUMBER, Out, Place, Sink, no_memory, write_failed};
@@ -114,13 +114,6 @@ impl<H: Held> State<H> {
         ensures { result ≡ self.now.phase }
     {
         self.phase
-    }
-
-    // Whether a record of the first input waits.
-    pub(crate) fn waits(&self) -> bool
-        ensures { result ≡ is_some self.now.current }
-    {
-        self.current.is_some()
     }
 
     // Says that the first input has ended.
@@ -427,6 +420,7 @@ impl<H: Held> State<H> {
         ensures phase { OnOk result (self.new.phase ≡ self.old.phase) }
         ensures stops { OnErr result (self.new.phase ≡ Phase.Over) }
     {
+        // A copy of the cursor is borrowed, so that it stays in registers over all records.
         let mut ahead = *seconds;
         let joined = self.join_pending(first, firsts, &mut ahead, out);
         *seconds = ahead;
@@ -458,6 +452,7 @@ impl<H: Held> State<H> {
         ensures stops { OnErr result (self.new.phase ≡ Phase.Over) }
     {
         let mut current = first;
+        // A record is consumed only once it is taken, and not if it decides all of the first or can't be held.
         let mut ahead = *seconds;
         while let Some(next) = ahead.next() {
             let Some(waiting) = self.write_up_to(next.start(), current, firsts, out)? else {

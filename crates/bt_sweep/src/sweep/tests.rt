@@ -303,8 +303,9 @@ fn first_that_goes_otherwise<H: Held, O: ChromOrder, K: Sink>(
     None
 }
 
-// Whether the steps go as they say in a sweep that was given nothing, and what is written with them.
-fn are_gone(alloc: Global, steps: &[Step], want: &[u8]) -> Result<(Option<usize>, bool), Fail> {
+// Goes through the steps in a sweep that was given nothing. The index of the first step that goes otherwise, and whether
+// these bytes are written.
+fn go_through(alloc: Global, steps: &[Step], want: &[u8]) -> Result<(Option<usize>, bool), Fail> {
     let genome = read_genome(alloc)?;
     let mut sweep = any_overlap(alloc, Shape::Cut, &genome);
     let mut out = Out::new(ScriptSink::new(alloc, 100, None));
@@ -338,7 +339,7 @@ const HELD: [Step; 18] = [
 #[test]
 fn records_are_held_until_one_starts_past_them(rt: HostRuntime) -> Result<(), Fail> {
     let want: &[u8] = b"chr1\t10\t20\nchr1\t55\t58\nchr1\t90\t95\nchr1\t55\t58\n";
-    assert_eq!(rt; are_gone(rt.alloc(), &HELD, want)?, (None, true));
+    assert_eq!(rt; go_through(rt.alloc(), &HELD, want)?, (None, true));
     Ok(())
 }
 
@@ -354,7 +355,7 @@ const BEFORE_THE_CHROMOSOME: [Step; 6] = [
 #[test]
 fn a_record_before_the_chromosome_is_not_held(rt: HostRuntime) -> Result<(), Fail> {
     assert_eq!(rt;
-        are_gone(rt.alloc(), &BEFORE_THE_CHROMOSOME, b"")?,
+        go_through(rt.alloc(), &BEFORE_THE_CHROMOSOME, b"")?,
         (None, true)
     );
     Ok(())
@@ -375,7 +376,7 @@ const DECIDED: [Step; 7] = [
 #[test]
 fn decided_lines_are_written_before_the_end(rt: HostRuntime) -> Result<(), Fail> {
     assert_eq!(rt;
-        are_gone(rt.alloc(), &DECIDED, b"chr1\t2\t4\n")?,
+        go_through(rt.alloc(), &DECIDED, b"chr1\t2\t4\n")?,
         (None, true)
     );
     Ok(())
@@ -463,7 +464,7 @@ fn nested_records_are_counted(rt: HostRuntime) -> Result<(), Fail> {
 }
 
 // Whether a sweep over two inputs writes what the plain program does.
-fn is_plain<O: ChromOrder>(
+fn writes_like_plain<O: ChromOrder>(
     rt: &HostRuntime,
     order: &O,
     how: (Shape, HitRule),
@@ -497,7 +498,7 @@ fn first_unlike_plain<O: ChromOrder>(
 ) -> Result<Option<&'static str>, AllocError> {
     for (name, _, rule, first, second, _) in cases {
         for shape in shapes {
-            if !is_plain(rt, order, (*shape, *rule), first, second)? {
+            if !writes_like_plain(rt, order, (*shape, *rule), first, second)? {
                 return Ok(Some(*name));
             }
         }

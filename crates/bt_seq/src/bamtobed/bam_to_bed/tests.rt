@@ -126,7 +126,7 @@ fn feed_text(engine: &mut BamToBed, text: &[u8], out: &mut Out<ScriptSink>) -> R
 }
 
 // Whether a line is written as its case says.
-fn is_written(alloc: Global, case: &Case) -> bool {
+fn writes(alloc: Global, case: &Case) -> bool {
     let (text, split, cigar, want) = *case;
     let mut out = Out::new(ScriptSink::new(alloc, 3, None));
     let mut engine = BamToBed::new(split, cigar);
@@ -139,7 +139,7 @@ fn is_written(alloc: Global, case: &Case) -> bool {
 // The first line that is written otherwise.
 fn first_miswritten(alloc: Global, cases: &[Case]) -> Option<&'static [u8]> {
     for case in cases {
-        if !is_written(alloc, case) {
+        if !writes(alloc, case) {
             return Some(case.0);
         }
     }

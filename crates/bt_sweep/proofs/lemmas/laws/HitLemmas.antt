@@ -83,13 +83,16 @@ module _ (rule : HitRule) (a : Feature) where
       ∙ list_any-append (hits rule a) (take n bs) (drop n bs)
       ∙ or_from (list_any (hits rule a) (take n bs)) (list_any (hits rule a) (drop n bs)) none rest
 
-  -- so the lines are those against what comes before that
-  pub took_lines : (shape : Shape) (bs : List Feature) (n : ℕ) → StartFrom a.stop (drop n bs) → lines_for shape rule a (take n bs) ≡ lines_for shape rule a bs
-  unfolding lines_for
-  took_lines shape bs n behind =
+  -- so what hits it is among what comes before that
+  pub took_hits : (bs : List Feature) (n : ℕ) → StartFrom a.stop (drop n bs) → hits_among rule a (take n bs) ≡ hits_among rule a bs
+  took_hits bs n behind =
       let none = none_rec (drop n bs) (recursion_from_All (λ (b : Feature). a.stop ≤ b.start) (drop n bs) behind) in
-      ap (lines_of shape a)
-      (sym (append-nil (hits_among rule a (take n bs)))
+      sym (append-nil (hits_among rule a (take n bs)))
       ∙ ap (λ l. hits_among rule a (take n bs) ++ l) (sym none)
       ∙ sym (filter-append (hits rule a) (take n bs) (drop n bs))
-      ∙ ap (hits_among rule a) (take-append-drop n bs))
+      ∙ ap (hits_among rule a) (take-append-drop n bs)
+
+  -- and the lines are those against it
+  pub took_lines : (shape : Shape) (bs : List Feature) (n : ℕ) → StartFrom a.stop (drop n bs) → lines_for shape rule a (take n bs) ≡ lines_for shape rule a bs
+  unfolding lines_for
+  took_lines shape bs n behind = ap (lines_of shape a) (took_hits bs n behind)

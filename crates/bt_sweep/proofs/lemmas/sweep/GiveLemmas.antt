@@ -26,14 +26,10 @@ use Rattle.bt_sweep.specs.declared.hits.hit_rule.HitRule.{HitRule}
 use Rattle.bt_sweep.specs.declared.sweep.phase.Phase.{Phase}
 use Rattle.bt_sweep.specs.declared.sweep.phase.Phase.TheVariants.{Both, First}
 use Rattle.bt_sweep.specs.declared.output.shape.Shape.{Shape}
-use Rattle.bt_sweep.specs.declared.sweep.want.Want.TheVariants.{A as WantA, B as WantB, Nothing}
+use Rattle.bt_sweep.specs.declared.sweep.want.Want.TheVariants.{A as WantA, Nothing}
 use Rattle.bt_sweep.proofs.lemmas.sweep.KeepLemmas.{keeps_held, keeps_lines, keeps_rising, keeps_taken}
 use Rattle.bt_sweep.proofs.lemmas.laws.HitLemmas.{before_lines}
-use Rattle.bt_sweep.proofs.lemmas.sweep.StandLemmas.{keeps_entered, keeps_of, stops_b}
-
-pub none_waits : (o : Option Feature) → is_some o ≡ false → o ≡ None
-none_waits None e = refl
-none_waits (Some a) e = absurd (false≢true (sym e))
+use Rattle.bt_sweep.proofs.lemmas.sweep.StandLemmas.{keeps_entered, keeps_of, none_waits, stops_b}
 
 pub same_one : (a b : Feature) → Some a ≡ Some b → a ≡ b
 same_one a b e = cc
@@ -158,10 +154,6 @@ holds_none s a b none =
 
 -- ---- a record of the first input
 
-none_by : (o : Option Feature) (over : Bool) → want_of (is_some o) over ≡ WantA → o ≡ None
-none_by None over e = refl
-none_by (Some a) over e = absurd (let apart : WantB ≡ WantA = e in cc)
-
 going_by : (o : Option Feature) (a b : Bool) → o ≡ None → want_of (is_some o) (is_over (phase_of a b)) ≡ WantA → a ≡ false
 going_by o false b none e = refl
 going_by (Some x) true b none e = absurd (let apart : Some x ≡ None = none in cc)
@@ -179,7 +171,7 @@ open_by false true going e = absurd (e refl)
 
 module _ (order : Order) (total : IsTotal order) (shape : Shape) (rule : HitRule) (limit : Option ℕ) (stage : Stage) (a : Feature) (old : Sweeping) (st : StandsAt order shape rule limit stage old) (wants : want_in old ≡ WantA) (mid : Sweeping) (mid_is : mid ≡ record old { held = held_with old.held a }) where
   none : old.current ≡ None
-  none = none_by old.current (is_over old.phase) wants
+  none = none_waits old wants
 
   not_waiting : stage.waiting ≡ None
   not_waiting = sym st.current_is ∙ none
@@ -285,12 +277,7 @@ module _ {A V : Type 0} (a_gives : A → List Feature → A → Type 0) (a_ended
     puts = d.puts;
   }
 
-  pub lifts_left : (is_left : Bool) (new : Sweeping) → is_some old.current ≡ true → DecidesCurrent v_gives v_ended v_line order old from_v out (Ok is_left) new to_v grown
-      → AdvancesOn a_gives a_ended v_gives v_ended v_line order old from_a from_v out {T = Unit {0}} (Ok tt) new from_a to_v grown
-  lifts_left true new some d = (lifts new d.0, inl (stops_b a_gives a_ended v_gives v_ended v_line order old from_a from_a from_v to_v out new d.1.0 d.1.1))
-  lifts_left false new some d = (lifts new d.0, inr (some, d.1))
-
-  pub lifts_fault : (fault : FaultValue) → FailsAt NoneGiven (λ u. ⊤) v_gives v_ended v_line order old tt from_v out fault tt to_v grown → FailsAt a_gives a_ended v_gives v_ended v_line order old from_a from_v out fault from_a to_v grown
+  lifts_fault : (fault : FaultValue) → FailsAt NoneGiven (λ u. ⊤) v_gives v_ended v_line order old tt from_v out fault tt to_v grown → FailsAt a_gives a_ended v_gives v_ended v_line order old from_a from_v out fault from_a to_v grown
   lifts_fault fault b = record {
     firsts = b.firsts;
     seconds = b.seconds;
@@ -323,7 +310,18 @@ module _ {A V : Type 0} (a_gives : A → List Feature → A → Type 0) (a_ended
     ];
   }
 
-  -- all that goes on behind it is allowed too
+  pub lifts_current : {T : Type 0} (result : Result T Fault) (new : Sweeping) → is_some old.current ≡ true → DecidesCurrent v_gives v_ended v_line order old from_v out result new to_v grown
+      → AdvancesOn a_gives a_ended v_gives v_ended v_line order old from_a from_v out result new from_a to_v grown
+  lifts_current (Ok t) new some d = (
+    lifts new d.0,
+    elim d.1 [
+      | inl left ↦ inl (stops_b a_gives a_ended v_gives v_ended v_line order old from_a from_a from_v to_v out new left.0 left.1)
+      | inr none ↦ inr (some, none)
+    ],
+  )
+  lifts_current (Err fault) new some d = lifts_fault (fault_value fault) d
+
+  -- all that goes on after it is allowed too
   pub goes_on : {T : Type 0} (result : Result T Fault) (new : Sweeping) (to_a : A) → Advances a_gives a_ended v_gives v_ended v_line order old from_a from_v out result new to_a to_v grown
       → AdvancesOn a_gives a_ended v_gives v_ended v_line order old from_a from_v out result new to_a to_v grown
   goes_on (Ok t) new to_a d = (d.0, inl d.1)

@@ -15,8 +15,8 @@ use Rattle.bt_bed.specs.model.order.Order.{Order, IsTotal}
 use Rattle.bt_sweep.specs.model.Deciding.{decided, decides}
 use Rattle.bt_sweep.specs.calls.Held.{CanHit}
 use Rattle.bt_sweep.specs.model.IntersectLines.{intersect}
-use Rattle.bt_sweep.specs.inside.Joining.{AreDecided, AreDecidedOn, Behind, Breaks, CannotBeHeld, Cuts, CutsOff, EndUpTo, GoesTo, GrownWith, Joins, JoinsSo, Keeps, LeavesLast, LeavesOn, LieOn, TakenEach, TakenFor, WaitsOn, Writes, WritesSo}
-use Rattle.bt_sweep.specs.inside.Relating.{GivesKnown}
+use Rattle.bt_sweep.specs.calls.Joining.{AreDecided, CannotBeHeld, GivesKnown, LeavesLast, TakenEach, TakenFor}
+use Rattle.bt_sweep.specs.inside.Joining.{AreDecidedOn, Behind, Breaks, Cuts, CutsOff, EndUpTo, GoesTo, GrownWith, Joins, JoinsSo, Keeps, LeavesOn, LieOn, WaitsOn, Writes, WritesSo}
 use Rattle.bt_sweep.specs.calls.Standing.{held_for, is_held, last_given}
 use Rattle.bt_sweep.specs.inside.StateSteps.{CannotHold, has_room_in, holding}
 use Rattle.bt_sweep.specs.calls.Steps.{has_room}

@@ -1,5 +1,5 @@
 -- Lemmas on cursors that give records on known chromosomes.
-use Rattle.std.proofs.Common.{◌≡◌, Bool, true, ◌&&◌, not, Option, Some, List, [], ◌∷◌, ◌++◌, refl, sym, ap, ◌∙◌, subst}
+use Rattle.std.proofs.Common.{◌≡◌, true, ◌&&◌, not, Option, Some, List, [], ◌∷◌, ◌++◌, refl, sym, ap, ◌∙◌, subst}
 use Rattle.std.specs.List.{list_all}
 use Rattle.std.proofs.lemmas.Bool.{and_from, and_parts}
 use Rattle.std.proofs.lemmas.List.Folds.{list_all-append}
@@ -16,7 +16,7 @@ use Rattle.bt_bed.specs.declared.read.batch.Batch.{Batch}
 use Rattle.bt_bed.specs.declared.read.cursor.Single.{Single}
 use Rattle.bt_bed.specs.declared.order.ChromOrder.{Ghosts}
 use Rattle.bt_bed.specs.declared.read.records.Records.{Records}
-use Rattle.bt_sweep.specs.inside.Relating.{GivesKnown}
+use Rattle.bt_sweep.specs.calls.Joining.{GivesKnown}
 
 -- after some of them
 pub known_later : {A : Type 0} (gives : A → List Feature → A → Type 0) (gives_more : (old mid new : A) (xs ys : List Feature) → gives old xs mid → gives mid ys new → gives old (xs ++ ys) new)

@@ -12,7 +12,6 @@ use Rattle.bt_lines.specs.declared.fault.Fault.{Fault}
 use Rattle.bt_lines.proofs.lemmas.writer.PuttingLemmas.{cut_off, fails_then, grown_more, grown_none}
 use Rattle.bt_bed.specs.model.feature.Feature.{Feature}
 use Rattle.bt_bed.specs.model.feature.Record.{bed_text}
-use Rattle.bt_sweep.specs.calls.Held.{AreRising}
 use Rattle.bt_sweep.specs.model.IntersectLines.{line_with, lines_for, lines_of, piece_line}
 use Rattle.bt_sweep.specs.inside.Joining.{GrownWith}
 use Rattle.bt_sweep.specs.inside.Pending.{PutsOr}

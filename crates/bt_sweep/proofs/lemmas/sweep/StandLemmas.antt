@@ -14,7 +14,8 @@ use Rattle.bt_bed.specs.calls.Single.{GivesSingle, single_left}
 use Rattle.bt_bed.specs.declared.read.cursor.Single.{Single}
 use Rattle.bt_sweep.specs.calls.Advancing.{Advances, AdvancesSo, AtEach, FailsAt, IsThis, PutsEach, Settles, StopsFor, stage_after}
 use Rattle.bt_sweep.specs.model.IntersectLines.{intersect}
-use Rattle.bt_sweep.specs.inside.Joining.{BehindFor, Breaks, CannotBeHeld, JoinsSo, Keeps, LeavesLast, TakenEach, TakesEachFor, WritesFor}
+use Rattle.bt_sweep.specs.calls.Joining.{CannotBeHeld, LeavesLast, TakenEach}
+use Rattle.bt_sweep.specs.inside.Joining.{BehindFor, Breaks, JoinsSo, Keeps, TakesEachFor, WritesFor}
 use Rattle.bt_sweep.specs.calls.Standing.{HoldsFor, Stage, StandsAt, given, phase_of}
 use Rattle.bt_sweep.specs.inside.StateSteps.{KeepsOne, held_with}
 use Rattle.bt_sweep.specs.calls.SweepState.{Sweeping, is_over, want_in, want_of}
@@ -78,6 +79,29 @@ want_none (Some a) phase none going = absurd (let apart : Some a ≡ None = none
 want_none None Both none going = refl
 want_none None First none going = refl
 want_none None Over none going = absurd (going refl)
+
+-- what waits, and that it isn't over, by what is asked for
+none_at : (current : Option Feature) (over : Bool) → want_of (is_some current) over ≡ WantA → current ≡ None
+none_at None over e = refl
+none_at (Some a) over e = absurd (let apart : WantB ≡ WantA = e in cc)
+
+open_at : (some : Bool) (phase : Phase) → want_of some (is_over phase) ≡ WantA → phase ≡ Over → ⊥
+open_at false phase e over = let apart : Nothing ≡ WantA = ap (λ (p : Phase). want_of false (is_over p)) (sym over) ∙ e in cc
+open_at true phase e over = let apart : WantB ≡ WantA = e in cc
+
+some_at : (some over : Bool) → want_of some over ≡ WantB → some ≡ true
+some_at true over e = refl
+some_at false true e = absurd (let apart : Nothing ≡ WantB = e in cc)
+some_at false false e = absurd (let apart : WantA ≡ WantB = e in cc)
+
+pub none_waits : (s : Sweeping) → want_in s ≡ WantA → s.current ≡ None
+none_waits s e = none_at s.current (is_over s.phase) e
+
+pub not_over : (s : Sweeping) → want_in s ≡ WantA → s.phase ≡ Over → ⊥
+not_over s e = open_at (is_some s.current) s.phase e
+
+pub one_waits : (s : Sweeping) → want_in s ≡ WantB → is_some s.current ≡ true
+one_waits s e = some_at (is_some s.current) (is_over s.phase) e
 
 pub want_a : (s : Sweeping) → s.current ≡ None → (s.phase ≡ Over → ⊥) → want_in s ≡ WantA
 want_a s none going = want_none s.current s.phase none going

@@ -1,7 +1,7 @@
 ghost use Rattle.std.specs.Prelude.{◌≡◌, IfSome};
 ghost use Rattle.bt_bed.specs.calls.Records.{order_in};
 ghost use Rattle.bt_bed.specs.calls.Single.{GivesSingle};
-ghost use Rattle.bt_sweep.specs.inside.Relating.{GivesKnown};
+ghost use Rattle.bt_sweep.specs.calls.Joining.{GivesKnown};
 ghost use Rattle.bt_sweep.specs.calls.SweepView.{order_of};
 
 use super::*;
@@ -31,7 +31,7 @@ fn end_first_if_wanted<H: Held, O: ChromOrder>(sweep: &mut Sweep<'_, H, O>)
     }
 }
 
-// Gives a sweep what both cursors have, and the ends of both inputs. Then it takes nothing more.
+// Gives a sweep what both cursors have, and the ends of both inputs.
 fn give_both<A: Cursor, B: Cursor, H: Held, O: ChromOrder, K: Sink>(
     sweep: &mut Sweep<'_, H, O>,
     a: &mut A,
@@ -45,7 +45,7 @@ fn give_both<A: Cursor, B: Cursor, H: Held, O: ChromOrder, K: Sink>(
     end_second_if_wanted(sweep, out)?;
     sweep.advance(a, b, out)?;
     end_first_if_wanted(sweep);
-    sweep.advance(a, b, out)
+    Ok(())
 }
 
 // Gives a sweep what both readers have buffered, and the ends of both inputs.
@@ -161,8 +161,8 @@ const WRITTEN: [(Shape, &[u8]); 10] = [
     ),
 ];
 
-// Whether the bytes are taken, as far as the sink takes them, and it fails only if it doesn't take all.
-fn is_cut(
+// Whether these bytes are written up to where the sink fails, which is an error only if it doesn't take all.
+fn writes_up_to(
     rt: &HostRuntime,
     shape: Shape,
     good: usize,
@@ -181,8 +181,31 @@ fn is_cut(
 fn buffered_records_in_each_shape(rt: HostRuntime) -> Result<(), Fail> {
     for (shape, want) in &WRITTEN {
         for good in 0..want.len().saturating_add(1) {
-            let is_cut = is_cut(&rt, *shape, good, (b"", FIRST, SECOND), want)?;
-            assert!(rt; is_cut);
+            let is_written = writes_up_to(&rt, *shape, good, (b"", FIRST, SECOND), want)?;
+            assert!(rt; is_written);
+        }
+    }
+    Ok(())
+}
+
+// What is written of a last line without a line feed, which is a batch of its own. It gets one, and it is copied through but
+// for the last shape.
+const LAST: [(Shape, &[u8]); 4] = [
+    (Shape::Missing, b"chr1\t80\t90\n"),
+    (Shape::Pieces, b"chr1\t80\t90\n"),
+    (Shape::Whole, b"chr1\t80\t90\n"),
+    (Shape::Count, b"chr1\t80\t90\t0\n"),
+];
+
+#[test]
+fn last_line_without_a_line_feed(rt: HostRuntime) -> Result<(), Fail> {
+    for (shape, want) in &LAST {
+        for second in [SECOND, b"chr1\t10\t20\n", b"chr1\t900\t910\n", b""] {
+            for good in 0..want.len().saturating_add(1) {
+                let texts: Texts<'_> = (b"", b"chr1\t80\t90", second);
+                let is_written = writes_up_to(&rt, *shape, good, texts, want)?;
+                assert!(rt; is_written);
+            }
         }
     }
     Ok(())
@@ -211,8 +234,8 @@ fn lines_are_cut_where_the_sink_fails(rt: HostRuntime) -> Result<(), Fail> {
             b"chr1\t10\t20\nchr1\t900\t910\n",
         ] {
             let texts = (lines, lines, second);
-            let is_cut = is_cut(&rt, Shape::Missing, good, texts, twice.as_bytes())?;
-            assert!(rt; is_cut);
+            let is_written = writes_up_to(&rt, Shape::Missing, good, texts, twice.as_bytes())?;
+            assert!(rt; is_written);
         }
     }
     Ok(())
@@ -305,5 +328,22 @@ fn one_record_of_each_input(rt: HostRuntime) -> Result<(), Fail> {
         let written = sweep_two(&rt, *shape, first, second)?;
         assert_eq!(rt; written.as_slice(), *want);
     }
+    Ok(())
+}
+
+// A record of each input is left to its cursor once the first input has ended, and nothing is written: also not the first
+// one's line, which the second one decides.
+#[test]
+fn records_after_the_end_are_left(rt: HostRuntime) -> Result<(), Fail> {
+    let genome = read_genome(rt.alloc())?;
+    let mut sweep = any_overlap(rt.alloc(), Shape::Missing, &genome);
+    let mut out = Out::new(ScriptSink::new(rt.alloc(), 100, None));
+    end_first_if_wanted(&mut sweep);
+    let mut a = single_of(sweep.order, b"chr1\t1\t5").ok_or("a record")?;
+    let mut b = single_of(sweep.order, b"chr1\t7\t9").ok_or("a record")?;
+    let given = sweep.advance(&mut a, &mut b, &mut out);
+    assert!(rt; given.is_ok() && sweep.want() == Want::Nothing);
+    assert!(rt; !a.is_empty() && !b.is_empty());
+    assert!(rt; out.flush().is_ok() && out.into_sink().taken().is_empty());
     Ok(())
 }

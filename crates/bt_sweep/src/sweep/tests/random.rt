@@ -92,7 +92,7 @@ fn first_not_plain<O: ChromOrder>(
 ) -> Result<Option<(Shape, HitRule)>, AllocError> {
     for shape in shapes {
         for rule in &RULES {
-            if !is_plain(rt, order, (*shape, *rule), first, second)? {
+            if !writes_like_plain(rt, order, (*shape, *rule), first, second)? {
                 return Ok(Some((*shape, *rule)));
             }
         }

@@ -24,13 +24,11 @@ returns-in-Missing g c = λ rises.
 pub returns-in-Cut : goal.returns-in-Cut
 returns-in-Cut g c = λ rises.
     let held = g.H.Held.records c.args.held.now in
-    let n = c.count_started.result in
-    let a = feature_lent c.args.a.now.bed in
-    rw (← took_lines c.args.rule a c.args.shape held n (c.count_started.ensures.rest rises)) (hits_adds a (take n held) _ _ c.put_hits.result c.args.shape c.args.rule c.in-Cut.is c.put_hits.ensures)
+    hits_adds (feature_lent c.args.a.now.bed) held _ _ c.put_hits.result c.args.shape c.args.rule c.in-Cut.is (c.put_hits.ensures rises)
 
 pub returns-in-Pieces : goal.returns-in-Pieces
 returns-in-Pieces g c = λ rises.
     let held = g.H.Held.records c.args.held.now in
-    let n = c.count_started-in-Pieces.result in
+    let n = c.count_started.result in
     let a = feature_lent c.args.a.now.bed in
-    rw (← took_lines c.args.rule a c.args.shape held n (c.count_started-in-Pieces.ensures.rest rises)) (pieces_add a (take n held) _ _ c.put_pieces.result c.args.shape c.args.rule c.in-Pieces.is (c.put_pieces.ensures rises))
+    rw (← took_lines c.args.rule a c.args.shape held n (c.count_started.ensures.rest rises)) (pieces_add a (take n held) _ _ c.put_pieces.result c.args.shape c.args.rule c.in-Pieces.is (c.put_pieces.ensures rises))

@@ -1,4 +1,4 @@
-use Rattle.bt_sweep.specs.inside.HeldList.{records_in}
+use Rattle.bt_sweep.specs.calls.HeldList.{records_in}
 use Rattle.bt_sweep.proofs.lemmas.active.EndLemmas.{none_ended}
 use Rattle.bt_sweep.proofs.active.held_index.HeldIndex.has_ended.Goals as goal
 

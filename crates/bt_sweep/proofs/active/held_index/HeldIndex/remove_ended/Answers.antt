@@ -1,6 +1,6 @@
 use Rattle.std.proofs.Common.{None, ap, cond, nat_lt, sym, ◌∙◌}
 use Rattle.bt_sweep.specs.inside.Ends.{ending_at, if_some}
-use Rattle.bt_sweep.specs.inside.HeldList.{records_in}
+use Rattle.bt_sweep.specs.calls.HeldList.{records_in}
 use Rattle.bt_sweep.proofs.lemmas.active.EndLemmas.{kept_ends}
 use Rattle.bt_sweep.proofs.active.held_index.HeldIndex.remove_ended.Goals as goal
 

@@ -1,4 +1,4 @@
-use Rattle.std.proofs.Common.{List, ℕ, subst, sym, ◌∙◌}
+use Rattle.std.proofs.Common.{subst, sym, ◌∙◌}
 use Rattle.bt_lines.specs.calls.Putting.{Adds}
 use Rattle.bt_sweep.specs.calls.Held.{AreRising}
 use Rattle.bt_sweep.specs.model.IntersectLines.{lines_for}

@@ -1,9 +1,9 @@
-use Rattle.std.proofs.Common.{◌≡◌, ◌≤◌, ◌∷◌, ◌++◌, ℕ, List, [], ap, filter, refl, subst, sym, ◌∙◌}
+use Rattle.std.proofs.Common.{◌≤◌, ◌∷◌, ◌++◌, ℕ, List, [], ap, filter, refl, subst, ◌∙◌}
 use Rattle.std.specs.Prelude.{nat_lt}
 use Rattle.std.proofs.lemmas.Result.{err_from_is_err_and}
 use Rattle.bt_lines.specs.calls.Names.{fault_value}
 use Rattle.bt_bed.specs.model.feature.Feature.{Feature}
-use Rattle.bt_sweep.specs.inside.Pending.{IsQuiet, pending_in}
+use Rattle.bt_sweep.specs.inside.Pending.{pending_in}
 use Rattle.bt_sweep.specs.calls.SweepState.{Sweeping}
 use Rattle.bt_sweep.proofs.lemmas.sweep.WriteLemmas.{cuts_off, writes_first, writes_last, writes_more}
 use Rattle.bt_sweep.proofs.sweep.state.State.write_up_to.Goals as goal

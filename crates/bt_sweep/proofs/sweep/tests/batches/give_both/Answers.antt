@@ -10,13 +10,3 @@ advance-requires-2-clause-known_a g c =
 pub advance-requires-2-clause-known_b : goal.advance-requires-2-clause-known_b
 advance-requires-2-clause-known_b g c =
     known_later g.B.Cursor.gives g.met.B.Cursor.gives_more (order_of c.args.sweep.now) (order_of c.end_second_if_wanted.new.sweep) c.args.b.now c.advance.new.b c.in_ok-advance.ensures.advances.0.seconds (c.end_second_if_wanted.ensures ∙ c.advance.ensures.order) c.requires.known_b c.in_ok-advance.ensures.advances.0.gives_seconds
-
-pub advance-requires-3-clause-known_a : goal.advance-requires-3-clause-known_a
-advance-requires-3-clause-known_a g c =
-    let known = known_later g.A.Cursor.gives g.met.A.Cursor.gives_more (order_of c.args.sweep.now) (order_of c.end_second_if_wanted.new.sweep) c.args.a.now c.advance.new.a c.in_ok-advance.ensures.advances.0.firsts (c.end_second_if_wanted.ensures ∙ c.advance.ensures.order) c.requires.known_a c.in_ok-advance.ensures.advances.0.gives_firsts in
-    known_later g.A.Cursor.gives g.met.A.Cursor.gives_more (order_of c.end_second_if_wanted.new.sweep) (order_of c.end_first_if_wanted.new.sweep) c.advance.new.a c.advance-2.new.a c.in_ok-advance-2.ensures.advances.0.firsts (c.end_first_if_wanted.ensures ∙ c.advance-2.ensures.order) known c.in_ok-advance-2.ensures.advances.0.gives_firsts
-
-pub advance-requires-3-clause-known_b : goal.advance-requires-3-clause-known_b
-advance-requires-3-clause-known_b g c =
-    let known = known_later g.B.Cursor.gives g.met.B.Cursor.gives_more (order_of c.args.sweep.now) (order_of c.end_second_if_wanted.new.sweep) c.args.b.now c.advance.new.b c.in_ok-advance.ensures.advances.0.seconds (c.end_second_if_wanted.ensures ∙ c.advance.ensures.order) c.requires.known_b c.in_ok-advance.ensures.advances.0.gives_seconds in
-    known_later g.B.Cursor.gives g.met.B.Cursor.gives_more (order_of c.end_second_if_wanted.new.sweep) (order_of c.end_first_if_wanted.new.sweep) c.advance.new.b c.advance-2.new.b c.in_ok-advance-2.ensures.advances.0.seconds (c.end_first_if_wanted.ensures ∙ c.advance-2.ensures.order) known c.in_ok-advance-2.ensures.advances.0.gives_seconds

@@ -1,5 +1,4 @@
-use Rattle.std.proofs.Common.{ap, sym, ◌∙◌}
-use Rattle.bt_bed.specs.calls.Bed.{feature_lent}
+use Rattle.std.proofs.Common.{sym, ◌∙◌}
 use Rattle.bt_sweep.proofs.lemmas.sweep.KnownLemmas.{known_single}
 use Rattle.bt_sweep.proofs.sweep.tests.batches.single_of.Goals as goal
 

@@ -1,4 +1,4 @@
-//! A record beside the line that it was read from.
+//! A record with the line that it was read from.
 
 ghost use Rattle.std.specs.Prelude.{◌≡◌, ◌++◌};
 ghost use Rattle.std.specs.Option.{ForSome};
@@ -9,42 +9,42 @@ ghost use Rattle.bt_bed.specs.model.feature.Record.{bed_text};
 use bt_bed::{BedRef, Record, put_bed};
 use bt_lines::{Fault, Out, Sink, put_line};
 
-// A record, with its line where that is at hand and stands as the record is written.
+// A record, with its source line if that is at hand and is what is written of the record.
 #[derive(Clone, Copy)]
-pub(crate) struct Written<'a> {
+pub(crate) struct SourceRecord<'a> {
     // The record.
     pub(crate) bed: BedRef<'a>,
-    // Its line.
+    // The line, without its end.
     text: Option<&'a [u8]>,
     ghost stands: { ForSome text (λ t. t.now ≡ bed_text (feature_lent bed)) },
 }
 
-impl<'a> Written<'a> {
+impl<'a> SourceRecord<'a> {
     // A record of which no line is at hand.
     #[inline(always)]
-    pub(crate) fn of_bed(bed: BedRef<'a>) -> Written<'a>
+    pub(crate) fn of_bed(bed: BedRef<'a>) -> SourceRecord<'a>
         ensures { result.bed ≡ bed.entry }
     {
-        Written { bed, text: None }
+        SourceRecord { bed, text: None }
     }
 
-    // The record, with its line if that stands as the record is written.
+    // The record, with its line if that is what is written of it.
     #[inline(always)]
-    pub(crate) fn of<R: Record>(record: &'a R) -> Written<'a>
-        ensures { feature_lent result.bed ≡ R.feature record.now }
+    pub(crate) fn of<R: Record>(a: &'a R) -> SourceRecord<'a>
+        ensures { feature_lent result.bed ≡ R.feature a.now }
     {
-        Written {
-            bed: record.bed(),
-            text: record.written(),
+        SourceRecord {
+            bed: a.bed(),
+            text: a.written(),
         }
     }
 }
 
-// Puts a record and what ends it, as a tab or a line feed. Where its line stands as it is written, that is put, and no
+// Puts a record and what ends it, such as a tab or a line feed. If its line is what is written of it, that is put, and no
 // number is printed.
 #[inline(always)]
-pub(crate) fn put_written<K: Sink>(
-    a: &Written<'_>,
+pub(crate) fn put_record<K: Sink>(
+    a: &SourceRecord<'_>,
     end: &[u8],
     out: &mut Out<K>,
 ) -> Result<(), Fault>
@@ -65,8 +65,8 @@ mod tests {
 
     // Puts a record with its line at hand and without it.
     fn put_both_ways<R: Record, K: Sink>(record: &R, out: &mut Out<K>) -> Result<(), Fault> {
-        put_written(&Written::of(record), b"\n", out)?;
-        put_written(&Written::of_bed(record.bed()), b"\n", out)
+        put_record(&SourceRecord::of(record), b"\n", out)?;
+        put_record(&SourceRecord::of_bed(record.bed()), b"\n", out)
     }
 
     // Puts the two records after the first of those that are buffered.
@@ -85,7 +85,7 @@ mod tests {
     }
 
     #[test]
-    fn line_is_put_where_it_stands_as_it_is_written(rt: HostRuntime) -> Result<(), Fail> {
+    fn line_is_put_if_it_is_what_is_written(rt: HostRuntime) -> Result<(), Fail> {
         let lengths = ScriptSource::new(b"chr1\t90\n", 7, None);
         let mut lengths = LineReader::new(rt.alloc(), lengths, Input::Genome);
         let genome = Genome::read(rt.alloc(), &mut lengths)?;

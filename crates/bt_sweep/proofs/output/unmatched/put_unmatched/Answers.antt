@@ -1,5 +1,5 @@
 use Rattle.bt_sweep.proofs.lemmas.sweep.PendingLemmas.{counted_adds, itself_adds}
-use Rattle.bt_sweep.proofs.sweep.unmatched.put_unmatched.Goals as goal
+use Rattle.bt_sweep.proofs.output.unmatched.put_unmatched.Goals as goal
 
 pub returns-in-Itself : goal.returns-in-Itself
 returns-in-Itself g c =
