@@ -13,6 +13,7 @@ ghost use Rattle.bt_tool.specs.inside.feed.Passed.{IsOwnFault, KeepsOwnFault};
 ghost use Rattle.bt_tool.specs.calls.run.OwnReads.{AnswersNoRead, IsOwnFailure, ReadsServe, TellsNoRead, TellsOwnReads};
 ghost use Rattle.bt_tool.specs.calls.run.Writing.{WritesBy};
 
+use crate::loops::sources::Sources;
 use bt_bed::Blocks;
 use bt_lines::{Fault, Input, LineReader, Out, Sink, Source};
 use bt_seq::{Mask, MaskHow, MaskWant};
@@ -109,25 +110,28 @@ pub(crate) fn mask<A: Source, B: Source, K: Sink>(
     alloc: Global,
     how: MaskHow,
     full: bool,
-    first: A,
-    second: B,
+    sources: Sources<A, B>,
     out: &mut Out<K>,
-) -> (Option<Fault>, A, B)
+) -> (Option<Fault>, Sources<A, B>)
     requires { HoldsBlock out.old.output.took out.old.output.put }
     ensures written { WritesBy A.left A.has_failed A.end_told B.left B.has_failed (of_maskfasta how full)
-        first (Some second) out.old.output (option_map fault_value result.0) result.1 (Some result.2) out.new.output }
-    ensures reads { TellsNoRead (option_map fault_value result.0) → ReadsServe A.is_read first result.1 × ReadsServe B.is_read second result.2 }
-    ensures own_failure { TellsOwnReads ⊥ (IsOwnFailure A.is_read first result.1)
-        (IsOwnFailure B.is_read second result.2) (option_map fault_value result.0) }
+        sources.first (Some sources.second) out.old.output (option_map fault_value result.0)
+        result.1.first (Some result.1.second) out.new.output }
+    ensures reads { TellsNoRead (option_map fault_value result.0)
+        → ReadsServe A.is_read sources.first result.1.first × ReadsServe B.is_read sources.second result.1.second }
+    ensures own_failure { TellsOwnReads ⊥ (IsOwnFailure A.is_read sources.first result.1.first)
+        (IsOwnFailure B.is_read sources.second result.1.second) (option_map fault_value result.0) }
 {
+    let Sources { first, second } = sources;
     let mut lines = LineReader::new(alloc, first, Input::First);
     let mut records = Blocks::new(alloc, LineReader::new(alloc, second, Input::Second));
     let mut mask = Mask::new(alloc, how, full);
     let masked = mask_all(&mut lines, &mut records, &mut mask, out);
     let first = lines.into_source();
     let second = records.into_reader().into_source();
+    let sources = Sources { first, second };
     match masked {
-        Ok(()) => (None, first, second),
-        Err(fault) => (Some(fault), first, second),
+        Ok(()) => (None, sources),
+        Err(fault) => (Some(fault), sources),
     }
 }

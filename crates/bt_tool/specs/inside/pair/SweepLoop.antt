@@ -24,9 +24,8 @@ use Rattle.bt_sweep.specs.model.IntersectLines.{lines_for}
 use Rattle.bt_sweep.specs.model.Limit.{are_too_many, cut_behind, limited}
 use Rattle.bt_sweep.specs.calls.Standing.{Stage, StandsAt, given, leaves_some}
 use Rattle.bt_sweep.specs.calls.SweepState.{Sweeping, want_in}
-use Rattle.bt_sweep.specs.declared.hits.hit_rule.HitRule.{HitRule}
-use Rattle.bt_sweep.specs.declared.output.shape.Shape.{Shape}
 use Rattle.bt_sweep.specs.declared.sweep.want.Want.TheVariants.{Nothing}
+use Rattle.bt_tool.specs.declared.loops.sweeping.SweepConfig.{SweepConfig}
 use Rattle.bt_tool.specs.model.report.SweepReport.{IsSweptKind, bytes_up_to, decider}
 use Rattle.bt_tool.specs.inside.pair.Pair.{JoinDef, Pair}
 use Rattle.bt_tool.specs.inside.pair.Progress.{Comes, Stage as PairStage}
@@ -42,20 +41,29 @@ AreWithin order (Some most) as_given past =
     → cut_behind (are_too_many order most (as_given ++ later)) [] (past ++ more) fault
     ≡ cut_behind (are_too_many order most (as_given ++ later)) past more fault
 
+-- what a sweep goes by
+abbrev pub config_of : Sweeping → SweepConfig
+config_of sweep = record { shape = sweep.shape; rule = sweep.rule; limit = sweep.limit }
+
+-- a sweep that goes by this stands at this stage
+abbrev pub StandsBy : Order → SweepConfig → Stage → Sweeping → Type 0
+StandsBy order config stage sweep =
+    StandsAt order config.shape config.rule config.limit stage sweep
+
 -- what a sweep makes of a record of the first input by records of the second
-abbrev pub sweep_join : Order → Shape → HitRule → Option ℕ → JoinDef Feature Feature
-sweep_join order shape rule limit = record {
+abbrev pub sweep_join : Order → SweepConfig → JoinDef Feature Feature
+sweep_join order config = record {
   decided = decided order;
-  bytes = lines_for shape rule;
-  limited = limited order limit;
-  Fits = AreWithin order limit;
+  bytes = lines_for config.shape config.rule;
+  limited = limited order config.limit;
+  Fits = AreWithin order config.limit;
   last = λ all second. None;
   reaches = λ as_given members lines. bytes_up_to lines (decider order as_given members);
   -- each record that was taken leaves one of those given undecided
   Asks = λ as_given taken. IsTrue (list_all (leaves_some order as_given) taken);
   InOrder = λ second. ArePlaced order (intervals_of second);
   first_kinds = IsBedKind order;
-  second_kinds = IsSweptKind order limit;
+  second_kinds = IsSweptKind order config.limit;
 }
 
 -- what a stage of a sweep is as one of two readers
@@ -85,11 +93,11 @@ module _ {A B O : Type 0} {g : Ghosts O} (a_left : A → Option (List ℕ)) (a_f
 
 module _ {A B O : Type 0} {g : Ghosts O} (a_left : A → Option (List ℕ)) (a_failed a_end : A → Bool)
     (b_left : B → Option (List ℕ)) (b_failed b_end : B → Bool)
-    (order : Order) (shape : Shape) (rule : HitRule) (limit : Option ℕ) (old_first : Records A O g)
+    (order : Order) (config : SweepConfig) (old_first : Records A O g)
     (old_second : Records B O g) (out : Output) where
   abbrev pub SweepEnds : Option FaultValue → Records A O g → Records B O g → Output → Type 0
   SweepEnds fault first second grown =
-      Finishes (sweep_join order shape rule limit)
+      Finishes (sweep_join order config)
       (records_pair a_left a_failed a_end b_left b_failed b_end old_first old_second) out fault
       (view_of first) (view_of second) grown
 
@@ -99,8 +107,8 @@ module _ {A B O : Type 0} {g : Ghosts O} (a_left : A → Option (List ℕ)) (a_f
     pub past_first : List (Member Feature)
     pub past_second : List (Member Feature)
     pub stage : Stage
-    pub stands : StandsAt order shape rule limit stage sweep
-    pub comes : Comes (sweep_join order shape rule limit)
+    pub stands : StandsBy order config stage sweep
+    pub comes : Comes (sweep_join order config)
         (records_pair a_left a_failed a_end b_left b_failed b_end old_first old_second) out
         (stage_of stage) past_first past_second (view_of first) (view_of second) grown
     -- they go by the order from the beginning
@@ -109,7 +117,7 @@ module _ {A B O : Type 0} {g : Ghosts O} (a_left : A → Option (List ℕ)) (a_f
     pub first_begins : last_locus old_first ≡ None
     pub second_begins : last_locus old_second ≡ None
     pub fits : IsKnown (records_pair a_left a_failed a_end b_left b_failed b_end old_first old_second)
-        → AreWithin order limit (given stage) past_second
+        → AreWithin order config.limit (given stage) past_second
 
   -- what giving a sweep all that it needs does
   abbrev pub SweepsOrStops : {T : Type 0} → Result T Fault → Records A O g → Records B O g

@@ -20,12 +20,12 @@ use Rattle.bt_sweep.specs.model.IntersectLines.{intersect, lines_for}
 use Rattle.bt_sweep.specs.inside.Joining.{CannotBeHeld, TakenEach}
 use Rattle.bt_sweep.specs.calls.Standing.{Stage, StandsAt, with_a_ended, with_b_ended}
 use Rattle.bt_sweep.specs.calls.SweepState.{Sweeping, want_in}
-use Rattle.bt_sweep.specs.declared.hits.hit_rule.HitRule.{HitRule}
 use Rattle.bt_sweep.specs.declared.sweep.phase.Phase.TheVariants.{Both}
-use Rattle.bt_sweep.specs.declared.output.shape.Shape.{Shape}
 use Rattle.bt_sweep.specs.declared.sweep.want.Want.{Want}
 use Rattle.bt_sweep.specs.declared.sweep.want.Want.TheVariants.{A as WantA, B as WantB, Nothing}
+use Rattle.bt_tool.specs.declared.loops.sweeping.SweepConfig.{SweepConfig}
 use Rattle.bt_tool.specs.inside.pair.Pair.{item_ahead}
+use Rattle.bt_tool.specs.inside.pair.SweepLoop.{StandsBy}
 use Rattle.bt_tool.specs.inside.feed.Passed.{HasTaken}
 
 module _ {A B O : Type 0} {g : Ghosts O} (a_left : A → Option (List ℕ)) (a_failed a_end : A → Bool)
@@ -36,19 +36,18 @@ module _ {A B O : Type 0} {g : Ghosts O} (a_left : A → Option (List ℕ)) (a_f
   abbrev pub EndsFirst : Bool → Sweeping → Type 0
   EndsFirst true swept = swept ≡ sweep
   EndsFirst false swept =
-      (shape : Shape) (rule : HitRule) (limit : Option ℕ) (stage : Stage)
-      → StandsAt order shape rule limit stage sweep
-      → StandsAt order shape rule limit (with_a_ended stage) swept
+      (config : SweepConfig) (stage : Stage)
+      → StandsBy order config stage sweep → StandsBy order config (with_a_ended stage) swept
 
   -- the same of the second, and the lines of the waiting record are written then
   abbrev pub EndsSecond : Bool → Sweeping → Output → Type 0
   EndsSecond true swept grown = (swept ≡ sweep) × (grown ≡ out)
   EndsSecond false swept grown =
-      (shape : Shape) (rule : HitRule) (limit : Option ℕ) (stage : Stage) (a : Feature)
-      → StandsAt order shape rule limit stage sweep → stage.waiting ≡ Some a
+      (config : SweepConfig) (stage : Stage) (a : Feature)
+      → StandsBy order config stage sweep → stage.waiting ≡ Some a
       → ArePlaced order (intervals_of stage.taken)
-      → StandsAt order shape rule limit (with_b_ended stage) swept
-      × Grown out (lines_for shape rule a stage.taken) grown
+      → StandsBy order config (with_b_ended stage) swept
+      × Grown out (lines_for config.shape config.rule a stage.taken) grown
 
   -- a record of the first input is buffered, or it has ended
   pub record FillsFirst (new : Records A O g) (new_second : Records B O g) (swept : Sweeping)
@@ -97,10 +96,10 @@ module _ {A B O : Type 0} {g : Ghosts O} (a_left : A → Option (List ℕ)) (a_f
     pub wants : want_in sweep ≡ WantB
     pub fills : FillsRecords b_left b_failed b_end IsReadSecond second (Ok false) new
     pub same_first : new_first ≡ first
-    pub fails : (shape : Shape) (rule : HitRule) (limit : Option ℕ) (stage : Stage) (a : Feature)
-        → StandsAt order shape rule limit stage sweep → stage.waiting ≡ Some a
+    pub fails : (config : SweepConfig) (stage : Stage) (a : Feature)
+        → StandsBy order config stage sweep → stage.waiting ≡ Some a
         → ArePlaced order (intervals_of stage.taken)
-        → FailsToAdd out (lines_for shape rule a stage.taken) (fault_value fault) grown
+        → FailsToAdd out (lines_for config.shape config.rule a stage.taken) (fault_value fault) grown
 
   -- whether anything is wanted
   abbrev pub FillsWanted : Result Bool Fault → Records A O g → Records B O g → Sweeping → Output → Type 0

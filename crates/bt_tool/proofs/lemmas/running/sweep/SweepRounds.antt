@@ -15,10 +15,9 @@ use Rattle.bt_bed.specs.model.order.Sorting.{sorting_of}
 use Rattle.bt_bed.specs.declared.order.ChromOrder.{Ghosts}
 use Rattle.bt_bed.specs.declared.read.records.Records.{Records}
 use Rattle.bt_sweep.specs.calls.SweepState.{Sweeping, is_over as is_done, want_in, want_of}
-use Rattle.bt_sweep.specs.declared.hits.hit_rule.HitRule.{HitRule}
-use Rattle.bt_sweep.specs.declared.output.shape.Shape.{Shape}
 use Rattle.bt_sweep.specs.declared.sweep.want.Want.{Want}
 use Rattle.bt_sweep.specs.declared.sweep.want.Want.TheVariants.{A as WantA, B as WantB, Nothing}
+use Rattle.bt_tool.specs.declared.loops.sweeping.SweepConfig.{SweepConfig}
 use Rattle.bt_tool.specs.calls.run.OwnReads.{TellsNoRead}
 use Rattle.bt_tool.specs.inside.feed.Passed.{KeepsOwnFault}
 use Rattle.bt_tool.specs.inside.pair.SweepLoop.{SweepEnds, Sweeps}
@@ -162,15 +161,15 @@ module _ {A B O : Type 0} {g : Ghosts O} (a_left : A → Option (List ℕ)) (a_f
 -- ---- how far it comes
 
 module _ {A B O : Type 0} {g : Ghosts O} (a_left : A → Option (List ℕ)) (a_failed a_end : A → Bool) (ReadsA : A → Option ℕ → A → Type 0) (b_left : B → Option (List ℕ)) (b_failed b_end : B → Bool) (ReadsB : B → Option ℕ → B → Type 0)
-    (shape : Shape) (rule : HitRule) (limit : Option ℕ) (old_first : Records A O g) (old_second : Records B O g) (out : Output) (total : IsTotal (order_in old_first)) (same_order : order_in old_second ≡ order_in old_first)
+    (config : SweepConfig) (old_first : Records A O g) (old_second : Records B O g) (out : Output) (total : IsTotal (order_in old_first)) (same_order : order_in old_second ≡ order_in old_first)
     (is_bed : (view_of old_first).format ≡ bed_format (sorting_of (order_in old_first))) (is_bed_second : (view_of old_second).format ≡ bed_format (sorting_of (order_in old_second)))
     (first : Records A O g) (second : Records B O g) (sweep : Sweeping) (grown : Output) (order : Order) (is_order : order ≡ order_in old_first)
-    (s : Sweeps a_left a_failed a_end b_left b_failed b_end (order_in old_first) shape rule limit old_first old_second out first second sweep grown) where
+    (s : Sweeps a_left a_failed a_end b_left b_failed b_end (order_in old_first) config old_first old_second out first second sweep grown) where
   abbrev Going : Records A O g → Records B O g → Sweeping → Output → Type 0
-  Going = Sweeps a_left a_failed a_end b_left b_failed b_end (order_in old_first) shape rule limit old_first old_second out
+  Going = Sweeps a_left a_failed a_end b_left b_failed b_end (order_in old_first) config old_first old_second out
 
   abbrev Ends : Fault → Records A O g → Records B O g → Output → Type 0
-  Ends fault = SweepEnds a_left a_failed a_end b_left b_failed b_end (order_in old_first) shape rule limit old_first old_second out (Some (fault_value fault))
+  Ends fault = SweepEnds a_left a_failed a_end b_left b_failed b_end (order_in old_first) config old_first old_second out (Some (fault_value fault))
 
   -- a record is buffered of the input that is wanted, or the sweep was given its end
   abbrev IsReady : Records A O g → Records B O g → Sweeping → Type 0
@@ -190,18 +189,18 @@ module _ {A B O : Type 0} {g : Ghosts O} (a_left : A → Option (List ℕ)) (a_f
       → new_second ≡ second → later ≡ grown → Filled new_first new_second swept later
   filled_first true new_first new_second swept later wants fills ends same same_output =
       rw (same, same_output, ends) (record {
-        going = fills_first a_left a_failed a_end ReadsA b_left b_failed b_end ReadsB shape rule limit old_first old_second out total same_order is_bed is_bed_second first second sweep grown s wants new_first fills;
+        going = fills_first a_left a_failed a_end ReadsA b_left b_failed b_end ReadsB config old_first old_second out total same_order is_bed is_bed_second first second sweep grown s wants new_first fills;
         less = omega (arith, fills.answers.1.read.shrinks);
         ready = inl (some_buffered _ (view_of new_first).buffered _ fills.answers.1.read.ahead, refl, wants);
       })
   filled_first false new_first new_second swept later wants fills ends same same_output =
-      let stands = ends shape rule limit s.stage s.stands in
+      let stands = ends config s.stage s.stands in
       rw (same, same_output) (record {
-        going = ends_first a_left a_failed a_end ReadsA b_left b_failed b_end ReadsB shape rule limit old_first old_second out total same_order is_bed is_bed_second first second sweep grown s wants new_first swept fills stands;
+        going = ends_first a_left a_failed a_end ReadsA b_left b_failed b_end ReadsB config old_first old_second out total same_order is_bed is_bed_second first second sweep grown s wants new_first swept fills stands;
         less = omega (arith, fills.answers.shrinks);
         ready = inr (inr (inl (
           fills.answers.none_buffered,
-          stands.current_is ∙ none_waits a_left a_failed a_end ReadsA b_left b_failed b_end ReadsB shape rule limit old_first old_second out total same_order is_bed is_bed_second first second sweep grown s wants,
+          stands.current_is ∙ none_waits a_left a_failed a_end ReadsA b_left b_failed b_end ReadsB config old_first old_second out total same_order is_bed is_bed_second first second sweep grown s wants,
           ap is_done stands.phase_is ∙ over_is true s.stage.b_ended,
           wants,
         )));
@@ -212,15 +211,15 @@ module _ {A B O : Type 0} {g : Ghosts O} (a_left : A → Option (List ℕ)) (a_f
       → new_first ≡ first → Filled new_first new_second swept later
   filled_second true new_first new_second swept later wants fills ends same =
       rw (same, ends.0, ends.1) (record {
-        going = fills_second a_left a_failed a_end ReadsA b_left b_failed b_end ReadsB shape rule limit old_first old_second out total same_order is_bed is_bed_second first second sweep grown s wants new_second fills;
+        going = fills_second a_left a_failed a_end ReadsA b_left b_failed b_end ReadsB config old_first old_second out total same_order is_bed is_bed_second first second sweep grown s wants new_second fills;
         less = omega (arith, fills.answers.1.read.shrinks);
         ready = inr (inl (some_buffered _ (view_of new_second).buffered _ fills.answers.1.read.ahead, refl, wants));
       })
   filled_second false new_first new_second swept later wants fills ends same =
-      let w = waiting a_left a_failed a_end ReadsA b_left b_failed b_end ReadsB shape rule limit old_first old_second out total same_order is_bed is_bed_second first second sweep grown s wants in
-      let ended = ends shape rule limit s.stage w.0 s.stands w.1 (placed_taken a_left a_failed a_end ReadsA b_left b_failed b_end ReadsB shape rule limit old_first old_second out total same_order is_bed is_bed_second first second sweep grown s) in
+      let w = waiting a_left a_failed a_end ReadsA b_left b_failed b_end ReadsB config old_first old_second out total same_order is_bed is_bed_second first second sweep grown s wants in
+      let ended = ends config s.stage w.0 s.stands w.1 (placed_taken a_left a_failed a_end ReadsA b_left b_failed b_end ReadsB config old_first old_second out total same_order is_bed is_bed_second first second sweep grown s) in
       rw same (record {
-        going = ends_second a_left a_failed a_end ReadsA b_left b_failed b_end ReadsB shape rule limit old_first old_second out total same_order is_bed is_bed_second first second sweep grown s wants new_second swept later fills ended.0 ended.1;
+        going = ends_second a_left a_failed a_end ReadsA b_left b_failed b_end ReadsB config old_first old_second out total same_order is_bed is_bed_second first second sweep grown s wants new_second swept later fills ended.0 ended.1;
         less = omega (arith, fills.answers.shrinks);
         ready = inr (inr (inr (ended.0.current_is, wants)));
       })
@@ -238,14 +237,14 @@ module _ {A B O : Type 0} {g : Ghosts O} (a_left : A → Option (List ℕ)) (a_f
   stops_at : (fault : Fault) (new_first : Records A O g) (new_second : Records B O g) (swept : Sweeping) (later : Output) → FillsWanted a_left a_failed a_end ReadsA b_left b_failed b_end ReadsB (order_in old_first) first second sweep grown (Err fault) new_first new_second swept later
       → Ends fault new_first new_second later
   stops_at fault new_first new_second swept later (inl f) =
-      rw (f.same_second, f.same_output) (stops_first a_left a_failed a_end ReadsA b_left b_failed b_end ReadsB shape rule limit old_first old_second out total same_order is_bed is_bed_second first second sweep grown s f.wants fault new_first f.fills)
+      rw (f.same_second, f.same_output) (stops_first a_left a_failed a_end ReadsA b_left b_failed b_end ReadsB config old_first old_second out total same_order is_bed is_bed_second first second sweep grown s f.wants fault new_first f.fills)
   stops_at fault new_first new_second swept later (inr (inl f)) =
-      rw (f.same_first, f.same_output) (stops_second a_left a_failed a_end ReadsA b_left b_failed b_end ReadsB shape rule limit old_first old_second out total same_order is_bed is_bed_second first second sweep grown s f.wants fault new_second f.fills)
+      rw (f.same_first, f.same_output) (stops_second a_left a_failed a_end ReadsA b_left b_failed b_end ReadsB config old_first old_second out total same_order is_bed is_bed_second first second sweep grown s f.wants fault new_second f.fills)
   stops_at fault new_first new_second swept later (inr (inr f)) =
-      let w = waiting a_left a_failed a_end ReadsA b_left b_failed b_end ReadsB shape rule limit old_first old_second out total same_order is_bed is_bed_second first second sweep grown s f.wants in
+      let w = waiting a_left a_failed a_end ReadsA b_left b_failed b_end ReadsB config old_first old_second out total same_order is_bed is_bed_second first second sweep grown s f.wants in
       rw f.same_first
-      (fails_at_end a_left a_failed a_end ReadsA b_left b_failed b_end ReadsB shape rule limit old_first old_second out total same_order is_bed is_bed_second first second sweep grown s f.wants (fault_value fault) new_second later f.fills
-      (f.fails shape rule limit s.stage w.0 s.stands w.1 (placed_taken a_left a_failed a_end ReadsA b_left b_failed b_end ReadsB shape rule limit old_first old_second out total same_order is_bed is_bed_second first second sweep grown s)))
+      (fails_at_end a_left a_failed a_end ReadsA b_left b_failed b_end ReadsB config old_first old_second out total same_order is_bed is_bed_second first second sweep grown s f.wants (fault_value fault) new_second later f.fills
+      (f.fails config s.stage w.0 s.stands w.1 (placed_taken a_left a_failed a_end ReadsA b_left b_failed b_end ReadsB config old_first old_second out total same_order is_bed is_bed_second first second sweep grown s)))
 
   pub fill_stops : (fault : Fault) (new_first : Records A O g) (new_second : Records B O g) (swept : Sweeping) (later : Output) → FillsWanted a_left a_failed a_end ReadsA b_left b_failed b_end ReadsB order first second sweep grown (Err fault) new_first new_second swept later
       → Ends fault new_first new_second later
@@ -255,22 +254,22 @@ module _ {A B O : Type 0} {g : Ghosts O} (a_left : A → Option (List ℕ)) (a_f
   pub gave_both : (new_first : Records A O g) (new_second : Records B O g) (swept : Sweeping) (later : Output) → GivesBoth a_left a_failed a_end ReadsA b_left b_failed b_end ReadsB order first second sweep grown new_first new_second swept later
       → Going new_first new_second swept later
   gave_both new_first new_second swept later gives =
-      goes_both a_left a_failed a_end ReadsA b_left b_failed b_end ReadsB shape rule limit old_first old_second out total same_order is_bed is_bed_second first second sweep grown s new_first new_second swept later
+      goes_both a_left a_failed a_end ReadsA b_left b_failed b_end ReadsB config old_first old_second out total same_order is_bed is_bed_second first second sweep grown s new_first new_second swept later
       (subst (λ (o : Order). GivesBoth a_left a_failed a_end ReadsA b_left b_failed b_end ReadsB o first second sweep grown new_first new_second swept later) is_order gives)
 
   pub failed_both : (fault : Fault) (new_first : Records A O g) (new_second : Records B O g) (later : Output) → FailsAmong a_left a_failed a_end ReadsA b_left b_failed b_end ReadsB order first second sweep grown (fault_value fault) new_first new_second later
       → Ends fault new_first new_second later
   failed_both fault new_first new_second later fails =
-      fails_both a_left a_failed a_end ReadsA b_left b_failed b_end ReadsB shape rule limit old_first old_second out total same_order is_bed is_bed_second first second sweep grown s (fault_value fault) new_first new_second later
+      fails_both a_left a_failed a_end ReadsA b_left b_failed b_end ReadsB config old_first old_second out total same_order is_bed is_bed_second first second sweep grown s (fault_value fault) new_first new_second later
       (subst (λ (o : Order). FailsAmong a_left a_failed a_end ReadsA b_left b_failed b_end ReadsB o first second sweep grown (fault_value fault) new_first new_second later) is_order fails)
 
   -- whether the first input has ended doesn't change
   done_at : (new_first : Records A O g) (new_second : Records B O g) (swept : Sweeping) (later : Output) → GivesBoth a_left a_failed a_end ReadsA b_left b_failed b_end ReadsB (order_in old_first) first second sweep grown new_first new_second swept later
       → is_done swept.phase ≡ is_done sweep.phase
   done_at new_first new_second swept later gives =
-      let placed = placed_first a_left a_failed a_end ReadsA b_left b_failed b_end ReadsB shape rule limit old_first old_second out total same_order is_bed is_bed_second first second sweep grown s new_first new_second gives.firsts gives.seconds gives.takes in
-      let placed_seconds = placed_second a_left a_failed a_end ReadsA b_left b_failed b_end ReadsB shape rule limit old_first old_second out total same_order is_bed is_bed_second first second sweep grown s new_first new_second gives.firsts gives.seconds gives.takes in
-      ap is_done (gives.stands shape rule limit s.stage s.stands placed placed_seconds).phase_is ∙ ap is_done (sym s.stands.phase_is)
+      let placed = placed_first a_left a_failed a_end ReadsA b_left b_failed b_end ReadsB config old_first old_second out total same_order is_bed is_bed_second first second sweep grown s new_first new_second gives.firsts gives.seconds gives.takes in
+      let placed_seconds = placed_second a_left a_failed a_end ReadsA b_left b_failed b_end ReadsB config old_first old_second out total same_order is_bed is_bed_second first second sweep grown s new_first new_second gives.firsts gives.seconds gives.takes in
+      ap is_done (gives.stands config.shape config.rule config.limit s.stage s.stands placed placed_seconds).phase_is ∙ ap is_done (sym s.stands.phase_is)
 
   pub still_done : (new_first : Records A O g) (new_second : Records B O g) (swept : Sweeping) (later : Output) → GivesBoth a_left a_failed a_end ReadsA b_left b_failed b_end ReadsB order first second sweep grown new_first new_second swept later
       → is_done swept.phase ≡ is_done sweep.phase

@@ -34,22 +34,21 @@ use Rattle.bt_sweep.specs.model.Deciding.{decided}
 use Rattle.bt_sweep.specs.model.IntersectLines.{intersect, lines_for}
 use Rattle.bt_sweep.specs.inside.Joining.{AreDecided, TakenEach}
 use Rattle.bt_sweep.specs.model.Limit.{held_for, is_held}
-use Rattle.bt_sweep.specs.calls.Standing.{Stage, StandsAt, given, leaves_some, phase_of, with_a_ended, with_b_ended}
+use Rattle.bt_sweep.specs.calls.Standing.{Stage, given, leaves_some, phase_of, with_a_ended, with_b_ended}
 use Rattle.bt_sweep.specs.calls.Steps.{has_room}
 use Rattle.bt_sweep.specs.calls.SweepState.{Sweeping, is_over as is_done, want_in, want_of}
-use Rattle.bt_sweep.specs.declared.hits.hit_rule.HitRule.{HitRule}
 use Rattle.bt_sweep.specs.declared.sweep.phase.Phase.{Phase}
 use Rattle.bt_sweep.specs.declared.sweep.phase.Phase.TheVariants.{Both, First, Over}
-use Rattle.bt_sweep.specs.declared.output.shape.Shape.{Shape}
 use Rattle.bt_sweep.specs.declared.sweep.want.Want.TheVariants.{A as WantA, B as WantB, Nothing}
 use Rattle.bt_sweep.proofs.lemmas.laws.DecidingLemmas.{none_before, placed_back}
 use Rattle.bt_sweep.proofs.lemmas.sweep.KeepLemmas.{undecided_beside}
 use Rattle.bt_sweep.proofs.lemmas.laws.PlacedLemmas.{front_placed}
+use Rattle.bt_tool.specs.declared.loops.sweeping.SweepConfig.{SweepConfig}
 use Rattle.bt_tool.specs.inside.feed.Feeding.{member_items}
 use Rattle.bt_tool.specs.inside.pair.Pair.{JoinDef, Pair, Settles, item_ahead}
 use Rattle.bt_tool.specs.inside.pair.Progress.{Comes, TakesFurther}
 use Rattle.bt_tool.specs.inside.pair.Endings.{AsksFor, IsKnown}
-use Rattle.bt_tool.specs.inside.pair.SweepLoop.{AreWithin, FinishesBoth, ReadsRest, SweepEnds, Sweeps, records_pair, stage_of, sweep_join}
+use Rattle.bt_tool.specs.inside.pair.SweepLoop.{AreWithin, FinishesBoth, ReadsRest, StandsBy, SweepEnds, Sweeps, records_pair, stage_of, sweep_join}
 use Rattle.bt_tool.specs.inside.pair.SweepSteps.{FailsAmong, GivesBoth, TakesBoth}
 use Rattle.bt_tool.specs.inside.feed.Passed.{Passes, StopsAfter}
 use Rattle.bt_tool.proofs.lemmas.running.sweep.AdvanceLemmas.{ahead_placed}
@@ -121,22 +120,22 @@ last_settled order phase newly last bs (inr all) =
     inr (and_parts (list_all (λ x. decided order x bs) newly) (list_all (λ x. decided order x bs) (last ∷ [])) (sym (list_all-append (λ x. decided order x bs) newly (last ∷ [])) ∙ all)).1
 
 module _ {A B O : Type 0} {g : Ghosts O} (a_left : A → Option (List ℕ)) (a_failed a_end : A → Bool) (ReadsA : A → Option ℕ → A → Type 0) (b_left : B → Option (List ℕ)) (b_failed b_end : B → Bool) (ReadsB : B → Option ℕ → B → Type 0)
-    (shape : Shape) (rule : HitRule) (limit : Option ℕ) (old_first : Records A O g) (old_second : Records B O g) (out : Output) (total : IsTotal (order_in old_first)) (same_order : order_in old_second ≡ order_in old_first)
+    (config : SweepConfig) (old_first : Records A O g) (old_second : Records B O g) (out : Output) (total : IsTotal (order_in old_first)) (same_order : order_in old_second ≡ order_in old_first)
     (is_bed : (view_of old_first).format ≡ bed_format (sorting_of (order_in old_first))) (is_bed_second : (view_of old_second).format ≡ bed_format (sorting_of (order_in old_second))) where
   abbrev order : Order
   order = order_in old_first
 
   abbrev join : JoinDef Feature Feature
-  join = sweep_join order shape rule limit
+  join = sweep_join order config
 
   abbrev pair : Pair A B Feature Feature (Option Locus) (Option Locus)
   pair = records_pair a_left a_failed a_end b_left b_failed b_end old_first old_second
 
   abbrev Going : Records A O g → Records B O g → Sweeping → Output → Type 0
-  Going = Sweeps a_left a_failed a_end b_left b_failed b_end order shape rule limit old_first old_second out
+  Going = Sweeps a_left a_failed a_end b_left b_failed b_end order config old_first old_second out
 
   abbrev Ends : Option FaultValue → Records A O g → Records B O g → Output → Type 0
-  Ends = SweepEnds a_left a_failed a_end b_left b_failed b_end order shape rule limit old_first old_second out
+  Ends = SweepEnds a_left a_failed a_end b_left b_failed b_end order config old_first old_second out
 
   wrong : (state : Option Locus) (line : TextLine) (kind : Kind) → (view_of old_first).format.says state line ≡ Err kind → IsBedKind order kind
   wrong = says_bed order (view_of old_first).format is_bed
@@ -163,8 +162,8 @@ module _ {A B O : Type 0} {g : Ghosts O} (a_left : A → Option (List ℕ)) (a_f
   limit_case : (fault : FaultValue) (first_now : Records A O g) (second_now : Records B O g) → order_in second_now ≡ order → (view_of old_second).state ≡ None → (later : Stage) (last : Feature) → later.waiting ≡ Some last → later.b_ended ≡ false
       → (past_first past_second : List (Member Feature)) (grown : Output)
       → Comes join pair out (stage_of later) past_first past_second (view_of first_now) (view_of second_now) grown → (later.a_ended ≡ false → AsksFor join pair out past_first (view_of second_now))
-      → (IsKnown pair → AreWithin order limit (given later) past_second) → (m : Member Feature) → ahead_in (view_of second_now) ≡ Some m → m.item.chrom ≡ last.chrom → m.item.start < last.stop → last.start < m.item.stop → order.knows last.chrom ≡ true
-      → has_room limit (length (held_for (Some last) later.taken)) ≡ false → fault ≡ fault_at_line Second m.line TooManyHeld → Ends (Some fault) first_now second_now grown
+      → (IsKnown pair → AreWithin order config.limit (given later) past_second) → (m : Member Feature) → ahead_in (view_of second_now) ≡ Some m → m.item.chrom ≡ last.chrom → m.item.start < last.stop → last.start < m.item.stop → order.knows last.chrom ≡ true
+      → has_room config.limit (length (held_for (Some last) later.taken)) ≡ false → fault ≡ fault_at_line Second m.line TooManyHeld → Ends (Some fault) first_now second_now grown
   limit_case fault first_now second_now is_order none later last waits going past_first past_second grown comes asks fits m ahead on starts ends known full is =
       let placed = second_placed none past_second (view_of second_now) comes.second_passes in
       let state : (view_of second_now).state ≡ state_behind (bed_format (sorting_of order)) None (member_items past_second) =
@@ -177,9 +176,9 @@ module _ {A B O : Type 0} {g : Ghosts O} (a_left : A → Option (List ℕ)) (a_f
       let parts : given later ≡ later.written ++ last ∷ [] = ap (λ (o : Option Feature). later.written ++ option_to_list o) waits in
       let held : is_held last m.item ≡ true = and_from (bytes_eq last.chrom m.item.chrom) (ltb last.start m.item.stop) (name_eq last.chrom m.item.chrom (sym on)) (lt-ltb last.start m.item.stop ends) in
       stop.passes_limit join pair out (stage_of later) past_first past_second (view_of first_now) (view_of second_now) grown comes asks fits last waits m ahead TooManyHeld
-      (inr (some_limit limit (length (held_for (Some last) later.taken)) full, refl)) fault is undecided
+      (inr (some_limit config.limit (length (held_for (Some last) later.taken)) full, refl)) fault is undecided
       (λ known_now.
-      cuts_at order limit later.written last past_second m fault is (subst (λ (l : List Feature). AreWithin order limit l past_second) parts (fits known_now))
+      cuts_at order config.limit later.written last past_second m fault is (subst (λ (l : List Feature). AreWithin order config.limit l past_second) parts (fits known_now))
       (subst (λ (l : List Feature). list_all (λ x. decided order x l) later.written ≡ true) (sym items)
       (((comes.settles known_now).whatever (member_items past_second ++ m.item ∷ []) (Some no_memory) with_m
       (record {
@@ -190,7 +189,7 @@ module _ {A B O : Type 0} {g : Ghosts O} (a_left : A → Option (List ℕ)) (a_f
         );
         all = λ e. absurd (false≢true (sym going ∙ e));
       })).0))
-      undecided held (subst (λ (l : List Feature). has_room limit (length (filter (is_held last) l)) ≡ false) comes.all_taken full))
+      undecided held (subst (λ (l : List Feature). has_room config.limit (length (filter (is_held last) l)) ≡ false) comes.all_taken full))
 
   module _ (first : Records A O g) (second : Records B O g) (sweep : Sweeping) (grown : Output) (s : Going first second sweep grown) where
     abbrev stage : Stage
@@ -232,7 +231,7 @@ module _ {A B O : Type 0} {g : Ghosts O} (a_left : A → Option (List ℕ)) (a_f
       }
 
       pub ends_first : (first_now : Records A O g) (swept : Sweeping) → FillsRecords a_left a_failed a_end ReadsA first (Ok false) first_now
-          → StandsAt order shape rule limit (with_a_ended stage) swept → Going first_now second swept grown
+          → StandsBy order config (with_a_ended stage) swept → Going first_now second swept grown
       ends_first first_now swept fills stands = record {
         past_first = s.past_first;
         past_second = s.past_second;
@@ -278,7 +277,7 @@ module _ {A B O : Type 0} {g : Ghosts O} (a_left : A → Option (List ℕ)) (a_f
       }
 
       pub ends_second : (second_now : Records B O g) (swept : Sweeping) (now : Output) → FillsRecords b_left b_failed b_end ReadsB second (Ok false) second_now
-          → StandsAt order shape rule limit (with_b_ended stage) swept → Grown grown (lines_for shape rule a stage.taken) now → Going first second_now swept now
+          → StandsBy order config (with_b_ended stage) swept → Grown grown (lines_for config.shape config.rule a stage.taken) now → Going first second_now swept now
       ends_second second_now swept now fills stands adds = record {
         past_first = s.past_first;
         past_second = s.past_second;
@@ -289,7 +288,7 @@ module _ {A B O : Type 0} {g : Ghosts O} (a_left : A → Option (List ℕ)) (a_f
         second_order = fills.order ∙ s.second_order;
         first_begins = s.first_begins;
         second_begins = s.second_begins;
-        fits = λ known. subst (λ (gs : List Feature). AreWithin order limit gs s.past_second) (sym (append-nil (given stage))) (s.fits known);
+        fits = λ known. subst (λ (gs : List Feature). AreWithin order config.limit gs s.past_second) (sym (append-nil (given stage))) (s.fits known);
       }
 
       -- it is undecided where nothing more of the second is buffered
@@ -306,7 +305,7 @@ module _ {A B O : Type 0} {g : Ghosts O} (a_left : A → Option (List ℕ)) (a_f
           stop.stops_second join pair out (stage_of stage) s.past_first s.past_second (view_of first) (view_of second) grown s.comes asks_here s.fits a waiting.1 wrong_second asked goes opens (fault_value fault) (view_of second_now)
           (is_stopped b_left b_failed b_end ReadsB second second_now fault fills)
 
-      pub fails_at_end : (fault : FaultValue) (second_now : Records B O g) (now : Output) → FillsRecords b_left b_failed b_end ReadsB second (Ok false) second_now → FailsToAdd grown (lines_for shape rule a stage.taken) fault now
+      pub fails_at_end : (fault : FaultValue) (second_now : Records B O g) (now : Output) → FillsRecords b_left b_failed b_end ReadsB second (Ok false) second_now → FailsToAdd grown (lines_for config.shape config.rule a stage.taken) fault now
           → Ends (Some fault) first second_now now
       fails_at_end fault second_now now fills fails =
           stop.fails_at_end join pair out (stage_of stage) s.past_first s.past_second (view_of first) (view_of second) grown s.comes asks_here s.fits a waiting.1 asked goes fault (view_of second_now) now
@@ -398,9 +397,9 @@ module _ {A B O : Type 0} {g : Ghosts O} (a_left : A → Option (List ℕ)) (a_f
       -- so far are the lines of some more settled
       settled_more : (written newly : List Feature) (bytes : List ℕ) → ArePlaced order (intervals_of newly) → SettlesEach order sweep.phase newly (ss ++ option_to_list (item_ahead (view_of second_now)))
           → Settles join written bytes ((stage.taken ++ ss) ++ option_to_list (item_ahead (view_of second_now))) stage.b_ended
-          → Settles join (written ++ newly) (bytes ++ intersect shape rule newly (stage.taken ++ ss)) ((stage.taken ++ ss) ++ option_to_list (item_ahead (view_of second_now))) stage.b_ended
+          → Settles join (written ++ newly) (bytes ++ intersect config.shape config.rule newly (stage.taken ++ ss)) ((stage.taken ++ ss) ++ option_to_list (item_ahead (view_of second_now))) stage.b_ended
       settled_more written newly bytes placed each settles =
-          settles_newly order total shape rule limit written newly bytes (stage.taken ++ ss) (item_ahead (view_of second_now)) stage.b_ended sweep.phase settles placed ends_then ss stage.taken refl each
+          settles_newly order total config written newly bytes (stage.taken ++ ss) (item_ahead (view_of second_now)) stage.b_ended sweep.phase settles placed ends_then ss stage.taken refl each
 
       -- the limit lies as far
       decided_first : IsKnown pair → (b : Feature) (more : List Feature) → ss ≡ b ∷ more → AreDecided order stage.written (stage.taken ++ b ∷ [])
@@ -426,24 +425,24 @@ module _ {A B O : Type 0} {g : Ghosts O} (a_left : A → Option (List ℕ)) (a_f
             placed_back order stage.written newly
             (front_placed order (stage.written ++ newly) (option_to_list w) (subst (λ (l : List Feature). ArePlaced order (intervals_of l)) (sym given_later) placed_first))
 
-        fits_later : TakenEach order limit (option_to_list sweep.current ++ fs) stage.taken ss → IsKnown pair → AreWithin order limit (given later) (s.past_second ++ more_second)
+        fits_later : TakenEach order config.limit (option_to_list sweep.current ++ fs) stage.taken ss → IsKnown pair → AreWithin order config.limit (given later) (s.past_second ++ more_second)
         fits_later each known =
             let whole : stage.written ++ (option_to_list stage.waiting ++ fs) ≡ given stage ++ fs = sym (append_assoc stage.written (option_to_list stage.waiting) fs) in
-            subst (λ (l : List Feature). AreWithin order limit l (s.past_second ++ more_second)) (whole ∙ sym given_later)
-            (fits_each order total limit stage.written (option_to_list stage.waiting ++ fs) (subst (λ (l : List Feature). ArePlaced order (intervals_of l)) (sym whole) placed_first) (suc (lines_given (below second))) ss stage.taken s.past_second
-            (sym s.comes.all_taken) placed_second (decided_first known) (subst (λ (o : Option Feature). TakenEach order limit (option_to_list o ++ fs) stage.taken ss) s.stands.current_is each)
-            (subst (λ (l : List Feature). AreWithin order limit l s.past_second) (sym whole) (within_given order limit (given stage) fs s.past_second (s.fits known))))
+            subst (λ (l : List Feature). AreWithin order config.limit l (s.past_second ++ more_second)) (whole ∙ sym given_later)
+            (fits_each order total config.limit stage.written (option_to_list stage.waiting ++ fs) (subst (λ (l : List Feature). ArePlaced order (intervals_of l)) (sym whole) placed_first) (suc (lines_given (below second))) ss stage.taken s.past_second
+            (sym s.comes.all_taken) placed_second (decided_first known) (subst (λ (o : Option Feature). TakenEach order config.limit (option_to_list o ++ fs) stage.taken ss) s.stands.current_is each)
+            (subst (λ (l : List Feature). AreWithin order config.limit l s.past_second) (sym whole) (within_given order config.limit (given stage) fs s.past_second (s.fits known))))
 
         -- the lines of some more, which are settled then, weren't all written
-        cuts_later : TakenEach order limit (option_to_list sweep.current ++ fs) stage.taken ss → SettlesEach order sweep.phase newly (ss ++ option_to_list (item_ahead (view_of second_now)))
-            → (fault : FaultValue) (now : Output) → FailsToAdd grown (intersect shape rule newly (stage.taken ++ ss)) fault now → Ends (Some fault) first_now second_now now
+        cuts_later : TakenEach order config.limit (option_to_list sweep.current ++ fs) stage.taken ss → SettlesEach order sweep.phase newly (ss ++ option_to_list (item_ahead (view_of second_now)))
+            → (fault : FaultValue) (now : Output) → FailsToAdd grown (intersect config.shape config.rule newly (stage.taken ++ ss)) fault now → Ends (Some fault) first_now second_now now
         cuts_later each settles fault now fails =
             let items : given later ≡ given stage ++ member_items more_first = given_later ∙ ap (λ (l : List Feature). given stage ++ l) (sym items_first) in
             stop.fails_to_write join pair out (stage_of stage) s.past_first s.past_second (view_of first) (view_of second) grown s.comes asks_here s.fits more_first more_second (view_of first_now) (view_of second_now) further further_second
             (stage.written ++ newly) (option_to_list w) items
-            (λ known. subst (λ (l : List Feature). AreWithin order limit l (s.past_second ++ more_second)) items (fits_later each known))
-            ended_second [] (intersect shape rule newly (stage.taken ++ ss))
-            (λ known. subst (λ (l : List Feature). Settles join (stage.written ++ newly) (s.comes.bytes ++ intersect shape rule newly (stage.taken ++ ss)) ((stage.taken ++ l) ++ option_to_list (item_ahead (view_of second_now))) stage.b_ended) (sym items_second)
+            (λ known. subst (λ (l : List Feature). AreWithin order config.limit l (s.past_second ++ more_second)) items (fits_later each known))
+            ended_second [] (intersect config.shape config.rule newly (stage.taken ++ ss))
+            (λ known. subst (λ (l : List Feature). Settles join (stage.written ++ newly) (s.comes.bytes ++ intersect config.shape config.rule newly (stage.taken ++ ss)) ((stage.taken ++ l) ++ option_to_list (item_ahead (view_of second_now))) stage.b_ended) (sym items_second)
             (settled_more stage.written newly s.comes.bytes newly_placed settles (settled_seen known)))
             grown now fault (grown_none grown) fails
 
@@ -452,7 +451,7 @@ module _ {A B O : Type 0} {g : Ghosts O} (a_left : A → Option (List ℕ)) (a_f
           comes_later =
               turned.goes_on join pair out (stage_of stage) s.past_first s.past_second (view_of first) (view_of second) grown s.comes more_first more_second (view_of first_now) (view_of second_now) further further_second ended_first ended_second newly (stage_of later)
               (record { given_is = given_later ∙ ap (λ (l : List Feature). given stage ++ l) (sym items_first); written_is = refl; taken_is = ap (λ (l : List Feature). stage.taken ++ l) (sym items_second); first_is = refl; second_is = refl })
-              (intersect shape rule newly (stage.taken ++ ss)) now (λ known. settled_more stage.written newly s.comes.bytes newly_placed each (settled_seen known)) (puts shape rule limit stage s.stands placed_first placed_second)
+              (intersect config.shape config.rule newly (stage.taken ++ ss)) now (λ known. settled_more stage.written newly s.comes.bytes newly_placed each (settled_seen known)) (puts config.shape config.rule config.limit stage s.stands placed_first placed_second)
 
     -- ---- it went on
 
@@ -465,13 +464,13 @@ module _ {A B O : Type 0} {g : Ghosts O} (a_left : A → Option (List ℕ)) (a_f
           past_first = s.past_first ++ members_from (suc (lines_given (below first))) gives.firsts;
           past_second = s.past_second ++ members_from (suc (lines_given (below second))) gives.seconds;
           stage = stage_after stage gives.newly swept.current gives.seconds;
-          stands = gives.stands shape rule limit stage s.stands placed placed_second;
+          stands = gives.stands config.shape config.rule config.limit stage s.stands placed placed_second;
           comes = comes_later first_now second_now gives.firsts gives.seconds gives.takes gives.newly swept.current gives.are gives.settles now gives.puts;
           first_order = gives.takes.first_order ∙ s.first_order;
           second_order = gives.takes.second_order ∙ s.second_order;
           first_begins = s.first_begins;
           second_begins = s.second_begins;
-          fits = fits_later first_now second_now gives.firsts gives.seconds gives.takes gives.newly swept.current gives.are (gives.each shape rule limit stage s.stands placed placed_second);
+          fits = fits_later first_now second_now gives.firsts gives.seconds gives.takes gives.newly swept.current gives.are (gives.each config.shape config.rule config.limit stage s.stands placed placed_second);
         }
 
     -- ---- it failed at one of the first
@@ -483,14 +482,14 @@ module _ {A B O : Type 0} {g : Ghosts O} (a_left : A → Option (List ℕ)) (a_f
         let ss = fails.seconds in
         let placed = placed_first first_now second_now fs ss fails.takes in
         let placed_taken = placed_second first_now second_now fs ss fails.takes in
-        let each = fails.each shape rule limit stage s.stands placed placed_taken in
+        let each = fails.each config.shape config.rule config.limit stage s.stands placed placed_taken in
         let past_first = s.past_first ++ members_from (suc (lines_given (below first))) fs in
         let past_second = s.past_second ++ members_from (suc (lines_given (below second))) ss in
         let asks : stage.a_ended ≡ false → AsksFor join pair out past_first (view_of second_now) =
         λ going. stop.asks_then join pair out (stage_of stage) s.past_first s.past_second (view_of first) (view_of second) grown s.comes asked (λ more asks. leaves_more order (given stage) more stage.taken asks)
         (members_from (suc (lines_given (below first))) fs) (members_from (suc (lines_given (below second))) ss) (view_of second_now) (further_second first_now second_now fs ss fails.takes) in
         elim fails.cause [
-          | inl write ↦ cuts_later first_now second_now fs ss fails.takes fails.newly fails.waiting fails.are each fails.settles fault now (write.cuts shape rule limit stage s.stands placed placed_taken)
+          | inl write ↦ cuts_later first_now second_now fs ss fails.takes fails.newly fails.waiting fails.are each fails.settles fault now (write.cuts config.shape config.rule config.limit stage s.stands placed placed_taken)
           | inr others ↦ elim others [
             | inl lack ↦
                 let last = lack.last in
@@ -498,7 +497,7 @@ module _ {A B O : Type 0} {g : Ghosts O} (a_left : A → Option (List ℕ)) (a_f
                 let comes = comes_later first_now second_now fs ss fails.takes fails.newly (Some last) are fails.settles now lack.puts in
                 let fits = fits_later first_now second_now fs ss fails.takes fails.newly (Some last) are each in
                 let placed_last = placed_back order (stage.written ++ fails.newly) (last ∷ []) (subst (λ (l : List Feature). ArePlaced order (intervals_of l)) (sym (given_later first_now second_now fs ss fails.takes fails.newly (Some last) are)) placed) in
-                elim (lack.lacks shape rule limit stage s.stands placed placed_taken) [
+                elim (lack.lacks config.shape config.rule config.limit stage s.stands placed placed_taken) [
                   | inl full ↦
                       limit_case fault first_now second_now (fails.takes.second_order ∙ s.second_order ∙ same_order) s.second_begins (stage_after stage fails.newly (Some last) ss) last refl
                       (not_ended_with first_now second_now fs ss fails.takes lack.m lack.ahead stage.b_ended refl) past_first past_second now comes asks fits lack.m lack.ahead lack.chrom lack.starts lack.ends placed_last.0 full.0 full.1
@@ -519,7 +518,7 @@ module _ {A B O : Type 0} {g : Ghosts O} (a_left : A → Option (List ℕ)) (a_f
       done = sym (over_is stage.a_ended stage.b_ended) ∙ ap is_done (sym s.stands.phase_is) ∙ done_by sweep.current (is_done sweep.phase) wants
 
       pub finishes_both : {T : Type 0} (result : Result T Fault) (second_now : Records B O g) → ReadsRest b_left b_failed b_end (IsBedKind (order_in second)) (view_of second) result (view_of second_now)
-          → FinishesBoth a_left a_failed a_end b_left b_failed b_end order shape rule limit old_first old_second out result first second_now grown
+          → FinishesBoth a_left a_failed a_end b_left b_failed b_end order config old_first old_second out result first second_now grown
       finishes_both {T} (Ok unit) second_now reads =
           let checks = subst (λ (o : Order). ReadsRest {T = T} b_left b_failed b_end (IsBedKind o) (view_of second) (Ok unit) (view_of second_now)) (s.second_order ∙ same_order) reads (view_of old_second) s.past_second s.comes.second_passes wrong_bed in
           stop.ends_rest join pair out (stage_of stage) s.past_first s.past_second (view_of first) (view_of second) grown s.comes asks_here s.fits done (view_of second_now) (λ some. absurd (false≢true (ap is_some (sym checks.passes.going) ∙ some))) checks.passes.bytes (s.past_second ++ checks.more) None
