@@ -26,9 +26,9 @@ fn fill_wanted<A: Source, B: Source, K: Sink>(
     mask: &mut Mask,
     out: &mut Out<K>,
 ) -> Result<bool, Fault>
-    ensures fills { (run : MaskRun A B) → GoesOn A.left A.has_failed A.end_told B.left B.has_failed B.end_told run
+    ensures fills { (run : MaskRun A B) → GoesOn A.Source B.Source run
         lines.old (view_of records.old) mask.old out.old.output
-        → Fills A.left A.has_failed A.end_told B.left B.has_failed B.end_told run
+        → Fills A.Source B.Source run
         lines.old (view_of records.old) mask.old result lines.new (view_of records.new) mask.new out.new.output }
     ensures reads_first { line_fault lines.old ≡ None → AnswersNoRead result → HasRead A.is_read lines.old lines.new }
     ensures reads_second { fault_kept records.old ≡ None → AnswersNoRead result → HasRead B.is_read (below records.old) (below records.new) }
@@ -59,9 +59,9 @@ fn give_buffered<A: Source, B: Source, K: Sink>(
     mask: &mut Mask,
     out: &mut Out<K>,
 ) -> Result<(), Fault>
-    ensures gives { (run : MaskRun A B) → GoesOn A.left A.has_failed A.end_told B.left B.has_failed B.end_told run
+    ensures gives { (run : MaskRun A B) → GoesOn A.Source B.Source run
         lines.old (view_of records.old) mask.old out.old.output
-        → Gives A.left A.has_failed A.end_told B.left B.has_failed B.end_told run
+        → Gives A.Source B.Source run
         lines.old (view_of records.old) mask.old result lines.new (view_of records.new) mask.new out.new.output }
     ensures reads_first { HasRead A.is_read lines.old lines.new }
     ensures reads_second { HasRead B.is_read (below records.old) (below records.new) }
@@ -87,10 +87,10 @@ fn mask_all<A: Source, B: Source, K: Sink>(
 ) -> Result<(), Fault>
     requires first { input_of lines.old ≡ Input.First }
     requires blocks { (view_of records.old).format ≡ block_format }
-    requires starts { Masks A.left A.has_failed A.end_told B.left B.has_failed B.end_told mask.old.how mask.old.full
+    requires starts { Masks A.Source B.Source mask.old.how mask.old.full
         (line_members mask.old.full (record { names = []; bases = 0 }) lines.old) (view_of records.old) out.old.output
         (line_members mask.old.full (record { names = []; bases = 0 }) lines.old) (view_of records.old) mask.old out.old.output }
-    ensures finishes { FinishesMask A.left A.has_failed A.end_told B.left B.has_failed B.end_told mask.old.how mask.old.full
+    ensures finishes { FinishesMask A.Source B.Source mask.old.how mask.old.full
         lines.old (view_of records.old) out.old.output result lines.new (view_of records.new) out.new.output }
     ensures reads_first { AnswersNoRead result → HasRead A.is_read lines.old lines.new }
     ensures reads_second { AnswersNoRead result → HasRead B.is_read (below records.old) (below records.new) }

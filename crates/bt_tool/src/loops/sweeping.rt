@@ -40,7 +40,7 @@ fn fill_wanted<A: Source, B: Source, O: ChromOrder, H: Held, K: Sink>(
     sweep: &mut Sweep<'_, H, O>,
     out: &mut Out<K>,
 ) -> Result<bool, Fault>
-    ensures fills { FillsWanted A.left A.has_failed A.end_told A.is_read B.left B.has_failed B.end_told B.is_read (order_of sweep.old)
+    ensures fills { FillsWanted A.Source B.Source (order_of sweep.old)
         first.old second.old (state_of sweep.old) out.old.output result first.new second.new (state_of sweep.new) out.new.output }
     ensures order { order_of sweep.new ≡ order_of sweep.old }
 {
@@ -72,7 +72,7 @@ fn advance_both<A: Source, B: Source, O: ChromOrder, H: Held, K: Sink>(
 ) -> Result<(), Fault>
     requires order { order_of sweep.old ≡ order_in first.old }
     requires second { order_of sweep.old ≡ order_in second.old }
-    ensures advances { AdvancesBoth A.left A.has_failed A.end_told A.is_read B.left B.has_failed B.end_told B.is_read (order_of sweep.old)
+    ensures advances { AdvancesBoth A.Source B.Source (order_of sweep.old)
         first.old second.old (state_of sweep.old) out.old.output result first.new second.new (state_of sweep.new) out.new.output }
     ensures order { order_of sweep.new ≡ order_of sweep.old }
 {
@@ -98,9 +98,9 @@ fn sweep_all<A: Source, B: Source, O: ChromOrder, H: Held, K: Sink>(
     requires sweep { order_of sweep.old ≡ order_in first.old }
     requires sorted { (view_of first.old).format ≡ bed_format (sorting_of (order_in first.old)) }
     requires sorted_second { (view_of second.old).format ≡ bed_format (sorting_of (order_in second.old)) }
-    requires starts { Sweeps A.left A.has_failed A.end_told B.left B.has_failed B.end_told (order_in first.old)
+    requires starts { Sweeps A.Source B.Source (order_in first.old)
         (config_of (state_of sweep.old)) first.old second.old out.old.output first.old second.old (state_of sweep.old) out.old.output }
-    ensures sweeps { SweepsOrStops A.left A.has_failed A.end_told B.left B.has_failed B.end_told (order_in first.old)
+    ensures sweeps { SweepsOrStops A.Source B.Source (order_in first.old)
         (config_of (state_of sweep.old)) first.old second.old out.old.output result first.new second.new (state_of sweep.new) out.new.output }
     ensures reads_first { AnswersNoRead result → HasRead A.is_read (below first.old) (below first.new) }
     ensures reads_second { AnswersNoRead result → HasRead B.is_read (below second.old) (below second.new) }
@@ -148,9 +148,9 @@ fn read_both<A: Source, B: Source, O: ChromOrder, H: Held, K: Sink>(
     requires sweep { order_of sweep.old ≡ order_in first.old }
     requires sorted { (view_of first.old).format ≡ bed_format (sorting_of (order_in first.old)) }
     requires sorted_second { (view_of second.old).format ≡ bed_format (sorting_of (order_in second.old)) }
-    requires starts { Sweeps A.left A.has_failed A.end_told B.left B.has_failed B.end_told (order_in first.old)
+    requires starts { Sweeps A.Source B.Source (order_in first.old)
         (config_of (state_of sweep.old)) first.old second.old out.old.output first.old second.old (state_of sweep.old) out.old.output }
-    ensures finishes { FinishesBoth A.left A.has_failed A.end_told B.left B.has_failed B.end_told (order_in first.old)
+    ensures finishes { FinishesBoth A.Source B.Source (order_in first.old)
         (config_of (state_of sweep.old)) first.old second.old out.old.output result first.new second.new out.new.output }
     ensures reads_first { AnswersNoRead result → HasRead A.is_read (below first.old) (below first.new) }
     ensures reads_second { AnswersNoRead result → HasRead B.is_read (below second.old) (below second.new) }

@@ -2,6 +2,7 @@
 use Rattle.std.specs.Prelude.{◌≡◌, ◌⊎◌, ℕ, ◌≤◌, ◌<◌, All, Bool, true, List, ◌++◌, Option, Some, None, Result, Ok, Err}
 use Rattle.std.specs.Prelude.{⊤, [], IsTrue, option_to_list}
 use Rattle.std.specs.List.{list_all}
+use Rattle.bt_lines.specs.declared.device.Source.{Ghosts as Source}
 use Rattle.bt_lines.specs.model.Fault.{FaultValue, read_failed}
 use Rattle.bt_lines.specs.model.Lines.{TextLine}
 use Rattle.bt_lines.specs.calls.Names.{fault_value}
@@ -76,29 +77,27 @@ stage_of stage = record {
   second_ended = stage.b_ended;
 }
 
-module _ {A B O : Type 0} {g : Ghosts O} (a_left : A → Option (List ℕ)) (a_failed a_end : A → Bool)
-    (b_left : B → Option (List ℕ)) (b_failed b_end : B → Bool)
+module _ {A B O : Type 0} {g : Ghosts O} (source_a : Source A) (source_b : Source B)
     (old_first : Records A O g) (old_second : Records B O g) where
   abbrev pub records_pair : Pair A B Feature Feature (Option Locus) (Option Locus)
   records_pair = record {
-    a_left = a_left;
-    a_failed = a_failed;
-    a_end = a_end;
-    b_left = b_left;
-    b_failed = b_failed;
-    b_end = b_end;
+    a_left = source_a.left;
+    a_failed = source_a.has_failed;
+    a_end = source_a.end_told;
+    b_left = source_b.left;
+    b_failed = source_b.has_failed;
+    b_end = source_b.end_told;
     first = view_of old_first;
     second = view_of old_second;
   }
 
-module _ {A B O : Type 0} {g : Ghosts O} (a_left : A → Option (List ℕ)) (a_failed a_end : A → Bool)
-    (b_left : B → Option (List ℕ)) (b_failed b_end : B → Bool)
+module _ {A B O : Type 0} {g : Ghosts O} (source_a : Source A) (source_b : Source B)
     (order : Order) (config : SweepConfig) (old_first : Records A O g)
     (old_second : Records B O g) (out : Output) where
   abbrev pub SweepEnds : Option FaultValue → Records A O g → Records B O g → Output → Type 0
   SweepEnds fault first second grown =
       Finishes (sweep_join order config)
-      (records_pair a_left a_failed a_end b_left b_failed b_end old_first old_second) out fault
+      (records_pair source_a source_b old_first old_second) out fault
       (view_of first) (view_of second) grown
 
   -- the records so far were given
@@ -109,14 +108,14 @@ module _ {A B O : Type 0} {g : Ghosts O} (a_left : A → Option (List ℕ)) (a_f
     pub stage : Stage
     pub stands : StandsBy order config stage sweep
     pub comes : Comes (sweep_join order config)
-        (records_pair a_left a_failed a_end b_left b_failed b_end old_first old_second) out
+        (records_pair source_a source_b old_first old_second) out
         (stage_of stage) past_first past_second (view_of first) (view_of second) grown
     -- they go by the order from the beginning
     pub first_order : order_in first ≡ order_in old_first
     pub second_order : order_in second ≡ order_in old_second
     pub first_begins : last_locus old_first ≡ None
     pub second_begins : last_locus old_second ≡ None
-    pub fits : IsKnown (records_pair a_left a_failed a_end b_left b_failed b_end old_first old_second)
+    pub fits : IsKnown (records_pair source_a source_b old_first old_second)
         → AreWithin order config.limit (given stage) past_second
 
   -- what giving a sweep all that it needs does

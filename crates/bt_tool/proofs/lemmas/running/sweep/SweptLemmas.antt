@@ -5,6 +5,7 @@ use Rattle.std.specs.List.{list_all}
 use Rattle.std.proofs.lemmas.Bool.{false≢true, and_from, and_parts, lt-ltb}
 use Rattle.std.proofs.lemmas.List.{map-append}
 use Rattle.std.proofs.lemmas.List.Folds.{list_all-append}
+use Rattle.bt_lines.specs.declared.device.Source.{Ghosts as Source}
 use Rattle.bt_lines.specs.model.Fault.{FaultValue, no_memory}
 use Rattle.bt_lines.specs.model.Lines.{TextLine}
 use Rattle.bt_lines.specs.calls.Names.{fault_value}
@@ -119,7 +120,7 @@ last_settled order phase newly last bs (inl first) = inl first
 last_settled order phase newly last bs (inr all) =
     inr (and_parts (list_all (λ x. decided order x bs) newly) (list_all (λ x. decided order x bs) (last ∷ [])) (sym (list_all-append (λ x. decided order x bs) newly (last ∷ [])) ∙ all)).1
 
-module _ {A B O : Type 0} {g : Ghosts O} (a_left : A → Option (List ℕ)) (a_failed a_end : A → Bool) (ReadsA : A → Option ℕ → A → Type 0) (b_left : B → Option (List ℕ)) (b_failed b_end : B → Bool) (ReadsB : B → Option ℕ → B → Type 0)
+module _ {A B O : Type 0} {g : Ghosts O} (source_a : Source A) (source_b : Source B)
     (config : SweepConfig) (old_first : Records A O g) (old_second : Records B O g) (out : Output) (total : IsTotal (order_in old_first)) (same_order : order_in old_second ≡ order_in old_first)
     (is_bed : (view_of old_first).format ≡ bed_format (sorting_of (order_in old_first))) (is_bed_second : (view_of old_second).format ≡ bed_format (sorting_of (order_in old_second))) where
   abbrev order : Order
@@ -129,13 +130,13 @@ module _ {A B O : Type 0} {g : Ghosts O} (a_left : A → Option (List ℕ)) (a_f
   join = sweep_join order config
 
   abbrev pair : Pair A B Feature Feature (Option Locus) (Option Locus)
-  pair = records_pair a_left a_failed a_end b_left b_failed b_end old_first old_second
+  pair = records_pair source_a source_b old_first old_second
 
   abbrev Going : Records A O g → Records B O g → Sweeping → Output → Type 0
-  Going = Sweeps a_left a_failed a_end b_left b_failed b_end order config old_first old_second out
+  Going = Sweeps source_a source_b order config old_first old_second out
 
   abbrev Ends : Option FaultValue → Records A O g → Records B O g → Output → Type 0
-  Ends = SweepEnds a_left a_failed a_end b_left b_failed b_end order config old_first old_second out
+  Ends = SweepEnds source_a source_b order config old_first old_second out
 
   wrong : (state : Option Locus) (line : TextLine) (kind : Kind) → (view_of old_first).format.says state line ≡ Err kind → IsBedKind order kind
   wrong = says_bed order (view_of old_first).format is_bed
@@ -147,12 +148,12 @@ module _ {A B O : Type 0} {g : Ghosts O} (a_left : A → Option (List ℕ)) (a_f
   wrong_second state line kind e = inl (wrong_bed state line kind e)
 
   -- what was passed of either is in order
-  first_placed : (view_of old_first).state ≡ None → (past : List (Member Feature)) (now : MemberReader A Feature (Option Locus)) → Passes a_left a_failed a_end (view_of old_first) past now → ArePlaced order (intervals_of (member_items past))
+  first_placed : (view_of old_first).state ≡ None → (past : List (Member Feature)) (now : MemberReader A Feature (Option Locus)) → Passes source_a.left source_a.has_failed source_a.end_told (view_of old_first) past now → ArePlaced order (intervals_of (member_items past))
   first_placed none past now p =
       (said_in_order order (member_items past) total
       (subst (λ (f : Format Feature (Option Locus)). AreSaid f None (member_items past)) is_bed (subst (λ (s : Option Locus). AreSaid (view_of old_first).format s (member_items past)) none p.said))).0
 
-  second_placed : (view_of old_second).state ≡ None → (past : List (Member Feature)) (now : MemberReader B Feature (Option Locus)) → Passes b_left b_failed b_end (view_of old_second) past now → ArePlaced order (intervals_of (member_items past))
+  second_placed : (view_of old_second).state ≡ None → (past : List (Member Feature)) (now : MemberReader B Feature (Option Locus)) → Passes source_b.left source_b.has_failed source_b.end_told (view_of old_second) past now → ArePlaced order (intervals_of (member_items past))
   second_placed none past now p =
       (said_in_order order (member_items past) total
       (subst (λ (f : Format Feature (Option Locus)). AreSaid f None (member_items past)) (is_bed_second ∙ ap (λ (o : Order). bed_format (sorting_of o)) same_order)
@@ -216,13 +217,13 @@ module _ {A B O : Type 0} {g : Ghosts O} (a_left : A → Option (List ℕ)) (a_f
       not_ended : stage.a_ended ≡ false
       not_ended = sym (over_is stage.a_ended stage.b_ended) ∙ ap is_done (sym s.stands.phase_is) ∙ going_by sweep.current (is_done sweep.phase) wants
 
-      pub fills_first : (first_now : Records A O g) → FillsRecords a_left a_failed a_end ReadsA first (Ok true) first_now → Going first_now second sweep grown
+      pub fills_first : (first_now : Records A O g) → FillsRecords source_a.left source_a.has_failed source_a.end_told source_a.is_read first (Ok true) first_now → Going first_now second sweep grown
       fills_first first_now fills = record {
         past_first = s.past_first;
         past_second = s.past_second;
         stage = stage;
         stands = s.stands;
-        comes = turned.fills_first join pair out (stage_of stage) s.past_first s.past_second (view_of first) (view_of second) grown s.comes none_waits not_ended (view_of first_now) (is_filled a_left a_failed a_end ReadsA first first_now fills);
+        comes = turned.fills_first join pair out (stage_of stage) s.past_first s.past_second (view_of first) (view_of second) grown s.comes none_waits not_ended (view_of first_now) (is_filled source_a.left source_a.has_failed source_a.end_told source_a.is_read first first_now fills);
         first_order = fills.order ∙ s.first_order;
         second_order = s.second_order;
         first_begins = s.first_begins;
@@ -230,14 +231,14 @@ module _ {A B O : Type 0} {g : Ghosts O} (a_left : A → Option (List ℕ)) (a_f
         fits = s.fits;
       }
 
-      pub ends_first : (first_now : Records A O g) (swept : Sweeping) → FillsRecords a_left a_failed a_end ReadsA first (Ok false) first_now
+      pub ends_first : (first_now : Records A O g) (swept : Sweeping) → FillsRecords source_a.left source_a.has_failed source_a.end_told source_a.is_read first (Ok false) first_now
           → StandsBy order config (with_a_ended stage) swept → Going first_now second swept grown
       ends_first first_now swept fills stands = record {
         past_first = s.past_first;
         past_second = s.past_second;
         stage = with_a_ended stage;
         stands = stands;
-        comes = turned.ends_first join pair out (stage_of stage) s.past_first s.past_second (view_of first) (view_of second) grown s.comes none_waits not_ended (view_of first_now) (is_over a_left a_failed a_end ReadsA first first_now fills);
+        comes = turned.ends_first join pair out (stage_of stage) s.past_first s.past_second (view_of first) (view_of second) grown s.comes none_waits not_ended (view_of first_now) (is_over source_a.left source_a.has_failed source_a.end_told source_a.is_read first first_now fills);
         first_order = fills.order ∙ s.first_order;
         second_order = s.second_order;
         first_begins = s.first_begins;
@@ -245,10 +246,10 @@ module _ {A B O : Type 0} {g : Ghosts O} (a_left : A → Option (List ℕ)) (a_f
         fits = s.fits;
       }
 
-      pub stops_first : (fault : Fault) (first_now : Records A O g) → FillsRecords a_left a_failed a_end ReadsA first (Err fault) first_now → Ends (Some (fault_value fault)) first_now second grown
+      pub stops_first : (fault : Fault) (first_now : Records A O g) → FillsRecords source_a.left source_a.has_failed source_a.end_told source_a.is_read first (Err fault) first_now → Ends (Some (fault_value fault)) first_now second grown
       stops_first fault first_now fills =
           stop.stops_first join pair out (stage_of stage) s.past_first s.past_second (view_of first) (view_of second) grown s.comes asks_here s.fits wrong none_waits not_ended (fault_value fault) (view_of first_now)
-          (is_stopped a_left a_failed a_end ReadsA first first_now fault fills)
+          (is_stopped source_a.left source_a.has_failed source_a.end_told source_a.is_read first first_now fault fills)
 
     -- ---- one of the second is
 
@@ -262,13 +263,13 @@ module _ {A B O : Type 0} {g : Ghosts O} (a_left : A → Option (List ℕ)) (a_f
       goes : stage.b_ended ≡ false
       goes = (s.stands.unended (ap is_some waiting.1)).1
 
-      pub fills_second : (second_now : Records B O g) → FillsRecords b_left b_failed b_end ReadsB second (Ok true) second_now → Going first second_now sweep grown
+      pub fills_second : (second_now : Records B O g) → FillsRecords source_b.left source_b.has_failed source_b.end_told source_b.is_read second (Ok true) second_now → Going first second_now sweep grown
       fills_second second_now fills = record {
         past_first = s.past_first;
         past_second = s.past_second;
         stage = stage;
         stands = s.stands;
-        comes = turned.fills_second join pair out (stage_of stage) s.past_first s.past_second (view_of first) (view_of second) grown s.comes goes (view_of second_now) (is_filled b_left b_failed b_end ReadsB second second_now fills);
+        comes = turned.fills_second join pair out (stage_of stage) s.past_first s.past_second (view_of first) (view_of second) grown s.comes goes (view_of second_now) (is_filled source_b.left source_b.has_failed source_b.end_told source_b.is_read second second_now fills);
         first_order = s.first_order;
         second_order = fills.order ∙ s.second_order;
         first_begins = s.first_begins;
@@ -276,14 +277,14 @@ module _ {A B O : Type 0} {g : Ghosts O} (a_left : A → Option (List ℕ)) (a_f
         fits = s.fits;
       }
 
-      pub ends_second : (second_now : Records B O g) (swept : Sweeping) (now : Output) → FillsRecords b_left b_failed b_end ReadsB second (Ok false) second_now
+      pub ends_second : (second_now : Records B O g) (swept : Sweeping) (now : Output) → FillsRecords source_b.left source_b.has_failed source_b.end_told source_b.is_read second (Ok false) second_now
           → StandsBy order config (with_b_ended stage) swept → Grown grown (lines_for config.shape config.rule a stage.taken) now → Going first second_now swept now
       ends_second second_now swept now fills stands adds = record {
         past_first = s.past_first;
         past_second = s.past_second;
         stage = with_b_ended stage;
         stands = stands;
-        comes = turned.ends_waiting join pair out (stage_of stage) s.past_first s.past_second (view_of first) (view_of second) grown s.comes goes (view_of second_now) (is_over b_left b_failed b_end ReadsB second second_now fills) a waiting.1 now adds;
+        comes = turned.ends_waiting join pair out (stage_of stage) s.past_first s.past_second (view_of first) (view_of second) grown s.comes goes (view_of second_now) (is_over source_b.left source_b.has_failed source_b.end_told source_b.is_read second second_now fills) a waiting.1 now adds;
         first_order = s.first_order;
         second_order = fills.order ∙ s.second_order;
         first_begins = s.first_begins;
@@ -300,31 +301,31 @@ module _ {A B O : Type 0} {g : Ghosts O} (a_left : A → Option (List ℕ)) (a_f
           open_last order total stage.taken stage.written a placed_taken (subst (λ (l : List Feature). ArePlaced order (intervals_of l)) parts placed_given) all
           (subst (λ (l : List Feature). IsTrue (list_all (leaves_some order l) stage.taken)) parts asked)
 
-      pub stops_second : (fault : Fault) (second_now : Records B O g) → FillsRecords b_left b_failed b_end ReadsB second (Err fault) second_now → Ends (Some (fault_value fault)) first second_now grown
+      pub stops_second : (fault : Fault) (second_now : Records B O g) → FillsRecords source_b.left source_b.has_failed source_b.end_told source_b.is_read second (Err fault) second_now → Ends (Some (fault_value fault)) first second_now grown
       stops_second fault second_now fills =
           stop.stops_second join pair out (stage_of stage) s.past_first s.past_second (view_of first) (view_of second) grown s.comes asks_here s.fits a waiting.1 wrong_second asked goes opens (fault_value fault) (view_of second_now)
-          (is_stopped b_left b_failed b_end ReadsB second second_now fault fills)
+          (is_stopped source_b.left source_b.has_failed source_b.end_told source_b.is_read second second_now fault fills)
 
-      pub fails_at_end : (fault : FaultValue) (second_now : Records B O g) (now : Output) → FillsRecords b_left b_failed b_end ReadsB second (Ok false) second_now → FailsToAdd grown (lines_for config.shape config.rule a stage.taken) fault now
+      pub fails_at_end : (fault : FaultValue) (second_now : Records B O g) (now : Output) → FillsRecords source_b.left source_b.has_failed source_b.end_told source_b.is_read second (Ok false) second_now → FailsToAdd grown (lines_for config.shape config.rule a stage.taken) fault now
           → Ends (Some fault) first second_now now
       fails_at_end fault second_now now fills fails =
           stop.fails_at_end join pair out (stage_of stage) s.past_first s.past_second (view_of first) (view_of second) grown s.comes asks_here s.fits a waiting.1 asked goes fault (view_of second_now) now
-          (is_over b_left b_failed b_end ReadsB second second_now fills) fails
+          (is_over source_b.left source_b.has_failed source_b.end_told source_b.is_read second second_now fills) fails
 
     -- ---- what both have buffered was given
 
-    module _ (first_now : Records A O g) (second_now : Records B O g) (fs ss : List Feature) (takes : TakesBoth a_left a_failed a_end ReadsA b_left b_failed b_end ReadsB order first second sweep grown fs ss first_now second_now) where
+    module _ (first_now : Records A O g) (second_now : Records B O g) (fs ss : List Feature) (takes : TakesBoth source_a source_b order first second sweep grown fs ss first_now second_now) where
       abbrev more_first : List (Member Feature)
       more_first = members_from (suc (lines_given (below first))) fs
 
       abbrev more_second : List (Member Feature)
       more_second = members_from (suc (lines_given (below second))) ss
 
-      further : TakesFurther a_left a_failed a_end (view_of old_first) s.past_first more_first (view_of first) (view_of first_now)
-      further = turned.takes_further a_left a_failed a_end (view_of old_first) s.past_first (view_of first) s.comes.first_passes fs (view_of first_now) takes.first_taken
+      further : TakesFurther source_a.left source_a.has_failed source_a.end_told (view_of old_first) s.past_first more_first (view_of first) (view_of first_now)
+      further = turned.takes_further source_a.left source_a.has_failed source_a.end_told (view_of old_first) s.past_first (view_of first) s.comes.first_passes fs (view_of first_now) takes.first_taken
 
-      further_second : TakesFurther b_left b_failed b_end (view_of old_second) s.past_second more_second (view_of second) (view_of second_now)
-      further_second = turned.takes_further b_left b_failed b_end (view_of old_second) s.past_second (view_of second) s.comes.second_passes ss (view_of second_now) takes.second_taken
+      further_second : TakesFurther source_b.left source_b.has_failed source_b.end_told (view_of old_second) s.past_second more_second (view_of second) (view_of second_now)
+      further_second = turned.takes_further source_b.left source_b.has_failed source_b.end_told (view_of old_second) s.past_second (view_of second) s.comes.second_passes ss (view_of second_now) takes.second_taken
 
       items_first : member_items more_first ≡ fs
       items_first = turned.items_from (suc (lines_given (below first))) fs
@@ -455,7 +456,7 @@ module _ {A B O : Type 0} {g : Ghosts O} (a_left : A → Option (List ℕ)) (a_f
 
     -- ---- it went on
 
-    pub goes_both : (first_now : Records A O g) (second_now : Records B O g) (swept : Sweeping) (now : Output) → GivesBoth a_left a_failed a_end ReadsA b_left b_failed b_end ReadsB order first second sweep grown first_now second_now swept now
+    pub goes_both : (first_now : Records A O g) (second_now : Records B O g) (swept : Sweeping) (now : Output) → GivesBoth source_a source_b order first second sweep grown first_now second_now swept now
         → Going first_now second_now swept now
     goes_both first_now second_now swept now gives =
         let placed = placed_first first_now second_now gives.firsts gives.seconds gives.takes in
@@ -475,7 +476,7 @@ module _ {A B O : Type 0} {g : Ghosts O} (a_left : A → Option (List ℕ)) (a_f
 
     -- ---- it failed at one of the first
 
-    pub fails_both : (fault : FaultValue) (first_now : Records A O g) (second_now : Records B O g) (now : Output) → FailsAmong a_left a_failed a_end ReadsA b_left b_failed b_end ReadsB order first second sweep grown fault first_now second_now now
+    pub fails_both : (fault : FaultValue) (first_now : Records A O g) (second_now : Records B O g) (now : Output) → FailsAmong source_a source_b order first second sweep grown fault first_now second_now now
         → Ends (Some fault) first_now second_now now
     fails_both fault first_now second_now now fails =
         let fs = fails.firsts in
@@ -517,14 +518,14 @@ module _ {A B O : Type 0} {g : Ghosts O} (a_left : A → Option (List ℕ)) (a_f
       done : stage.a_ended ≡ true
       done = sym (over_is stage.a_ended stage.b_ended) ∙ ap is_done (sym s.stands.phase_is) ∙ done_by sweep.current (is_done sweep.phase) wants
 
-      pub finishes_both : {T : Type 0} (result : Result T Fault) (second_now : Records B O g) → ReadsRest b_left b_failed b_end (IsBedKind (order_in second)) (view_of second) result (view_of second_now)
-          → FinishesBoth a_left a_failed a_end b_left b_failed b_end order config old_first old_second out result first second_now grown
+      pub finishes_both : {T : Type 0} (result : Result T Fault) (second_now : Records B O g) → ReadsRest source_b.left source_b.has_failed source_b.end_told (IsBedKind (order_in second)) (view_of second) result (view_of second_now)
+          → FinishesBoth source_a source_b order config old_first old_second out result first second_now grown
       finishes_both {T} (Ok unit) second_now reads =
-          let checks = subst (λ (o : Order). ReadsRest {T = T} b_left b_failed b_end (IsBedKind o) (view_of second) (Ok unit) (view_of second_now)) (s.second_order ∙ same_order) reads (view_of old_second) s.past_second s.comes.second_passes wrong_bed in
+          let checks = subst (λ (o : Order). ReadsRest {T = T} source_b.left source_b.has_failed source_b.end_told (IsBedKind o) (view_of second) (Ok unit) (view_of second_now)) (s.second_order ∙ same_order) reads (view_of old_second) s.past_second s.comes.second_passes wrong_bed in
           stop.ends_rest join pair out (stage_of stage) s.past_first s.past_second (view_of first) (view_of second) grown s.comes asks_here s.fits done (view_of second_now) (λ some. absurd (false≢true (ap is_some (sym checks.passes.going) ∙ some))) checks.passes.bytes (s.past_second ++ checks.more) None
           (inl (refl, checks.all, record { served = checks.passes.served; within = checks.passes.kept.within checks.passes.clear }, refl))
       finishes_both {T} (Err fault) second_now reads =
-          let checks = subst (λ (o : Order). ReadsRest {T = T} b_left b_failed b_end (IsBedKind o) (view_of second) (Err fault) (view_of second_now)) (s.second_order ∙ same_order) reads (view_of old_second) s.past_second s.comes.second_passes wrong_bed in
+          let checks = subst (λ (o : Order). ReadsRest {T = T} source_b.left source_b.has_failed source_b.end_told (IsBedKind o) (view_of second) (Err fault) (view_of second_now)) (s.second_order ∙ same_order) reads (view_of old_second) s.past_second s.comes.second_passes wrong_bed in
           stop.stops_rest join pair out (stage_of stage) s.past_first s.past_second (view_of first) (view_of second) grown s.comes asks_here s.fits done (view_of second_now) (λ some. checks.low) (s.past_second ++ checks.more) (fault_value fault)
-          (stops_wider b_left b_failed b_end (view_of old_second) (IsBedKind order) join.second_kinds (λ kind of_bed. inl of_bed) (s.past_second ++ checks.more) (fault_value fault) (view_of second_now) checks.stops)
+          (stops_wider source_b.left source_b.has_failed source_b.end_told (view_of old_second) (IsBedKind order) join.second_kinds (λ kind of_bed. inl of_bed) (s.past_second ++ checks.more) (fault_value fault) (view_of second_now) checks.stops)
           (λ e. checks.before_end (s.comes.second_all e).2) refl

@@ -6,7 +6,7 @@ use Rattle.bt_tool.proofs.loops.sweeping.fill_wanted.Goals as goal
 
 pub returns-in_err-end_b-in-B-clause-fills : goal.returns-in_err-end_b-in-B-clause-fills
 returns-in_err-end_b-in-B-clause-fills g c =
-    passed_on (λ r. FillsWanted g.A.Source.left g.A.Source.has_failed g.A.Source.end_told g.A.Source.is_read g.B.Source.left g.B.Source.has_failed g.B.Source.end_told g.B.Source.is_read (order_of c.args.sweep.now) c.args.first.now c.args.second.now (state_of c.args.sweep.now) c.args.out.now.output
+    passed_on (λ r. FillsWanted g.A.Source g.B.Source (order_of c.args.sweep.now) c.args.first.now c.args.second.now (state_of c.args.sweep.now) c.args.out.now.output
     r c.args.first.now c.fill-in-B.new.self (state_of c.end_b.new.self) c.end_b.new.out.output)
     c.from_residual-in_err-end_b-in-B.result c.in_err-end_b-in-B.field-0.0 c.from_residual-in_err-end_b-in-B.ensures.1
     (inr (inr (record {

@@ -12,7 +12,7 @@ use Rattle.bt_tool.proofs.loops.sweeping.read_both.Goals as goal
 pub returns-clause-finishes : goal.returns-clause-finishes
 returns-clause-finishes g c =
     let swept = c.in_ok-sweep_all.ensures.sweeps in
-    finishes_both g.A.Source.left g.A.Source.has_failed g.A.Source.end_told g.A.Source.is_read g.B.Source.left g.B.Source.has_failed g.B.Source.end_told g.B.Source.is_read (config_of (state_of c.args.sweep.now)) c.args.first.now c.args.second.now c.args.out.now.output
+    finishes_both g.A.Source g.B.Source (config_of (state_of c.args.sweep.now)) c.args.first.now c.args.second.now c.args.out.now.output
     c.requires.total c.requires.second c.requires.sorted c.requires.sorted_second c.sweep_all.new.first c.sweep_all.new.second (state_of c.sweep_all.new.sweep) c.sweep_all.new.out.output swept.0 swept.1
     c.check_rest.result c.check_rest.new.second c.check_rest.ensures.reads
 

@@ -34,7 +34,7 @@ read_both-swept-requires-clause-starts g c =
     let reader_2 = c.new-2.ensures in
     let records_2 = c.new-seconds.ensures in
     let stands = c.new-sweep.ensures.stands in
-    sweeps_start g.A.Source.left g.A.Source.has_failed g.A.Source.end_told g.B.Source.left g.B.Source.has_failed g.B.Source.end_told (config_of (state_of c.new-sweep.result)) c.new-firsts.result c.new-seconds.result c.args.out.now.output
+    sweeps_start g.A.Source g.B.Source (config_of (state_of c.new-sweep.result)) c.new-firsts.result c.new-seconds.result c.args.out.now.output
     (fresh_start _ _ c.new.result c.new-firsts.result records.below reader.none_given reader.none_taken.0 reader.none_fed (records.fault ∙ reader.going.0) records.none_buffered reader.sound) records.none_last
     (fresh_start _ _ c.new-2.result c.new-seconds.result records_2.below reader_2.none_given reader_2.none_taken.0 reader_2.none_fed (records_2.fault ∙ reader_2.going.0) records_2.none_buffered reader_2.sound) records_2.none_last
     c.requires.block (state_of c.new-sweep.result)
@@ -50,7 +50,7 @@ returns-in-Ok-clause-written g c =
     let stands = c.new-sweep.ensures.stands in
     let ends = rw (records.order, stands.shape_is, stands.rule_is, stands.limit_is) at c.in-Ok.ensures.finishes in
     let join = sweep_join order c.args.config in
-    let pair = records_pair g.A.Source.left g.A.Source.has_failed g.A.Source.end_told g.B.Source.left g.B.Source.has_failed g.B.Source.end_told c.new-firsts.result c.new-seconds.result in
+    let pair = records_pair g.A.Source g.B.Source c.new-firsts.result c.new-seconds.result in
     let format = bed_format (sorting_of order) in
     let begins = begins_by g.A.Source.left order First c.args.sources.first c.new.result c.new-firsts.result records.below reader.source reader.input reader.none_taken.0 reader.none_fed reader.going.0 reader.lines records.good in
     let begins_second = begins_by g.B.Source.left order Second c.args.sources.second c.new-2.result c.new-seconds.result records_2.below reader_2.source reader_2.input reader_2.none_taken.0 reader_2.none_fed reader_2.going.0 reader_2.lines records_2.good in
@@ -73,7 +73,7 @@ returns-clause-written g c =
     let stands = c.new-sweep.ensures.stands in
     let ends = rw (records.order, stands.shape_is, stands.rule_is, stands.limit_is) at c.in-Err.ensures.finishes in
     let join = sweep_join order c.args.config in
-    let pair = records_pair g.A.Source.left g.A.Source.has_failed g.A.Source.end_told g.B.Source.left g.B.Source.has_failed g.B.Source.end_told c.new-firsts.result c.new-seconds.result in
+    let pair = records_pair g.A.Source g.B.Source c.new-firsts.result c.new-seconds.result in
     let format = bed_format (sorting_of order) in
     let begins = begins_by g.A.Source.left order First c.args.sources.first c.new.result c.new-firsts.result records.below reader.source reader.input reader.none_taken.0 reader.none_fed reader.going.0 reader.lines records.good in
     let begins_second = begins_by g.B.Source.left order Second c.args.sources.second c.new-2.result c.new-seconds.result records_2.below reader_2.source reader_2.input reader_2.none_taken.0 reader_2.none_fed reader_2.going.0 reader_2.lines records_2.good in
@@ -99,7 +99,7 @@ returns-clause-own_failure g c =
     let stands = c.new-sweep.ensures.stands in
     let ends = rw (records.order, stands.shape_is, stands.rule_is, stands.limit_is) at c.in-Err.ensures.finishes in
     let join = sweep_join order c.args.config in
-    let pair = records_pair g.A.Source.left g.A.Source.has_failed g.A.Source.end_told g.B.Source.left g.B.Source.has_failed g.B.Source.end_told c.new-firsts.result c.new-seconds.result in
+    let pair = records_pair g.A.Source g.B.Source c.new-firsts.result c.new-seconds.result in
     let format = bed_format (sorting_of order) in
     let begins = begins_by g.A.Source.left order First c.args.sources.first c.new.result c.new-firsts.result records.below reader.source reader.input reader.none_taken.0 reader.none_fed reader.going.0 reader.lines records.good in
     let begins_second = begins_by g.B.Source.left order Second c.args.sources.second c.new-2.result c.new-seconds.result records_2.below reader_2.source reader_2.input reader_2.none_taken.0 reader_2.none_fed reader_2.going.0 reader_2.lines records_2.good in
