@@ -56,6 +56,7 @@ use Rattle.bt_tool.proofs.lemmas.running.sweep.AdvanceLemmas.{ahead_placed}
 use Rattle.bt_tool.proofs.lemmas.running.pair.PairSettles.{settles_seen}
 use Rattle.bt_tool.proofs.lemmas.running.pair.PairStops as stop
 use Rattle.bt_tool.proofs.lemmas.running.pair.PairTurns as turned
+use Rattle.bt_tool.proofs.lemmas.running.sweep.SweepBegun.{At, Begun}
 use Rattle.bt_tool.proofs.lemmas.running.sweep.SweepFacts.{leaves_more}
 use Rattle.bt_tool.proofs.lemmas.running.sweep.SweepLimits.{cuts_at, some_limit, within_given}
 use Rattle.bt_tool.proofs.lemmas.running.members.PassedLemmas.{is_filled, is_over, is_stopped, said_in_order}
@@ -120,9 +121,31 @@ last_settled order phase newly last bs (inl first) = inl first
 last_settled order phase newly last bs (inr all) =
     inr (and_parts (list_all (λ x. decided order x bs) newly) (list_all (λ x. decided order x bs) (last ∷ [])) (sym (list_all-append (λ x. decided order x bs) newly (last ∷ [])) ∙ all)).1
 
-module _ {A B O : Type 0} {g : Ghosts O} (source_a : Source A) (source_b : Source B)
-    (config : SweepConfig) (old_first : Records A O g) (old_second : Records B O g) (out : Output) (total : IsTotal (order_in old_first)) (same_order : order_in old_second ≡ order_in old_first)
-    (is_bed : (view_of old_first).format ≡ bed_format (sorting_of (order_in old_first))) (is_bed_second : (view_of old_second).format ≡ bed_format (sorting_of (order_in old_second))) where
+module _ {A B O : Type 0} {g : Ghosts O} (source_a : Source A) (source_b : Source B) (begun : Begun A B O g) where
+  abbrev config : SweepConfig
+  config = begun.config
+
+  abbrev old_first : Records A O g
+  old_first = begun.first
+
+  abbrev old_second : Records B O g
+  old_second = begun.second
+
+  abbrev out : Output
+  out = begun.out
+
+  abbrev total : IsTotal (order_in begun.first)
+  total = begun.total
+
+  abbrev same_order : order_in begun.second ≡ order_in begun.first
+  same_order = begun.same_order
+
+  abbrev is_bed : (view_of begun.first).format ≡ bed_format (sorting_of (order_in begun.first))
+  is_bed = begun.is_bed
+
+  abbrev is_bed_second : (view_of begun.second).format ≡ bed_format (sorting_of (order_in begun.second))
+  is_bed_second = begun.is_bed_second
+
   abbrev order : Order
   order = order_in old_first
 
@@ -192,7 +215,19 @@ module _ {A B O : Type 0} {g : Ghosts O} (source_a : Source A) (source_b : Sourc
       })).0))
       undecided held (subst (λ (l : List Feature). has_room config.limit (length (filter (is_held last) l)) ≡ false) comes.all_taken full))
 
-  module _ (first : Records A O g) (second : Records B O g) (sweep : Sweeping) (grown : Output) (s : Going first second sweep grown) where
+  module _ (at : At A B O g) (s : Going at.first at.second at.sweep at.out) where
+    abbrev first : Records A O g
+    first = at.first
+
+    abbrev second : Records B O g
+    second = at.second
+
+    abbrev sweep : Sweeping
+    sweep = at.sweep
+
+    abbrev grown : Output
+    grown = at.out
+
     abbrev stage : Stage
     stage = s.stage
 
