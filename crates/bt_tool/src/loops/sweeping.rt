@@ -115,7 +115,7 @@ fn sweep_all<A: Source, B: Source, O: ChromOrder, H: Held, K: Sink>(
 
 // Consumes all records that are buffered.
 fn consume_buffered<B: Source, O: ChromOrder>(second: &mut Records<'_, B, O>)
-    ensures takes { HasTaken B.left B.has_failed B.end_told (view_of second.old) (buffered_in second.old) (view_of second.new) }
+    ensures takes { HasTaken B.Source (view_of second.old) (buffered_in second.old) (view_of second.new) }
     ensures order { order_in second.new ≡ order_in second.old }
 {
     let mut seconds = second.buffered();
@@ -126,7 +126,7 @@ fn consume_buffered<B: Source, O: ChromOrder>(second: &mut Records<'_, B, O>)
 
 // Reads an input to its end, so that a fault after the last record that was wanted is reported.
 fn check_rest<B: Source, O: ChromOrder>(second: &mut Records<'_, B, O>) -> Result<(), Fault>
-    ensures reads { ReadsRest B.left B.has_failed B.end_told (IsBedKind (order_in second.old)) (view_of second.old) result (view_of second.new) }
+    ensures reads { ReadsRest B.Source (IsBedKind (order_in second.old)) (view_of second.old) result (view_of second.new) }
     ensures rest { fault_kept second.old ≡ None → AnswersNoRead result → HasRead B.is_read (below second.old) (below second.new) }
     ensures own_failure { fault_kept second.old ≡ None → KeepsOwnFault B.is_read (below second.old) (view_of second.new) }
 {

@@ -89,12 +89,8 @@ module _ {A B : Type 0} (source_a : Source A) (source_b : Source B)
     (old_second : MemberReader B Feature (Option Locus)) where
   abbrev pub mask_pair : Pair A B SequenceLine Feature Reached (Option Locus)
   mask_pair = record {
-    a_left = source_a.left;
-    a_failed = source_a.has_failed;
-    a_end = source_a.end_told;
-    b_left = source_b.left;
-    b_failed = source_b.has_failed;
-    b_end = source_b.end_told;
+    source_a = source_a;
+    source_b = source_b;
     first = old_first;
     second = old_second;
   }
@@ -119,8 +115,8 @@ module _ {A B : Type 0} (source_a : Source A) (source_b : Source B)
       pub lines_over : stage.lines_ended ≡ true → has_ended first.below ≡ true
 
 -- what giving an engine all that it wants does
-abbrev pub FinishesMask : {A B T : Type 0} → Source A → Source B
-    → MaskHow → Bool → LineReader A → MemberReader B Feature (Option Locus) → Output
+abbrev pub FinishesMask : {A B T : Type 0} → Source A → Source B → MaskHow → Bool → LineReader A
+    → MemberReader B Feature (Option Locus) → Output
     → Result T Fault → LineReader A → MemberReader B Feature (Option Locus) → Output → Type 0
 FinishesMask {A} {B} {T} source_a source_b how full old_first old_second
     out (Ok done) first second grown =

@@ -81,12 +81,8 @@ module _ {A B O : Type 0} {g : Ghosts O} (source_a : Source A) (source_b : Sourc
     (old_first : Records A O g) (old_second : Records B O g) where
   abbrev pub records_pair : Pair A B Feature Feature (Option Locus) (Option Locus)
   records_pair = record {
-    a_left = source_a.left;
-    a_failed = source_a.has_failed;
-    a_end = source_a.end_told;
-    b_left = source_b.left;
-    b_failed = source_b.has_failed;
-    b_end = source_b.end_told;
+    source_a = source_a;
+    source_b = source_b;
     first = view_of old_first;
     second = view_of old_second;
   }
@@ -131,19 +127,19 @@ module _ {A B O : Type 0} {g : Ghosts O} (source_a : Source A) (source_b : Sourc
   FinishesBoth (Ok done) first second grown = SweepEnds None first second grown
   FinishesBoth (Err fault) first second grown = SweepEnds (Some (fault_value fault)) first second grown
 
-module _ {S A State : Type 0} (left : S → Option (List ℕ)) (failed end : S → Bool)
+module _ {S A State : Type 0} (device : Source S)
     (old : MemberReader S A State) (past : List (Member A)) (before : MemberReader S A State) where
   -- the rest of the members were consumed
   pub record ChecksAll (new : MemberReader S A State) : Type 0 where
     pub more : List (Member A)
-    pub passes : Passes left failed end old (past ++ more) new
-    pub all : AreAll left failed end old (past ++ more)
+    pub passes : Passes device old (past ++ more) new
+    pub all : AreAll device old (past ++ more)
 
   -- a fault lies after some of them
   pub record ChecksUpTo (Kinds : Kind → Type 0) (fault : FaultValue)
       (new : MemberReader S A State) : Type 0 where
     pub more : List (Member A)
-    pub stops : StopsAfter left failed end old Kinds (past ++ more) fault new
+    pub stops : StopsAfter device old Kinds (past ++ more) fault new
     -- those that were consumed and the one ahead are on the lines given
     pub low : All (λ m. m.line ≤ lines_given new.below) (past ++ option_to_list (ahead_in before))
     pub before_end : end_told before.below ≡ true → (input : Input) (line : ℕ)
@@ -157,27 +153,27 @@ module _ {S A State : Type 0} (left : S → Option (List ℕ)) (failed end : S �
   abbrev pub Checks : {T : Type 0} → (Kind → Type 0) → Result T Fault → MemberReader S A State
       → Type 0
   Checks Kinds result new =
-      Passes left failed end old past before
+      Passes device old past before
       → ((state : State) (line : TextLine) (kind : Kind) → old.format.says state line ≡ Err kind
       → Kinds kind)
       → ChecksRest Kinds result new
 
 -- reading on to the end, from wherever the reader is
-abbrev pub ReadsRest : {S A State T : Type 0} → (S → Option (List ℕ)) → (S → Bool) → (S → Bool)
-    → (Kind → Type 0) → MemberReader S A State → Result T Fault → MemberReader S A State → Type 0
-ReadsRest {S} {A} {State} {T} left failed end Kinds before result new =
+abbrev pub ReadsRest : {S A State T : Type 0} → Source S → (Kind → Type 0) → MemberReader S A State
+    → Result T Fault → MemberReader S A State → Type 0
+ReadsRest {S} {A} {State} {T} device Kinds before result new =
     (old : MemberReader S A State) (past : List (Member A))
-    → Checks left failed end old past before Kinds result new
+    → Checks device old past before Kinds result new
 
 -- how far it has come
-module _ {S A State : Type 0} (left : S → Option (List ℕ)) (failed end : S → Bool)
+module _ {S A State : Type 0} (device : Source S)
     (before now : MemberReader S A State) where
   pub record IsReadOn : Type 0 where
-    pub bytes : (bytes : List ℕ) × Hands left before.below bytes now.below
+    pub bytes : (bytes : List ℕ) × Hands device.left before.below bytes now.below
     pub rises : lines_given before.below ≤ lines_given now.below
     -- the member that was ahead is consumed, if any is
     pub moves : (now ≡ before) ⊎ (lines_given before.below < lines_given now.below)
     pub going : before.fault ≡ None → now.fault ≡ None
     pub passes : (old : MemberReader S A State) (past : List (Member A))
-        → Passes left failed end old past before
-        → (more : List (Member A)) × Passes left failed end old (past ++ more) now
+        → Passes device old past before
+        → (more : List (Member A)) × Passes device old (past ++ more) now

@@ -30,8 +30,7 @@ use Rattle.bt_tool.specs.inside.pair.SweepLoop.{StandsBy}
 use Rattle.bt_tool.specs.inside.feed.Passed.{HasTaken}
 
 module _ {A B O : Type 0} {g : Ghosts O} (source_a : Source A) (source_b : Source B) (order : Order)
-    (first : Records A O g) (second : Records B O g)
-    (sweep : Sweeping) (out : Output) where
+    (first : Records A O g) (second : Records B O g) (sweep : Sweeping) (out : Output) where
   -- the sweep is given the end of the first input, if it has ended
   abbrev pub EndsFirst : Bool → Sweeping → Type 0
   EndsFirst true swept = swept ≡ sweep
@@ -54,7 +53,8 @@ module _ {A B O : Type 0} {g : Ghosts O} (source_a : Source A) (source_b : Sourc
       (grown : Output) : Type 0 where
     pub wants : want_in sweep ≡ WantA
     pub answer : Bool
-    pub fills : FillsRecords source_a.left source_a.has_failed source_a.end_told source_a.is_read first (Ok answer) new
+    pub fills : FillsRecords source_a.left source_a.has_failed source_a.end_told source_a.is_read
+        first (Ok answer) new
     pub ends : EndsFirst answer swept
     pub same_second : new_second ≡ second
     pub same_output : grown ≡ out
@@ -63,7 +63,8 @@ module _ {A B O : Type 0} {g : Ghosts O} (source_a : Source A) (source_b : Sourc
       (grown : Output) : Type 0 where
     pub wants : want_in sweep ≡ WantB
     pub answer : Bool
-    pub fills : FillsRecords source_b.left source_b.has_failed source_b.end_told source_b.is_read second (Ok answer) new
+    pub fills : FillsRecords source_b.left source_b.has_failed source_b.end_told source_b.is_read
+        second (Ok answer) new
     pub ends : EndsSecond answer swept grown
     pub same_first : new_first ≡ first
 
@@ -79,14 +80,16 @@ module _ {A B O : Type 0} {g : Ghosts O} (source_a : Source A) (source_b : Sourc
   pub record StopsFirst (fault : Fault) (new : Records A O g) (new_second : Records B O g)
       (grown : Output) : Type 0 where
     pub wants : want_in sweep ≡ WantA
-    pub fills : FillsRecords source_a.left source_a.has_failed source_a.end_told source_a.is_read first (Err fault) new
+    pub fills : FillsRecords source_a.left source_a.has_failed source_a.end_told source_a.is_read
+        first (Err fault) new
     pub same_second : new_second ≡ second
     pub same_output : grown ≡ out
 
   pub record StopsSecond (fault : Fault) (new_first : Records A O g) (new : Records B O g)
       (grown : Output) : Type 0 where
     pub wants : want_in sweep ≡ WantB
-    pub fills : FillsRecords source_b.left source_b.has_failed source_b.end_told source_b.is_read second (Err fault) new
+    pub fills : FillsRecords source_b.left source_b.has_failed source_b.end_told source_b.is_read
+        second (Err fault) new
     pub same_first : new_first ≡ first
     pub same_output : grown ≡ out
 
@@ -94,7 +97,8 @@ module _ {A B O : Type 0} {g : Ghosts O} (source_a : Source A) (source_b : Sourc
   pub record FailsAtEnd (fault : Fault) (new_first : Records A O g) (new : Records B O g)
       (grown : Output) : Type 0 where
     pub wants : want_in sweep ≡ WantB
-    pub fills : FillsRecords source_b.left source_b.has_failed source_b.end_told source_b.is_read second (Ok false) new
+    pub fills : FillsRecords source_b.left source_b.has_failed source_b.end_told source_b.is_read
+        second (Ok false) new
     pub same_first : new_first ≡ first
     pub fails : (config : SweepConfig) (stage : Stage) (a : Feature)
         → StandsBy order config stage sweep → stage.waiting ≡ Some a
@@ -113,8 +117,8 @@ module _ {A B O : Type 0} {g : Ghosts O} (source_a : Source A) (source_b : Sourc
   -- records of both that were buffered are taken
   pub record TakesBoth (firsts seconds : List Feature) (new_first : Records A O g)
       (new_second : Records B O g) : Type 0 where
-    pub first_taken : HasTaken source_a.left source_a.has_failed source_a.end_told (view_of first) firsts (view_of new_first)
-    pub second_taken : HasTaken source_b.left source_b.has_failed source_b.end_told (view_of second) seconds (view_of new_second)
+    pub first_taken : HasTaken source_a (view_of first) firsts (view_of new_first)
+    pub second_taken : HasTaken source_b (view_of second) seconds (view_of new_second)
     pub first_order : order_in new_first ≡ order_in first
     pub second_order : order_in new_second ≡ order_in second
 

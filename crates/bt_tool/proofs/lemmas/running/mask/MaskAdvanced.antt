@@ -86,7 +86,7 @@ module _ {A B : Type 0} (source_a : Source A) (source_b : Source B) (run : MaskR
 
   module _ (at : Reached) (lines : LineReader A) (second : MemberReader B Feature (Option Locus)) (mask : Masking) (grown : Output) (s : Going at lines second mask grown)
       (new : LineReader A) (over : has_ended lines ≡ true → buffered_in lines ≡ []) (consumed : ConsumedLines) (takes : TakesLines source_a.left source_a.end_told lines consumed new)
-      (taken : List Feature) (second_now : MemberReader B Feature (Option Locus)) (has : HasTaken source_b.left source_b.has_failed source_b.end_told second taken second_now) where
+      (taken : List Feature) (second_now : MemberReader B Feature (Option Locus)) (has : HasTaken source_b second taken second_now) where
     abbrev stage : MaskStage
     stage = s.stage
 
@@ -104,8 +104,8 @@ module _ {A B : Type 0} (source_a : Source A) (source_b : Source B) (run : MaskR
     settled_now known =
         subst (λ (o : Option Feature). Settles rule stage.written s.comes.bytes (stage.taken ++ option_to_list o) stage.bed_ended) (ahead_first second ∙ ap first_of has.takes.buffered) (s.comes.settles known)
 
-    takes_second : TakesFurther source_b.left source_b.has_failed source_b.end_told run.records s.past_second more_second second second_now
-    takes_second = turned.takes_further source_b.left source_b.has_failed source_b.end_told run.records s.past_second second s.comes.second_passes taken second_now has
+    takes_second : TakesFurther source_b run.records s.past_second more_second second second_now
+    takes_second = turned.takes_further source_b run.records s.past_second second s.comes.second_passes taken second_now has
 
     asks_here : stage.lines_ended ≡ false → AsksFor rule both run.out s.past_first second
     asks_here = asks_for source_a source_b run at lines second mask grown s
@@ -145,13 +145,13 @@ module _ {A B : Type 0} (source_a : Source A) (source_b : Source B) (run : MaskR
         abbrev pub first_now : MemberReader A SequenceLine Reached
         first_now = line_members run.full (state_behind (sequence_format run.full) at items) new
 
-        has_first : HasTaken source_a.left source_a.has_failed source_a.end_told (known_members source_a.left source_a.has_failed source_a.end_told run.full at items lines) items first_now
-        has_first = has_taken source_a.left source_a.has_failed source_a.end_told run.full at lines new s.comes.first_passes.clear texts more items say_here parts numbered consumed (length texts) are takes (say_count run.full at texts items say_here)
+        has_first : HasTaken source_a (known_members source_a run.full at items lines) items first_now
+        has_first = has_taken source_a run.full at lines new s.comes.first_passes.clear texts more items say_here parts numbered consumed (length texts) are takes (say_count run.full at texts items say_here)
 
-        takes_first : TakesFurther source_a.left source_a.has_failed source_a.end_told old_first s.past_first more_first (line_members run.full at lines) first_now
+        takes_first : TakesFurther source_a old_first s.past_first more_first (line_members run.full at lines) first_now
         takes_first =
-            let known = passes_known source_a.left source_a.has_failed source_a.end_told run.full at lines new s.comes.first_passes.clear texts more items say_here parts numbered consumed (length texts) are takes (say_count run.full at texts items say_here) old_first s.past_first s.comes.first_passes in
-            let t = turned.takes_further source_a.left source_a.has_failed source_a.end_told old_first s.past_first (known_members source_a.left source_a.has_failed source_a.end_told run.full at items lines) known items first_now has_first in
+            let known = passes_known source_a run.full at lines new s.comes.first_passes.clear texts more items say_here parts numbered consumed (length texts) are takes (say_count run.full at texts items say_here) old_first s.past_first s.comes.first_passes in
+            let t = turned.takes_further source_a old_first s.past_first (known_members source_a run.full at items lines) known items first_now has_first in
             record { passes = t.passes; last = t.last; source = t.source; told = t.told }
 
         ended_first : stage.lines_ended ≡ true → (more_first ≡ []) × (first_now.buffered ≡ [])
@@ -229,15 +229,15 @@ module _ {A B : Type 0} (source_a : Source A) (source_b : Source B) (run : MaskR
 
         pub refuses_line : (through : Output) → Grown grown bytes through → EndsAt (Some fault) new second_now through
         refuses_line through adds = (
-          refused source_a.left source_a.has_failed source_a.end_told run.full old_first s.past_first at lines new s.comes.first_passes texts line more items say_here kind says_now parts numbered consumed are takes fault is_now,
+          refused source_a run.full old_first s.past_first at lines new s.comes.first_passes texts line more items say_here kind says_now parts numbered consumed are takes fault is_now,
           refl,
           stop.first_fails rule both run.out (stage_of stage) s.past_first s.past_second (line_members run.full at lines) second grown s.comes asks_here (λ known. tt) going more_first more_second second_now takes_second ended_second bytes
               (λ known. rw (← all_written, ← taken_now) (settled known)) (λ known. tt)
               (stop.asks_then rule both run.out (stage_of stage) s.past_first s.past_second (line_members run.full at lines) second grown s.comes (asked_here going) (λ extra asks. asked_more (given stage) extra stage.taken asks) more_first more_second second_now takes_second)
-              fault (refused source_a.left source_a.has_failed source_a.end_told run.full old_first s.past_first at lines new s.comes.first_passes texts line more items say_here kind says_now parts numbered consumed are takes fault is_now)
-              (refuses source_a.left source_a.has_failed source_a.end_told run.full old_first s.past_first at lines new s.comes.first_passes texts line more items say_here kind says_now parts numbered consumed are takes fault is_now (λ k. is_fasta_kind k ≡ true)
+              fault (refused source_a run.full old_first s.past_first at lines new s.comes.first_passes texts line more items say_here kind says_now parts numbered consumed are takes fault is_now)
+              (refuses source_a run.full old_first s.past_first at lines new s.comes.first_passes texts line more items say_here kind says_now parts numbered consumed are takes fault is_now (λ k. is_fasta_kind k ≡ true)
               (subst (λ (k : Kind). is_fasta_kind k ≡ true) (sym (wrong_is_text run.full (reached final) line kind says)) refl))
-              (refuses_read source_a.left source_a.has_failed source_a.end_told run.full old_first s.past_first at lines new s.comes.first_passes texts line more items say_here kind says_now parts numbered consumed are takes fault is_now)
+              (refuses_read source_a run.full old_first s.past_first at lines new s.comes.first_passes texts line more items say_here kind says_now parts numbered consumed are takes fault is_now)
               through adds,
           λ input number e. absurd (never_read input number e),
         )

@@ -66,7 +66,7 @@ module _ {A B : Type 0} (source_a : Source A) (source_b : Source B) (run : MaskR
 
     pub lines_ended : GivesEnd source_a.left source_a.has_failed lines new → (masked : Masking) → MaskStandsAt run.how run.full (with_lines_ended s.stage) masked → Fills source_a source_b run lines second mask (Ok true) new second masked out
     lines_ended ends masked stands =
-        let over = gives_over source_a.left source_a.has_failed source_a.end_told run.full at lines new kept ends in
+        let over = gives_over source_a run.full at lines new kept ends in
         let none = ap is_some (none_waits source_a source_b run at lines second mask out s wants) in (
           (at, ends_lines source_a source_b run at lines second mask out s wants new masked ends kept stands),
           inl (omega (
@@ -78,7 +78,7 @@ module _ {A B : Type 0} (source_a : Source A) (source_b : Source B) (run : MaskR
         )
 
   module _ (wants : mask.want ≡ WantBed) (second_now : MemberReader B Feature (Option Locus)) where
-    pub record_filled : IsFilled source_b.left source_b.has_failed source_b.end_told second second_now → Fills source_a source_b run lines second mask (Ok true) lines second_now mask out
+    pub record_filled : IsFilled source_b second second_now → Fills source_a source_b run lines second mask (Ok true) lines second_now mask out
     record_filled filled = (
       (at, record_made source_a source_b run at lines second mask out s wants second_now filled),
       inr (
@@ -87,7 +87,7 @@ module _ {A B : Type 0} (source_a : Source A) (source_b : Source B) (run : MaskR
       ),
     )
 
-    module _ (over : IsOver source_b.left source_b.has_failed source_b.end_told second second_now) (masked : Masking) (now : Output) where
+    module _ (over : IsOver source_b second second_now) (masked : Masking) (now : Output) where
       ends_by : (o : Option SequenceLine) → s.stage.waiting ≡ o → {T : Type 0} (done : T)
           → ((waiting : SequenceLine) → s.stage.waiting ≡ Some waiting → EndsRecords run.how run.full s.stage waiting out (Ok done) masked now) → (s.stage.waiting ≡ None → EndsCheck run.how run.full s.stage out (Ok done) masked now)
           → Fills source_a source_b run lines second mask (Ok true) lines second_now masked now

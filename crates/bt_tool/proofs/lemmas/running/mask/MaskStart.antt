@@ -85,8 +85,8 @@ module _ {A B : Type 0} (source_a : Source A) (source_b : Source B)
     stage = first_stage;
     stands = stands;
     comes = comes_start (mask_join how) (mask_pair source_a source_b how full (line_members full nothing_reached lines) (view_of records)) out
-        (passes_start source_a.left source_a.has_failed source_a.end_told (line_members full nothing_reached lines) fresh going)
-        (passes_start source_b.left source_b.has_failed source_b.end_told (view_of records) fresh_second (blocks_going records kept)) block;
+        (passes_start source_a (line_members full nothing_reached lines) fresh going)
+        (passes_start source_b (view_of records) fresh_second (blocks_going records kept)) block;
     kept_ahead = λ r e. absurd (let apart : None ≡ Some r = e in cc);
     lines_over = λ e. absurd (false≢true e);
   }

@@ -114,8 +114,8 @@ told_by names None past m fault is owned unowned begins = tt
 told_by names (Some good) past m fault is owned unowned begins = lacks_told names good.members past m owned unowned begins ∙ ap Some (sym is)
 
 -- a record that was ahead still is
-kept_filled : {S State : Type 0} (left : S → Option (List ℕ)) (failed end : S → Bool) (now new : MemberReader S Feature State) (r : Feature) → item_ahead now ≡ Some r → IsFilled left failed end now new → item_ahead new ≡ Some r
-kept_filled {S} {State} left failed end now new r was filled = ap (λ (x : MemberReader S Feature State). item_ahead x) (filled.gives.again (some_ahead (ahead_in now) r was)) ∙ was
+kept_filled : {S State : Type 0} (device : Source S) (now new : MemberReader S Feature State) (r : Feature) → item_ahead now ≡ Some r → IsFilled device now new → item_ahead new ≡ Some r
+kept_filled {S} {State} device now new r was filled = ap (λ (x : MemberReader S Feature State). item_ahead x) (filled.gives.again (some_ahead (ahead_in now) r was)) ∙ was
   where
     some_ahead : (o : Option (Member Feature)) (r : Feature) → option_map (λ m. m.item) o ≡ Some r → IsSome o
     some_ahead None r e = cc
@@ -207,7 +207,7 @@ module _ {A B : Type 0} (source_a : Source A) (source_b : Source B) (run : MaskR
       pub line_made : (new : LineReader A) → MakesLine source_a.left source_a.has_failed lines new → (IsKept source_a.left source_a.end_told lines → IsKept source_a.left source_a.end_told new) → Going at new second mask grown
       line_made new makes kept =
           let c = s.comes in
-          let passes = passes_made source_a.left source_a.has_failed source_a.end_told run.full (line_members run.full nothing_reached run.lines) s.past_first at lines new c.first_passes makes kept in
+          let passes = passes_made source_a run.full (line_members run.full nothing_reached run.lines) s.past_first at lines new c.first_passes makes kept in
           record {
             past_first = s.past_first;
             past_second = s.past_second;
@@ -229,7 +229,7 @@ module _ {A B : Type 0} (source_a : Source A) (source_b : Source B) (run : MaskR
               near_first = (
                 s.past_first,
                 all_done,
-                read_here source_a.left source_a.has_failed source_a.end_told (line_members run.full nothing_reached run.lines) s.past_first (line_members run.full at new) passes,
+                read_here source_a (line_members run.full nothing_reached run.lines) s.past_first (line_members run.full at new) passes,
                 λ e. absurd (false≢true (sym no_line.1 ∙ e)),
               );
             };
@@ -240,7 +240,7 @@ module _ {A B : Type 0} (source_a : Source A) (source_b : Source B) (run : MaskR
       -- the end of the lines was given
       pub ends_lines : (new : LineReader A) (masked : Masking) → GivesEnd source_a.left source_a.has_failed lines new → (IsKept source_a.left source_a.end_told lines → IsKept source_a.left source_a.end_told new) → MaskStandsAt run.how run.full (with_lines_ended stage) masked → Going at new second masked grown
       ends_lines new masked ends kept stands =
-          let over = gives_over source_a.left source_a.has_failed source_a.end_told run.full at lines new kept ends in
+          let over = gives_over source_a run.full at lines new kept ends in
           record {
             past_first = s.past_first;
             past_second = s.past_second;
@@ -257,7 +257,7 @@ module _ {A B : Type 0} (source_a : Source A) (source_b : Source B) (run : MaskR
         line_members run.full at new,
         refl,
         stop.stops_first join pair run.out (stage_of stage) s.past_first s.past_second first second grown s.comes asks_for (λ known. tt) wrong_first none_waits no_line.1 fault (line_members run.full at new)
-            (gives_unread source_a.left source_a.has_failed source_a.end_told run.full at lines new kept fault gives),
+            (gives_unread source_a run.full at lines new kept fault gives),
         λ input line e. e,
       )
 
@@ -277,19 +277,19 @@ module _ {A B : Type 0} (source_a : Source A) (source_b : Source B) (run : MaskR
       lines_done e = (bed_goes (is_some stage.waiting) stage.lines_ended stage.bed_ended want_bed (ap is_some e)).0
 
       -- one is buffered now
-      pub record_made : (second_now : MemberReader B Feature (Option Locus)) → IsFilled source_b.left source_b.has_failed source_b.end_told second second_now → Going at lines second_now mask grown
+      pub record_made : (second_now : MemberReader B Feature (Option Locus)) → IsFilled source_b second second_now → Going at lines second_now mask grown
       record_made second_now filled = record {
         past_first = s.past_first;
         past_second = s.past_second;
         stage = stage;
         stands = s.stands;
         comes = turned.fills_second join pair run.out (stage_of stage) s.past_first s.past_second first second grown s.comes goes second_now filled;
-        kept_ahead = λ r e. kept_filled source_b.left source_b.has_failed source_b.end_told second second_now r (s.kept_ahead r e) filled;
+        kept_ahead = λ r e. kept_filled source_b second second_now r (s.kept_ahead r e) filled;
         lines_over = s.lines_over;
       }
 
       -- the end of the records was given
-      module _ (second_now : MemberReader B Feature (Option Locus)) (over : IsOver source_b.left source_b.has_failed source_b.end_told second second_now) where
+      module _ (second_now : MemberReader B Feature (Option Locus)) (over : IsOver source_b second second_now) where
         -- and the waiting line was written
         pub ends_waiting : (a : SequenceLine) → stage.waiting ≡ Some a → (masked : Masking) (now : Output) → MaskStandsAt run.how run.full (with_bed_ended stage) masked → Grown grown (masked_line run.how stage.taken a) now
             → Going at lines second_now masked now
@@ -325,7 +325,7 @@ module _ {A B : Type 0} (source_a : Source A) (source_b : Source B) (run : MaskR
         )
 
       -- the second input couldn't give a record
-      stops_by : (o : Option SequenceLine) → stage.waiting ≡ o → (fault : FaultValue) (second_now : MemberReader B Feature (Option Locus)) → IsStopped source_b.left source_b.has_failed source_b.end_told second fault second_now → EndsAt (Some fault) lines second_now grown
+      stops_by : (o : Option SequenceLine) → stage.waiting ≡ o → (fault : FaultValue) (second_now : MemberReader B Feature (Option Locus)) → IsStopped source_b second fault second_now → EndsAt (Some fault) lines second_now grown
       stops_by None e fault second_now stopped = (
         first,
         refl,
@@ -339,7 +339,7 @@ module _ {A B : Type 0} (source_a : Source A) (source_b : Source B) (run : MaskR
         λ input line e. e,
       )
 
-      pub stops_records : (fault : FaultValue) (second_now : MemberReader B Feature (Option Locus)) → IsStopped source_b.left source_b.has_failed source_b.end_told second fault second_now → EndsAt (Some fault) lines second_now grown
+      pub stops_records : (fault : FaultValue) (second_now : MemberReader B Feature (Option Locus)) → IsStopped source_b second fault second_now → EndsAt (Some fault) lines second_now grown
       stops_records fault second_now stopped = stops_by stage.waiting refl fault second_now stopped
 
     -- a record is buffered, and failed

@@ -37,8 +37,8 @@ module _ {A B O : Type 0} {g : Ghosts O} (source_a : Source A) (source_b : Sourc
     stage = first_stage;
     stands = stands;
     comes = comes_start (sweep_join (order_in first) config) (records_pair source_a source_b first second) out
-        (passes_start source_a.left source_a.has_failed source_a.end_told (view_of first) fresh (line_going first fresh.going))
-        (passes_start source_b.left source_b.has_failed source_b.end_told (view_of second) fresh_second (line_going second fresh_second.going)) block;
+        (passes_start source_a (view_of first) fresh (line_going first fresh.going))
+        (passes_start source_b (view_of second) fresh_second (line_going second fresh_second.going)) block;
     first_order = refl;
     second_order = refl;
     first_begins = none;

@@ -149,8 +149,8 @@ module _ {A B O : Type 0} {g : Ghosts O} (source_a : Source A) (source_b : Sourc
 
   reads_both : (fs ss : List Feature) (new_first : Records A O g) (new_second : Records B O g) → TakesBoth source_a source_b order at.first at.second at.sweep at.out fs ss new_first new_second → ReadBoth new_first new_second
   reads_both fs ss new_first new_second takes = (
-    reads_taken source_a.left source_a.has_failed source_a.end_told source_a.is_read (below at.first) fs (view_of at.first) (view_of new_first) takes.first_taken (reads_same source_a.is_read (below at.first) (below at.first) refl),
-    reads_taken source_b.left source_b.has_failed source_b.end_told source_b.is_read (below at.second) ss (view_of at.second) (view_of new_second) takes.second_taken (reads_same source_b.is_read (below at.second) (below at.second) refl),
+    reads_taken source_a (below at.first) fs (view_of at.first) (view_of new_first) takes.first_taken (reads_same source_a.is_read (below at.first) (below at.first) refl),
+    reads_taken source_b (below at.second) ss (view_of at.second) (view_of new_second) takes.second_taken (reads_same source_b.is_read (below at.second) (below at.second) refl),
   )
 
   pub reads_given : (new : At A B O g) → GivesBoth source_a source_b order at.first at.second at.sweep at.out new.first new.second new.sweep new.out → ReadBoth new.first new.second

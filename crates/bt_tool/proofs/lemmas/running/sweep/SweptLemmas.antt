@@ -97,9 +97,9 @@ says_bed : (order : Order) (format : Format Feature (Option Locus)) → format �
 says_bed order format is state line kind e = wrong_of_bed order state line.text kind (ap (λ (f : Format Feature (Option Locus)). f.says state line) (sym is) ∙ e)
 
 -- a fault of some kinds is one of wider kinds
-stops_wider : {S A State : Type 0} (left : S → Option (List ℕ)) (failed end : S → Bool) (old : MemberReader S A State) (Narrow Wide : Kind → Type 0) → ((kind : Kind) → Narrow kind → Wide kind)
-    → (past : List (Member A)) (fault : FaultValue) (new : MemberReader S A State) → StopsAfter left failed end old Narrow past fault new → StopsAfter left failed end old Wide past fault new
-stops_wider left failed end old Narrow Wide wider past fault new stops = record {
+stops_wider : {S A State : Type 0} (device : Source S) (old : MemberReader S A State) (Narrow Wide : Kind → Type 0) → ((kind : Kind) → Narrow kind → Wide kind)
+    → (past : List (Member A)) (fault : FaultValue) (new : MemberReader S A State) → StopsAfter device old Narrow past fault new → StopsAfter device old Wide past fault new
+stops_wider device old Narrow Wide wider past fault new stops = record {
   bytes = stops.bytes;
   cause = elim stops.cause [
     | inl wrong ↦ inl (record { whole = wrong.whole; line = wrong.line; kind = wrong.kind; is = wrong.is; of_kind = wider wrong.kind wrong.of_kind; served = wrong.served; within = wrong.within })
@@ -171,12 +171,12 @@ module _ {A B O : Type 0} {g : Ghosts O} (source_a : Source A) (source_b : Sourc
   wrong_second state line kind e = inl (wrong_bed state line kind e)
 
   -- what was passed of either is in order
-  first_placed : (view_of old_first).state ≡ None → (past : List (Member Feature)) (now : MemberReader A Feature (Option Locus)) → Passes source_a.left source_a.has_failed source_a.end_told (view_of old_first) past now → ArePlaced order (intervals_of (member_items past))
+  first_placed : (view_of old_first).state ≡ None → (past : List (Member Feature)) (now : MemberReader A Feature (Option Locus)) → Passes source_a (view_of old_first) past now → ArePlaced order (intervals_of (member_items past))
   first_placed none past now p =
       (said_in_order order (member_items past) total
       (subst (λ (f : Format Feature (Option Locus)). AreSaid f None (member_items past)) is_bed (subst (λ (s : Option Locus). AreSaid (view_of old_first).format s (member_items past)) none p.said))).0
 
-  second_placed : (view_of old_second).state ≡ None → (past : List (Member Feature)) (now : MemberReader B Feature (Option Locus)) → Passes source_b.left source_b.has_failed source_b.end_told (view_of old_second) past now → ArePlaced order (intervals_of (member_items past))
+  second_placed : (view_of old_second).state ≡ None → (past : List (Member Feature)) (now : MemberReader B Feature (Option Locus)) → Passes source_b (view_of old_second) past now → ArePlaced order (intervals_of (member_items past))
   second_placed none past now p =
       (said_in_order order (member_items past) total
       (subst (λ (f : Format Feature (Option Locus)). AreSaid f None (member_items past)) (is_bed_second ∙ ap (λ (o : Order). bed_format (sorting_of o)) same_order)
@@ -258,7 +258,7 @@ module _ {A B O : Type 0} {g : Ghosts O} (source_a : Source A) (source_b : Sourc
         past_second = s.past_second;
         stage = stage;
         stands = s.stands;
-        comes = turned.fills_first join pair out (stage_of stage) s.past_first s.past_second (view_of first) (view_of second) grown s.comes none_waits not_ended (view_of first_now) (is_filled source_a.left source_a.has_failed source_a.end_told source_a.is_read first first_now fills);
+        comes = turned.fills_first join pair out (stage_of stage) s.past_first s.past_second (view_of first) (view_of second) grown s.comes none_waits not_ended (view_of first_now) (is_filled source_a first first_now fills);
         first_order = fills.order ∙ s.first_order;
         second_order = s.second_order;
         first_begins = s.first_begins;
@@ -273,7 +273,7 @@ module _ {A B O : Type 0} {g : Ghosts O} (source_a : Source A) (source_b : Sourc
         past_second = s.past_second;
         stage = with_a_ended stage;
         stands = stands;
-        comes = turned.ends_first join pair out (stage_of stage) s.past_first s.past_second (view_of first) (view_of second) grown s.comes none_waits not_ended (view_of first_now) (is_over source_a.left source_a.has_failed source_a.end_told source_a.is_read first first_now fills);
+        comes = turned.ends_first join pair out (stage_of stage) s.past_first s.past_second (view_of first) (view_of second) grown s.comes none_waits not_ended (view_of first_now) (is_over source_a first first_now fills);
         first_order = fills.order ∙ s.first_order;
         second_order = s.second_order;
         first_begins = s.first_begins;
@@ -284,7 +284,7 @@ module _ {A B O : Type 0} {g : Ghosts O} (source_a : Source A) (source_b : Sourc
       pub stops_first : (fault : Fault) (first_now : Records A O g) → FillsRecords source_a.left source_a.has_failed source_a.end_told source_a.is_read first (Err fault) first_now → Ends (Some (fault_value fault)) first_now second grown
       stops_first fault first_now fills =
           stop.stops_first join pair out (stage_of stage) s.past_first s.past_second (view_of first) (view_of second) grown s.comes asks_here s.fits wrong none_waits not_ended (fault_value fault) (view_of first_now)
-          (is_stopped source_a.left source_a.has_failed source_a.end_told source_a.is_read first first_now fault fills)
+          (is_stopped source_a first first_now fault fills)
 
     -- ---- one of the second is
 
@@ -304,7 +304,7 @@ module _ {A B O : Type 0} {g : Ghosts O} (source_a : Source A) (source_b : Sourc
         past_second = s.past_second;
         stage = stage;
         stands = s.stands;
-        comes = turned.fills_second join pair out (stage_of stage) s.past_first s.past_second (view_of first) (view_of second) grown s.comes goes (view_of second_now) (is_filled source_b.left source_b.has_failed source_b.end_told source_b.is_read second second_now fills);
+        comes = turned.fills_second join pair out (stage_of stage) s.past_first s.past_second (view_of first) (view_of second) grown s.comes goes (view_of second_now) (is_filled source_b second second_now fills);
         first_order = s.first_order;
         second_order = fills.order ∙ s.second_order;
         first_begins = s.first_begins;
@@ -319,7 +319,7 @@ module _ {A B O : Type 0} {g : Ghosts O} (source_a : Source A) (source_b : Sourc
         past_second = s.past_second;
         stage = with_b_ended stage;
         stands = stands;
-        comes = turned.ends_waiting join pair out (stage_of stage) s.past_first s.past_second (view_of first) (view_of second) grown s.comes goes (view_of second_now) (is_over source_b.left source_b.has_failed source_b.end_told source_b.is_read second second_now fills) a waiting.1 now adds;
+        comes = turned.ends_waiting join pair out (stage_of stage) s.past_first s.past_second (view_of first) (view_of second) grown s.comes goes (view_of second_now) (is_over source_b second second_now fills) a waiting.1 now adds;
         first_order = s.first_order;
         second_order = fills.order ∙ s.second_order;
         first_begins = s.first_begins;
@@ -339,13 +339,13 @@ module _ {A B O : Type 0} {g : Ghosts O} (source_a : Source A) (source_b : Sourc
       pub stops_second : (fault : Fault) (second_now : Records B O g) → FillsRecords source_b.left source_b.has_failed source_b.end_told source_b.is_read second (Err fault) second_now → Ends (Some (fault_value fault)) first second_now grown
       stops_second fault second_now fills =
           stop.stops_second join pair out (stage_of stage) s.past_first s.past_second (view_of first) (view_of second) grown s.comes asks_here s.fits a waiting.1 wrong_second asked goes opens (fault_value fault) (view_of second_now)
-          (is_stopped source_b.left source_b.has_failed source_b.end_told source_b.is_read second second_now fault fills)
+          (is_stopped source_b second second_now fault fills)
 
       pub fails_at_end : (fault : FaultValue) (second_now : Records B O g) (now : Output) → FillsRecords source_b.left source_b.has_failed source_b.end_told source_b.is_read second (Ok false) second_now → FailsToAdd grown (lines_for config.shape config.rule a stage.taken) fault now
           → Ends (Some fault) first second_now now
       fails_at_end fault second_now now fills fails =
           stop.fails_at_end join pair out (stage_of stage) s.past_first s.past_second (view_of first) (view_of second) grown s.comes asks_here s.fits a waiting.1 asked goes fault (view_of second_now) now
-          (is_over source_b.left source_b.has_failed source_b.end_told source_b.is_read second second_now fills) fails
+          (is_over source_b second second_now fills) fails
 
     -- ---- what both have buffered was given
 
@@ -356,11 +356,11 @@ module _ {A B O : Type 0} {g : Ghosts O} (source_a : Source A) (source_b : Sourc
       abbrev more_second : List (Member Feature)
       more_second = members_from (suc (lines_given (below second))) ss
 
-      further : TakesFurther source_a.left source_a.has_failed source_a.end_told (view_of old_first) s.past_first more_first (view_of first) (view_of first_now)
-      further = turned.takes_further source_a.left source_a.has_failed source_a.end_told (view_of old_first) s.past_first (view_of first) s.comes.first_passes fs (view_of first_now) takes.first_taken
+      further : TakesFurther source_a (view_of old_first) s.past_first more_first (view_of first) (view_of first_now)
+      further = turned.takes_further source_a (view_of old_first) s.past_first (view_of first) s.comes.first_passes fs (view_of first_now) takes.first_taken
 
-      further_second : TakesFurther source_b.left source_b.has_failed source_b.end_told (view_of old_second) s.past_second more_second (view_of second) (view_of second_now)
-      further_second = turned.takes_further source_b.left source_b.has_failed source_b.end_told (view_of old_second) s.past_second (view_of second) s.comes.second_passes ss (view_of second_now) takes.second_taken
+      further_second : TakesFurther source_b (view_of old_second) s.past_second more_second (view_of second) (view_of second_now)
+      further_second = turned.takes_further source_b (view_of old_second) s.past_second (view_of second) s.comes.second_passes ss (view_of second_now) takes.second_taken
 
       items_first : member_items more_first ≡ fs
       items_first = turned.items_from (suc (lines_given (below first))) fs
@@ -553,14 +553,14 @@ module _ {A B O : Type 0} {g : Ghosts O} (source_a : Source A) (source_b : Sourc
       done : stage.a_ended ≡ true
       done = sym (over_is stage.a_ended stage.b_ended) ∙ ap is_done (sym s.stands.phase_is) ∙ done_by sweep.current (is_done sweep.phase) wants
 
-      pub finishes_both : {T : Type 0} (result : Result T Fault) (second_now : Records B O g) → ReadsRest source_b.left source_b.has_failed source_b.end_told (IsBedKind (order_in second)) (view_of second) result (view_of second_now)
+      pub finishes_both : {T : Type 0} (result : Result T Fault) (second_now : Records B O g) → ReadsRest source_b (IsBedKind (order_in second)) (view_of second) result (view_of second_now)
           → FinishesBoth source_a source_b order config old_first old_second out result first second_now grown
       finishes_both {T} (Ok unit) second_now reads =
-          let checks = subst (λ (o : Order). ReadsRest {T = T} source_b.left source_b.has_failed source_b.end_told (IsBedKind o) (view_of second) (Ok unit) (view_of second_now)) (s.second_order ∙ same_order) reads (view_of old_second) s.past_second s.comes.second_passes wrong_bed in
+          let checks = subst (λ (o : Order). ReadsRest {T = T} source_b (IsBedKind o) (view_of second) (Ok unit) (view_of second_now)) (s.second_order ∙ same_order) reads (view_of old_second) s.past_second s.comes.second_passes wrong_bed in
           stop.ends_rest join pair out (stage_of stage) s.past_first s.past_second (view_of first) (view_of second) grown s.comes asks_here s.fits done (view_of second_now) (λ some. absurd (false≢true (ap is_some (sym checks.passes.going) ∙ some))) checks.passes.bytes (s.past_second ++ checks.more) None
           (inl (refl, checks.all, record { served = checks.passes.served; within = checks.passes.kept.within checks.passes.clear }, refl))
       finishes_both {T} (Err fault) second_now reads =
-          let checks = subst (λ (o : Order). ReadsRest {T = T} source_b.left source_b.has_failed source_b.end_told (IsBedKind o) (view_of second) (Err fault) (view_of second_now)) (s.second_order ∙ same_order) reads (view_of old_second) s.past_second s.comes.second_passes wrong_bed in
+          let checks = subst (λ (o : Order). ReadsRest {T = T} source_b (IsBedKind o) (view_of second) (Err fault) (view_of second_now)) (s.second_order ∙ same_order) reads (view_of old_second) s.past_second s.comes.second_passes wrong_bed in
           stop.stops_rest join pair out (stage_of stage) s.past_first s.past_second (view_of first) (view_of second) grown s.comes asks_here s.fits done (view_of second_now) (λ some. checks.low) (s.past_second ++ checks.more) (fault_value fault)
-          (stops_wider source_b.left source_b.has_failed source_b.end_told (view_of old_second) (IsBedKind order) join.second_kinds (λ kind of_bed. inl of_bed) (s.past_second ++ checks.more) (fault_value fault) (view_of second_now) checks.stops)
+          (stops_wider source_b (view_of old_second) (IsBedKind order) join.second_kinds (λ kind of_bed. inl of_bed) (s.past_second ++ checks.more) (fault_value fault) (view_of second_now) checks.stops)
           (λ e. checks.before_end (s.comes.second_all e).2) refl

@@ -56,7 +56,7 @@ returns-in_err-fill-in-Bed-clause-fills g c = λ run going.
     c.from_residual-in_err-fill-in-Bed.result c.in_err-fill-in-Bed.field-0.0 c.from_residual-in_err-fill-in-Bed.ensures.1
     (stops_records g.A.Source g.B.Source run going.0 c.args.lines.now (view_of c.args.records.now) c.args.mask.now c.args.out.now.output going.1
     (sym c.want.ensures.is ∙ c.in-Bed.is) (fault_value c.in_err-fill-in-Bed.field-0.0) (view_of c.fill-in-Bed.new.self)
-    (block_stopped g.B.Source.left g.B.Source.has_failed g.B.Source.end_told g.B.Source.is_read c.args.records.now c.fill-in-Bed.new.self c.in_err-fill-in-Bed.field-0.0 fills))
+    (block_stopped g.B.Source c.args.records.now c.fill-in-Bed.new.self c.in_err-fill-in-Bed.field-0.0 fills))
 
 pub returns-in_err-fill-in-Bed-clause-reads_first : goal.returns-in_err-fill-in-Bed-clause-reads_first
 returns-in_err-fill-in-Bed-clause-reads_first g c = λ none never. reads_same g.A.Source.is_read c.args.lines.now c.args.lines.now refl
@@ -69,7 +69,7 @@ returns-in_err-fill-in-Bed-clause-own_failure_second g c = λ none.
 pub returns-in_err-end_bed-in-Bed-clause-fills : goal.returns-in_err-end_bed-in-Bed-clause-fills
 returns-in_err-end_bed-in-Bed-clause-fills g c = λ run going.
     let fills = rw (c.in_ok-fill-in-Bed.was, c.if-not-branch-2.true) at c.fill-in-Bed.ensures in
-    let over = block_over g.B.Source.left g.B.Source.has_failed g.B.Source.end_told g.B.Source.is_read c.args.records.now c.fill-in-Bed.new.self fills in
+    let over = block_over g.B.Source c.args.records.now c.fill-in-Bed.new.self fills in
     passed_on (λ r. Fills g.A.Source g.B.Source run c.args.lines.now (view_of c.args.records.now) c.args.mask.now r c.args.lines.now (view_of c.fill-in-Bed.new.self) c.end_bed.new.self c.end_bed.new.out.output)
     c.from_residual-in_err-end_bed-in-Bed.result c.in_err-end_bed-in-Bed.field-0.0 c.from_residual-in_err-end_bed-in-Bed.ensures.1
     (records_unended g.A.Source g.B.Source run going.0 c.args.lines.now (view_of c.args.records.now) c.args.mask.now c.args.out.now.output going.1
@@ -82,7 +82,7 @@ returns-in_err-end_bed-in-Bed-clause-reads_first g c = λ none never. reads_same
 pub returns-in_ok-end_bed-in-Bed-clause-fills : goal.returns-in_ok-end_bed-in-Bed-clause-fills
 returns-in_ok-end_bed-in-Bed-clause-fills g c = λ run going.
     let fills = rw (c.in_ok-fill-in-Bed.was, c.if-not-branch-2.true) at c.fill-in-Bed.ensures in
-    let over = block_over g.B.Source.left g.B.Source.has_failed g.B.Source.end_told g.B.Source.is_read c.args.records.now c.fill-in-Bed.new.self fills in
+    let over = block_over g.B.Source c.args.records.now c.fill-in-Bed.new.self fills in
     records_ended g.A.Source g.B.Source run going.0 c.args.lines.now (view_of c.args.records.now) c.args.mask.now c.args.out.now.output going.1
     (sym c.want.ensures.is ∙ c.in-Bed.is) (view_of c.fill-in-Bed.new.self) over c.end_bed.new.self c.end_bed.new.out.output c.in_ok-end_bed-in-Bed.field-0
     (λ waiting e. c.in_ok-end_bed-in-Bed.ensures.waits run.how run.full going.1.stage waiting going.1.stands e) (λ e. c.in_ok-end_bed-in-Bed.ensures.none_waits run.how run.full going.1.stage going.1.stands e)
@@ -94,7 +94,7 @@ pub returns-else-not-branch-2-clause-fills : goal.returns-else-not-branch-2-clau
 returns-else-not-branch-2-clause-fills g c = λ run going.
     let fills = rw (c.in_ok-fill-in-Bed.was, c.if-not-branch-2.false) at c.fill-in-Bed.ensures in
     record_filled g.A.Source g.B.Source run going.0 c.args.lines.now (view_of c.args.records.now) c.args.mask.now c.args.out.now.output going.1
-    (sym c.want.ensures.is ∙ c.in-Bed.is) (view_of c.fill-in-Bed.new.self) (block_filled g.B.Source.left g.B.Source.has_failed g.B.Source.end_told g.B.Source.is_read c.args.records.now c.fill-in-Bed.new.self fills)
+    (sym c.want.ensures.is ∙ c.in-Bed.is) (view_of c.fill-in-Bed.new.self) (block_filled g.B.Source c.args.records.now c.fill-in-Bed.new.self fills)
 
 pub returns-else-not-branch-2-clause-reads_first : goal.returns-else-not-branch-2-clause-reads_first
 returns-else-not-branch-2-clause-reads_first g c = λ none never. reads_same g.A.Source.is_read c.args.lines.now c.args.lines.now refl

@@ -89,7 +89,7 @@ returns-clause-own_failure g c =
     let ended_second = sym (c.into_source-second.ensures ∙ ap source_of c.into_reader.ensures) in
     let join = mask_join c.args.how in
     let pair = mask_pair g.A.Source g.B.Source c.args.how c.args.full (line_members c.args.full nothing_reached c.new-lines.result) (view_of c.new-records.result) in
-    both_own join pair c.args.out.now.output g.A.Source.is_read g.B.Source.is_read (sequence_format c.args.full) block_format c.args.sources.first c.args.sources.second begins begins_second
+    both_own join pair c.args.out.now.output (sequence_format c.args.full) block_format c.args.sources.first c.args.sources.second begins begins_second
     ends.0 (view_of c.mask_all-masked.new.records) c.into_source-first.result c.into_source-second.result ended ended_second fault c.mask_all-masked.new.out.output ends.2
     (λ kind. false≢true kind) (λ kind. false≢true kind) (kept_below g.A.Source.is_read c.new-lines.result ends.0 c.mask_all-masked.new.lines ends.1 ends.3 c.mask_all-masked.ensures.own_failure) c.mask_all-masked.ensures.own_failure_second
 

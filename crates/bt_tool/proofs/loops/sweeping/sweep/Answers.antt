@@ -105,7 +105,7 @@ returns-clause-own_failure g c =
     let begins_second = begins_by g.B.Source.left order Second c.args.sources.second c.new-2.result c.new-seconds.result records_2.below reader_2.source reader_2.input reader_2.none_taken.0 reader_2.none_fed reader_2.going.0 reader_2.lines records_2.good in
     let ended = sym (c.into_source-first.ensures ∙ ap source_of c.into_reader.ensures) in
     let ended_second = sym (c.into_source-second.ensures ∙ ap source_of c.into_reader-2.ensures) in
-    both_own join pair c.args.out.now.output g.A.Source.is_read g.B.Source.is_read format format c.args.sources.first c.args.sources.second begins begins_second
+    both_own join pair c.args.out.now.output format format c.args.sources.first c.args.sources.second begins begins_second
     (view_of c.read_both-swept.new.first) (view_of c.read_both-swept.new.second) c.into_source-first.result c.into_source-second.result ended ended_second fault c.read_both-swept.new.out.output ends
     (bed_no_read order) (swept_no_read order c.args.config.limit) c.read_both-swept.ensures.own_failure c.read_both-swept.ensures.own_failure_second
 
