@@ -33,7 +33,6 @@ pub use options::plan;
 pub use options::usage::{Refusal, Usage, usage_line};
 pub use planning::checking::is_standard_input;
 pub use planning::plan_type::{Command, Plan};
-pub use planning::tool::Tool;
 pub use running::outcome::Outcome;
 pub use running::{Ended, run};
 

@@ -1,6 +1,7 @@
 use super::*;
 use crate::tests::testing::{
-    Bounds, Row, check_failing, check_row, check_spans, expect_end, feed_kept, genome, spans_of,
+    Bounds, ChromSpans, Row, check_failing, check_row, check_spans, expect_end, feed_kept, genome,
+    spans_of,
 };
 use bt_lines::ScriptSink;
 use std::alloc::Global;
@@ -176,7 +177,7 @@ fn feed_many(
 ) -> Result<(), Fail> {
     for start in 0..count {
         let line = format!(in alloc; "chr1\t{start}\t20000")?;
-        feed_kept(rt, complement, line.as_bytes(), 1, out, "one of many");
+        feed_kept(rt, complement, (line.as_bytes(), 1), out, "one of many");
     }
     Ok(())
 }
@@ -213,14 +214,11 @@ fn gaps_lie_between_spans_below_the_length(rt: HostRuntime) -> Result<(), Fail> 
     for (bounds, wanted) in &GAPS {
         let spans = spans_of(rt.alloc(), bounds)?;
         let complement = Complement::new(&genome, true);
-        check_spans(
-            &rt,
-            rt.alloc(),
-            complement,
-            "chr2",
-            spans.as_slice(),
-            wanted,
-        )?;
+        let fed = ChromSpans {
+            chrom: "chr2",
+            spans: spans.as_slice(),
+        };
+        check_spans(&rt, rt.alloc(), complement, fed, wanted)?;
     }
     Ok(())
 }

@@ -14,7 +14,7 @@ ghost use Rattle.bt_runs.specs.inside.walk.Rule.{EnterAnswers, Taken};
 ghost use Rattle.bt_runs.specs.inside.walk.Walk.{AreReached, begun, entry_at, is_on, left_before, left_of};
 
 use crate::coverage::depth_line::put_depth;
-use crate::coverage::depths::{OpenInterval, DepthCursor, go_on, put_ended};
+use crate::coverage::depths::{CoveredChrom, DepthCursor, OpenInterval, go_on, put_ended};
 use crate::coverage::open_records::OpenRecords;
 use crate::engine::failure::Failure;
 use crate::engine::rule::Rule;
@@ -32,6 +32,22 @@ pub(crate) struct DepthChrom<'g> {
     length: u64,
     // The interval that isn't ended.
     begun: Option<OpenInterval>,
+}
+
+// The chromosomes of a genome file, which depths are written for.
+#[derive(Clone, Copy, Debug)]
+struct CoveredChroms<'g> {
+    genome: &'g Genome,
+    // Whether depth 0 is written.
+    zeros: bool,
+}
+
+// A record as it comes next on its chromosome.
+#[derive(Clone, Copy, Debug)]
+struct NextRecord {
+    bounds: Bounds,
+    // Whether its strand is one that is counted.
+    counted: bool,
 }
 
 // A coverage of the chromosomes of a genome file, in their order.
@@ -112,14 +128,11 @@ impl<'g> DepthRule<'g> {
         };
         let name = self.genome.name(rank);
         let length = self.genome.length(rank);
-        put_before(
-            self.genome,
-            self.zeros,
-            self.current,
-            &mut self.held,
-            rank,
-            out,
-        )?;
+        let chroms = CoveredChroms {
+            genome: self.genome,
+            zeros: self.zeros,
+        };
+        put_before(&chroms, self.current, &mut self.held, rank, out)?;
         self.held.clear(0);
         self.current = Some(DepthCursor { rank, begun: None });
         self.is_here = true;
@@ -196,16 +209,16 @@ impl<'g> Rule for DepthRule<'g> {
             start: record.start(),
             stop: record.stop(),
         };
-        let counted = count_bounds(
-            on.name,
-            on.length,
-            self.zeros,
-            is_counted(self.strand, record),
-            on.begun,
-            &mut self.held,
+        let next = NextRecord {
             bounds,
-            out,
-        );
+            counted: is_counted(self.strand, record),
+        };
+        let chrom = CoveredChrom {
+            name: on.name,
+            length: on.length,
+            zeros: self.zeros,
+        };
+        let counted = count_next(&chrom, next, on.begun, &mut self.held, out);
         match counted {
             Ok(begun) => on.begun = begun,
             Err(failure) => return Err(failure.fault()),
@@ -227,14 +240,11 @@ impl<'g> Rule for DepthRule<'g> {
 
     fn finish<K: Sink>(mut self, out: &mut Out<K>) -> Result<(), Fault> {
         let count = self.genome.count();
-        put_before(
-            self.genome,
-            self.zeros,
-            self.current,
-            &mut self.held,
-            count,
-            out,
-        )
+        let chroms = CoveredChroms {
+            genome: self.genome,
+            zeros: self.zeros,
+        };
+        put_before(&chroms, self.current, &mut self.held, count, out)
     }
 
     // How many counted records end at the last start or past it; none before the first chromosome.
@@ -260,29 +270,26 @@ fn is_counted<R: Record>(wanted: Option<Strand>, record: &R) -> bool
     }
 }
 
-// Takes a record of these bounds on a chromosome of this name and length. It writes the intervals that the record
-// settles there, and gives the one that isn't ended with it.
+// Takes the next record on a chromosome. It writes the intervals that the record settles there, and gives
+// the one that isn't ended with it.
 #[inline(always)]
-fn count_bounds<K: Sink>(
-    chrom: &[u8],
-    length: u64,
-    zeros: bool,
-    counted: bool,
+fn count_next<K: Sink>(
+    chrom: &CoveredChrom<'_>,
+    next: NextRecord,
     begun: Option<OpenInterval>,
     held: &mut OpenRecords,
-    bounds: Bounds,
     out: &mut Out<K>,
 ) -> Result<Option<OpenInterval>, Failure>
-    ensures counts { CountAnswers chrom.now (levels_past zeros length (known_seen begun held.old) bounds)
-        (known_past zeros counted length (known_seen begun held.old) bounds)
+    ensures counts { CountAnswers chrom.now.name.now (levels_past chrom.now.zeros chrom.now.length (known_seen begun held.old) next.bounds)
+        (known_past chrom.now.zeros next.counted chrom.now.length (known_seen begun held.old) next.bounds)
         result held.new out.old.output out.new.output }
-    ensures memory { OnWant ((counted ≡ true) × (bounds.start < length)) result }
+    ensures memory { OnWant ((next.counted ≡ true) × (next.bounds.start < chrom.now.length)) result }
 {
-    let start = bounds.start.max(held.at());
-    let Ok(begun) = settle(chrom, zeros, held, begun, length, start, out) else {
+    let start = next.bounds.start.max(held.at());
+    let Ok(begun) = settle(chrom, begun, held, start, out) else {
         return Err(Failure::Write);
     };
-    match hold(held, counted, length, bounds.stop) {
+    match hold(held, next.counted, chrom.length, next.bounds.stop) {
         Ok(()) => Ok(begun),
         Err(AllocError) => Err(Failure::Memory),
     }
@@ -292,23 +299,21 @@ fn count_bounds<K: Sink>(
 // isn't ended there. Past the chromosome's length nothing is open.
 #[inline(always)]
 fn settle<K: Sink>(
-    chrom: &[u8],
-    zeros: bool,
-    held: &mut OpenRecords,
+    chrom: &CoveredChrom<'_>,
     begun: Option<OpenInterval>,
-    length: u64,
+    held: &mut OpenRecords,
     start: u64,
     out: &mut Out<K>,
 ) -> Result<Option<OpenInterval>, Fault>
     requires { held.now.at ≤ start }
-    ensures adds { Adds out.old.output (depth_lines (levels_on chrom.now (levels_by zeros length (known_seen begun held.old) start))) result out.new.output }
-    ensures known { IfOk result (λ next. known_seen next held.new ≡ settled_known zeros length (known_seen begun held.old) start) }
+    ensures adds { Adds out.old.output (depth_lines (levels_on chrom.now.name.now (levels_by chrom.now.zeros chrom.now.length (known_seen begun held.old) start))) result out.new.output }
+    ensures known { IfOk result (λ next. known_seen next held.new ≡ settled_known chrom.now.zeros chrom.now.length (known_seen begun held.old) start) }
 {
-    if length < start {
-        put_rest(chrom, zeros, held, begun, length, out)?;
+    if chrom.length < start {
+        put_rest(chrom, begun, held, out)?;
         return Ok(None);
     }
-    go_on(chrom, zeros, held, begun, start, out)
+    go_on(chrom, begun, held, start, out)
 }
 
 // Adds a counted record that starts below the chromosome's length, cut there.
@@ -327,52 +332,47 @@ fn hold(held: &mut OpenRecords, counted: bool, length: u64, stop: u64) -> Result
 #[cold]
 #[inline(never)]
 fn put_rest<K: Sink>(
-    chrom: &[u8],
-    zeros: bool,
-    held: &mut OpenRecords,
+    chrom: &CoveredChrom<'_>,
     begun: Option<OpenInterval>,
-    length: u64,
+    held: &mut OpenRecords,
     out: &mut Out<K>,
 ) -> Result<(), Fault>
-    ensures adds { Adds out.old.output (depth_lines (levels_on chrom.now (levels_left zeros length (known_seen begun held.old)))) result out.new.output }
-    ensures none { OnOk result (held.new ≡ none_open_at length) }
+    ensures adds { Adds out.old.output (depth_lines (levels_on chrom.now.name.now (levels_left chrom.now.zeros chrom.now.length (known_seen begun held.old)))) result out.new.output }
+    ensures none { OnOk result (held.new ≡ none_open_at chrom.now.length) }
 {
-    put_left(chrom, zeros, held, begun, length, out)?;
-    held.clear(length);
+    put_left(chrom, begun, held, out)?;
+    held.clear(chrom.length);
     Ok(())
 }
 
 // Writes what is left of a chromosome.
 fn put_left<K: Sink>(
-    chrom: &[u8],
-    zeros: bool,
-    held: &mut OpenRecords,
+    chrom: &CoveredChrom<'_>,
     begun: Option<OpenInterval>,
-    length: u64,
+    held: &mut OpenRecords,
     out: &mut Out<K>,
 ) -> Result<(), Fault>
-    ensures { Adds out.old.output (depth_lines (levels_on chrom.now (levels_left zeros length (known_seen begun held.old)))) result out.new.output }
+    ensures { Adds out.old.output (depth_lines (levels_on chrom.now.name.now (levels_left chrom.now.zeros chrom.now.length (known_seen begun held.old)))) result out.new.output }
 {
-    let begun = go_on(chrom, zeros, held, begun, length, out)?;
-    put_ended(chrom, begun, length, out)
+    let begun = go_on(chrom, begun, held, chrom.length, out)?;
+    put_ended(chrom.name, begun, chrom.length, out)
 }
 
 // Writes what is left before the chromosome of the rank `stop`: the rest of the current one, and each
 // one between the two.
 fn put_before<K: Sink>(
-    genome: &Genome,
-    zeros: bool,
+    chroms: &CoveredChroms<'_>,
     current: Option<DepthCursor>,
     held: &mut OpenRecords,
     stop: usize,
     out: &mut Out<K>,
 ) -> Result<(), Fault>
-    requires at { AreReached (entries genome.now) (seen current held.now) }
-    requires within { stop ≤ length (entries genome.now) }
-    ensures { Adds out.old.output (depth_lines (left_before (depths_left zeros) (bare_of zeros) (entries genome.now) (seen current held.old) stop)) result out.new.output }
+    requires at { AreReached (entries chroms.now.genome.now) (seen current held.now) }
+    requires within { stop ≤ length (entries chroms.now.genome.now) }
+    ensures { Adds out.old.output (depth_lines (left_before (depths_left chroms.now.zeros) (bare_of chroms.now.zeros) (entries chroms.now.genome.now) (seen current held.old) stop)) result out.new.output }
 {
-    put_current(genome, zeros, current, held, out)?;
-    put_bares(genome, zeros, first_rank(current, stop), stop, out)
+    put_current(chroms, current, held, out)?;
+    put_bares(chroms, first_rank(current, stop), stop, out)
 }
 
 // The rank of the chromosome after the current one, but no more than `stop`.
@@ -388,56 +388,52 @@ fn first_rank(current: Option<DepthCursor>, stop: usize) -> usize
 
 // Writes what is left of the current chromosome.
 fn put_current<K: Sink>(
-    genome: &Genome,
-    zeros: bool,
+    chroms: &CoveredChroms<'_>,
     current: Option<DepthCursor>,
     held: &mut OpenRecords,
     out: &mut Out<K>,
 ) -> Result<(), Fault>
-    requires { AreReached (entries genome.now) (seen current held.now) }
-    ensures { Adds out.old.output (depth_lines (left_of (depths_left zeros) (entries genome.now) (seen current held.old))) result out.new.output }
+    requires { AreReached (entries chroms.now.genome.now) (seen current held.now) }
+    ensures { Adds out.old.output (depth_lines (left_of (depths_left chroms.now.zeros) (entries chroms.now.genome.now) (seen current held.old))) result out.new.output }
 {
     match current {
         None => Ok(()),
         Some(reached) => {
-            let length = genome.length(reached.rank);
-            let chrom = genome.name(reached.rank);
-            put_left(chrom, zeros, held, reached.begun, length, out)
+            let chrom = CoveredChrom {
+                name: chroms.genome.name(reached.rank),
+                length: chroms.genome.length(reached.rank),
+                zeros: chroms.zeros,
+            };
+            put_left(&chrom, reached.begun, held, out)
         }
     }
 }
 
 // Writes the chromosomes of the ranks from `first` on and below `stop`, which have no records.
 fn put_bares<K: Sink>(
-    genome: &Genome,
-    zeros: bool,
+    chroms: &CoveredChroms<'_>,
     first: usize,
     stop: usize,
     out: &mut Out<K>,
 ) -> Result<(), Fault>
     requires order { first ≤ stop }
-    requires within { stop ≤ length (entries genome.now) }
-    ensures { Adds out.old.output (depth_lines (flat_map (bare_of zeros) (slice_range (entries genome.now) first stop))) result out.new.output }
+    requires within { stop ≤ length (entries chroms.now.genome.now) }
+    ensures { Adds out.old.output (depth_lines (flat_map (bare_of chroms.now.zeros) (slice_range (entries chroms.now.genome.now) first stop))) result out.new.output }
 {
     for rank in first..stop {
-        put_bare(genome, zeros, rank, out)?;
+        put_bare(chroms, rank, out)?;
     }
     Ok(())
 }
 
 // Writes a chromosome that has no records, if depth 0 is reported.
-fn put_bare<K: Sink>(
-    genome: &Genome,
-    zeros: bool,
-    rank: usize,
-    out: &mut Out<K>,
-) -> Result<(), Fault>
-    requires { rank < length (entries genome.now) }
-    ensures { Adds out.old.output (depth_lines (bare_of zeros (entry_at (entries genome.now) rank))) result out.new.output }
+fn put_bare<K: Sink>(chroms: &CoveredChroms<'_>, rank: usize, out: &mut Out<K>) -> Result<(), Fault>
+    requires { rank < length (entries chroms.now.genome.now) }
+    ensures { Adds out.old.output (depth_lines (bare_of chroms.now.zeros (entry_at (entries chroms.now.genome.now) rank))) result out.new.output }
 {
-    let length = genome.length(rank);
-    if zeros && 0 < length {
-        return put_depth(genome.name(rank), 0, length, 0, out);
+    let length = chroms.genome.length(rank);
+    if chroms.zeros && 0 < length {
+        return put_depth(chroms.genome.name(rank), 0, length, 0, out);
     }
     Ok(())
 }

@@ -12,6 +12,15 @@ use crate::coverage::depth_line::put_depth;
 use crate::coverage::open_records::OpenRecords;
 use bt_lines::{Fault, Out, Sink};
 
+// A chromosome that depths are written for.
+#[derive(Clone, Copy, Debug)]
+pub(crate) struct CoveredChrom<'a> {
+    pub(crate) name: &'a [u8],
+    pub(crate) length: u64,
+    // Whether depth 0 is written.
+    pub(crate) zeros: bool,
+}
+
 // An interval of one depth that isn't ended.
 #[derive(Clone, Copy, Debug)]
 pub(crate) struct OpenInterval {
@@ -35,23 +44,22 @@ pub(crate) struct DepthCursor {
 // it, and gives the one that isn't ended there.
 #[inline(always)]
 pub(crate) fn go_on<K: Sink>(
-    chrom: &[u8],
-    zeros: bool,
-    held: &mut OpenRecords,
+    chrom: &CoveredChrom<'_>,
     begun: Option<OpenInterval>,
+    held: &mut OpenRecords,
     stop: u64,
     out: &mut Out<K>,
 ) -> Result<Option<OpenInterval>, Fault>
-    ensures adds { Adds out.old.output (depth_lines (levels_on chrom.now (ended_after (depth_of zeros held.old.spans) held.old.at (stop - held.old.at) (begun_seen begun)))) result out.new.output }
-    ensures begun { IfOk result (λ next. begun_seen next ≡ begun_after (depth_of zeros held.old.spans) held.old.at (stop - held.old.at) (begun_seen begun)) }
+    ensures adds { Adds out.old.output (depth_lines (levels_on chrom.now.name.now (ended_after (depth_of chrom.now.zeros held.old.spans) held.old.at (stop - held.old.at) (begun_seen begun)))) result out.new.output }
+    ensures begun { IfOk result (λ next. begun_seen next ≡ begun_after (depth_of chrom.now.zeros held.old.spans) held.old.at (stop - held.old.at) (begun_seen begun)) }
     ensures held { OnOk result (held.old.at ≤ stop → held.new ≡ open_from stop held.old) }
 {
     let mut position = held.at();
     let mut begun = begun;
     while position < stop {
         held.go_on(position + 1);
-        let depth = reported(zeros, held.depth() as u64);
-        begun = put_next(chrom, begun, position, depth, out)?;
+        let depth = reported(chrom.zeros, held.depth() as u64);
+        begun = put_next(chrom.name, begun, position, depth, out)?;
         position = held.first_end(stop);
     }
     held.settle(stop);

@@ -1,7 +1,7 @@
 use super::*;
 use crate::tests::testing::{
-    Bounds, Row, check_failing, check_row, check_spans, expect_end, feed_line, feed_row, genome,
-    holds, same_answer, spans_of,
+    Bounds, ChromSpans, Row, check_failing, check_row, check_spans, expect_end, feed_line,
+    feed_row, genome, holds, same_answer, spans_of,
 };
 use bt_lines::ScriptSink;
 use std::alloc::{AllocError, Global};
@@ -335,7 +335,11 @@ fn depths_are_those_of_the_spans_below_the_length(rt: HostRuntime) -> Result<(),
     for (bounds, wanted) in &DEPTHS {
         let spans = spans_of(rt.alloc(), bounds)?;
         let coverage = Coverage::new(rt.alloc(), &genome, false, None);
-        check_spans(&rt, rt.alloc(), coverage, "chr1", spans.as_slice(), wanted)?;
+        let fed = ChromSpans {
+            chrom: "chr1",
+            spans: spans.as_slice(),
+        };
+        check_spans(&rt, rt.alloc(), coverage, fed, wanted)?;
     }
     Ok(())
 }

@@ -1,7 +1,8 @@
 use super::*;
 use crate::plain::plain_runs;
 use crate::tests::testing::{
-    Bounds, Row, check_failing, check_row, check_spans, expect_end, feed_kept, lines_of, spans_of,
+    Bounds, ChromSpans, Row, check_failing, check_row, check_spans, expect_end, feed_kept,
+    lines_of, spans_of,
 };
 use bt_bed::Strand;
 use bt_lines::ScriptSink;
@@ -366,7 +367,7 @@ fn feed_many(
 ) -> Result<(), Fail> {
     for start in 0..count {
         let line = format!(in alloc; "chr1\t{start}\t20000")?;
-        feed_kept(rt, merge, line.as_bytes(), 1, out, "one of many");
+        feed_kept(rt, merge, (line.as_bytes(), 1), out, "one of many");
     }
     Ok(())
 }
@@ -388,7 +389,11 @@ fn check_plain(rt: &impl Abort, alloc: Global, cases: &[Bounds]) -> Result<(), F
             let runs = plain_runs(alloc, spans.as_slice(), gap)?;
             let wanted = lines_of(alloc, "c", runs.as_slice())?;
             let merge = Merge::new(alloc, gap, MergeStrand::All);
-            check_spans(rt, alloc, merge, "c", spans.as_slice(), wanted.as_slice())?;
+            let fed = ChromSpans {
+                chrom: "c",
+                spans: spans.as_slice(),
+            };
+            check_spans(rt, alloc, merge, fed, wanted.as_slice())?;
         }
     }
     Ok(())
@@ -419,7 +424,8 @@ fn feed_runs(
     for place in 0..count.min(10_000) {
         let start = 2 * place + 1;
         let line = format!(in alloc; "chr1\t{start}\t{}\tb\t0\t-", start + 1)?;
-        feed_kept(rt, merge, line.as_bytes(), place as usize + 2, out, "a run");
+        let kept = place as usize + 2;
+        feed_kept(rt, merge, (line.as_bytes(), kept), out, "a run");
     }
     Ok(())
 }
@@ -443,7 +449,7 @@ fn many_runs_behind_an_open_one(rt: HostRuntime) -> Result<(), Fail> {
     let mut merge = Merge::new(rt.alloc(), 0, MergeStrand::Each);
     let mut out = Out::new(ScriptSink::new(rt.alloc(), 100, None));
     let open = b"chr1\t0\t99999\ta\t0\t+";
-    feed_kept(&rt, &mut merge, open, 1, &mut out, "open");
+    feed_kept(&rt, &mut merge, (open, 1), &mut out, "open");
     feed_runs(&rt, rt.alloc(), &mut merge, 1_000, &mut out)?;
     expect_end(&rt, merge, out, wanted.as_slice(), "runs in order");
     Ok(())

@@ -4,7 +4,7 @@
 ghost use Rattle.std.specs.Prelude.{◌<◌};
 
 use crate::engine::Engine;
-use crate::tests::testing::{expect_same, feed_line, genome, holds};
+use crate::tests::testing::{Fed, expect_same, feed_line, genome, holds};
 use crate::{Complement, Coverage, Merge, MergeStrand};
 use bt_bed::{ByteOrder, Record, Records, Strand};
 use bt_lines::{Fault, Input, LineReader, Out, ScriptSink, ScriptSource, Sink};
@@ -139,12 +139,17 @@ fn feed_buffered<E: Engine, K: Sink>(
 }
 
 // Two engines that have taken no record: one is fed with several records a call, the other with one.
+#[derive(Drop)]
+struct Twins<E> {
+    several: E,
+    single: E,
+}
+
 fn check_batch<E: Engine + Drop>(
     rt: &impl Abort,
     alloc: Global,
     layout: Layout,
-    mut several: E,
-    mut single: E,
+    mut twins: Twins<E>,
     name: &str,
 ) -> Result<(), Fail> {
     let text = text(alloc, layout)?;
@@ -152,12 +157,20 @@ fn check_batch<E: Engine + Drop>(
     let reader = LineReader::new(alloc, source, Input::First);
     let mut records = Records::new(alloc, reader, &ByteOrder);
     let mut out = Out::new(ScriptSink::new(alloc, 512, None));
-    let all = feed_buffered(&mut records, &mut several, &mut out);
+    let all = feed_buffered(&mut records, &mut twins.several, &mut out);
     let _ = records.into_reader().into_source();
     holds(rt, all == Ok(true), name);
     let mut wanted = Out::new(ScriptSink::new(alloc, 512, None));
-    feed_each(rt, alloc, layout, &mut single, &mut wanted)?;
-    expect_same(rt, several, out, single, wanted, name);
+    feed_each(rt, alloc, layout, &mut twins.single, &mut wanted)?;
+    let one = Fed {
+        engine: twins.several,
+        out,
+    };
+    let other = Fed {
+        engine: twins.single,
+        out: wanted,
+    };
+    expect_same(rt, one, other, name);
     Ok(())
 }
 
@@ -171,9 +184,11 @@ fn check_merge(
     requires { d < 1000 }
 {
     for layout in [Layout::Mixed, Layout::Chains, Layout::Apart] {
-        let several = Merge::new(alloc, d, strand);
-        let single = Merge::new(alloc, d, strand);
-        check_batch(rt, alloc, layout, several, single, name)?;
+        let twins = Twins {
+            several: Merge::new(alloc, d, strand),
+            single: Merge::new(alloc, d, strand),
+        };
+        check_batch(rt, alloc, layout, twins, name)?;
     }
     Ok(())
 }
@@ -275,45 +290,36 @@ fn merge_of_each_strand(rt: HostRuntime) -> Result<(), Fail> {
 #[test]
 fn complement_of_all(rt: HostRuntime) -> Result<(), Fail> {
     let genome = genome(rt.alloc(), b"chr1\t2500\nchr2\t40\n")?;
-    let several = Complement::new(&genome, false);
-    let single = Complement::new(&genome, false);
-    check_batch(
-        &rt,
-        rt.alloc(),
-        Layout::Mixed,
-        several,
-        single,
-        "complement",
-    )
+    let twins = Twins {
+        several: Complement::new(&genome, false),
+        single: Complement::new(&genome, false),
+    };
+    check_batch(&rt, rt.alloc(), Layout::Mixed, twins, "complement")
 }
 
 #[test]
 fn coverage_of_all(rt: HostRuntime) -> Result<(), Fail> {
     let genome = genome(rt.alloc(), b"chr1\t2500\nchr2\t40\n")?;
-    let several = Coverage::new(rt.alloc(), &genome, true, None);
-    let single = Coverage::new(rt.alloc(), &genome, true, None);
-    check_batch(
-        &rt,
-        rt.alloc(),
-        Layout::Mixed,
-        several,
-        single,
-        "genomecov -bga",
-    )
+    let twins = Twins {
+        several: Coverage::new(rt.alloc(), &genome, true, None),
+        single: Coverage::new(rt.alloc(), &genome, true, None),
+    };
+    check_batch(&rt, rt.alloc(), Layout::Mixed, twins, "genomecov -bga")
 }
 
 #[test]
 fn coverage_of_a_strand(rt: HostRuntime) -> Result<(), Fail> {
     let genome = genome(rt.alloc(), b"chr1\t2500\nchr2\t40\n")?;
     let minus = Some(Strand::Minus);
-    let several = Coverage::new(rt.alloc(), &genome, false, minus);
-    let single = Coverage::new(rt.alloc(), &genome, false, minus);
+    let twins = Twins {
+        several: Coverage::new(rt.alloc(), &genome, false, minus),
+        single: Coverage::new(rt.alloc(), &genome, false, minus),
+    };
     check_batch(
         &rt,
         rt.alloc(),
         Layout::Mixed,
-        several,
-        single,
+        twins,
         "genomecov -bg -strand -",
     )
 }

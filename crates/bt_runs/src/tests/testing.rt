@@ -30,12 +30,15 @@ fn same_bytes(rt: &impl Abort, given: &[u8], wanted: &[u8], name: &str) {
     assert_eq!(rt; given, wanted, "{name}");
 }
 
-// The lines that an engine is fed, beside each how many items it keeps then, the output that is written
-// with them, and that which is written at the end.
+// The line of a record, and how many items an engine keeps once it has taken it.
+pub(crate) type KeptLine<'a> = (&'a [u8], usize);
+
+// The lines that an engine is fed, the output that is written with them, and that which is written at
+// the end.
 #[derive(Clone, Copy)]
 pub(crate) struct Row<'a> {
     pub(crate) name: &'a str,
-    pub(crate) lines: &'a [(&'static [u8], usize)],
+    pub(crate) lines: &'a [KeptLine<'static>],
     pub(crate) settled: &'a [u8],
     pub(crate) left: &'a [u8],
 }
@@ -64,8 +67,7 @@ pub(crate) fn feed_line<E: Engine, K: Sink>(
 pub(crate) fn feed_kept<E: Engine, K: Sink>(
     rt: &impl Abort,
     engine: &mut E,
-    line: &[u8],
-    kept: usize,
+    (line, kept): KeptLine<'_>,
     out: &mut Out<K>,
     name: &str,
 ) {
@@ -80,8 +82,8 @@ pub(crate) fn feed_row<E: Engine, K: Sink>(
     row: &Row<'_>,
     out: &mut Out<K>,
 ) {
-    for (line, kept) in row.lines {
-        feed_kept(rt, engine, line, *kept, out, row.name);
+    for item in row.lines {
+        feed_kept(rt, engine, *item, out, row.name);
     }
 }
 
@@ -103,20 +105,22 @@ pub(crate) fn expect_end<E: Engine>(
     expect_put(rt, out, wanted, name);
 }
 
+// An engine that has taken all its records, and its output.
+pub(crate) struct Fed<E> {
+    pub(crate) engine: E,
+    pub(crate) out: Out<ScriptSink>,
+}
+
 // Lets two engines finish, which have to have written the same.
-pub(crate) fn expect_same<E: Engine>(
-    rt: &impl Abort,
-    one: E,
-    out: Out<ScriptSink>,
-    other: E,
-    mut wanted: Out<ScriptSink>,
-    name: &str,
-) {
-    same_answer(rt, other.finish(&mut wanted), Ok(()), name);
+pub(crate) fn expect_same<E: Engine>(rt: &impl Abort, one: Fed<E>, other: Fed<E>, name: &str) {
+    let Fed { engine, out } = other;
+    let mut wanted = out;
+    same_answer(rt, engine.finish(&mut wanted), Ok(()), name);
     same_answer(rt, wanted.flush(), Ok(()), name);
     let sink = wanted.into_sink();
     holds(rt, !sink.taken().is_empty(), name);
-    expect_end(rt, one, out, sink.taken(), name);
+    let Fed { engine, out } = one;
+    expect_end(rt, engine, out, sink.taken(), name);
 }
 
 // An engine that has taken no record has to keep and to write what the row says.
@@ -186,15 +190,22 @@ pub(crate) fn spans_of(alloc: Global, bounds: &[(u64, u64)]) -> Result<Vec<Plain
     Ok(spans)
 }
 
+// Spans on a chromosome.
+#[derive(Clone, Copy)]
+pub(crate) struct ChromSpans<'a> {
+    pub(crate) chrom: &'a str,
+    pub(crate) spans: &'a [PlainSpan],
+}
+
 // Feeds spans on a chromosome, and says whether they were taken.
 pub(crate) fn feed_spans<E: Engine, K: Sink>(
     alloc: Global,
     engine: &mut E,
-    chrom: &str,
-    spans: &[PlainSpan],
+    fed: ChromSpans<'_>,
     out: &mut Out<K>,
 ) -> Result<bool, AllocError> {
-    for span in spans {
+    let chrom = fed.chrom;
+    for span in fed.spans {
         let line = format!(in alloc; "{chrom}\t{}\t{}", span.start, span.stop)?;
         if feed_line(engine, line.as_bytes(), out).is_err() {
             return Ok(false);
@@ -222,13 +233,12 @@ pub(crate) fn check_spans<E: Engine + Drop>(
     rt: &impl Abort,
     alloc: Global,
     mut engine: E,
-    chrom: &str,
-    spans: &[PlainSpan],
+    fed: ChromSpans<'_>,
     wanted: &[u8],
 ) -> Result<(), Fail> {
     let mut out = Out::new(ScriptSink::new(alloc, 3, None));
-    let fed = feed_spans(alloc, &mut engine, chrom, spans, &mut out)?;
-    holds(rt, fed, "spans are taken");
+    let taken = feed_spans(alloc, &mut engine, fed, &mut out)?;
+    holds(rt, taken, "spans are taken");
     expect_end(rt, engine, out, wanted, "spans");
     Ok(())
 }

@@ -47,7 +47,7 @@ fn convert_all<S: Source, K: Sink>(
     requires fresh { IsFresh S.left S.end_told (sam_reader lines.old) }
     requires going { converter.old.fault ≡ None }
     requires block { HoldsBlock out.old.output.took out.old.output.put }
-    ensures converts { ConvertsAll S.left S.has_failed S.end_told converter.old lines.old out.old.output result
+    ensures converts { ConvertsAll S.Source converter.old lines.old out.old.output result
         lines.new out.new.output }
     ensures reads { AnswersNoRead result → HasRead S.is_read lines.old lines.new }
     ensures own_failure { IsOwnFault S.is_read lines.old (fault_kept lines.new) lines.new }

@@ -38,7 +38,7 @@ fn feed_all<S: Source, O: ChromOrder, E: Engine, K: Sink>(
     requires takes { (past : List Feature) → ArePlaced (order_in records.old) (intervals_of past)
         → AreNonEmpty (intervals_of past) → E.takes engine.old past }
     requires block { HoldsBlock out.old.output.took out.old.output.put }
-    ensures feeds { FeedsRecords (E.settled engine.old) S.left S.has_failed S.end_told
+    ensures feeds { FeedsRecords (E.settled engine.old) S.Source
         (λ past. E.is_after engine.old past engine.new) records.old out.old.output result records.new out.new.output }
     ensures reads { AnswersNoRead result → HasRead S.is_read (below records.old) (below records.new) }
     ensures own_failure { KeepsOwnFault S.is_read (below records.old) (view_of records.new) }
@@ -55,7 +55,7 @@ fn feed_buffered<S: Source, O: ChromOrder, E: Engine, K: Sink>(
     engine: &mut E,
     out: &mut Out<K>,
 ) -> Result<(), Fault>
-    ensures { FeedsBuffered S.left S.has_failed S.end_told E.takes E.is_after E.fault E.settled E.quiet
+    ensures { FeedsBuffered S.Source E.takes E.is_after E.fault E.settled E.quiet
         records.old engine.old out.old.output result records.new engine.new out.new.output }
 {
     let mut batch = records.buffered();

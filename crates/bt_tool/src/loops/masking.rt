@@ -13,6 +13,7 @@ ghost use Rattle.bt_tool.specs.inside.feed.Passed.{IsOwnFault, KeepsOwnFault};
 ghost use Rattle.bt_tool.specs.calls.run.OwnReads.{AnswersNoRead, IsOwnFailure, ReadsServe, TellsNoRead, TellsOwnReads};
 ghost use Rattle.bt_tool.specs.calls.run.Writing.{WritesBy};
 
+use crate::loops::sources::Sources;
 use bt_bed::Blocks;
 use bt_lines::{Fault, Input, LineReader, Out, Sink, Source};
 use bt_seq::{Mask, MaskHow, MaskWant};
@@ -25,9 +26,9 @@ fn fill_wanted<A: Source, B: Source, K: Sink>(
     mask: &mut Mask,
     out: &mut Out<K>,
 ) -> Result<bool, Fault>
-    ensures fills { (run : MaskRun A B) → GoesOn A.left A.has_failed A.end_told B.left B.has_failed B.end_told run
+    ensures fills { (run : MaskRun A B) → GoesOn A.Source B.Source run
         lines.old (view_of records.old) mask.old out.old.output
-        → Fills A.left A.has_failed A.end_told B.left B.has_failed B.end_told run
+        → Fills A.Source B.Source run
         lines.old (view_of records.old) mask.old result lines.new (view_of records.new) mask.new out.new.output }
     ensures reads_first { line_fault lines.old ≡ None → AnswersNoRead result → HasRead A.is_read lines.old lines.new }
     ensures reads_second { fault_kept records.old ≡ None → AnswersNoRead result → HasRead B.is_read (below records.old) (below records.new) }
@@ -58,9 +59,9 @@ fn give_buffered<A: Source, B: Source, K: Sink>(
     mask: &mut Mask,
     out: &mut Out<K>,
 ) -> Result<(), Fault>
-    ensures gives { (run : MaskRun A B) → GoesOn A.left A.has_failed A.end_told B.left B.has_failed B.end_told run
+    ensures gives { (run : MaskRun A B) → GoesOn A.Source B.Source run
         lines.old (view_of records.old) mask.old out.old.output
-        → Gives A.left A.has_failed A.end_told B.left B.has_failed B.end_told run
+        → Gives A.Source B.Source run
         lines.old (view_of records.old) mask.old result lines.new (view_of records.new) mask.new out.new.output }
     ensures reads_first { HasRead A.is_read lines.old lines.new }
     ensures reads_second { HasRead B.is_read (below records.old) (below records.new) }
@@ -86,10 +87,10 @@ fn mask_all<A: Source, B: Source, K: Sink>(
 ) -> Result<(), Fault>
     requires first { input_of lines.old ≡ Input.First }
     requires blocks { (view_of records.old).format ≡ block_format }
-    requires starts { Masks A.left A.has_failed A.end_told B.left B.has_failed B.end_told mask.old.how mask.old.full
+    requires starts { Masks A.Source B.Source mask.old.how mask.old.full
         (line_members mask.old.full (record { names = []; bases = 0 }) lines.old) (view_of records.old) out.old.output
         (line_members mask.old.full (record { names = []; bases = 0 }) lines.old) (view_of records.old) mask.old out.old.output }
-    ensures finishes { FinishesMask A.left A.has_failed A.end_told B.left B.has_failed B.end_told mask.old.how mask.old.full
+    ensures finishes { FinishesMask A.Source B.Source mask.old.how mask.old.full
         lines.old (view_of records.old) out.old.output result lines.new (view_of records.new) out.new.output }
     ensures reads_first { AnswersNoRead result → HasRead A.is_read lines.old lines.new }
     ensures reads_second { AnswersNoRead result → HasRead B.is_read (below records.old) (below records.new) }
@@ -109,25 +110,28 @@ pub(crate) fn mask<A: Source, B: Source, K: Sink>(
     alloc: Global,
     how: MaskHow,
     full: bool,
-    first: A,
-    second: B,
+    sources: Sources<A, B>,
     out: &mut Out<K>,
-) -> (Option<Fault>, A, B)
+) -> (Option<Fault>, Sources<A, B>)
     requires { HoldsBlock out.old.output.took out.old.output.put }
     ensures written { WritesBy A.left A.has_failed A.end_told B.left B.has_failed (of_maskfasta how full)
-        first (Some second) out.old.output (option_map fault_value result.0) result.1 (Some result.2) out.new.output }
-    ensures reads { TellsNoRead (option_map fault_value result.0) → ReadsServe A.is_read first result.1 × ReadsServe B.is_read second result.2 }
-    ensures own_failure { TellsOwnReads ⊥ (IsOwnFailure A.is_read first result.1)
-        (IsOwnFailure B.is_read second result.2) (option_map fault_value result.0) }
+        sources.first (Some sources.second) out.old.output (option_map fault_value result.0)
+        result.1.first (Some result.1.second) out.new.output }
+    ensures reads { TellsNoRead (option_map fault_value result.0)
+        → ReadsServe A.is_read sources.first result.1.first × ReadsServe B.is_read sources.second result.1.second }
+    ensures own_failure { TellsOwnReads ⊥ (IsOwnFailure A.is_read sources.first result.1.first)
+        (IsOwnFailure B.is_read sources.second result.1.second) (option_map fault_value result.0) }
 {
+    let Sources { first, second } = sources;
     let mut lines = LineReader::new(alloc, first, Input::First);
     let mut records = Blocks::new(alloc, LineReader::new(alloc, second, Input::Second));
     let mut mask = Mask::new(alloc, how, full);
     let masked = mask_all(&mut lines, &mut records, &mut mask, out);
     let first = lines.into_source();
     let second = records.into_reader().into_source();
+    let sources = Sources { first, second };
     match masked {
-        Ok(()) => (None, first, second),
-        Err(fault) => (Some(fault), first, second),
+        Ok(()) => (None, sources),
+        Err(fault) => (Some(fault), sources),
     }
 }

@@ -3,4 +3,5 @@
 pub(crate) mod converting;
 pub(crate) mod driving;
 pub(crate) mod masking;
+pub(crate) mod sources;
 pub(crate) mod sweeping;

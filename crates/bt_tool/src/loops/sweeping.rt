@@ -12,15 +12,25 @@ ghost use Rattle.bt_bed.specs.model.order.Sorting.{sorting_of};
 ghost use Rattle.bt_sweep.specs.calls.SweepView.{order_of, state_of};
 ghost use Rattle.bt_tool.specs.model.report.Behaviour.{of_intersect};
 ghost use Rattle.bt_tool.specs.inside.feed.Passed.{HasTaken, KeepsOwnFault};
-ghost use Rattle.bt_tool.specs.inside.pair.SweepLoop.{FinishesBoth, ReadsRest, Sweeps, SweepsOrStops};
+ghost use Rattle.bt_tool.specs.inside.pair.SweepLoop.{FinishesBoth, ReadsRest, Sweeps, SweepsOrStops, config_of};
 ghost use Rattle.bt_tool.specs.inside.pair.SweepSteps.{AdvancesBoth, FillsWanted};
 ghost use Rattle.bt_tool.specs.calls.run.OwnReads.{AnswersNoRead, IsOwnFailure, ReadsServe, TellsNoRead, TellsOwnReads};
 ghost use Rattle.bt_tool.specs.calls.run.Writing.{WritesBy};
 
+use crate::loops::sources::Sources;
 use bt_bed::{ChromOrder, Records};
 use bt_lines::{Fault, Input, LineReader, Out, Sink, Source};
 use bt_sweep::{Held, HeldIndex, HitRule, Shape, Sweep, Want};
 use std::alloc::Global;
+
+/// What a sweep writes, by which rule, and how many records of the second input it may hold.
+#[derive(Clone, Copy, Debug)]
+pub(crate) struct SweepConfig {
+    pub(crate) shape: Shape,
+    pub(crate) rule: HitRule,
+    // `None` if there is no limit.
+    pub(crate) limit: Option<u64>,
+}
 
 // Makes a record of the input that the sweep wants buffered, or gives it that input's end. It returns false once nothing
 // is wanted.
@@ -30,7 +40,7 @@ fn fill_wanted<A: Source, B: Source, O: ChromOrder, H: Held, K: Sink>(
     sweep: &mut Sweep<'_, H, O>,
     out: &mut Out<K>,
 ) -> Result<bool, Fault>
-    ensures fills { FillsWanted A.left A.has_failed A.end_told A.is_read B.left B.has_failed B.end_told B.is_read (order_of sweep.old)
+    ensures fills { FillsWanted A.Source B.Source (order_of sweep.old)
         first.old second.old (state_of sweep.old) out.old.output result first.new second.new (state_of sweep.new) out.new.output }
     ensures order { order_of sweep.new ≡ order_of sweep.old }
 {
@@ -62,7 +72,7 @@ fn advance_both<A: Source, B: Source, O: ChromOrder, H: Held, K: Sink>(
 ) -> Result<(), Fault>
     requires order { order_of sweep.old ≡ order_in first.old }
     requires second { order_of sweep.old ≡ order_in second.old }
-    ensures advances { AdvancesBoth A.left A.has_failed A.end_told A.is_read B.left B.has_failed B.end_told B.is_read (order_of sweep.old)
+    ensures advances { AdvancesBoth A.Source B.Source (order_of sweep.old)
         first.old second.old (state_of sweep.old) out.old.output result first.new second.new (state_of sweep.new) out.new.output }
     ensures order { order_of sweep.new ≡ order_of sweep.old }
 {
@@ -88,10 +98,10 @@ fn sweep_all<A: Source, B: Source, O: ChromOrder, H: Held, K: Sink>(
     requires sweep { order_of sweep.old ≡ order_in first.old }
     requires sorted { (view_of first.old).format ≡ bed_format (sorting_of (order_in first.old)) }
     requires sorted_second { (view_of second.old).format ≡ bed_format (sorting_of (order_in second.old)) }
-    requires starts { Sweeps A.left A.has_failed A.end_told B.left B.has_failed B.end_told (order_in first.old)
-        (state_of sweep.old).shape (state_of sweep.old).rule (state_of sweep.old).limit first.old second.old out.old.output first.old second.old (state_of sweep.old) out.old.output }
-    ensures sweeps { SweepsOrStops A.left A.has_failed A.end_told B.left B.has_failed B.end_told (order_in first.old)
-        (state_of sweep.old).shape (state_of sweep.old).rule (state_of sweep.old).limit first.old second.old out.old.output result first.new second.new (state_of sweep.new) out.new.output }
+    requires starts { Sweeps A.Source B.Source (order_in first.old)
+        (config_of (state_of sweep.old)) first.old second.old out.old.output first.old second.old (state_of sweep.old) out.old.output }
+    ensures sweeps { SweepsOrStops A.Source B.Source (order_in first.old)
+        (config_of (state_of sweep.old)) first.old second.old out.old.output result first.new second.new (state_of sweep.new) out.new.output }
     ensures reads_first { AnswersNoRead result → HasRead A.is_read (below first.old) (below first.new) }
     ensures reads_second { AnswersNoRead result → HasRead B.is_read (below second.old) (below second.new) }
     ensures own_failure { KeepsOwnFault A.is_read (below first.old) (view_of first.new) }
@@ -105,7 +115,7 @@ fn sweep_all<A: Source, B: Source, O: ChromOrder, H: Held, K: Sink>(
 
 // Consumes all records that are buffered.
 fn consume_buffered<B: Source, O: ChromOrder>(second: &mut Records<'_, B, O>)
-    ensures takes { HasTaken B.left B.has_failed B.end_told (view_of second.old) (buffered_in second.old) (view_of second.new) }
+    ensures takes { HasTaken B.Source (view_of second.old) (buffered_in second.old) (view_of second.new) }
     ensures order { order_in second.new ≡ order_in second.old }
 {
     let mut seconds = second.buffered();
@@ -116,7 +126,7 @@ fn consume_buffered<B: Source, O: ChromOrder>(second: &mut Records<'_, B, O>)
 
 // Reads an input to its end, so that a fault after the last record that was wanted is reported.
 fn check_rest<B: Source, O: ChromOrder>(second: &mut Records<'_, B, O>) -> Result<(), Fault>
-    ensures reads { ReadsRest B.left B.has_failed B.end_told (IsBedKind (order_in second.old)) (view_of second.old) result (view_of second.new) }
+    ensures reads { ReadsRest B.Source (IsBedKind (order_in second.old)) (view_of second.old) result (view_of second.new) }
     ensures rest { fault_kept second.old ≡ None → AnswersNoRead result → HasRead B.is_read (below second.old) (below second.new) }
     ensures own_failure { fault_kept second.old ≡ None → KeepsOwnFault B.is_read (below second.old) (view_of second.new) }
 {
@@ -138,10 +148,10 @@ fn read_both<A: Source, B: Source, O: ChromOrder, H: Held, K: Sink>(
     requires sweep { order_of sweep.old ≡ order_in first.old }
     requires sorted { (view_of first.old).format ≡ bed_format (sorting_of (order_in first.old)) }
     requires sorted_second { (view_of second.old).format ≡ bed_format (sorting_of (order_in second.old)) }
-    requires starts { Sweeps A.left A.has_failed A.end_told B.left B.has_failed B.end_told (order_in first.old)
-        (state_of sweep.old).shape (state_of sweep.old).rule (state_of sweep.old).limit first.old second.old out.old.output first.old second.old (state_of sweep.old) out.old.output }
-    ensures finishes { FinishesBoth A.left A.has_failed A.end_told B.left B.has_failed B.end_told (order_in first.old)
-        (state_of sweep.old).shape (state_of sweep.old).rule (state_of sweep.old).limit first.old second.old out.old.output result first.new second.new out.new.output }
+    requires starts { Sweeps A.Source B.Source (order_in first.old)
+        (config_of (state_of sweep.old)) first.old second.old out.old.output first.old second.old (state_of sweep.old) out.old.output }
+    ensures finishes { FinishesBoth A.Source B.Source (order_in first.old)
+        (config_of (state_of sweep.old)) first.old second.old out.old.output result first.new second.new out.new.output }
     ensures reads_first { AnswersNoRead result → HasRead A.is_read (below first.old) (below first.new) }
     ensures reads_second { AnswersNoRead result → HasRead B.is_read (below second.old) (below second.new) }
     ensures own_failure { KeepsOwnFault A.is_read (below first.old) (view_of first.new) }
@@ -151,37 +161,45 @@ fn read_both<A: Source, B: Source, O: ChromOrder, H: Held, K: Sink>(
     check_rest(second)
 }
 
-/// Sweeps two inputs, in an order of their chromosomes, and writes the lines of this shape by this rule of
-/// what hits a record. If there is a limit, no more records of the second are held than it allows. It
-/// gives the sources back, and the fault that the run ends with, if there is one. The second input is read
+/// Sweeps two inputs, in an order of their chromosomes, and writes the lines of a shape by a rule of what
+/// hits a record. If there is a limit, no more records of the second are held than it allows. It gives
+/// the sources back, and the fault that the run ends with, if there is one. The second input is read
 /// only as far as the records of the first need, and once those are all written, to its end.
 pub(crate) fn sweep<A: Source, B: Source, O: ChromOrder, K: Sink>(
     alloc: Global,
     order: &O,
-    shape: Shape,
-    rule: HitRule,
-    limit: Option<u64>,
-    first: A,
-    second: B,
+    config: SweepConfig,
+    sources: Sources<A, B>,
     out: &mut Out<K>,
-) -> (Option<Fault>, A, B)
+) -> (Option<Fault>, Sources<A, B>)
     requires total { IsTotal (O.order order.now) }
     requires block { HoldsBlock out.old.output.took out.old.output.put }
     ensures written { WritesBy A.left A.has_failed A.end_told B.left B.has_failed
-        (of_intersect (O.order order.now) shape rule limit)
-        first (Some second) out.old.output (option_map fault_value result.0) result.1 (Some result.2) out.new.output }
-    ensures reads { TellsNoRead (option_map fault_value result.0) → ReadsServe A.is_read first result.1 × ReadsServe B.is_read second result.2 }
-    ensures own_failure { TellsOwnReads ⊥ (IsOwnFailure A.is_read first result.1)
-        (IsOwnFailure B.is_read second result.2) (option_map fault_value result.0) }
+        (of_intersect (O.order order.now) config.shape config.rule config.limit)
+        sources.first (Some sources.second) out.old.output (option_map fault_value result.0)
+        result.1.first (Some result.1.second) out.new.output }
+    ensures reads { TellsNoRead (option_map fault_value result.0)
+        → ReadsServe A.is_read sources.first result.1.first × ReadsServe B.is_read sources.second result.1.second }
+    ensures own_failure { TellsOwnReads ⊥ (IsOwnFailure A.is_read sources.first result.1.first)
+        (IsOwnFailure B.is_read sources.second result.1.second) (option_map fault_value result.0) }
 {
+    let Sources { first, second } = sources;
     let mut firsts = Records::new(alloc, LineReader::new(alloc, first, Input::First), order);
     let mut seconds = Records::new(alloc, LineReader::new(alloc, second, Input::Second), order);
-    let mut sweep = Sweep::new(alloc, HeldIndex::new(alloc), shape, rule, limit, order);
+    let mut sweep = Sweep::new(
+        alloc,
+        HeldIndex::new(alloc),
+        config.shape,
+        config.rule,
+        config.limit,
+        order,
+    );
     let swept = read_both(&mut firsts, &mut seconds, &mut sweep, out);
     let first = firsts.into_reader().into_source();
     let second = seconds.into_reader().into_source();
+    let sources = Sources { first, second };
     match swept {
-        Ok(()) => (None, first, second),
-        Err(fault) => (Some(fault), first, second),
+        Ok(()) => (None, sources),
+        Err(fault) => (Some(fault), sources),
     }
 }

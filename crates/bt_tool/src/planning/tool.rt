@@ -10,7 +10,7 @@ use crate::options::table::{
 
 /// A tool, without what its options say.
 #[derive(Clone, Copy, Debug, PartialEq, Eq)]
-pub enum Tool {
+pub(crate) enum Tool {
     Merge,
     Complement,
     Intersect,
@@ -38,7 +38,7 @@ impl Tool {
     }
 
     /// The word that names the tool.
-    pub fn name(self) -> &'static str
+    pub(crate) fn name(self) -> &'static str
         ensures { result.now ≡ tool_name self }
     {
         match self {

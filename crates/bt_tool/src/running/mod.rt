@@ -23,7 +23,8 @@ ghost use Rattle.bt_tool.specs.model.report.Written.{complement_written, coverag
 use crate::loops::converting::convert;
 use crate::loops::driving::drive;
 use crate::loops::masking::mask;
-use crate::loops::sweeping::sweep;
+use crate::loops::sources::Sources;
+use crate::loops::sweeping::{SweepConfig, sweep};
 use crate::planning::plan_type::{Command, Plan};
 use crate::running::flushing::flushed;
 use crate::running::outcome::Outcome;
@@ -31,7 +32,7 @@ use bt_bed::{ByteOrder, Genome, Strand};
 use bt_lines::{Fault, Input, LineReader, Out, Sink, Source};
 use bt_runs::{Complement, Coverage, Merge, MergeStrand};
 use bt_seq::MaskHow;
-use bt_sweep::{HitRule, Shape};
+use bt_sweep::Shape;
 use std::alloc::Global;
 
 /// How a run ended, and the devices that it was given: `genome` and `second` are `Some` exactly if
@@ -76,15 +77,10 @@ pub fn run<G: Source, A: Source, B: Source, K: Sink>(
 {
     let mut out = Out::new(out);
     let (chromosomes, genome) = read_genome(alloc, genome);
-    let (fault, first, second) = write_output(
-        alloc,
-        plan.command,
-        chromosomes,
-        first,
-        second,
-        &mut out,
-    );
+    let sources = Sources { first, second };
+    let (fault, sources) = write_output(alloc, plan.command, chromosomes, sources, &mut out);
     let fault = flushed(fault, &mut out);
+    let Sources { first, second } = sources;
     Ended {
         outcome: Outcome { fault },
         genome,
@@ -118,94 +114,116 @@ fn read_genome<G: Source>(
     }
 }
 
+// What every command goes by: the allocator, and the genome file, if there is one.
+#[derive(Clone, Copy)]
+struct Setup<'g> {
+    alloc: Global,
+    genome: &'g Option<Genome>,
+}
+
 // Writes the output by the chromosomes of the genome file, if there is one. If they couldn't be read the
 // run ends with that fault, and the other inputs aren't touched.
 fn write_output<A: Source, B: Source, K: Sink>(
     alloc: Global,
     command: Command,
     chromosomes: Result<Option<Genome>, Fault>,
-    first: A,
-    second: Option<B>,
+    sources: Sources<A, Option<B>>,
     out: &mut Out<K>,
-) -> (Option<Fault>, A, Option<B>)
+) -> (Option<Fault>, Sources<A, Option<B>>)
     requires limits { IsTrue (is_within_limits command) }
     requires genome { MatchResult chromosomes
         (λ table. IsNamedBy (table_of (tool_of command)) (table_of (tool_of command)).genome table) (λ _. ⊤) }
-    requires second { IsNamedBy (table_of (tool_of command)) (table_of (tool_of command)).second second }
+    requires second { IsNamedBy (table_of (tool_of command)) (table_of (tool_of command)).second sources.second }
     requires distinct { MatchResult chromosomes
         (λ table. IfSome table (λ table. AreDistinct (names_of table))) (λ _. ⊤) }
     requires block { HoldsBlock out.old.output.took out.old.output.put }
-    ensures written { WritesOutput A.left A.has_failed A.end_told B.left B.has_failed command chromosomes first second
-        out.old.output (option_map fault_value result.0) result.1 result.2 out.new.output }
-    ensures second { is_some result.2 ≡ is_some second }
+    ensures written { WritesOutput A.left A.has_failed A.end_told B.left B.has_failed command chromosomes sources.first sources.second
+        out.old.output (option_map fault_value result.0) result.1.first result.1.second out.new.output }
+    ensures second { is_some result.1.second ≡ is_some sources.second }
     ensures reads { TellsNoRead (option_map fault_value result.0)
-        → ReadsServe A.is_read first result.1 × ReadsServeIf B.is_read second result.2 }
+        → ReadsServe A.is_read sources.first result.1.first × ReadsServeIf B.is_read sources.second result.1.second }
     ensures own_failure { MatchResult chromosomes (λ _. TellsOwnReads ⊥
-        (IsOwnFailure A.is_read first result.1)
-        (IsOwnFailureIf B.is_read second result.2) (option_map fault_value result.0)) (λ _. ⊤) }
+        (IsOwnFailure A.is_read sources.first result.1.first)
+        (IsOwnFailureIf B.is_read sources.second result.1.second) (option_map fault_value result.0)) (λ _. ⊤) }
 {
     match chromosomes {
-        Ok(table) => write_records(alloc, command, &table, first, second, out),
-        Err(fault) => (Some(fault), first, second),
+        Ok(table) => {
+            let setup = Setup {
+                alloc,
+                genome: &table,
+            };
+            write_records(&setup, command, sources, out)
+        }
+        Err(fault) => (Some(fault), sources),
     }
 }
 
 // Writes what the inputs make a command write, by the genome file, if there is one. It gives the sources
 // back, and the fault that the run ends with, if there is one.
 fn write_records<A: Source, B: Source, K: Sink>(
-    alloc: Global,
+    setup: &Setup<'_>,
     command: Command,
-    genome: &Option<Genome>,
-    first: A,
-    second: Option<B>,
+    sources: Sources<A, Option<B>>,
     out: &mut Out<K>,
-) -> (Option<Fault>, A, Option<B>)
+) -> (Option<Fault>, Sources<A, Option<B>>)
     requires limits { IsTrue (is_within_limits command) }
-    requires genome { IsNamedBy (table_of (tool_of command)) (table_of (tool_of command)).genome genome.now }
-    requires second { IsNamedBy (table_of (tool_of command)) (table_of (tool_of command)).second second }
-    requires distinct { IfSome genome.now (λ table. AreDistinct (names_of table)) }
+    requires genome { IsNamedBy (table_of (tool_of command)) (table_of (tool_of command)).genome setup.now.genome.now }
+    requires second { IsNamedBy (table_of (tool_of command)) (table_of (tool_of command)).second sources.second }
+    requires distinct { IfSome setup.now.genome.now (λ table. AreDistinct (names_of table)) }
     requires block { HoldsBlock out.old.output.took out.old.output.put }
     ensures written { WritesBy A.left A.has_failed A.end_told B.left B.has_failed
-        (behaviour_of command (option_map entries genome.now))
-        first second out.old.output (option_map fault_value result.0) result.1 result.2 out.new.output }
-    ensures second { is_some result.2 ≡ is_some second }
+        (behaviour_of command (option_map entries setup.now.genome.now))
+        sources.first sources.second out.old.output (option_map fault_value result.0) result.1.first result.1.second out.new.output }
+    ensures second { is_some result.1.second ≡ is_some sources.second }
     ensures reads { TellsNoRead (option_map fault_value result.0)
-        → ReadsServe A.is_read first result.1 × ReadsServeIf B.is_read second result.2 }
-    ensures own_failure { TellsOwnReads ⊥ (IsOwnFailure A.is_read first result.1)
-        (IsOwnFailureIf B.is_read second result.2) (option_map fault_value result.0) }
+        → ReadsServe A.is_read sources.first result.1.first × ReadsServeIf B.is_read sources.second result.1.second }
+    ensures own_failure { TellsOwnReads ⊥ (IsOwnFailure A.is_read sources.first result.1.first)
+        (IsOwnFailureIf B.is_read sources.second result.1.second) (option_map fault_value result.0) }
 {
+    let Sources { first, second } = sources;
     match command {
         Command::Merge { d, strand } => {
-            let (fault, first) = merge(alloc, genome, d, strand, first, out);
-            (fault, first, second)
+            let (fault, first) = merge(setup, d, strand, first, out);
+            (fault, Sources { first, second })
         }
         Command::Complement { limit } => {
-            let (fault, first) = complement(alloc, genome, limit, first, out);
-            (fault, first, second)
+            let (fault, first) = complement(setup, limit, first, out);
+            (fault, Sources { first, second })
         }
         Command::Coverage { zeros, strand } => {
-            let (fault, first) = cover(alloc, genome, zeros, strand, first, out);
-            (fault, first, second)
+            let (fault, first) = cover(setup, zeros, strand, first, out);
+            (fault, Sources { first, second })
         }
-        Command::Intersect { shape, rule, held } => {
-            sweep_both(alloc, genome, shape, rule, held, first, second, out)
+        Command::Intersect {
+            shape,
+            rule,
+            held: limit,
+        } => {
+            let config = SweepConfig { shape, rule, limit };
+            sweep_both(setup, config, Sources { first, second }, out)
         }
-        Command::Subtract { whole, rule, held } => {
+        Command::Subtract {
+            whole,
+            rule,
+            held: limit,
+        } => {
             let shape = shape_left(whole);
-            sweep_both(alloc, genome, shape, rule, held, first, second, out)
+            let config = SweepConfig { shape, rule, limit };
+            sweep_both(setup, config, Sources { first, second }, out)
         }
         Command::BamToBed { split, cigar } => {
-            let (fault, first) = convert(alloc, split, cigar, first, out);
-            (fault, first, second)
+            let (fault, first) = convert(setup.alloc, split, cigar, first, out);
+            (fault, Sources { first, second })
         }
-        Command::MaskFasta { how, full } => { mask_both(alloc, how, full, first, second, out) }
+        Command::MaskFasta { how, full } => {
+            mask_both(setup.alloc, how, full, Sources { first, second }, out)
+        }
     }
 }
 
 // Merges the records of an input, in the order of the genome file, or of the names' bytes without one.
 fn merge<A: Source, K: Sink>(
-    alloc: Global,
-    genome: &Option<Genome>,
+    setup: &Setup<'_>,
     d: u64,
     strand: MergeStrand,
     first: A,
@@ -213,64 +231,66 @@ fn merge<A: Source, K: Sink>(
 ) -> (Option<Fault>, A)
     requires limit { d ≤ max_number }
     requires block { HoldsBlock out.old.output.took out.old.output.put }
-    ensures written { WritesRecords A.left A.has_failed (merge_written (order_of (option_map entries genome.now)) d strand)
-        (order_of (option_map entries genome.now)) first out.old.output (option_map fault_value result.0) result.1 out.new.output }
+    ensures written { WritesRecords A.left A.has_failed (merge_written (order_of (option_map entries setup.now.genome.now)) d strand)
+        (order_of (option_map entries setup.now.genome.now)) first out.old.output (option_map fault_value result.0) result.1 out.new.output }
     ensures reads { TellsNoRead (option_map fault_value result.0) → ReadsServe A.is_read first result.1 }
     ensures own_failure { TellsOwnReads ⊥ (IsOwnFailure A.is_read first result.1) ⊥
         (option_map fault_value result.0) }
 {
-    let engine = Merge::new(alloc, d, strand);
-    match genome {
-        Some(genome) => drive(alloc, genome, engine, first, out),
-        None => drive(alloc, &ByteOrder, engine, first, out),
+    let engine = Merge::new(setup.alloc, d, strand);
+    match setup.genome {
+        Some(genome) => drive(setup.alloc, genome, engine, first, out),
+        None => drive(setup.alloc, &ByteOrder, engine, first, out),
     }
 }
 
 // Writes the gaps between the records of an input.
 fn complement<A: Source, K: Sink>(
-    alloc: Global,
-    genome: &Option<Genome>,
+    setup: &Setup<'_>,
     limit: bool,
     first: A,
     out: &mut Out<K>,
 ) -> (Option<Fault>, A)
-    requires genome { IsSome genome.now }
-    requires distinct { IfSome genome.now (λ table. AreDistinct (names_of table)) }
+    requires genome { IsSome setup.now.genome.now }
+    requires distinct { IfSome setup.now.genome.now (λ table. AreDistinct (names_of table)) }
     requires block { HoldsBlock out.old.output.took out.old.output.put }
     ensures written { WritesRecords A.left A.has_failed
-        (complement_written (entries_in (option_map entries genome.now)) limit)
-        (order_of (option_map entries genome.now)) first out.old.output (option_map fault_value result.0) result.1 out.new.output }
+        (complement_written (entries_in (option_map entries setup.now.genome.now)) limit)
+        (order_of (option_map entries setup.now.genome.now)) first out.old.output (option_map fault_value result.0) result.1 out.new.output }
     ensures reads { TellsNoRead (option_map fault_value result.0) → ReadsServe A.is_read first result.1 }
     ensures own_failure { TellsOwnReads ⊥ (IsOwnFailure A.is_read first result.1) ⊥
         (option_map fault_value result.0) }
 {
-    let Some(genome) = genome else { unreachable!() };
+    let Some(genome) = setup.genome else {
+        unreachable!()
+    };
     let engine = Complement::new(genome, limit);
-    drive(alloc, genome, engine, first, out)
+    drive(setup.alloc, genome, engine, first, out)
 }
 
 // Writes the intervals of equal depth of the records of an input.
 fn cover<A: Source, K: Sink>(
-    alloc: Global,
-    genome: &Option<Genome>,
+    setup: &Setup<'_>,
     zeros: bool,
     strand: Option<Strand>,
     first: A,
     out: &mut Out<K>,
 ) -> (Option<Fault>, A)
-    requires genome { IsSome genome.now }
-    requires distinct { IfSome genome.now (λ table. AreDistinct (names_of table)) }
+    requires genome { IsSome setup.now.genome.now }
+    requires distinct { IfSome setup.now.genome.now (λ table. AreDistinct (names_of table)) }
     requires block { HoldsBlock out.old.output.took out.old.output.put }
     ensures written { WritesRecords A.left A.has_failed
-        (coverage_written (entries_in (option_map entries genome.now)) zeros strand)
-        (order_of (option_map entries genome.now)) first out.old.output (option_map fault_value result.0) result.1 out.new.output }
+        (coverage_written (entries_in (option_map entries setup.now.genome.now)) zeros strand)
+        (order_of (option_map entries setup.now.genome.now)) first out.old.output (option_map fault_value result.0) result.1 out.new.output }
     ensures reads { TellsNoRead (option_map fault_value result.0) → ReadsServe A.is_read first result.1 }
     ensures own_failure { TellsOwnReads ⊥ (IsOwnFailure A.is_read first result.1) ⊥
         (option_map fault_value result.0) }
 {
-    let Some(genome) = genome else { unreachable!() };
-    let engine = Coverage::new(alloc, genome, zeros, strand);
-    drive(alloc, genome, engine, first, out)
+    let Some(genome) = setup.genome else {
+        unreachable!()
+    };
+    let engine = Coverage::new(setup.alloc, genome, zeros, strand);
+    drive(setup.alloc, genome, engine, first, out)
 }
 
 // The shape of what is left of a record: its pieces, or all of it.
@@ -283,32 +303,32 @@ fn shape_left(whole: bool) -> Shape
 // Sweeps the two inputs of intersect, or of subtract in its shapes, both in the order of the genome file,
 // or of the names' bytes without one.
 fn sweep_both<A: Source, B: Source, K: Sink>(
-    alloc: Global,
-    genome: &Option<Genome>,
-    shape: Shape,
-    rule: HitRule,
-    limit: Option<u64>,
-    first: A,
-    second: Option<B>,
+    setup: &Setup<'_>,
+    config: SweepConfig,
+    sources: Sources<A, Option<B>>,
     out: &mut Out<K>,
-) -> (Option<Fault>, A, Option<B>)
-    requires second { IsSome second }
+) -> (Option<Fault>, Sources<A, Option<B>>)
+    requires second { IsSome sources.second }
     requires block { HoldsBlock out.old.output.took out.old.output.put }
     ensures written { WritesBy A.left A.has_failed A.end_told B.left B.has_failed
-        (of_intersect (order_of (option_map entries genome.now)) shape rule limit)
-        first second out.old.output (option_map fault_value result.0) result.1 result.2 out.new.output }
-    ensures second { is_some result.2 ≡ is_some second }
+        (of_intersect (order_of (option_map entries setup.now.genome.now)) config.shape config.rule config.limit)
+        sources.first sources.second out.old.output (option_map fault_value result.0) result.1.first result.1.second out.new.output }
+    ensures second { is_some result.1.second ≡ is_some sources.second }
     ensures reads { TellsNoRead (option_map fault_value result.0)
-        → ReadsServe A.is_read first result.1 × ReadsServeIf B.is_read second result.2 }
-    ensures own_failure { TellsOwnReads ⊥ (IsOwnFailure A.is_read first result.1)
-        (IsOwnFailureIf B.is_read second result.2) (option_map fault_value result.0) }
+        → ReadsServe A.is_read sources.first result.1.first × ReadsServeIf B.is_read sources.second result.1.second }
+    ensures own_failure { TellsOwnReads ⊥ (IsOwnFailure A.is_read sources.first result.1.first)
+        (IsOwnFailureIf B.is_read sources.second result.1.second) (option_map fault_value result.0) }
 {
+    let Sources { first, second } = sources;
     let Some(second) = second else { unreachable!() };
-    let (fault, first, second) = match genome {
-        Some(genome) => sweep(alloc, genome, shape, rule, limit, first, second, out),
-        None => sweep(alloc, &ByteOrder, shape, rule, limit, first, second, out),
+    let sources = Sources { first, second };
+    let (fault, sources) = match setup.genome {
+        Some(genome) => sweep(setup.alloc, genome, config, sources, out),
+        None => sweep(setup.alloc, &ByteOrder, config, sources, out),
     };
-    (fault, first, Some(second))
+    let Sources { first, second } = sources;
+    let second = Some(second);
+    (fault, Sources { first, second })
 }
 
 // Masks the lines of the first input by the records of the second.
@@ -316,21 +336,23 @@ fn mask_both<A: Source, B: Source, K: Sink>(
     alloc: Global,
     how: MaskHow,
     full: bool,
-    first: A,
-    second: Option<B>,
+    sources: Sources<A, Option<B>>,
     out: &mut Out<K>,
-) -> (Option<Fault>, A, Option<B>)
-    requires second { IsSome second }
+) -> (Option<Fault>, Sources<A, Option<B>>)
+    requires second { IsSome sources.second }
     requires block { HoldsBlock out.old.output.took out.old.output.put }
     ensures written { WritesBy A.left A.has_failed A.end_told B.left B.has_failed (of_maskfasta how full)
-        first second out.old.output (option_map fault_value result.0) result.1 result.2 out.new.output }
-    ensures second { is_some result.2 ≡ is_some second }
+        sources.first sources.second out.old.output (option_map fault_value result.0) result.1.first result.1.second out.new.output }
+    ensures second { is_some result.1.second ≡ is_some sources.second }
     ensures reads { TellsNoRead (option_map fault_value result.0)
-        → ReadsServe A.is_read first result.1 × ReadsServeIf B.is_read second result.2 }
-    ensures own_failure { TellsOwnReads ⊥ (IsOwnFailure A.is_read first result.1)
-        (IsOwnFailureIf B.is_read second result.2) (option_map fault_value result.0) }
+        → ReadsServe A.is_read sources.first result.1.first × ReadsServeIf B.is_read sources.second result.1.second }
+    ensures own_failure { TellsOwnReads ⊥ (IsOwnFailure A.is_read sources.first result.1.first)
+        (IsOwnFailureIf B.is_read sources.second result.1.second) (option_map fault_value result.0) }
 {
+    let Sources { first, second } = sources;
     let Some(second) = second else { unreachable!() };
-    let (fault, first, second) = mask(alloc, how, full, first, second, out);
-    (fault, first, Some(second))
+    let (fault, sources) = mask(alloc, how, full, Sources { first, second }, out);
+    let Sources { first, second } = sources;
+    let second = Some(second);
+    (fault, Sources { first, second })
 }

@@ -5,8 +5,8 @@ ghost use Rattle.std.specs.Prelude.{None, true};
 use self::runs::{BACK_RUN, Cut, MERGE, ONE_INPUT, Row, TOUCHING, TOUCHING_RUN};
 use self::two_inputs::{FAULTY_RUN, HIT, MASKED, SWEPT};
 use crate::tests::{
-    Answer, GENOME, Script, expect, expect_size, failing_by, run_both, source_if, source_of,
-    strings, whole,
+    Answer, Devices, GENOME, Script, expect, expect_size, failing_by, run_both, source_if,
+    source_of, strings, whole,
 };
 use crate::{plan, run};
 use bt_lines::{DeviceFailed, Input, Sink};
@@ -37,14 +37,13 @@ fn run_row(
     step: usize,
     out: Script,
 ) -> Result<Answer, Fail> {
-    run_both(
-        alloc,
-        row.words,
-        (row.genome, script_for(Input::Genome, cut, step)),
-        (row.first, script_for(Input::First, cut, step)),
-        (row.second, script_for(Input::Second, cut, step)),
+    let devices = Devices {
+        genome: (row.genome, script_for(Input::Genome, cut, step)),
+        first: (row.first, script_for(Input::First, cut, step)),
+        second: (row.second, script_for(Input::Second, cut, step)),
         out,
-    )
+    };
+    run_both(alloc, row.words, devices)
 }
 
 // What is written and reported when reading this input fails after this many complete lines.

@@ -321,19 +321,38 @@ pub(crate) fn run_words(
     first: (&[u8], Script),
     out: Script,
 ) -> Result<Answer, Fail> {
-    run_both(alloc, words, genome, first, (b"", whole(1)), out)
+    let second = (b"".as_slice(), whole(1));
+    let devices = Devices {
+        genome,
+        first,
+        second,
+        out,
+    };
+    run_both(alloc, words, devices)
+}
+
+// The bytes of each input and how they are read, and how the output is written.
+#[derive(Clone, Copy)]
+pub(crate) struct Devices<'a> {
+    pub(crate) genome: (&'a [u8], Script),
+    pub(crate) first: (&'a [u8], Script),
+    pub(crate) second: (&'a [u8], Script),
+    pub(crate) out: Script,
 }
 
 // The same for one of two inputs.
 pub(crate) fn run_both(
     alloc: Global,
     words: &[&str],
-    genome: (&[u8], Script),
-    first: (&[u8], Script),
-    second: (&[u8], Script),
-    out: Script,
+    devices: Devices<'_>,
 ) -> Result<Answer, Fail> {
     let words = strings(alloc, words)?;
+    let Devices {
+        genome,
+        first,
+        second,
+        out,
+    } = devices;
     let plan = plan(alloc, words.as_slice()).ok().ok_or("a plan")?;
     let ended = run(
         alloc,
@@ -405,14 +424,13 @@ fn check_pair(
 ) -> Result<(), Fail> {
     let script = whole(step.max(1));
     let words = with_options(alloc, command, case.options)?;
-    let answer = run_both(
-        alloc,
-        words.as_slice(),
-        (GENOME, script),
-        (case.first, script),
-        (case.second, script),
-        script,
-    )?;
+    let devices = Devices {
+        genome: (GENOME, script),
+        first: (case.first, script),
+        second: (case.second, script),
+        out: script,
+    };
+    let answer = run_both(alloc, words.as_slice(), devices)?;
     expect(rt, &answer, case.output, case.line, case.name);
     Ok(())
 }

@@ -1,4 +1,4 @@
-use crate::tests::{Pair, check_pairs, expect, run_both, whole};
+use crate::tests::{Devices, Pair, check_pairs, expect, run_both, whole};
 use std::test::Fail;
 
 // The words of runs without a genome file.
@@ -233,14 +233,13 @@ fn worked_cases(rt: HostRuntime) -> Result<(), Fail> {
 #[test]
 fn a_genome_file_decides_where_it_is_named(rt: HostRuntime) -> Result<(), Fail> {
     let words = ["intersect", "-a", "a.bed", "-b", "b.bed", "-g", "g.txt"];
-    let answer = run_both(
-        rt.alloc(),
-        &words,
-        (b"chr2\t50\nchr10\t50\n", whole(7)),
-        (b"chr2\t0\t5\n", whole(7)),
-        (b"chr10\t0\t9\nchr2\t2\t9\n", whole(7)),
-        whole(7),
-    )?;
+    let devices = Devices {
+        genome: (b"chr2\t50\nchr10\t50\n", whole(7)),
+        first: (b"chr2\t0\t5\n", whole(7)),
+        second: (b"chr10\t0\t9\nchr2\t2\t9\n", whole(7)),
+        out: whole(7),
+    };
+    let answer = run_both(rt.alloc(), &words, devices)?;
     let line = b"bedtools intersect: b.bed:2: record is out of order\n";
     expect(&rt, &answer, b"", line, "chr10 behind chr2");
     Ok(())

@@ -10,7 +10,7 @@ returns-clause-written g c = rw c.in-Some.is c.mask-fault.ensures.written
 pub returns-clause-own_failure : goal.returns-clause-own_failure
 returns-clause-own_failure g c =
     let masked = c.mask-fault in
-    subst (λ second. TellsOwnReads ⊥ (IsOwnFailure g.A.Source.is_read c.args.first masked.result.1) (IsOwnFailureIf g.B.Source.is_read second (Some masked.result.2)) (option_map fault_value masked.result.0)) (sym c.in-Some.is)
+    subst (λ second. TellsOwnReads ⊥ (IsOwnFailure g.A.Source.is_read c.args.sources.first masked.result.1.first) (IsOwnFailureIf g.B.Source.is_read second (Some masked.result.1.second)) (option_map fault_value masked.result.0)) (sym c.in-Some.is)
     masked.ensures.own_failure
 
 pub returns-clause-reads : goal.returns-clause-reads

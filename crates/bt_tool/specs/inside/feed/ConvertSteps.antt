@@ -1,5 +1,6 @@
 -- What a run does with one line of a SAM input, and with all of them.
 use Rattle.std.specs.Prelude.{◌≡◌, ℕ, ◌⊎◌, ⊤, Bool, List, Option, Some, Result, Ok, Err}
+use Rattle.bt_lines.specs.declared.device.Source.{Ghosts as Source}
 use Rattle.bt_lines.specs.model.Fault.{FaultValue}
 use Rattle.bt_lines.specs.model.Lines.{TextLine}
 use Rattle.bt_lines.specs.calls.Names.{fault_value}
@@ -56,10 +57,10 @@ abbrev pub sam_reader : {S : Type 0} → LineReader S → MemberReader S Alignme
 sam_reader reader = lines_read sam_format tt reader
 
 -- what writing the alignments of all lines does
-abbrev pub ConvertsAll : {S T : Type 0} → (S → Option (List ℕ)) → (S → Bool) → (S → Bool)
-    → Converting → LineReader S → Output → Result T Fault → LineReader S → Output → Type 0
-ConvertsAll {S} left failed end converting old out answer new grown =
+abbrev pub ConvertsAll : {S T : Type 0} → Source S → Converting → LineReader S → Output → Result T Fault
+    → LineReader S → Output → Type 0
+ConvertsAll {S} device converting old out answer new grown =
     (members : MemberReader S Alignment ⊤) × (members.below ≡ new)
     × FeedsMembers (alignment_lines converting.split converting.with_cigar) (IsOneOf is_sam_kind)
-    (λ past. ⊤) left failed end (λ past. ⊤) (sam_reader old) out answer members grown
+    (λ past. ⊤) device (λ past. ⊤) (sam_reader old) out answer members grown
     × IsKeptBelow members new

@@ -1,6 +1,7 @@
 -- What feeding an engine with the members of a reader does to the devices.
 use Rattle.std.specs.Prelude.{◌≡◌, ◌≢◌, ℕ, ◌+◌, ◌^◌, ◌<◌, ◌≤◌, ◌⊎◌, Bool, true, List, [], ◌++◌}
 use Rattle.std.specs.Prelude.{length, Option, Some, None, Result, Ok, Err, IfSome}
+use Rattle.bt_lines.specs.declared.device.Source.{Ghosts as Source}
 use Rattle.bt_lines.specs.model.Fault.{FaultValue, write_failed}
 use Rattle.bt_lines.specs.calls.Names.{fault_value}
 use Rattle.bt_lines.specs.calls.Output.{Output, IsPrefixOf, Grows, block_size}
@@ -66,18 +67,18 @@ module _ {S A State : Type 0} (left : S → Option (List ℕ)) (end : S → Bool
     pub sound : IsSound left end reader.below
 
 module _ {S A State : Type 0} (settled : List A → List ℕ) (Kinds : Kind → Type 0)
-    (Sorted : List A → Type 0) (left : S → Option (List ℕ)) (failed end : S → Bool) where
+    (Sorted : List A → Type 0) (device : Source S) where
   -- these members were taken
   pub record Took (old : MemberReader S A State) (out : Output) (past : List (Member A))
       (new : MemberReader S A State) (grown : Output) : Type 0 where
-    pub bytes : (bytes : List ℕ) × Hands left old.below bytes new.below
+    pub bytes : (bytes : List ℕ) × Hands device.left old.below bytes new.below
     -- they are ordered as the input's format requires
     pub sorted : Sorted (member_items past)
     pub grows : Grows out.took grown.took
     -- how far the input was read: what the members of the lines before settle was taken, except at most a
     -- block
     pub before : List (Member A)
-    pub read : IsReadFor left failed end old before before new
+    pub read : IsReadFor device old before before new
     pub kept : TookButBlock out (settled (member_items before)) grown
 
   -- all members were taken, and the engine is after them
@@ -85,24 +86,24 @@ module _ {S A State : Type 0} (settled : List A → List ℕ) (Kinds : Kind → 
       (new : MemberReader S A State) (grown : Output) : Type 0 where
     pub past : List (Member A)
     pub took : Took old out past new grown
-    pub whole : AreAll left failed end old past
+    pub whole : AreAll device old past
     pub stands : Stands (member_items past)
     pub puts : PutsLines out (settled (member_items past)) grown
     pub works : WorksAsBefore out grown
-    pub served : failed (source_of new.below) ≡ failed (source_of old.below)
+    pub served : device.has_failed (source_of new.below) ≡ device.has_failed (source_of old.below)
     pub within : bytes_taken new.below < 2 ^ 63
 
   -- a line is at fault, or the source failed, or its text is too long
   pub record StopsReading (old : MemberReader S A State) (out : Output) (past : List (Member A))
       (fault : FaultValue) (new : MemberReader S A State) (grown : Output) : Type 0 where
-    pub behind : HasFaultBehind left failed end old Kinds past fault new
+    pub behind : HasFaultBehind device old Kinds past fault new
     pub puts : PutsLines out (settled (member_items past)) grown
     pub works : WorksAsBefore out grown
 
   -- memory ran out
   pub record StopsGrowing (old : MemberReader S A State) (out : Output) (past : List (Member A))
       (fault : FaultValue) (new : MemberReader S A State) (grown : Output) : Type 0 where
-    pub lacks : LacksMemory left failed end old fault new
+    pub lacks : LacksMemory device old fault new
     pub puts : PutsLines out (settled (member_items past)) grown
     pub works : WorksAsBefore out grown
 
@@ -111,7 +112,7 @@ module _ {S A State : Type 0} (settled : List A → List ℕ) (Kinds : Kind → 
       (fault : FaultValue) (new : MemberReader S A State) (grown : Output) : Type 0 where
     pub is : fault ≡ write_failed
     pub cuts : CutsLines out (settled (member_items past)) grown
-    pub served : failed (source_of new.below) ≡ failed (source_of old.below)
+    pub served : device.has_failed (source_of new.below) ≡ device.has_failed (source_of old.below)
 
   -- why the members weren't all taken
   abbrev pub StopCause : MemberReader S A State → Output → List (Member A) → FaultValue
@@ -125,7 +126,7 @@ module _ {S A State : Type 0} (settled : List A → List ℕ) (Kinds : Kind → 
       (new : MemberReader S A State) (grown : Output) : Type 0 where
     pub past : List (Member A)
     pub took : Took old out past new grown
-    pub begins : IfSome (good_coming left old)
+    pub begins : IfSome (good_coming device.left old)
         (λ good. (rest : List (Member A)) × (good.members ≡ past ++ rest))
     pub cause : StopCause old out past fault new grown
     -- unless a write failed, what was put is what the members of the lines before settle
@@ -143,10 +144,10 @@ AreInOrder order records =
     ArePlaced order (intervals_of records) × AreNonEmpty (intervals_of records)
 
 module _ {S O : Type 0} {g : Ghosts O} (settled : List Feature → List ℕ)
-    (left : S → Option (List ℕ)) (failed end : S → Bool) where
+    (device : Source S) where
   -- what feeding an engine with all records does
   abbrev pub FeedsRecords : {T : Type 0} → (List Feature → Type 0) → Records S O g → Output
       → Result T Fault → Records S O g → Output → Type 0
   FeedsRecords Stands old out answer new grown =
-      FeedsMembers settled (IsBedKind (order_in old)) (AreInOrder (order_in old)) left failed end
+      FeedsMembers settled (IsBedKind (order_in old)) (AreInOrder (order_in old)) device
       Stands (view_of old) out answer (view_of new) grown

@@ -1,5 +1,6 @@
 -- What feeding an engine with the records that a reader has buffered does.
 use Rattle.std.specs.Prelude.{◌≡◌, ◌⊎◌, ℕ, Bool, List, [], ◌∷◌, ◌++◌, Option, Result, Ok, Err}
+use Rattle.bt_lines.specs.declared.device.Source.{Ghosts as Source}
 use Rattle.bt_lines.specs.model.Fault.{FaultValue}
 use Rattle.bt_lines.specs.calls.Output.{Output}
 use Rattle.bt_lines.specs.declared.fault.Fault.{Fault}
@@ -10,14 +11,14 @@ use Rattle.bt_bed.specs.declared.read.records.Records.{Records}
 use Rattle.bt_runs.specs.calls.Engine.{Feeds, TakesEach}
 use Rattle.bt_tool.specs.inside.feed.Passed.{HasTaken}
 
-module _ {S O E : Type 0} {g : Ghosts O} (left : S → Option (List ℕ)) (failed end : S → Bool)
+module _ {S O E : Type 0} {g : Ghosts O} (device : Source S)
     (MayTake : E → List Feature → Type 0) (Stands : E → List Feature → E → Type 0)
     (engine_fault : E → Option FaultValue) (settled : E → List Feature → List ℕ)
     (Quiet : E → List Feature → Feature → Type 0)
     (old : Records S O g) (engine : E) (out : Output) where
   -- all of them were given, one after another, and each was taken
   pub record TakesBuffered (new : Records S O g) (fed : E) (grown : Output) : Type 0 where
-    pub takes : HasTaken left failed end (view_of old) (buffered_in old) (view_of new)
+    pub takes : HasTaken device (view_of old) (buffered_in old) (view_of new)
     pub order : order_in new ≡ order_in old
     pub taken : TakesEach MayTake Stands engine_fault settled Quiet engine out (buffered_in old) fed grown
 
@@ -25,7 +26,7 @@ module _ {S O E : Type 0} {g : Ghosts O} (left : S → Option (List ℕ)) (faile
   pub record FailsAmong (fault : Fault) (new : Records S O g) (fed : E) (grown : Output) : Type 0 where
     pub records : List Feature
     pub r : Feature
-    pub takes : HasTaken left failed end (view_of old) (records ++ r ∷ []) (view_of new)
+    pub takes : HasTaken device (view_of old) (records ++ r ∷ []) (view_of new)
     pub order : order_in new ≡ order_in old
     pub mid : E
     pub through : Output

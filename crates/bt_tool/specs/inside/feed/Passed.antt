@@ -1,6 +1,7 @@
 -- What a reader of members has consumed, and why it stops.
 use Rattle.std.specs.Prelude.{◌≡◌, ℕ, suc, ◌+◌, ◌^◌, ◌<◌, ◌≤◌, ◌⊎◌, ⊤, All, Bool, true, List, []}
 use Rattle.std.specs.Prelude.{◌∷◌, ◌++◌, drop, length, map, Option, Some, None, IfSome, IsSome}
+use Rattle.bt_lines.specs.declared.device.Source.{Ghosts as Source}
 use Rattle.bt_lines.specs.model.Fault.{FaultValue, read_failed, no_memory}
 use Rattle.bt_lines.specs.model.Lines.{bytes_in}
 use Rattle.bt_lines.specs.calls.Output.{block_size}
@@ -50,66 +51,67 @@ IsKeptBelow reader lines =
     (input : Input) (line : ℕ) → reader.fault ≡ Some (read_failed input line)
     → line_fault lines ≡ Some (read_failed input line)
 
-module _ {S A State : Type 0} (left : S → Option (List ℕ)) (failed end : S → Bool) where
+module _ {S A State : Type 0} (device : Source S) where
   -- the member ahead is the first of those still to come
   abbrev pub AheadComes : MemberReader S A State → Type 0
   AheadComes reader = (m : Member A) → ahead_in reader ≡ Some m
-      → IfSome (good_coming left reader) (λ good. (rest : List (Member A)) × (good.members ≡ m ∷ rest))
+      → IfSome (good_coming device.left reader)
+      (λ good. (rest : List (Member A)) × (good.members ≡ m ∷ rest))
 
   -- the reader has a member buffered
   pub record IsFilled (old new : MemberReader S A State) : Type 0 where
     pub m : Member A
-    pub gives : GivesMember left failed old m new
-    pub kept : IsKept left end old.below → IsKept left end new.below
+    pub gives : GivesMember device.left device.has_failed old m new
+    pub kept : IsKept device.left device.end_told old.below → IsKept device.left device.end_told new.below
     pub clear : new.fault ≡ None → line_fault new.below ≡ None
 
   -- members that were buffered are taken
   pub record HasTaken (old : MemberReader S A State) (taken : List A)
       (new : MemberReader S A State) : Type 0 where
-    pub takes : Takes left end old taken new
+    pub takes : Takes device.left device.end_told old taken new
     pub clear : new.fault ≡ None → line_fault new.below ≡ None
     pub ahead : AheadComes new
 
   -- it has given all members
   pub record IsOver (old new : MemberReader S A State) : Type 0 where
-    pub ends : EndsMembers left failed old new
-    pub kept : IsKept left end old.below → IsKept left end new.below
+    pub ends : EndsMembers device.left device.has_failed old new
+    pub kept : IsKept device.left device.end_told old.below → IsKept device.left device.end_told new.below
     pub clear : new.fault ≡ None → line_fault new.below ≡ None
 
   -- it reports a fault
   pub record IsStopped (old : MemberReader S A State) (fault : FaultValue)
       (new : MemberReader S A State) : Type 0 where
-    pub answers : AnswersFault left failed end old fault new
-    pub kept : IsKept left end old.below → IsKept left end new.below
+    pub answers : AnswersFault device.left device.has_failed device.end_told old fault new
+    pub kept : IsKept device.left device.end_told old.below → IsKept device.left device.end_told new.below
 
   module _ (old : MemberReader S A State) where
     -- these members were consumed, and more may be buffered
     pub record Passes (past : List (Member A)) (now : MemberReader S A State) : Type 0 where
       pub format : now.format ≡ old.format
-      pub bytes : (bytes : List ℕ) × Hands left old.below bytes now.below
+      pub bytes : (bytes : List ℕ) × Hands device.left old.below bytes now.below
       pub said : AreSaid old.format old.state (member_items past)
       pub state : now.state ≡ state_behind old.format old.state (member_items past)
-      pub come : ComeFirst (good_coming left old) past (good_coming left now)
+      pub come : ComeFirst (good_coming device.left old) past (good_coming device.left now)
       pub behind : All (λ m. m.line ≤ lines_given now.below) past
       -- the lines left are those after the lines given
-      pub lines : IfSome (lines_left left old.below)
-          (λ lines. lines_left left now.below ≡ Some (drop (lines_given now.below) lines))
+      pub lines : IfSome (lines_left device.left old.below)
+          (λ lines. lines_left device.left now.below ≡ Some (drop (lines_given now.below) lines))
       pub going : now.fault ≡ None
       pub clear : line_fault now.below ≡ None
-      pub kept : IsKept left end now.below
-      pub served : failed (source_of now.below) ≡ failed (source_of old.below)
-      pub ahead : IsSome (good_coming left old) → AheadComes now
+      pub kept : IsKept device.left device.end_told now.below
+      pub served : device.has_failed (source_of now.below) ≡ device.has_failed (source_of old.below)
+      pub ahead : IsSome (good_coming device.left old) → AheadComes now
       -- of known bytes, those after the lines given and one more line are left, except at most a block
-      pub near : IfSome (lines_left left old.below) (λ lines. IfSome (left (source_of now.below))
+      pub near : IfSome (lines_left device.left old.below) (λ lines. IfSome (device.left (source_of now.below))
           (λ rest. bytes_in (drop (suc (lines_given now.below)) lines) ≤ length rest + block_size))
 
     -- How far the input was read: the first `count` lines, one more and at most a block, and what is
     -- good after these members comes after the first `count` lines.
     pub record IsReadTo (past : List (Member A)) (now : MemberReader S A State) : Type 0 where
       pub count : ℕ
-      pub near : IfSome (lines_left left old.below) (λ lines. IfSome (left (source_of now.below))
+      pub near : IfSome (lines_left device.left old.below) (λ lines. IfSome (device.left (source_of now.below))
           (λ rest. bytes_in (drop (suc count) lines) ≤ length rest + block_size))
-      pub behind : IfSome (good_coming left old) (λ good. (rest : List (Member A))
+      pub behind : IfSome (good_coming device.left old) (λ good. (rest : List (Member A))
           × (good.members ≡ past ++ rest)
           × IsBeyond count (record { members = rest; fault = good.fault }))
 
@@ -120,24 +122,24 @@ module _ {S A State : Type 0} (left : S → Option (List ℕ)) (failed end : S �
       pub to : IsReadTo past now
       pub low : All (λ m. m.line ≤ to.count) past
       pub high : All (λ m. m.line ≤ suc to.count) given
-      pub begins : IfSome (good_coming left old)
+      pub begins : IfSome (good_coming device.left old)
           (λ good. (rest : List (Member A)) × (good.members ≡ given ++ rest))
 
     -- they are all that is good of the input, which has no fault
     abbrev pub AreAll : List (Member A) → Type 0
     AreAll past =
-        IfSome (good_coming left old) (λ good. (good.members ≡ past) × (good.fault ≡ None))
+        IfSome (good_coming device.left old) (λ good. (good.members ≡ past) × (good.fault ≡ None))
 
     -- a line after them is at fault
     pub record IsWrongBehind (Kinds : Kind → Type 0) (past : List (Member A)) (fault : FaultValue)
         (new : MemberReader S A State) : Type 0 where
-      pub whole : IfSome (good_coming left old)
+      pub whole : IfSome (good_coming device.left old)
           (λ good. (good.members ≡ past) × (good.fault ≡ Some fault))
       pub line : ℕ
       pub kind : Kind
       pub is : fault ≡ fault_at_line (input_of old.below) line kind
       pub of_kind : Kinds kind
-      pub served : failed (source_of new.below) ≡ failed (source_of old.below)
+      pub served : device.has_failed (source_of new.below) ≡ device.has_failed (source_of old.below)
       pub within : bytes_taken new.below < 2 ^ 63
 
     -- the source failed, or its text is too long: after the lines that were given
@@ -145,10 +147,10 @@ module _ {S A State : Type 0} (left : S → Option (List ℕ)) (failed end : S �
         (new : MemberReader S A State) : Type 0 where
       pub is : fault ≡ read_failed (input_of old.below) (suc (lines_given new.below))
       pub kept : new.fault ≡ Some fault
-      pub cause : (failed (source_of new.below) ≡ true) ⊎ (2 ^ 63 ≤ bytes_taken new.below)
-      pub cut : CutsOff left old.below new.below
+      pub cause : (device.has_failed (source_of new.below) ≡ true) ⊎ (2 ^ 63 ≤ bytes_taken new.below)
+      pub cut : CutsOff device.left old.below new.below
       -- the lines given have these members, and none of them is at fault
-      pub members : IfSome (good_coming left old) (λ good. (rest : List (Member A))
+      pub members : IfSome (good_coming device.left old) (λ good. (rest : List (Member A))
           × (good.members ≡ past ++ rest)
           × IsBeyond (lines_given new.below) (record { members = rest; fault = good.fault }))
       pub behind : All (λ m. m.line ≤ lines_given new.below) past
@@ -162,11 +164,11 @@ module _ {S A State : Type 0} (left : S → Option (List ℕ)) (failed end : S �
     -- memory ran out
     pub record LacksMemory (fault : FaultValue) (new : MemberReader S A State) : Type 0 where
       pub is : fault ≡ no_memory
-      pub served : failed (source_of new.below) ≡ failed (source_of old.below)
+      pub served : device.has_failed (source_of new.below) ≡ device.has_failed (source_of old.below)
 
     -- the reader stopped after these members
     pub record StopsAfter (Kinds : Kind → Type 0) (past : List (Member A)) (fault : FaultValue)
         (new : MemberReader S A State) : Type 0 where
-      pub bytes : (bytes : List ℕ) × Hands left old.below bytes new.below
+      pub bytes : (bytes : List ℕ) × Hands device.left old.below bytes new.below
       pub cause : IsWrongBehind Kinds past fault new
           ⊎ (IsUnreadBehind past fault new ⊎ LacksMemory fault new)

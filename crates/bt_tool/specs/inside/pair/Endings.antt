@@ -18,12 +18,12 @@ use Rattle.bt_tool.specs.calls.run.FaultSource.{IsFaultButWrite}
 
 -- the members of the second input are known
 abbrev pub IsKnown : {A B X Y U V : Type 0} → Pair A B X Y U V → Type 0
-IsKnown pair = IsSome (good_coming pair.b_left pair.second)
+IsKnown pair = IsSome (good_coming pair.source_b.left pair.second)
 
 -- the first input reported its end, and it has at most `count` lines
 abbrev pub HasNoMore : {A B X Y U V : Type 0} → Pair A B X Y U V → MemberReader A X U → ℕ → Type 0
-HasNoMore pair first count = (pair.a_end (source_of first.below) ≡ true)
-    × IfSome (lines_left pair.a_left pair.first.below) (λ lines. length lines ≤ count)
+HasNoMore pair first count = (pair.source_a.end_told (source_of first.below) ≡ true)
+    × IfSome (lines_left pair.source_a.left pair.first.below) (λ lines. length lines ≤ count)
 
 module _ {A B X Y U V : Type 0} (join : JoinDef X Y) (pair : Pair A B X Y U V)
     (out : Output) where
@@ -33,29 +33,29 @@ module _ {A B X Y U V : Type 0} (join : JoinDef X Y) (pair : Pair A B X Y U V)
     pub seen : List (Member Y)
     pub ended : Bool
     pub settles : IsKnown pair → Settles join written bytes (member_items seen) ended
-    pub first_begins : IfSome (good_coming pair.a_left pair.first)
+    pub first_begins : IfSome (good_coming pair.source_a.left pair.first)
         (λ good. (rest : List X) × (items_in good ≡ written ++ rest))
-    pub second_begins : IfSome (good_coming pair.b_left pair.second)
+    pub second_begins : IfSome (good_coming pair.source_b.left pair.second)
         (λ good. (rest : List (Member Y)) × (good.members ≡ seen ++ rest))
     -- where the reader stopped they are on the lines given
     pub low : IsSome second.fault → All (λ m. m.line ≤ lines_given second.below) seen
-    pub second_all : ended ≡ true → AreAll pair.b_left pair.b_failed pair.b_end pair.second seen
+    pub second_all : ended ≡ true → AreAll pair.source_b pair.second seen
     -- the members that were given, those that were taken, and the one ahead
     pub given : List X
     pub taken : List (Member Y)
     pub ahead : Option (Member Y)
     pub sees : seen ≡ taken ++ option_to_list ahead
     pub none_ahead : ended ≡ true → ahead ≡ None
-    pub given_begin : IfSome (good_coming pair.a_left pair.first)
+    pub given_begin : IfSome (good_coming pair.source_a.left pair.first)
         (λ good. (rest : List X) × (items_in good ≡ given ++ rest))
     pub fits : IsKnown pair → join.Fits given taken
-    pub first_bytes : (bytes : List ℕ) × Hands pair.a_left pair.first.below bytes first.below
-    pub second_bytes : (bytes : List ℕ) × Hands pair.b_left pair.second.below bytes second.below
+    pub first_bytes : (bytes : List ℕ) × Hands pair.source_a.left pair.first.below bytes first.below
+    pub second_bytes : (bytes : List ℕ) × Hands pair.source_b.left pair.second.below bytes second.below
     pub grows : Grows out.took grown.took
 
   -- the fault of the first input, after these members
   abbrev pub FirstFails : List (Member X) → MemberReader A X U → FaultValue → Type 0
-  FirstFails past first fault = HasFaultBehind pair.a_left pair.a_failed pair.a_end pair.first
+  FirstFails past first fault = HasFaultBehind pair.source_a pair.first
       join.first_kinds past fault first
 
   -- all good members of the first input are written, and its fault is reported
@@ -65,12 +65,12 @@ module _ {A B X Y U V : Type 0} (join : JoinDef X Y) (pair : Pair A B X Y U V)
     pub all : written ≡ member_items past
     pub all_given : given ≡ member_items past
     pub cause : FirstFails past first fault
-    pub serves : Serves pair.b_failed pair.second second
+    pub serves : Serves pair.source_b.has_failed pair.second second
 
   -- the fault of the second input, after these members
   pub record SecondFails (ended : Bool) (past : List (Member Y)) (second : MemberReader B Y V)
       (fault : FaultValue) : Type 0 where
-    pub cause : HasFaultBehind pair.b_left pair.b_failed pair.b_end pair.second join.second_kinds
+    pub cause : HasFaultBehind pair.source_b pair.second join.second_kinds
         past fault second
     pub before_end : ended ≡ true → (input : Input) (line : ℕ) → fault ≡ read_failed input line → ⊥
 
@@ -80,13 +80,13 @@ module _ {A B X Y U V : Type 0} (join : JoinDef X Y) (pair : Pair A B X Y U V)
       (second : MemberReader B Y V) (fault : FaultValue) : Type 0 where
     pub past : List (Member Y)
     pub waiting : X
-    pub begins : IfSome (good_coming pair.a_left pair.first)
+    pub begins : IfSome (good_coming pair.source_a.left pair.first)
         (λ good. (rest : List X) × (items_in good ≡ written ++ waiting ∷ rest))
-    pub undecided : IfSome (good_coming pair.b_left pair.second)
+    pub undecided : IfSome (good_coming pair.source_b.left pair.second)
         (λ good. join.decided waiting (member_items past) ≡ false)
     pub fails : SecondFails ended past second fault
     pub fits : IsKnown pair → join.Fits (written ++ waiting ∷ []) past
-    pub serves : Serves pair.a_failed pair.first first
+    pub serves : Serves pair.source_a.has_failed pair.first first
 
   -- a member of the first waits that the members of the second up to one don't decide, and the
   -- limit's fault is reported at the line of that one
@@ -95,9 +95,9 @@ module _ {A B X Y U V : Type 0} (join : JoinDef X Y) (pair : Pair A B X Y U V)
     pub past : List (Member Y)
     pub m : Member Y
     pub waiting : X
-    pub begins : IfSome (good_coming pair.a_left pair.first)
+    pub begins : IfSome (good_coming pair.source_a.left pair.first)
         (λ good. (rest : List X) × (items_in good ≡ written ++ waiting ∷ rest))
-    pub comes : IfSome (good_coming pair.b_left pair.second)
+    pub comes : IfSome (good_coming pair.source_b.left pair.second)
         (λ good. (rest : List (Member Y)) × (good.members ≡ (past ++ m ∷ []) ++ rest))
     pub undecided : join.decided waiting (member_items (past ++ m ∷ [])) ≡ false
     pub cuts : IsKnown pair → (later : List X) (more : List (Member Y)) (other : Option FaultValue)
@@ -107,8 +107,8 @@ module _ {A B X Y U V : Type 0} (join : JoinDef X Y) (pair : Pair A B X Y U V)
     pub kind : Kind
     pub is : fault ≡ fault_at_line Second m.line kind
     pub of_kind : join.second_kinds kind
-    pub serves : Serves pair.a_failed pair.first first
-    pub serves_second : Serves pair.b_failed pair.second second
+    pub serves : Serves pair.source_a.has_failed pair.first first
+    pub serves_second : Serves pair.source_b.has_failed pair.second second
 
   -- what is reported at the end, at a line of the second input
   pub record LastTold (written : List X) (second : MemberReader B Y V) (fault : FaultValue) : Type 0 where
@@ -116,9 +116,9 @@ module _ {A B X Y U V : Type 0} (join : JoinDef X Y) (pair : Pair A B X Y U V)
     pub kind : Kind
     pub is : fault ≡ fault_at_line Second line kind
     pub of_kind : join.second_kinds kind
-    pub told : IfSome (good_coming pair.b_left pair.second)
+    pub told : IfSome (good_coming pair.source_b.left pair.second)
         (λ good. join.last written good.members ≡ Some fault)
-    pub serves : Serves pair.b_failed pair.second second
+    pub serves : Serves pair.source_b.has_failed pair.second second
 
   -- all of the first is written, and the second was read to its end, to its fault
   -- or to what is reported at the end
@@ -127,11 +127,11 @@ module _ {A B X Y U V : Type 0} (join : JoinDef X Y) (pair : Pair A B X Y U V)
     pub past : List (Member X)
     pub past_second : List (Member Y)
     pub all : written ≡ member_items past
-    pub whole : AreAll pair.a_left pair.a_failed pair.a_end pair.first past
-    pub serves : Serves pair.a_failed pair.first first
+    pub whole : AreAll pair.source_a pair.first past
+    pub serves : Serves pair.source_a.has_failed pair.first first
     pub rest : ((fault ≡ None)
-        × AreAll pair.b_left pair.b_failed pair.b_end pair.second past_second
-        × Serves pair.b_failed pair.second second × (join.last written past_second ≡ None))
+        × AreAll pair.source_b pair.second past_second
+        × Serves pair.source_b.has_failed pair.second second × (join.last written past_second ≡ None))
         ⊎ (((other : FaultValue) × (fault ≡ Some other) × SecondFails ended past_second second other
         × (join.last written past_second ≡ None))
         ⊎ ((other : FaultValue) × (fault ≡ Some other) × LastTold written second other))
@@ -158,7 +158,7 @@ module _ {A B X Y U V : Type 0} (join : JoinDef X Y) (pair : Pair A B X Y U V)
   pub record AsksFor (given_first : List (Member X)) (second : MemberReader B Y V) : Type 0 where
     pub past : List (Member Y)
     pub reached : join.Asks (member_items given_first) (member_items past)
-    pub near : IsKnown pair → IsReadTo pair.b_left pair.b_failed pair.b_end pair.second past second
+    pub near : IsKnown pair → IsReadTo pair.source_b pair.second past second
 
   -- how far the inputs were read beside what was written
   pub record StaysNear (first : MemberReader A X U) (second : MemberReader B Y V)
@@ -171,7 +171,7 @@ module _ {A B X Y U V : Type 0} (join : JoinDef X Y) (pair : Pair A B X Y U V)
     pub past : List (Member X)
     pub given_first : List (Member X)
     pub items : member_items past ≡ written
-    pub first_near : IsReadFor pair.a_left pair.a_failed pair.a_end pair.first past given_first first
+    pub first_near : IsReadFor pair.source_a pair.first past given_first first
     pub beside : HasNoMore pair first first_near.to.count ⊎ AsksFor given_first second
 
   -- the run is over

@@ -2,6 +2,7 @@
 use Rattle.std.specs.Prelude.{◌≡◌, ℕ, ◌⊎◌, ⊤, Bool, true, not, List, [], Option, Some, None}
 use Rattle.std.specs.Prelude.{IsTrue, is_some, Result, Ok, Err}
 use Rattle.std.specs.List.{list_any}
+use Rattle.bt_lines.specs.declared.device.Source.{Ghosts as Source}
 use Rattle.bt_lines.specs.model.Fault.{FaultValue}
 use Rattle.bt_lines.specs.calls.Names.{fault_value}
 use Rattle.bt_lines.specs.calls.Output.{Output}
@@ -83,18 +84,13 @@ pub record MaskRun (A B : Type 0) : Type 0 where
   pub first : input_of lines ≡ First
   pub blocks : records.format ≡ block_format
 
-module _ {A B : Type 0} (a_left : A → Option (List ℕ)) (a_failed a_end : A → Bool)
-    (b_left : B → Option (List ℕ)) (b_failed b_end : B → Bool)
+module _ {A B : Type 0} (source_a : Source A) (source_b : Source B)
     (how : MaskHow) (full : Bool) (old_first : MemberReader A SequenceLine Reached)
     (old_second : MemberReader B Feature (Option Locus)) where
   abbrev pub mask_pair : Pair A B SequenceLine Feature Reached (Option Locus)
   mask_pair = record {
-    a_left = a_left;
-    a_failed = a_failed;
-    a_end = a_end;
-    b_left = b_left;
-    b_failed = b_failed;
-    b_end = b_end;
+    source_a = source_a;
+    source_b = source_b;
     first = old_first;
     second = old_second;
   }
@@ -119,19 +115,18 @@ module _ {A B : Type 0} (a_left : A → Option (List ℕ)) (a_failed a_end : A �
       pub lines_over : stage.lines_ended ≡ true → has_ended first.below ≡ true
 
 -- what giving an engine all that it wants does
-abbrev pub FinishesMask : {A B T : Type 0} → (A → Option (List ℕ)) → (A → Bool) → (A → Bool)
-    → (B → Option (List ℕ)) → (B → Bool) → (B → Bool)
-    → MaskHow → Bool → LineReader A → MemberReader B Feature (Option Locus) → Output
+abbrev pub FinishesMask : {A B T : Type 0} → Source A → Source B → MaskHow → Bool → LineReader A
+    → MemberReader B Feature (Option Locus) → Output
     → Result T Fault → LineReader A → MemberReader B Feature (Option Locus) → Output → Type 0
-FinishesMask {A} {B} {T} a_left a_failed a_end b_left b_failed b_end how full old_first old_second
+FinishesMask {A} {B} {T} source_a source_b how full old_first old_second
     out (Ok done) first second grown =
     (members : MemberReader A SequenceLine Reached) × (members.below ≡ first)
-    × MaskEnds a_left a_failed a_end b_left b_failed b_end how full
+    × MaskEnds source_a source_b how full
     (line_members full nothing_reached old_first) old_second out None members
     second grown × IsKeptBelow members first
-FinishesMask {A} {B} {T} a_left a_failed a_end b_left b_failed b_end how full old_first old_second
+FinishesMask {A} {B} {T} source_a source_b how full old_first old_second
     out (Err fault) first second grown =
     (members : MemberReader A SequenceLine Reached) × (members.below ≡ first)
-    × MaskEnds a_left a_failed a_end b_left b_failed b_end how full
+    × MaskEnds source_a source_b how full
     (line_members full nothing_reached old_first) old_second out
     (Some (fault_value fault)) members second grown × IsKeptBelow members first

@@ -1,5 +1,6 @@
 -- What a loop of masking does in one round, and how much is still wanted.
 use Rattle.std.specs.Prelude.{◌≡◌, ◌⊎◌, ℕ, ◌+◌, ◌*◌, ◌<◌, ◌≤◌, Bool, true, false, List, Option, Some, is_some, length, Result, Ok, Err}
+use Rattle.bt_lines.specs.declared.device.Source.{Ghosts as Source}
 use Rattle.bt_lines.specs.model.Fault.{FaultValue}
 use Rattle.bt_lines.specs.calls.Names.{fault_value}
 use Rattle.bt_lines.specs.calls.Output.{Output}
@@ -36,13 +37,12 @@ IsThere WantLine lines second = 0 < length (buffered_bytes lines)
 IsThere WantBed lines second = 0 < length second.buffered
 IsThere Nothing lines second = ⊥
 
-module _ {A B : Type 0} (a_left : A → Option (List ℕ)) (a_failed a_end : A → Bool)
-    (b_left : B → Option (List ℕ)) (b_failed b_end : B → Bool) (run : MaskRun A B) where
+module _ {A B : Type 0} (source_a : Source A) (source_b : Source B) (run : MaskRun A B) where
   -- lines and records so far were given, and the lines have come so far
   abbrev pub GoesOnAt : Reached → LineReader A → MemberReader B Feature (Option Locus) → Masking
       → Output → Type 0
   GoesOnAt reached lines second mask grown =
-      Masks a_left a_failed a_end b_left b_failed b_end run.how run.full
+      Masks source_a source_b run.how run.full
       (line_members run.full nothing_reached run.lines) run.records run.out
       (line_members run.full reached lines) second mask grown
 
@@ -55,7 +55,7 @@ module _ {A B : Type 0} (a_left : A → Option (List ℕ)) (a_failed a_end : A �
       → Type 0
   Ends fault lines second grown = (members : MemberReader A SequenceLine Reached)
       × (members.below ≡ lines)
-      × MaskEnds a_left a_failed a_end b_left b_failed b_end run.how run.full
+      × MaskEnds source_a source_b run.how run.full
       (line_members run.full nothing_reached run.lines) run.records run.out fault members second grown
       × IsKeptBelow members lines
 

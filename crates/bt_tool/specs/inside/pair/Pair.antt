@@ -3,6 +3,7 @@
 use Rattle.std.specs.Prelude.{◌≡◌, ℕ, ◌^◌, ◌<◌, ◌||◌, Bool, true, List, ◌++◌, flat_map}
 use Rattle.std.specs.Prelude.{Option, None, is_none, option_map}
 use Rattle.std.specs.List.{list_all}
+use Rattle.bt_lines.specs.declared.device.Source.{Ghosts as Source}
 use Rattle.bt_lines.specs.model.Fault.{FaultValue}
 use Rattle.bt_lines.specs.model.Lines.{TextLine}
 use Rattle.bt_lines.specs.calls.Reader.{bytes_taken, source_of}
@@ -34,13 +35,9 @@ pub record JoinDef (X Y : Type 0) : Type 1 where
   pub second_kinds : Kind → Type 0
 
 -- two sources, and the first states of the readers of their members
-pub record Pair (A B X Y U V : Type 0) : Type 0 where
-  pub a_left : A → Option (List ℕ)
-  pub a_failed : A → Bool
-  pub a_end : A → Bool
-  pub b_left : B → Option (List ℕ)
-  pub b_failed : B → Bool
-  pub b_end : B → Bool
+pub record Pair (A B X Y U V : Type 0) : Type 1 where
+  pub source_a : Source A
+  pub source_b : Source B
   pub first : MemberReader A X U
   pub second : MemberReader B Y V
 

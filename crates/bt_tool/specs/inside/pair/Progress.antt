@@ -1,6 +1,7 @@
 -- How far a run over two readers of members has come.
 use Rattle.std.specs.Prelude.{◌≡◌, ℕ, Bool, true, List, [], ◌∷◌, ◌++◌, Option, None}
 use Rattle.std.specs.Option.{option_to_list}
+use Rattle.bt_lines.specs.declared.device.Source.{Ghosts as Source}
 use Rattle.bt_lines.specs.calls.Output.{Output, HoldsBlock, Grows}
 use Rattle.bt_lines.specs.calls.Putting.{WorksAsBefore}
 use Rattle.bt_lines.specs.calls.Reader.{end_told, source_of}
@@ -35,13 +36,13 @@ pub record Follows {X Y : Type 0} (old : Stage X Y) (firsts newly : List X) (sec
   pub second_is : new.second_ended ≡ old.second_ended
 
 -- a reader that had consumed some members consumed more of them, and read nothing
-pub record TakesFurther {S A State : Type 0} (left : S → Option (List ℕ)) (failed end : S → Bool)
+pub record TakesFurther {S A State : Type 0} (device : Source S)
     (old : MemberReader S A State) (past more : List (Member A))
     (now new : MemberReader S A State) : Type 0 where
-  pub passes : Passes left failed end old (past ++ more) new
+  pub passes : Passes device old (past ++ more) new
   -- the last of them is on the last line that was given
   pub last : (before : List (Member A)) (m : Member A) → more ≡ before ++ m ∷ []
-      → IsReadFor left failed end old (past ++ before) (past ++ more) new
+      → IsReadFor device old (past ++ before) (past ++ more) new
   pub source : source_of new.below ≡ source_of now.below
   pub told : end_told now.below ≡ true → end_told new.below ≡ true
 
@@ -50,18 +51,18 @@ module _ {A B X Y U V : Type 0} (join : JoinDef X Y) (pair : Pair A B X Y U V) (
   -- these members were given
   pub record Comes (first : MemberReader A X U) (second : MemberReader B Y V)
       (grown : Output) : Type 0 where
-    pub first_passes : Passes pair.a_left pair.a_failed pair.a_end pair.first past_first first
-    pub second_passes : Passes pair.b_left pair.b_failed pair.b_end pair.second past_second second
+    pub first_passes : Passes pair.source_a pair.first past_first first
+    pub second_passes : Passes pair.source_b pair.second past_second second
     pub all_given : given stage ≡ member_items past_first
     pub all_taken : stage.taken ≡ member_items past_second
     pub bytes : List ℕ
     pub settles : IsKnown pair → Settles join stage.written bytes
         (stage.taken ++ option_to_list (item_ahead second)) stage.second_ended
     pub first_all : stage.first_ended ≡ true
-        → AreAll pair.a_left pair.a_failed pair.a_end pair.first past_first
+        → AreAll pair.source_a pair.first past_first
         × (stage.waiting ≡ None) × (first.buffered ≡ []) × (end_told first.below ≡ true)
     pub second_all : stage.second_ended ≡ true
-        → AreAll pair.b_left pair.b_failed pair.b_end pair.second past_second
+        → AreAll pair.source_b pair.second past_second
         × (second.buffered ≡ []) × (end_told second.below ≡ true)
     pub puts : PutsLines out bytes grown
     pub works : WorksAsBefore out grown
@@ -69,5 +70,5 @@ module _ {A B X Y U V : Type 0} (join : JoinDef X Y) (pair : Pair A B X Y U V) (
     pub grows : Grows out.took grown.took
     -- the first input was read as far as the members written need
     pub near_first : (past : List (Member X)) × (member_items past ≡ stage.written)
-        × (read : IsReadFor pair.a_left pair.a_failed pair.a_end pair.first past past_first first)
+        × (read : IsReadFor pair.source_a pair.first past past_first first)
         × (stage.first_ended ≡ true → HasNoMore pair first read.to.count)

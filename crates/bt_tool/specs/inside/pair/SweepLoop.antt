@@ -2,6 +2,7 @@
 use Rattle.std.specs.Prelude.{◌≡◌, ◌⊎◌, ℕ, ◌≤◌, ◌<◌, All, Bool, true, List, ◌++◌, Option, Some, None, Result, Ok, Err}
 use Rattle.std.specs.Prelude.{⊤, [], IsTrue, option_to_list}
 use Rattle.std.specs.List.{list_all}
+use Rattle.bt_lines.specs.declared.device.Source.{Ghosts as Source}
 use Rattle.bt_lines.specs.model.Fault.{FaultValue, read_failed}
 use Rattle.bt_lines.specs.model.Lines.{TextLine}
 use Rattle.bt_lines.specs.calls.Names.{fault_value}
@@ -24,9 +25,8 @@ use Rattle.bt_sweep.specs.model.IntersectLines.{lines_for}
 use Rattle.bt_sweep.specs.model.Limit.{are_too_many, cut_behind, limited}
 use Rattle.bt_sweep.specs.calls.Standing.{Stage, StandsAt, given, leaves_some}
 use Rattle.bt_sweep.specs.calls.SweepState.{Sweeping, want_in}
-use Rattle.bt_sweep.specs.declared.hits.hit_rule.HitRule.{HitRule}
-use Rattle.bt_sweep.specs.declared.output.shape.Shape.{Shape}
 use Rattle.bt_sweep.specs.declared.sweep.want.Want.TheVariants.{Nothing}
+use Rattle.bt_tool.specs.declared.loops.sweeping.SweepConfig.{SweepConfig}
 use Rattle.bt_tool.specs.model.report.SweepReport.{IsSweptKind, bytes_up_to, decider}
 use Rattle.bt_tool.specs.inside.pair.Pair.{JoinDef, Pair}
 use Rattle.bt_tool.specs.inside.pair.Progress.{Comes, Stage as PairStage}
@@ -42,20 +42,29 @@ AreWithin order (Some most) as_given past =
     → cut_behind (are_too_many order most (as_given ++ later)) [] (past ++ more) fault
     ≡ cut_behind (are_too_many order most (as_given ++ later)) past more fault
 
+-- what a sweep goes by
+abbrev pub config_of : Sweeping → SweepConfig
+config_of sweep = record { shape = sweep.shape; rule = sweep.rule; limit = sweep.limit }
+
+-- a sweep that goes by this stands at this stage
+abbrev pub StandsBy : Order → SweepConfig → Stage → Sweeping → Type 0
+StandsBy order config stage sweep =
+    StandsAt order config.shape config.rule config.limit stage sweep
+
 -- what a sweep makes of a record of the first input by records of the second
-abbrev pub sweep_join : Order → Shape → HitRule → Option ℕ → JoinDef Feature Feature
-sweep_join order shape rule limit = record {
+abbrev pub sweep_join : Order → SweepConfig → JoinDef Feature Feature
+sweep_join order config = record {
   decided = decided order;
-  bytes = lines_for shape rule;
-  limited = limited order limit;
-  Fits = AreWithin order limit;
+  bytes = lines_for config.shape config.rule;
+  limited = limited order config.limit;
+  Fits = AreWithin order config.limit;
   last = λ all second. None;
   reaches = λ as_given members lines. bytes_up_to lines (decider order as_given members);
   -- each record that was taken leaves one of those given undecided
   Asks = λ as_given taken. IsTrue (list_all (leaves_some order as_given) taken);
   InOrder = λ second. ArePlaced order (intervals_of second);
   first_kinds = IsBedKind order;
-  second_kinds = IsSweptKind order limit;
+  second_kinds = IsSweptKind order config.limit;
 }
 
 -- what a stage of a sweep is as one of two readers
@@ -68,29 +77,23 @@ stage_of stage = record {
   second_ended = stage.b_ended;
 }
 
-module _ {A B O : Type 0} {g : Ghosts O} (a_left : A → Option (List ℕ)) (a_failed a_end : A → Bool)
-    (b_left : B → Option (List ℕ)) (b_failed b_end : B → Bool)
+module _ {A B O : Type 0} {g : Ghosts O} (source_a : Source A) (source_b : Source B)
     (old_first : Records A O g) (old_second : Records B O g) where
   abbrev pub records_pair : Pair A B Feature Feature (Option Locus) (Option Locus)
   records_pair = record {
-    a_left = a_left;
-    a_failed = a_failed;
-    a_end = a_end;
-    b_left = b_left;
-    b_failed = b_failed;
-    b_end = b_end;
+    source_a = source_a;
+    source_b = source_b;
     first = view_of old_first;
     second = view_of old_second;
   }
 
-module _ {A B O : Type 0} {g : Ghosts O} (a_left : A → Option (List ℕ)) (a_failed a_end : A → Bool)
-    (b_left : B → Option (List ℕ)) (b_failed b_end : B → Bool)
-    (order : Order) (shape : Shape) (rule : HitRule) (limit : Option ℕ) (old_first : Records A O g)
+module _ {A B O : Type 0} {g : Ghosts O} (source_a : Source A) (source_b : Source B)
+    (order : Order) (config : SweepConfig) (old_first : Records A O g)
     (old_second : Records B O g) (out : Output) where
   abbrev pub SweepEnds : Option FaultValue → Records A O g → Records B O g → Output → Type 0
   SweepEnds fault first second grown =
-      Finishes (sweep_join order shape rule limit)
-      (records_pair a_left a_failed a_end b_left b_failed b_end old_first old_second) out fault
+      Finishes (sweep_join order config)
+      (records_pair source_a source_b old_first old_second) out fault
       (view_of first) (view_of second) grown
 
   -- the records so far were given
@@ -99,17 +102,17 @@ module _ {A B O : Type 0} {g : Ghosts O} (a_left : A → Option (List ℕ)) (a_f
     pub past_first : List (Member Feature)
     pub past_second : List (Member Feature)
     pub stage : Stage
-    pub stands : StandsAt order shape rule limit stage sweep
-    pub comes : Comes (sweep_join order shape rule limit)
-        (records_pair a_left a_failed a_end b_left b_failed b_end old_first old_second) out
+    pub stands : StandsBy order config stage sweep
+    pub comes : Comes (sweep_join order config)
+        (records_pair source_a source_b old_first old_second) out
         (stage_of stage) past_first past_second (view_of first) (view_of second) grown
     -- they go by the order from the beginning
     pub first_order : order_in first ≡ order_in old_first
     pub second_order : order_in second ≡ order_in old_second
     pub first_begins : last_locus old_first ≡ None
     pub second_begins : last_locus old_second ≡ None
-    pub fits : IsKnown (records_pair a_left a_failed a_end b_left b_failed b_end old_first old_second)
-        → AreWithin order limit (given stage) past_second
+    pub fits : IsKnown (records_pair source_a source_b old_first old_second)
+        → AreWithin order config.limit (given stage) past_second
 
   -- what giving a sweep all that it needs does
   abbrev pub SweepsOrStops : {T : Type 0} → Result T Fault → Records A O g → Records B O g
@@ -124,19 +127,19 @@ module _ {A B O : Type 0} {g : Ghosts O} (a_left : A → Option (List ℕ)) (a_f
   FinishesBoth (Ok done) first second grown = SweepEnds None first second grown
   FinishesBoth (Err fault) first second grown = SweepEnds (Some (fault_value fault)) first second grown
 
-module _ {S A State : Type 0} (left : S → Option (List ℕ)) (failed end : S → Bool)
+module _ {S A State : Type 0} (device : Source S)
     (old : MemberReader S A State) (past : List (Member A)) (before : MemberReader S A State) where
   -- the rest of the members were consumed
   pub record ChecksAll (new : MemberReader S A State) : Type 0 where
     pub more : List (Member A)
-    pub passes : Passes left failed end old (past ++ more) new
-    pub all : AreAll left failed end old (past ++ more)
+    pub passes : Passes device old (past ++ more) new
+    pub all : AreAll device old (past ++ more)
 
   -- a fault lies after some of them
   pub record ChecksUpTo (Kinds : Kind → Type 0) (fault : FaultValue)
       (new : MemberReader S A State) : Type 0 where
     pub more : List (Member A)
-    pub stops : StopsAfter left failed end old Kinds (past ++ more) fault new
+    pub stops : StopsAfter device old Kinds (past ++ more) fault new
     -- those that were consumed and the one ahead are on the lines given
     pub low : All (λ m. m.line ≤ lines_given new.below) (past ++ option_to_list (ahead_in before))
     pub before_end : end_told before.below ≡ true → (input : Input) (line : ℕ)
@@ -150,27 +153,27 @@ module _ {S A State : Type 0} (left : S → Option (List ℕ)) (failed end : S �
   abbrev pub Checks : {T : Type 0} → (Kind → Type 0) → Result T Fault → MemberReader S A State
       → Type 0
   Checks Kinds result new =
-      Passes left failed end old past before
+      Passes device old past before
       → ((state : State) (line : TextLine) (kind : Kind) → old.format.says state line ≡ Err kind
       → Kinds kind)
       → ChecksRest Kinds result new
 
 -- reading on to the end, from wherever the reader is
-abbrev pub ReadsRest : {S A State T : Type 0} → (S → Option (List ℕ)) → (S → Bool) → (S → Bool)
-    → (Kind → Type 0) → MemberReader S A State → Result T Fault → MemberReader S A State → Type 0
-ReadsRest {S} {A} {State} {T} left failed end Kinds before result new =
+abbrev pub ReadsRest : {S A State T : Type 0} → Source S → (Kind → Type 0) → MemberReader S A State
+    → Result T Fault → MemberReader S A State → Type 0
+ReadsRest {S} {A} {State} {T} device Kinds before result new =
     (old : MemberReader S A State) (past : List (Member A))
-    → Checks left failed end old past before Kinds result new
+    → Checks device old past before Kinds result new
 
 -- how far it has come
-module _ {S A State : Type 0} (left : S → Option (List ℕ)) (failed end : S → Bool)
+module _ {S A State : Type 0} (device : Source S)
     (before now : MemberReader S A State) where
   pub record IsReadOn : Type 0 where
-    pub bytes : (bytes : List ℕ) × Hands left before.below bytes now.below
+    pub bytes : (bytes : List ℕ) × Hands device.left before.below bytes now.below
     pub rises : lines_given before.below ≤ lines_given now.below
     -- the member that was ahead is consumed, if any is
     pub moves : (now ≡ before) ⊎ (lines_given before.below < lines_given now.below)
     pub going : before.fault ≡ None → now.fault ≡ None
     pub passes : (old : MemberReader S A State) (past : List (Member A))
-        → Passes left failed end old past before
-        → (more : List (Member A)) × Passes left failed end old (past ++ more) now
+        → Passes device old past before
+        → (more : List (Member A)) × Passes device old (past ++ more) now

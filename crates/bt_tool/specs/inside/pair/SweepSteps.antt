@@ -2,6 +2,7 @@
 -- its end is given, and then what both have buffered is given.
 use Rattle.std.specs.Prelude.{◌≡◌, ◌⊎◌, ◌<◌, ℕ, Bool, true, false, List, ◌∷◌, [], ◌++◌, Option, Some, Result, Ok, Err}
 use Rattle.std.specs.Prelude.{None, ⊤, is_some, option_to_list}
+use Rattle.bt_lines.specs.declared.device.Source.{Ghosts as Source}
 use Rattle.bt_lines.specs.model.Fault.{FaultValue, no_memory}
 use Rattle.bt_lines.specs.calls.Names.{fault_value}
 use Rattle.bt_lines.specs.calls.Output.{Output}
@@ -20,42 +21,40 @@ use Rattle.bt_sweep.specs.model.IntersectLines.{intersect, lines_for}
 use Rattle.bt_sweep.specs.calls.Joining.{CannotBeHeld, TakenEach}
 use Rattle.bt_sweep.specs.calls.Standing.{Stage, StandsAt, with_a_ended, with_b_ended}
 use Rattle.bt_sweep.specs.calls.SweepState.{Sweeping, want_in}
-use Rattle.bt_sweep.specs.declared.hits.hit_rule.HitRule.{HitRule}
 use Rattle.bt_sweep.specs.declared.sweep.phase.Phase.TheVariants.{Both}
-use Rattle.bt_sweep.specs.declared.output.shape.Shape.{Shape}
 use Rattle.bt_sweep.specs.declared.sweep.want.Want.{Want}
 use Rattle.bt_sweep.specs.declared.sweep.want.Want.TheVariants.{A as WantA, B as WantB, Nothing}
+use Rattle.bt_tool.specs.declared.loops.sweeping.SweepConfig.{SweepConfig}
 use Rattle.bt_tool.specs.inside.pair.Pair.{item_ahead}
+use Rattle.bt_tool.specs.inside.pair.SweepLoop.{StandsBy}
 use Rattle.bt_tool.specs.inside.feed.Passed.{HasTaken}
 
-module _ {A B O : Type 0} {g : Ghosts O} (a_left : A → Option (List ℕ)) (a_failed a_end : A → Bool)
-    (IsReadFirst : A → Option ℕ → A → Type 0) (b_left : B → Option (List ℕ)) (b_failed b_end : B → Bool)
-    (IsReadSecond : B → Option ℕ → B → Type 0) (order : Order) (first : Records A O g) (second : Records B O g)
-    (sweep : Sweeping) (out : Output) where
+module _ {A B O : Type 0} {g : Ghosts O} (source_a : Source A) (source_b : Source B) (order : Order)
+    (first : Records A O g) (second : Records B O g) (sweep : Sweeping) (out : Output) where
   -- the sweep is given the end of the first input, if it has ended
   abbrev pub EndsFirst : Bool → Sweeping → Type 0
   EndsFirst true swept = swept ≡ sweep
   EndsFirst false swept =
-      (shape : Shape) (rule : HitRule) (limit : Option ℕ) (stage : Stage)
-      → StandsAt order shape rule limit stage sweep
-      → StandsAt order shape rule limit (with_a_ended stage) swept
+      (config : SweepConfig) (stage : Stage)
+      → StandsBy order config stage sweep → StandsBy order config (with_a_ended stage) swept
 
   -- the same of the second, and the lines of the waiting record are written then
   abbrev pub EndsSecond : Bool → Sweeping → Output → Type 0
   EndsSecond true swept grown = (swept ≡ sweep) × (grown ≡ out)
   EndsSecond false swept grown =
-      (shape : Shape) (rule : HitRule) (limit : Option ℕ) (stage : Stage) (a : Feature)
-      → StandsAt order shape rule limit stage sweep → stage.waiting ≡ Some a
+      (config : SweepConfig) (stage : Stage) (a : Feature)
+      → StandsBy order config stage sweep → stage.waiting ≡ Some a
       → ArePlaced order (intervals_of stage.taken)
-      → StandsAt order shape rule limit (with_b_ended stage) swept
-      × Grown out (lines_for shape rule a stage.taken) grown
+      → StandsBy order config (with_b_ended stage) swept
+      × Grown out (lines_for config.shape config.rule a stage.taken) grown
 
   -- a record of the first input is buffered, or it has ended
   pub record FillsFirst (new : Records A O g) (new_second : Records B O g) (swept : Sweeping)
       (grown : Output) : Type 0 where
     pub wants : want_in sweep ≡ WantA
     pub answer : Bool
-    pub fills : FillsRecords a_left a_failed a_end IsReadFirst first (Ok answer) new
+    pub fills : FillsRecords source_a.left source_a.has_failed source_a.end_told source_a.is_read
+        first (Ok answer) new
     pub ends : EndsFirst answer swept
     pub same_second : new_second ≡ second
     pub same_output : grown ≡ out
@@ -64,7 +63,8 @@ module _ {A B O : Type 0} {g : Ghosts O} (a_left : A → Option (List ℕ)) (a_f
       (grown : Output) : Type 0 where
     pub wants : want_in sweep ≡ WantB
     pub answer : Bool
-    pub fills : FillsRecords b_left b_failed b_end IsReadSecond second (Ok answer) new
+    pub fills : FillsRecords source_b.left source_b.has_failed source_b.end_told source_b.is_read
+        second (Ok answer) new
     pub ends : EndsSecond answer swept grown
     pub same_first : new_first ≡ first
 
@@ -80,14 +80,16 @@ module _ {A B O : Type 0} {g : Ghosts O} (a_left : A → Option (List ℕ)) (a_f
   pub record StopsFirst (fault : Fault) (new : Records A O g) (new_second : Records B O g)
       (grown : Output) : Type 0 where
     pub wants : want_in sweep ≡ WantA
-    pub fills : FillsRecords a_left a_failed a_end IsReadFirst first (Err fault) new
+    pub fills : FillsRecords source_a.left source_a.has_failed source_a.end_told source_a.is_read
+        first (Err fault) new
     pub same_second : new_second ≡ second
     pub same_output : grown ≡ out
 
   pub record StopsSecond (fault : Fault) (new_first : Records A O g) (new : Records B O g)
       (grown : Output) : Type 0 where
     pub wants : want_in sweep ≡ WantB
-    pub fills : FillsRecords b_left b_failed b_end IsReadSecond second (Err fault) new
+    pub fills : FillsRecords source_b.left source_b.has_failed source_b.end_told source_b.is_read
+        second (Err fault) new
     pub same_first : new_first ≡ first
     pub same_output : grown ≡ out
 
@@ -95,12 +97,13 @@ module _ {A B O : Type 0} {g : Ghosts O} (a_left : A → Option (List ℕ)) (a_f
   pub record FailsAtEnd (fault : Fault) (new_first : Records A O g) (new : Records B O g)
       (grown : Output) : Type 0 where
     pub wants : want_in sweep ≡ WantB
-    pub fills : FillsRecords b_left b_failed b_end IsReadSecond second (Ok false) new
+    pub fills : FillsRecords source_b.left source_b.has_failed source_b.end_told source_b.is_read
+        second (Ok false) new
     pub same_first : new_first ≡ first
-    pub fails : (shape : Shape) (rule : HitRule) (limit : Option ℕ) (stage : Stage) (a : Feature)
-        → StandsAt order shape rule limit stage sweep → stage.waiting ≡ Some a
+    pub fails : (config : SweepConfig) (stage : Stage) (a : Feature)
+        → StandsBy order config stage sweep → stage.waiting ≡ Some a
         → ArePlaced order (intervals_of stage.taken)
-        → FailsToAdd out (lines_for shape rule a stage.taken) (fault_value fault) grown
+        → FailsToAdd out (lines_for config.shape config.rule a stage.taken) (fault_value fault) grown
 
   -- whether anything is wanted
   abbrev pub FillsWanted : Result Bool Fault → Records A O g → Records B O g → Sweeping → Output → Type 0
@@ -114,8 +117,8 @@ module _ {A B O : Type 0} {g : Ghosts O} (a_left : A → Option (List ℕ)) (a_f
   -- records of both that were buffered are taken
   pub record TakesBoth (firsts seconds : List Feature) (new_first : Records A O g)
       (new_second : Records B O g) : Type 0 where
-    pub first_taken : HasTaken a_left a_failed a_end (view_of first) firsts (view_of new_first)
-    pub second_taken : HasTaken b_left b_failed b_end (view_of second) seconds (view_of new_second)
+    pub first_taken : HasTaken source_a (view_of first) firsts (view_of new_first)
+    pub second_taken : HasTaken source_b (view_of second) seconds (view_of new_second)
     pub first_order : order_in new_first ≡ order_in first
     pub second_order : order_in new_second ≡ order_in second
 

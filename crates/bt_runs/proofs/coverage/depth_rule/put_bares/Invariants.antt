@@ -7,4 +7,4 @@ use Rattle.bt_runs.proofs.coverage.depth_rule.put_bares.Given as goal
 
 -- the chromosomes so far were written
 abbrev pub invariant-loop-rank : goal.invariant-loop-rank
-invariant-loop-rank g l = Grown l.fn.out.output (depth_lines (flat_map (bare_of l.zeros) (slice_range (entries l.genome) l.first l.rank))) l.out.output
+invariant-loop-rank g l = Grown l.fn.out.output (depth_lines (flat_map (bare_of l.chroms.zeros) (slice_range (entries l.chroms.genome.now) l.first l.rank))) l.out.output

@@ -10,11 +10,11 @@ pub returns-in_err-begun : goal.returns-in_err-begun
 returns-in_err-begun g c =
     let p = err_from_is_err_and c.from_residual.result c.from_residual.ensures.1 in
     let known = known_seen c.args.begun c.args.held.now in
-    rw (p.1, p.2) (left_cut c.args.chrom.now c.args.out.now.output c.go_on.new.out.output (ended_to c.args.zeros known c.args.length) (ended_at (begun_to c.args.zeros known c.args.length) c.args.length) c.in_err-begun.field-0.0 c.in_err-begun.ensures.adds)
+    rw (p.1, p.2) (left_cut c.args.chrom.now.name.now c.args.out.now.output c.go_on.new.out.output (ended_to c.args.chrom.now.zeros known c.args.chrom.now.length) (ended_at (begun_to c.args.chrom.now.zeros known c.args.chrom.now.length) c.args.chrom.now.length) c.in_err-begun.field-0.0 c.in_err-begun.ensures.adds)
 
 pub returns : goal.returns
 returns g c =
     let known = known_seen c.args.begun c.args.held.now in
     let begun = begun_seen c.in_ok-begun.begun in
-    adds_levels c.args.chrom.now c.args.out.now.output c.go_on.new.out.output c.put_ended.new.out.output (ended_to c.args.zeros known c.args.length) (ended_at begun c.args.length) _ c.put_ended.result
-    (ap (λ b. ended_to c.args.zeros known c.args.length ++ ended_at b c.args.length) (sym c.in_ok-begun.ensures.begun)) c.in_ok-begun.ensures.adds c.put_ended.ensures
+    adds_levels c.args.chrom.now.name.now c.args.out.now.output c.go_on.new.out.output c.put_ended.new.out.output (ended_to c.args.chrom.now.zeros known c.args.chrom.now.length) (ended_at begun c.args.chrom.now.length) _ c.put_ended.result
+    (ap (λ b. ended_to c.args.chrom.now.zeros known c.args.chrom.now.length ++ ended_at b c.args.chrom.now.length) (sym c.in_ok-begun.ensures.begun)) c.in_ok-begun.ensures.adds c.put_ended.ensures

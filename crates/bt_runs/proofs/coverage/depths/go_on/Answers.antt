@@ -18,7 +18,7 @@ with_at at spans = record { at = at; spans = spans }
 
 pub loop-position-init : goal.loop-position-init
 loop-position-init g c =
-    let u = depth_of c.args.zeros c.args.held.now.spans in
+    let u = depth_of c.args.chrom.now.zeros c.args.held.now.spans in
     let known = c.args.held.now.at in
     let begun = begun_seen c.args.begun in
     rw c.at-position.ensures (record {
@@ -36,7 +36,7 @@ returns-in_err-begun-clause-adds g c =
     let p = err_from_is_err_and c.from_residual.result c.from_residual.ensures.1 in
     let i = c.loop-position.invariant in
     let held = c.args.held.now in
-    let u = depth_of c.args.zeros held.spans in
+    let u = depth_of c.args.chrom.now.zeros held.spans in
     let at = c.loop-position.position in
     let first = begun_seen c.args.begun in
     let begun = begun_seen c.loop-position.begun in
@@ -44,16 +44,16 @@ returns-in_err-begun-clause-adds g c =
     let test = c.loop-position-test.true in
     let next : max c.loop-position.held.at (at + 1) ≡ at + 1 = omega (arith, i.here) in
     let now : c.go_on.new.self ≡ record { at = at + 1; spans = c.loop-position.held.spans } = c.go_on.ensures.at ∙ ap (λ n. with_at n c.loop-position.held.spans) next in
-    let is : value ≡ reported c.args.zeros (length (still_open (at + 1) c.loop-position.held.spans)) = c.reported-depth.ensures ∙ ap (reported c.args.zeros) (c.depth.ensures ∙ ap (λ (h : OpenAt). length (still_open h.at h.spans)) now) in
-    let here = here_depth c.args.zeros c.loop-position.held.at at held.spans c.loop-position.held.spans i.here (ap (still_open at) i.same) c.go_on.ensures.started value is in
+    let is : value ≡ reported c.args.chrom.now.zeros (length (still_open (at + 1) c.loop-position.held.spans)) = c.reported-depth.ensures ∙ ap (reported c.args.chrom.now.zeros) (c.depth.ensures ∙ ap (λ (h : OpenAt). length (still_open h.at h.spans)) now) in
+    let here = here_depth c.args.chrom.now.zeros c.loop-position.held.at at held.spans c.loop-position.held.spans i.here (ap (still_open at) i.same) c.go_on.ensures.started value is in
     let more = turn_more u held.at at c.args.stop first begun value i.from (omega arith) here i.begun in
-    rw (p.1, p.2) (cut_levels c.args.chrom.now c.args.out.now.output c.loop-position.out.output c.put_next.new.out.output (ended_after u held.at (at - held.at) first) (next_ended at value begun) (ended_after u held.at (c.args.stop - held.at) first) more.0 c.in_err-begun.field-0.0 more.1 i.puts c.in_err-begun.ensures.adds)
+    rw (p.1, p.2) (cut_levels c.args.chrom.now.name.now c.args.out.now.output c.loop-position.out.output c.put_next.new.out.output (ended_after u held.at (at - held.at) first) (next_ended at value begun) (ended_after u held.at (c.args.stop - held.at) first) more.0 c.in_err-begun.field-0.0 more.1 i.puts c.in_err-begun.ensures.adds)
 
 pub loop-position-preserved : goal.loop-position-preserved
 loop-position-preserved g c =
     let i = c.loop-position.invariant in
     let held = c.args.held.now in
-    let u = depth_of c.args.zeros held.spans in
+    let u = depth_of c.args.chrom.now.zeros held.spans in
     let at = c.loop-position.position in
     let next = c.first_end-position.result in
     let first = begun_seen c.args.begun in
@@ -64,11 +64,11 @@ loop-position-preserved g c =
     let later : max c.loop-position.held.at (at + 1) ≡ at + 1 = omega (arith, i.here) in
     let now : c.go_on.new.self ≡ record { at = at + 1; spans = spans } = c.go_on.ensures.at ∙ ap (λ n. with_at n spans) later in
     let here : c.go_on.new.self.at ≡ at + 1 = ap (λ h. h.at) now in
-    let is : value ≡ reported c.args.zeros (length (still_open (at + 1) spans)) = c.reported-depth.ensures ∙ ap (reported c.args.zeros) (c.depth.ensures ∙ ap (λ (h : OpenAt). length (still_open h.at h.spans)) now) in
+    let is : value ≡ reported c.args.chrom.now.zeros (length (still_open (at + 1) spans)) = c.reported-depth.ensures ∙ ap (reported c.args.chrom.now.zeros) (c.depth.ensures ∙ ap (λ (h : OpenAt). length (still_open h.at h.spans)) now) in
     let within = c.first_end-position.ensures.within in
     let up : c.go_on.new.self.at ≤ next = c.first_end-position.ensures.behind (omega arith) in
     let ends : All (λ s. next ≤ s.stop) (still_open (at + 1) spans) = subst (λ (h : OpenAt). All (λ s. next ≤ s.stop) (still_open h.at h.spans)) now c.first_end-position.ensures.ends in
-    let run = run_depth c.args.zeros c.loop-position.held.at at held.spans spans i.here (ap (still_open at) i.same) c.go_on.ensures.started value is next ends in
+    let run = run_depth c.args.chrom.now.zeros c.loop-position.held.at at held.spans spans i.here (ap (still_open at) i.same) c.go_on.ensures.started value is next ends in
     let low = i.from in
     let behind : at < next = omega arith in
     let ended = turn_ended u held.at at next first value low behind run ∙ ap (λ b. ended_after u held.at (at - held.at) first ++ next_ended at value b) (sym i.begun) in
@@ -78,7 +78,7 @@ loop-position-preserved g c =
       here = omega arith;
       left = c.first_end-position.ensures.ends;
       same = ap (λ h. h.spans) now ∙ i.same;
-      puts = adds_levels c.args.chrom.now c.args.out.now.output c.loop-position.out.output c.put_next.new.out.output (ended_after u held.at (at - held.at) first) (next_ended at value begun) (ended_after u held.at (next - held.at) first) {A = Unit {0}} (Ok tt) ended i.puts c.in_ok-begun.ensures.adds;
+      puts = adds_levels c.args.chrom.now.name.now c.args.out.now.output c.loop-position.out.output c.put_next.new.out.output (ended_after u held.at (at - held.at) first) (next_ended at value begun) (ended_after u held.at (next - held.at) first) {A = Unit {0}} (Ok tt) ended i.puts c.in_ok-begun.ensures.adds;
       begun = c.in_ok-begun.ensures.begun ∙ ap (next_begun at value) i.begun ∙ sym (turn_begun u held.at at next first value low behind run);
     }
 

@@ -14,8 +14,8 @@ invariant-loop-position g l = record {
   here : l.held.at ≤ l.position;
   left : All (λ s. l.position ≤ s.stop) (still_open l.held.at l.held.spans);
   same : l.held.spans ≡ l.fn.held.spans;
-  puts : Grown l.fn.out.output (depth_lines (levels_on l.chrom (ended_after (depth_of l.zeros l.fn.held.spans) l.fn.held.at (l.position - l.fn.held.at) (begun_seen l.fn.begun)))) l.out.output;
-  begun : begun_seen l.begun ≡ begun_after (depth_of l.zeros l.fn.held.spans) l.fn.held.at (l.position - l.fn.held.at) (begun_seen l.fn.begun);
+  puts : Grown l.fn.out.output (depth_lines (levels_on l.chrom.name.now (ended_after (depth_of l.chrom.zeros l.fn.held.spans) l.fn.held.at (l.position - l.fn.held.at) (begun_seen l.fn.begun)))) l.out.output;
+  begun : begun_seen l.begun ≡ begun_after (depth_of l.chrom.zeros l.fn.held.spans) l.fn.held.at (l.position - l.fn.held.at) (begun_seen l.fn.begun);
 }
 
 abbrev pub decreases-loop-position : goal.decreases-loop-position

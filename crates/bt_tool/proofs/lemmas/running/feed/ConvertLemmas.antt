@@ -5,6 +5,7 @@ use Rattle.std.proofs.lemmas.Grind.{flat_map-append}
 use Rattle.std.proofs.lemmas.List.{map-append}
 use Rattle.std.proofs.KnownBytes.{Appends-nil}
 use Rattle.std.proofs.lemmas.Bool.{false≢true}
+use Rattle.bt_lines.specs.declared.device.Source.{Ghosts as Source}
 use Rattle.bt_lines.proofs.lemmas.reader.block.ReadsLemmas.{some_is}
 use Rattle.bt_lines.specs.model.Fault.{FaultValue, read_failed}
 use Rattle.bt_lines.specs.model.Lines.{TextLine, text_lines}
@@ -50,7 +51,7 @@ member_on line a = record { line = line.number; item = a }
 kept_of : {S : Type 0} (left : S → Option (List ℕ)) (end : S → Bool) (reader : LineReader S) → IsSound left end reader → IsKept left end reader
 kept_of left end reader sound = record { end = sound.end; within = sound.within }
 
-module _ {S : Type 0} (split cigar : Bool) (left : S → Option (List ℕ)) (failed end : S → Bool) where
+module _ {S : Type 0} (split cigar : Bool) (device : Source S) where
   abbrev lines_of : List Alignment → List ℕ
   lines_of = alignment_lines split cigar
 
@@ -60,47 +61,47 @@ module _ {S : Type 0} (split cigar : Bool) (left : S → Option (List ℕ)) (fai
   -- the lines so far were read, and their alignments written
   pub record Going (old : LineReader S) (out : Output) (now : LineReader S) (grown : Output) : Type 0 where
     pub past : List (Member Alignment)
-    pub fed : Fed lines_of left failed end (sam_reader old) out past (sam_reader now) grown
-    pub sound : IsSound left end now
+    pub fed : Fed lines_of device (sam_reader old) out past (sam_reader now) grown
+    pub sound : IsSound device.left device.end_told now
 
   module _ (old : LineReader S) (out : Output) where
-    pub going_start : IsFresh left end (sam_reader old) → HoldsBlock out.took out.put → Going old out old out
-    going_start fresh block = record { past = []; fed = fed_none lines_of left failed end (sam_reader old) out fresh fresh.going refl block; sound = fresh.sound }
+    pub going_start : IsFresh device.left device.end_told (sam_reader old) → HoldsBlock out.took out.put → Going old out old out
+    going_start fresh block = record { past = []; fed = fed_none lines_of device (sam_reader old) out fresh fresh.going refl block; sound = fresh.sound }
 
     module _ (now : LineReader S) (grown : Output) (g : Going old out now grown) where
       abbrev UpTo : FaultValue → MemberReader S Alignment ⊤ → Output → Type 0
-      UpTo fault new later = FeedsUpTo lines_of (IsOneOf is_sam_kind) Any left failed end (sam_reader old) out fault new later
+      UpTo fault new later = FeedsUpTo lines_of (IsOneOf is_sam_kind) Any device (sam_reader old) out fault new later
 
-      abbrev steps : Steps left failed end (sam_reader now) (sam_reader now)
-      steps = steps_start left failed end (sam_reader now) refl refl
+      abbrev steps : Steps device.left device.has_failed device.end_told (sam_reader now) (sam_reader now)
+      steps = steps_start device.left device.has_failed device.end_told (sam_reader now) refl refl
 
       -- after the last line
-      pub converts_all : (new : LineReader S) → GivesEnd left failed now new → (IsSound left end now → IsSound left end new)
-          → FeedsAll lines_of (IsOneOf is_sam_kind) Any left failed end Any (sam_reader old) out (sam_reader new) grown
+      pub converts_all : (new : LineReader S) → GivesEnd device.left device.has_failed now new → (IsSound device.left device.end_told now → IsSound device.left device.end_told new)
+          → FeedsAll lines_of (IsOneOf is_sam_kind) Any device Any (sam_reader old) out (sam_reader new) grown
       converts_all new ends sound =
-          fed_all lines_of (IsOneOf is_sam_kind) Any left failed end (sam_reader old) out g.past (sam_reader now) grown g.fed Any (sam_reader new)
+          fed_all lines_of (IsOneOf is_sam_kind) Any device (sam_reader old) out g.past (sam_reader now) grown g.fed Any (sam_reader new)
           (record {
-            ends = going_end left failed end (sam_reader now) (sam_reader now) (sam_reader new) steps ends refl refl (record { state = refl; format = refl }) (λ same fault. ap sam_reader same);
-            kept = λ was. kept_of left end new (sound g.sound);
+            ends = going_end device.left device.has_failed device.end_told (sam_reader now) (sam_reader now) (sam_reader new) steps ends refl refl (record { state = refl; format = refl }) (λ same fault. ap sam_reader same);
+            kept = λ was. kept_of device.left device.end_told new (sound g.sound);
             clear = λ e. e;
           }) tt tt
 
-      up_to : (new : MemberReader S Alignment ⊤) (fault : FaultValue) → IsStopped left failed end (sam_reader now) fault new → UpTo fault new grown
+      up_to : (new : MemberReader S Alignment ⊤) (fault : FaultValue) → IsStopped device (sam_reader now) fault new → UpTo fault new grown
       up_to new fault stopped =
-          fed_up_to lines_of (IsOneOf is_sam_kind) Any left failed end (sam_reader old) out g.past (sam_reader now) grown g.fed (λ state line kind says. wrong_kinds line.text kind says) new fault stopped tt
+          fed_up_to lines_of (IsOneOf is_sam_kind) Any device (sam_reader old) out g.past (sam_reader now) grown g.fed (λ state line kind says. wrong_kinds line.text kind says) new fault stopped tt
 
       -- the reader reported a fault
-      pub stops_reading : (new : LineReader S) (fault : FaultValue) → GivesFault left failed now fault new → (IsSound left end now → IsSound left end new) → UpTo fault (sam_reader new) grown
+      pub stops_reading : (new : LineReader S) (fault : FaultValue) → GivesFault device.left device.has_failed now fault new → (IsSound device.left device.end_told now → IsSound device.left device.end_told new) → UpTo fault (sam_reader new) grown
       stops_reading new fault gives sound =
           up_to (sam_reader new) fault (record {
-            answers = going_unread left failed end (sam_reader now) (sam_reader now) (sam_reader new) fault steps gives gives.kept refl (record { state = refl; format = refl }) (λ same fault. ap sam_reader same);
-            kept = λ was. kept_of left end new (sound g.sound);
+            answers = going_unread device.left device.has_failed device.end_told (sam_reader now) (sam_reader now) (sam_reader new) fault steps gives gives.kept refl (record { state = refl; format = refl }) (λ same fault. ap sam_reader same);
+            kept = λ was. kept_of device.left device.end_told new (sound g.sound);
           })
 
       -- a line was given
-      module _ (new : LineReader S) (line : TextLine) (gives : GivesLine left failed now line new) (sound : IsSound left end now → IsSound left end new) where
-        kept : IsKept left end now → IsKept left end new
-        kept was = kept_of left end new (sound g.sound)
+      module _ (new : LineReader S) (line : TextLine) (gives : GivesLine device.left device.has_failed now line new) (sound : IsSound device.left device.end_told now → IsSound device.left device.end_told new) where
+        kept : IsKept device.left device.end_told now → IsKept device.left device.end_told new
+        kept was = kept_of device.left device.end_told new (sound g.sound)
 
         abbrev pub stopped_at : FaultValue → MemberReader S Alignment ⊤
         stopped_at fault = record { format = sam_format; below = new; state = tt; buffered = []; fault = Some fault }
@@ -111,7 +112,7 @@ module _ {S : Type 0} (split cigar : Bool) (left : S → Option (List ℕ)) (fai
             let of_sam = wrong_kinds line.text refused.kind refused.says in
             subst (λ o. UpTo fault (stopped_at fault) o) (sym refused.unchanged)
             (up_to (stopped_at fault) fault (record {
-              answers = going_wrong left failed end (sam_reader now) (sam_reader now) (stopped_at fault) line fault refused.kind steps (came left failed now new line gives) refl refl (record { state = refl; format = refl }) kept refused.says
+              answers = going_wrong device.left device.has_failed device.end_told (sam_reader now) (sam_reader now) (stopped_at fault) line fault refused.kind steps (came device.left device.has_failed now new line gives) refl refl (record { state = refl; format = refl }) kept refused.says
                   (kinds_of_lines refused.kind of_sam) (refused.is ∙ ap (λ i. fault_at_line i line.number refused.kind) (sym g.fed.passes.bytes.1.same_input));
               kept = kept;
             }))
@@ -119,8 +120,8 @@ module _ {S : Type 0} (split cigar : Bool) (left : S → Option (List ℕ)) (fai
         pushed : (a : Alignment) → lines_of (member_items g.past ++ a ∷ []) ≡ lines_of (member_items g.past) ++ bed_lines split cigar a
         pushed a = flat_map-append (bed_lines split cigar) (member_items g.past) (a ∷ []) ∙ ap (λ l. lines_of (member_items g.past) ++ l) (append-nil (bed_lines split cigar a))
 
-        with_it : (a : Alignment) → alignment_of line.text ≡ Ok (Some a) → Passes left failed end (sam_reader old) (g.past ++ member_on line a ∷ []) (sam_reader new)
-        with_it a says = passes_some left failed end (sam_reader old) (sam_reader now) g.past g.fed.passes (sam_reader new) line gives kept refl refl gives.goes a says refl
+        with_it : (a : Alignment) → alignment_of line.text ≡ Ok (Some a) → Passes device (sam_reader old) (g.past ++ member_on line a ∷ []) (sam_reader new)
+        with_it a says = passes_some device (sam_reader old) (sam_reader now) g.past g.fed.passes (sam_reader new) line gives kept refl refl gives.goes a says refl
 
         -- the lines of its alignment couldn't be written
         pub stops_writing : (converting : Converting) → converting.split ≡ split → converting.with_cigar ≡ cigar → (fault : FaultValue) (later : Output) → (unwritten : LineUnwritten converting line grown fault later)
@@ -130,13 +131,13 @@ module _ {S : Type 0} (split cigar : Bool) (left : S → Option (List ℕ)) (fai
             let fails = unwritten.fails.puts in
             let lines = bed_lines converting.split converting.with_cigar a in
             let is : lines ≡ bed_lines split cigar a = ap (λ s. bed_lines s converting.with_cigar a) same ∙ ap (λ c. bed_lines split c a) same_cigar in
-            fails_writing lines_of (IsOneOf is_sam_kind) Any left failed end (sam_reader old) out g.past (g.past ++ member_on line a ∷ []) a (map-append (λ m. m.item) g.past (member_on line a ∷ [])) (sam_reader new) (with_it a unwritten.says)
-            (read_line left failed end (sam_reader old) (sam_reader now) g.past g.fed.passes (sam_reader new) line gives kept refl refl gives.goes a unwritten.says refl)
+            fails_writing lines_of (IsOneOf is_sam_kind) Any device (sam_reader old) out g.past (g.past ++ member_on line a ∷ []) a (map-append (λ m. m.item) g.past (member_on line a ∷ [])) (sam_reader new) (with_it a unwritten.says)
+            (read_line device (sam_reader old) (sam_reader now) g.past g.fed.passes (sam_reader new) line gives kept refl refl gives.goes a unwritten.says refl)
             grown g.fed.grows g.fed.puts g.fed.works g.fed.block tt fault later lines
             (pushed a ∙ ap (λ l. lines_of (member_items g.past) ++ l) (sym is)) fails.is fails.front fails.failed fails.sink_failed fails.grows
 
         -- what is settled with these members was put
-        goes_with : (past : List (Member Alignment)) (bytes : List ℕ) (later : Output) → Passes left failed end (sam_reader old) past (sam_reader new) → lines_of (member_items past) ≡ lines_of (member_items g.past) ++ bytes → Grown grown bytes later
+        goes_with : (past : List (Member Alignment)) (bytes : List ℕ) (later : Output) → Passes device (sam_reader old) past (sam_reader new) → lines_of (member_items past) ≡ lines_of (member_items g.past) ++ bytes → Grown grown bytes later
             → Going old out new later
         goes_with past bytes later passes more writes = record {
           past = past;
@@ -152,7 +153,7 @@ module _ {S : Type 0} (split cigar : Bool) (left : S → Option (List ℕ)) (fai
 
         goes_by : (said : Option Alignment) (later : Output) → alignment_of line.text ≡ Ok said → Grown grown (lines_if split cigar said) later → Going old out new later
         goes_by None later says writes =
-            goes_with g.past [] later (passes_none left failed end (sam_reader old) (sam_reader now) g.past g.fed.passes (sam_reader new) line gives kept refl refl gives.goes says refl) (sym (append-nil (lines_of (member_items g.past)))) writes
+            goes_with g.past [] later (passes_none device (sam_reader old) (sam_reader now) g.past g.fed.passes (sam_reader new) line gives kept refl refl gives.goes says refl) (sym (append-nil (lines_of (member_items g.past)))) writes
         goes_by (Some a) later says writes =
             goes_with (g.past ++ member_on line a ∷ []) (bed_lines split cigar a) later (with_it a says) (ap lines_of (map-append (λ m. m.item) g.past (member_on line a ∷ [])) ∙ pushed a) writes
 
@@ -178,16 +179,16 @@ reported split cigar members None = refl
 reported split cigar members (Some fault) = refl
 
 -- a reader that has given nothing yet, over the input of a run
-module _ {S : Type 0} (split cigar : Bool) (left : S → Option (List ℕ)) (failed end : S → Bool) (first : S) (reader : LineReader S) (source : source_of reader ≡ first) (input : input_of reader ≡ First)
-    (taken : bytes_taken reader ≡ 0) (fed : feeds_taken reader ≡ 0) (given : lines_given reader ≡ 0) (going : fault_kept reader ≡ None) (lines : lines_left left reader ≡ option_map text_lines (left first)) (sound : IsSound left end reader) where
-  starts_reader : BeginsAt left sam_format First first (sam_reader reader)
+module _ {S : Type 0} (split cigar : Bool) (device : Source S) (first : S) (reader : LineReader S) (source : source_of reader ≡ first) (input : input_of reader ≡ First)
+    (taken : bytes_taken reader ≡ 0) (fed : feeds_taken reader ≡ 0) (given : lines_given reader ≡ 0) (going : fault_kept reader ≡ None) (lines : lines_left device.left reader ≡ option_map text_lines (device.left first)) (sound : IsSound device.left device.end_told reader) where
+  starts_reader : BeginsAt device.left sam_format First first (sam_reader reader)
   starts_reader = record {
     source = source;
     input_is = input;
     bytes = taken;
     feeds = fed;
     lines = lines;
-    good = good_at_first left failed end (sam_reader reader) going refl ∙ ap (λ i. option_map (good sam_format i) (lines_left left reader)) input ∙ ap (option_map (good sam_format First)) lines;
+    good = good_at_first device.left device.has_failed device.end_told (sam_reader reader) going refl ∙ ap (λ i. option_map (good sam_format i) (lines_left device.left reader)) input ∙ ap (option_map (good sam_format First)) lines;
   }
 
   more_lines : (past more : List Alignment) → ⊤ → (rest : List ℕ) × (alignment_lines split cigar (past ++ more) ≡ alignment_lines split cigar past ++ rest)
@@ -195,30 +196,30 @@ module _ {S : Type 0} (split cigar : Bool) (left : S → Option (List ℕ)) (fai
 
   module _ (converting : Converting) (same : converting ≡ record { split = split; with_cigar = cigar; fault = None }) (out : Output) (new : MemberReader S Alignment ⊤) (last : S) (ended : source_of new.below ≡ last) (grown : Output) where
     abbrev Writes : Option FaultValue → Type 0
-    Writes fault = WritesAlone left failed (of_bamtobed split cigar) first out fault last grown
+    Writes fault = WritesAlone device.left device.has_failed (of_bamtobed split cigar) first out fault last grown
 
-    as_reported : (fault : Option FaultValue) → WritesAlone left failed (of_members (IsOneOf is_sam_kind) (bamtobed_written split cigar) sam_format) first out fault last grown → Writes fault
+    as_reported : (fault : Option FaultValue) → WritesAlone device.left device.has_failed (of_members (IsOneOf is_sam_kind) (bamtobed_written split cigar) sam_format) first out fault last grown → Writes fault
     as_reported fault =
-        alone_writes left failed (λ source. true) left failed (of_members (IsOneOf is_sam_kind) (bamtobed_written split cigar) sam_format) (of_bamtobed split cigar)
+        alone_writes device.left device.has_failed (λ source. true) device.left device.has_failed (of_members (IsOneOf is_sam_kind) (bamtobed_written split cigar) sam_format) (of_bamtobed split cigar)
         (λ one two. reported split cigar _ _) (λ two lines. refl) first None out fault last grown (λ t tells. tells)
 
     -- all of the input was read
-    pub writes_all : FeedsAll (alignment_lines converting.split converting.with_cigar) (IsOneOf is_sam_kind) (λ past. ⊤) left failed end (λ past. ⊤) (sam_reader reader) out new grown → Writes None
+    pub writes_all : FeedsAll (alignment_lines converting.split converting.with_cigar) (IsOneOf is_sam_kind) (λ past. ⊤) device (λ past. ⊤) (sam_reader reader) out new grown → Writes None
     writes_all fed =
-        let is = subst (λ (m : Converting). FeedsAll (alignment_lines m.split m.with_cigar) (IsOneOf is_sam_kind) (λ past. ⊤) left failed end (λ past. ⊤) (sam_reader reader) out new grown) same fed in
+        let is = subst (λ (m : Converting). FeedsAll (alignment_lines m.split m.with_cigar) (IsOneOf is_sam_kind) (λ past. ⊤) device (λ past. ⊤) (sam_reader reader) out new grown) same fed in
         as_reported None
-        (drives_all (bamtobed_written split cigar) (IsOneOf is_sam_kind) (λ past. ⊤) (λ past. ⊤) more_lines more_lines left failed end sam_format (λ text. tt) (sam_reader reader) first out starts_reader new last ended
+        (drives_all (bamtobed_written split cigar) (IsOneOf is_sam_kind) (λ past. ⊤) (λ past. ⊤) more_lines more_lines device sam_format (λ text. tt) (sam_reader reader) first out starts_reader new last ended
         (λ past. ⊤) grown is grown (goes_same grown) [] (sym (append-nil _)) (Appends-nil grown.put) refl)
 
     -- or it was read up to a fault
-    pub writes_up_to : (fault : FaultValue) → FeedsUpTo (alignment_lines converting.split converting.with_cigar) (IsOneOf is_sam_kind) (λ past. ⊤) left failed end (sam_reader reader) out fault new grown → Writes (Some fault)
+    pub writes_up_to : (fault : FaultValue) → FeedsUpTo (alignment_lines converting.split converting.with_cigar) (IsOneOf is_sam_kind) (λ past. ⊤) device (sam_reader reader) out fault new grown → Writes (Some fault)
     writes_up_to fault fed =
         as_reported (Some fault)
-        (drives_fault (bamtobed_written split cigar) (IsOneOf is_sam_kind) (λ past. ⊤) (λ past. ⊤) more_lines more_lines left failed end sam_format (λ text. tt) (sam_reader reader) first out starts_reader new last ended
-        fault grown (subst (λ (m : Converting). FeedsUpTo (alignment_lines m.split m.with_cigar) (IsOneOf is_sam_kind) (λ past. ⊤) left failed end (sam_reader reader) out fault new grown) same fed))
+        (drives_fault (bamtobed_written split cigar) (IsOneOf is_sam_kind) (λ past. ⊤) (λ past. ⊤) more_lines more_lines device sam_format (λ text. tt) (sam_reader reader) first out starts_reader new last ended
+        fault grown (subst (λ (m : Converting). FeedsUpTo (alignment_lines m.split m.with_cigar) (IsOneOf is_sam_kind) (λ past. ⊤) device (sam_reader reader) out fault new grown) same fed))
 
     -- a failed read that is reported is of a read that failed then
-    pub own_up_to : (IsRead : S → Option ℕ → S → Type 0) → KeepsOwnFault IsRead reader new → (fault : FaultValue) → FeedsUpTo (alignment_lines converting.split converting.with_cigar) (IsOneOf is_sam_kind) (λ past. ⊤) left failed end (sam_reader reader) out fault new grown
-        → TellsOwnReads ⊥ (IsOwnFailure IsRead first last) ⊥ (Some fault)
-    own_up_to IsRead own fault fed =
-        feeds_own left failed end IsRead sam_format first (sam_reader reader) starts_reader new last ended own (alignment_lines converting.split converting.with_cigar) (IsOneOf is_sam_kind) (λ kind. false≢true kind) (λ past. ⊤) out fault grown fed
+    pub own_up_to : KeepsOwnFault device.is_read reader new → (fault : FaultValue) → FeedsUpTo (alignment_lines converting.split converting.with_cigar) (IsOneOf is_sam_kind) (λ past. ⊤) device (sam_reader reader) out fault new grown
+        → TellsOwnReads ⊥ (IsOwnFailure device.is_read first last) ⊥ (Some fault)
+    own_up_to own fault fed =
+        feeds_own device sam_format first (sam_reader reader) starts_reader new last ended own (alignment_lines converting.split converting.with_cigar) (IsOneOf is_sam_kind) (λ kind. false≢true kind) (λ past. ⊤) out fault grown fed

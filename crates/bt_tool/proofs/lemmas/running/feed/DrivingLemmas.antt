@@ -3,6 +3,7 @@ use Rattle.std.proofs.Common.{◌≡◌, ℕ, suc, ◌-◌, Bool, true, List, []
 use Rattle.std.specs.Prelude.{◌⊎◌, ◌≢◌, ⊤, IfSome, option_map}
 use Rattle.std.proofs.lemmas.List.{map-append}
 use Rattle.std.specs.Io.KnownBytes.{Appends, Consumes}
+use Rattle.bt_lines.specs.declared.device.Source.{Ghosts as Source}
 use Rattle.bt_lines.proofs.lemmas.reader.block.ReadsLemmas.{some_is}
 use Rattle.bt_lines.proofs.lemmas.writer.OutputLemmas.{grows_both}
 use Rattle.bt_lines.specs.model.Fault.{FaultValue, write_failed, no_memory}
@@ -106,8 +107,8 @@ records_sorted Taken order total takes text =
 module _ {S A State : Type 0} (written : Written A) (kinds : Kind → Type 0) (Sorted Taken : List A → Type 0)
     (stays : (past more : List A) → Taken (past ++ more) → (rest : List ℕ) × (written.settled (past ++ more) ≡ written.settled past ++ rest))
     (begins : (past more : List A) → Taken (past ++ more) → (rest : List ℕ) × (written.whole (past ++ more) ≡ written.settled past ++ rest))
-    (left : S → Option (List ℕ)) (failed end : S → Bool) (format : Format A State) (taken : (text : List ℕ) → Taken (member_items (good format First (text_lines text)).members))
-    (old : MemberReader S A State) (first : S) (out : Output) (starts : BeginsAt left format First first old) (new : MemberReader S A State) (last : S) (ended : source_of new.below ≡ last) where
+    (device : Source S) (format : Format A State) (taken : (text : List ℕ) → Taken (member_items (good format First (text_lines text)).members))
+    (old : MemberReader S A State) (first : S) (out : Output) (starts : BeginsAt device.left format First first old) (new : MemberReader S A State) (last : S) (ended : source_of new.below ≡ last) where
   -- what is good of what was handed over
   abbrev good_of : Handed → Good A
   good_of handed = good_handed format First handed
@@ -115,8 +116,8 @@ module _ {S A State : Type 0} (written : Written A) (kinds : Kind → Type 0) (S
   abbrev report : Handed → Report
   report = members_report written format
 
-  of_text : (text : List ℕ) → left first ≡ Some text → (P : Good A → Type 0) → IfSome (good_coming left old) P → P (good_of (whole_text text))
-  of_text = at_whole left failed end format First first old starts new last ended
+  of_text : (text : List ℕ) → device.left first ≡ Some text → (P : Good A → Type 0) → IfSome (good_coming device.left old) P → P (good_of (whole_text text))
+  of_text = at_whole device format First first old starts new last ended
 
   -- the report, by these members and the fault
   report_of : (handed : Handed) (past : List (Member A)) (fault : Option FaultValue) → ((good_of handed).members ≡ past) × ((good_of handed).fault ≡ fault)
@@ -129,7 +130,7 @@ module _ {S A State : Type 0} (written : Written A) (kinds : Kind → Type 0) (S
   begins_by items past rest (Some fault) e t = let b = stays past rest (subst Taken e t) in (b.0, ap written.settled e ∙ b.1)
 
   -- a prefix of the records gives a prefix of the output
-  begins_output : (one : Handed) (past : List (Member A)) → Holds left first one → IfSome (good_coming left old) (λ good. (rest : List (Member A)) × (good.members ≡ past ++ rest))
+  begins_output : (one : Handed) (past : List (Member A)) → Holds device.left first one → IfSome (good_coming device.left old) (λ good. (rest : List (Member A)) × (good.members ≡ past ++ rest))
       → (rest : List ℕ) × ((report one).output ≡ written.settled (member_items past) ++ rest)
   begins_output one past holds b =
       let here = of_text holds.text holds.known (λ good. (rest : List (Member A)) × (good.members ≡ past ++ rest)) b in
@@ -137,15 +138,15 @@ module _ {S A State : Type 0} (written : Written A) (kinds : Kind → Type 0) (S
       (begun.0, ap (λ (h : Handed). (report h).output) holds.is ∙ begun.1)
 
   -- how far the input was read
-  near_by : (one : Handed) (before took : List ℕ) → Holds left first one → out.put ≡ Some before → out.took ≡ Some took → (bytes : List ℕ) × Hands left old.below bytes new.below
-      → (past : List (Member A)) → IsReadFor left failed end old past past new → (grown : Output) → TookButBlock out (written.settled (member_items past)) grown
+  near_by : (one : Handed) (before took : List ℕ) → Holds device.left first one → out.put ≡ Some before → out.took ≡ Some took → (bytes : List ℕ) × Hands device.left old.below bytes new.below
+      → (past : List (Member A)) → IsReadFor device old past past new → (grown : Output) → TookButBlock out (written.settled (member_items past)) grown
       → (Stopped : Type 0) → (Stopped → PutsLines out (written.settled (member_items past)) grown)
-      → ReadsNoFurther (λ n. IsWithin true one.text n → ⊤) (members_settle written format) one.text (left last) before grown.took (grown.has_failed ≡ true) Stopped grown.put
+      → ReadsNoFurther (λ n. IsWithin true one.text n → ⊤) (members_settle written format) one.text (device.left last) before grown.took (grown.has_failed ≡ true) Stopped grown.put
   near_by one before took holds put known hands past read grown kept Stopped exact =
       let text = holds.text in
       let e = holds.known in
       let count = read.to.count in
-      let handed = handed_to left failed end format First first old starts new last ended count text e read.to.near hands in
+      let handed = handed_to device format First first old starts new last ended count text e read.to.near hands in
       let all = good format First (text_lines text) in
       let b = subst (λ (g : Good A). (rest : List (Member A)) × (g.members ≡ past ++ rest) × IsBeyond count (record { members = rest; fault = g.fault })) (good_whole format First text)
       (of_text text e (λ good. (rest : List (Member A)) × (good.members ≡ past ++ rest) × IsBeyond count (record { members = rest; fault = good.fault })) read.to.behind) in
@@ -154,11 +155,11 @@ module _ {S A State : Type 0} (written : Written A) (kinds : Kind → Type 0) (S
       (first_from format First count count 1 format.begin (text_lines text) past b.0 all.fault (omega arith) (lines_are_numbered 1 text) b.1 refl read.low b.2)) in
       let settled = subst (λ l. TookButBlock out l grown) on_lines kept in
       let less : suc count - 1 ≡ count = omega arith in
-      subst (λ (h : Handed). ReadsNoFurther (λ n. IsWithin true h.text n → ⊤) (members_settle written format) h.text (left last) before grown.took (grown.has_failed ≡ true) Stopped grown.put) (sym holds.is) (record {
+      subst (λ (h : Handed). ReadsNoFurther (λ n. IsWithin true h.text n → ⊤) (members_settle written format) h.text (device.left last) before grown.took (grown.has_failed ≡ true) Stopped grown.put) (sym holds.is) (record {
         n = suc count;
         some = omega arith;
         handed = handed.0;
-        consumed = subst (λ o. Consumes o (left last) handed.0) e handed.1;
+        consumed = subst (λ o. Consumes o (device.left last) handed.0) e handed.1;
         read = handed.2;
         settled = rw less (settled.took before took put known);
         kept = rw less (elim settled.put [ inl failed ↦ inl failed | inr kept ↦ inr (kept before put) ]);
@@ -168,13 +169,13 @@ module _ {S A State : Type 0} (written : Written A) (kinds : Kind → Type 0) (S
 
   module _ (fault : FaultValue) (grown : Output) where
     abbrev Cause : List (Member A) → Type 0
-    Cause past = StopCause written.settled kinds Sorted left failed end old out past fault new grown
+    Cause past = StopCause written.settled kinds Sorted device old out past fault new grown
 
     -- the report, by what the fault of the input says of it
-    reported_by : (past : List (Member A)) (handed : Handed) (before : List ℕ) → Came left failed first last (Some fault) handed → out.put ≡ Some before
-        → Some fault ≢ Some write_failed → Some fault ≢ Some no_memory → (bytes : List ℕ) × Hands left old.below bytes new.below → Cause past → IsReported (report handed) before (Some fault) grown
+    reported_by : (past : List (Member A)) (handed : Handed) (before : List ℕ) → Came device.left device.has_failed first last (Some fault) handed → out.put ≡ Some before
+        → Some fault ≢ Some write_failed → Some fault ≢ Some no_memory → (bytes : List ℕ) × Hands device.left old.below bytes new.below → Cause past → IsReported (report handed) before (Some fault) grown
     reported_by past handed before came put write memory hands (inl reading) =
-        let is = report_of handed past (Some fault) (says_fault left failed end format First first old starts new last ended kinds past fault handed came hands reading.behind) in
+        let is = report_of handed past (Some fault) (says_fault device format First first old starts new last ended kinds past fault handed came hands reading.behind) in
         (sym (ap (λ r. r.fault) is), reading.puts before put ∙ ap (λ r. Some (before ++ r.output)) (sym is))
     reported_by past handed before came put write memory hands (inr (inl growing)) = absurd (memory (ap Some growing.lacks.is))
     reported_by past handed before came put write memory hands (inr (inr writing)) = absurd (write (ap Some writing.is))
@@ -193,16 +194,16 @@ module _ {S A State : Type 0} (written : Written A) (kinds : Kind → Type 0) (S
     cut_by past (inr (inl growing)) e = absurd (memory_no_write (sym growing.lacks.is ∙ e))
     cut_by past (inr (inr writing)) e = writing.cuts
 
-    named_by : (past : List (Member A)) → (bytes : List ℕ) × Hands left old.below bytes new.below → Cause past
-        → TellsInput left failed kinds First first last fault ⊎ TellsDevice grown.sink_has_failed fault
-    named_by past hands (inl reading) = inl (tells_fault left failed end format First first old starts new last ended kinds past fault hands reading.behind)
+    named_by : (past : List (Member A)) → (bytes : List ℕ) × Hands device.left old.below bytes new.below → Cause past
+        → TellsInput device.left device.has_failed kinds First first last fault ⊎ TellsDevice grown.sink_has_failed fault
+    named_by past hands (inl reading) = inl (tells_fault device format First first old starts new last ended kinds past fault hands reading.behind)
     named_by past hands (inr (inl growing)) = inr (inr growing.lacks.is)
     named_by past hands (inr (inr writing)) = inr (inl (writing.is, writing.cuts.sink_failed))
 
-    pub drives_fault : FeedsUpTo written.settled kinds Sorted left failed end old out fault new grown → WritesAlone left failed (of_members kinds written format) first out (Some fault) last grown
+    pub drives_fault : FeedsUpTo written.settled kinds Sorted device old out fault new grown → WritesAlone device.left device.has_failed (of_members kinds written format) first out (Some fault) last grown
     drives_fault fed = record {
       whole = λ one two before reads others put write memory. reported_by fed.past one before (inl reads) put write memory fed.took.bytes fed.cause;
-      told = λ one two before holds others put is. reported_by fed.past one before (inr (is_whole left failed first last (Some fault) one holds is)) put is.no_write is.no_growth fed.took.bytes fed.cause;
+      told = λ one two before holds others put is. reported_by fed.past one before (inr (is_whole device.left device.has_failed first last (Some fault) one holds is)) put is.no_write is.no_growth fed.took.bytes fed.cause;
       cut = λ is one two before holds others put.
           let more = begins_output one fed.past holds fed.begins in
           (written.settled (member_items fed.past), more.0, more.1, (cut_by fed.past fed.cause (some_is fault write_failed is)).front before put);
@@ -214,24 +215,24 @@ module _ {S A State : Type 0} (written : Written A) (kinds : Kind → Type 0) (S
       served = λ e. cc;
       near = λ one two before taken holds others put known. near_by one before taken holds put known fed.took.bytes fed.took.before fed.took.read grown fed.took.kept
           (IsFaultButWrite (Some fault)) (λ stops. fed.exact (λ is. stops.1 (ap Some is)));
-      named = λ told e. named_alone (subst (λ t. TellsInput left failed kinds First first last t ⊎ TellsDevice grown.sink_has_failed t) (some_is fault told e) (named_by fed.past fed.took.bytes fed.cause));
+      named = λ told e. named_alone (subst (λ t. TellsInput device.left device.has_failed kinds First first last t ⊎ TellsDevice grown.sink_has_failed t) (some_is fault told e) (named_by fed.past fed.took.bytes fed.cause));
     }
 
-  module _ (Stands : List A → Type 0) (grown : Output) (fed : FeedsAll written.settled kinds Sorted left failed end Stands old out new grown) (finished : Output) (goes : GoesOn grown finished) where
+  module _ (Stands : List A → Type 0) (grown : Output) (fed : FeedsAll written.settled kinds Sorted device Stands old out new grown) (finished : Output) (goes : GoesOn grown finished) where
     abbrev Ends : Option FaultValue → Type 0
-    Ends fault = WritesAlone left failed (of_members kinds written format) first out fault last finished
+    Ends fault = WritesAlone device.left device.has_failed (of_members kinds written format) first out fault last finished
 
     -- the report if all records were taken
-    report_all : (other : Option FaultValue) (handed : Handed) → Came left failed first last other handed → report handed ≡ report_by written (member_items fed.past) None
+    report_all : (other : Option FaultValue) (handed : Handed) → Came device.left device.has_failed first last other handed → report handed ≡ report_by written (member_items fed.past) None
     report_all other handed came =
         report_of handed fed.past None
-        (came_whole left failed end format First first old starts new last ended other handed came fed.took.bytes fed.served fed.within (λ good. (good.members ≡ fed.past) × (good.fault ≡ None)) fed.whole)
+        (came_whole device format First first old starts new last ended other handed came fed.took.bytes fed.served fed.within (λ good. (good.members ≡ fed.past) × (good.fault ≡ None)) fed.whole)
 
-    report_whole : (one : Handed) → Holds left first one → report one ≡ report_by written (member_items fed.past) None
+    report_whole : (one : Handed) → Holds device.left first one → report one ≡ report_by written (member_items fed.past) None
     report_whole one holds = rw holds.is (report_of (whole_text holds.text) fed.past None (of_text holds.text holds.known (λ good. (good.members ≡ fed.past) × (good.fault ≡ None)) fed.whole))
 
-    near_end : (fault : Option FaultValue) → (IsFaultButWrite fault → ⊥) → (one : Handed) (two : Option Handed) (before taken : List ℕ) → Holds left first one → HoldsIf left None two → out.put ≡ Some before → out.took ≡ Some taken
-        → ReadsNoFurther (λ n. IsWithin true one.text n → ⊤) (members_settle written format) one.text (left last) before finished.took (finished.has_failed ≡ true) (IsFaultButWrite fault) finished.put
+    near_end : (fault : Option FaultValue) → (IsFaultButWrite fault → ⊥) → (one : Handed) (two : Option Handed) (before taken : List ℕ) → Holds device.left first one → HoldsIf device.left None two → out.put ≡ Some before → out.took ≡ Some taken
+        → ReadsNoFurther (λ n. IsWithin true one.text n → ⊤) (members_settle written format) one.text (device.left last) before finished.took (finished.has_failed ≡ true) (IsFaultButWrite fault) finished.put
     near_end fault never one two before taken holds others put known =
         near_by one before taken holds put known fed.took.bytes fed.took.before fed.took.read finished
         (took_later out grown finished (written.settled (member_items fed.took.before)) fed.took.grows goes fed.took.kept) (IsFaultButWrite fault) (λ stops. absurd (never stops))
@@ -240,18 +241,18 @@ module _ {S A State : Type 0} (written : Written A) (kinds : Kind → Type 0) (S
     drives_all rest is appends works =
         let put_all : (before : List ℕ) → out.put ≡ Some before → finished.put ≡ Some (before ++ written.whole (member_items fed.past)) =
         λ before put. text_grows grown.put finished.put before (written.settled (member_items fed.past)) rest (written.whole (member_items fed.past)) is appends (fed.puts before put) in
-        let ends : (other : Option FaultValue) (handed : Handed) (before : List ℕ) → Came left failed first last other handed → out.put ≡ Some before → IsReported (report handed) before None finished =
+        let ends : (other : Option FaultValue) (handed : Handed) (before : List ℕ) → Came device.left device.has_failed first last other handed → out.put ≡ Some before → IsReported (report handed) before None finished =
         λ other handed before came put.
         let all = report_all other handed came in
         (sym (ap (λ r. r.fault) all), put_all before put ∙ ap (λ r. Some (before ++ r.output)) (sym all)) in
         record {
           whole = λ one two before reads others put write memory. ends None one before (inl reads) put;
-          told = λ one two before holds others put is. ends None one before (inr (is_whole left failed first last None one holds is)) put;
+          told = λ one two before holds others put is. ends None one before (inr (is_whole device.left device.has_failed first last None one holds is)) put;
           cut = λ e. cc;
           kept = λ other one two before holds others put.
               (written.whole (member_items fed.past), [], ap (λ r. r.output) (report_whole one holds) ∙ sym (append-nil (written.whole (member_items fed.past))), put_all before put);
           grows = grows_both out.took grown.took finished.took fed.took.grows goes.took;
-          served = λ e. ((ap failed (sym ended) ∙ fed.served ∙ ap failed starts.source, tt), works ∙ fed.works.sink_served);
+          served = λ e. ((ap device.has_failed (sym ended) ∙ fed.served ∙ ap device.has_failed starts.source, tt), works ∙ fed.works.sink_served);
           near = near_end None (λ stops. stops.0 refl);
           named = λ told e. cc;
         }

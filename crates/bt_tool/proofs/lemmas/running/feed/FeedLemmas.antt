@@ -4,6 +4,7 @@ use Rattle.std.specs.Prelude.{◌⊎◌, ◌≢◌, IfSome}
 use Rattle.std.proofs.lemmas.List.{map-append}
 use Rattle.std.proofs.lemmas.List.Elements.{All-cons, All-head, All-nil, All-tail}
 use Rattle.std.specs.Io.KnownBytes.{Appends}
+use Rattle.bt_lines.specs.declared.device.Source.{Ghosts as Source}
 use Rattle.bt_lines.proofs.lemmas.writer.PuttingLemmas.{grows_nothing}
 use Rattle.bt_lines.proofs.lemmas.writer.OutputLemmas.{grows_both}
 use Rattle.bt_lines.specs.model.Fault.{FaultValue, write_failed, no_memory}
@@ -125,38 +126,38 @@ took_lines out grown lines puts block = record {
 }
 
 -- members of a reader were taken, and what they settle was written
-pub record Fed {S A State : Type 0} (settled : List A → List ℕ) (left : S → Option (List ℕ)) (failed end : S → Bool) (old : MemberReader S A State) (out : Output) (past : List (Member A)) (now : MemberReader S A State) (grown : Output) : Type 0 where
-  pub passes : Passes left failed end old past now
+pub record Fed {S A State : Type 0} (settled : List A → List ℕ) (device : Source S) (old : MemberReader S A State) (out : Output) (past : List (Member A)) (now : MemberReader S A State) (grown : Output) : Type 0 where
+  pub passes : Passes device old past now
   pub grows : Grows out.took grown.took
   pub puts : PutsLines out (settled (member_items past)) grown
   pub works : WorksAsBefore out grown
   pub block : HoldsBlock grown.took grown.put
 
 -- none yet
-pub fed_none : {S A State : Type 0} (settled : List A → List ℕ) (left : S → Option (List ℕ)) (failed end : S → Bool) (old : MemberReader S A State) (out : Output) → IsFresh left end old → line_fault old.below ≡ None → settled [] ≡ [] → HoldsBlock out.took out.put
-    → Fed settled left failed end old out [] old out
-fed_none settled left failed end old out fresh clear nothing block = record {
-  passes = passes_start left failed end old fresh clear;
+pub fed_none : {S A State : Type 0} (settled : List A → List ℕ) (device : Source S) (old : MemberReader S A State) (out : Output) → IsFresh device.left device.end_told old → line_fault old.below ≡ None → settled [] ≡ [] → HoldsBlock out.took out.put
+    → Fed settled device old out [] old out
+fed_none settled device old out fresh clear nothing block = record {
+  passes = passes_start device old fresh clear;
   grows = grows_nothing out.took;
   puts = λ before e. e ∙ ap Some (sym (ap (λ l. before ++ l) nothing ∙ append-nil before));
   works = record { served = refl; sink_served = refl; put = grows_nothing out.put; block = λ h. h };
   block = block;
 }
 
-module _ {S A State : Type 0} (settled : List A → List ℕ) (Kinds : Kind → Type 0) (Sorted : List A → Type 0) (left : S → Option (List ℕ)) (failed end : S → Bool) (old : MemberReader S A State) (out : Output)
-    (past : List (Member A)) (now : MemberReader S A State) (grown : Output) (g : Fed settled left failed end old out past now grown) where
+module _ {S A State : Type 0} (settled : List A → List ℕ) (Kinds : Kind → Type 0) (Sorted : List A → Type 0) (device : Source S) (old : MemberReader S A State) (out : Output)
+    (past : List (Member A)) (now : MemberReader S A State) (grown : Output) (g : Fed settled device old out past now grown) where
   abbrev UpTo : FaultValue → MemberReader S A State → Output → Type 0
-  UpTo fault new later = FeedsUpTo settled Kinds Sorted left failed end old out fault new later
+  UpTo fault new later = FeedsUpTo settled Kinds Sorted device old out fault new later
 
   -- one more member is buffered
-  pub fed_fill : (new : MemberReader S A State) → IsFilled left failed end now new → Fed settled left failed end old out past new grown
-  fed_fill new fills = record { passes = passes_fill left failed end old past now g.passes new fills; grows = g.grows; puts = g.puts; works = g.works; block = g.block }
+  pub fed_fill : (new : MemberReader S A State) → IsFilled device now new → Fed settled device old out past new grown
+  fed_fill new fills = record { passes = passes_fill device old past now g.passes new fills; grows = g.grows; puts = g.puts; works = g.works; block = g.block }
 
   -- these members were taken when the reading stops
-  taken : (new : MemberReader S A State) → (bytes : List ℕ) × Hands left now.below bytes new.below → Sorted (member_items past) → IsReadFor left failed end old past past new
-      → Took settled Kinds Sorted left failed end old out past new grown
+  taken : (new : MemberReader S A State) → (bytes : List ℕ) × Hands device.left now.below bytes new.below → Sorted (member_items past) → IsReadFor device old past past new
+      → Took settled Kinds Sorted device old out past new grown
   taken new hands sorted read = record {
-    bytes = bytes_more left failed end old past now g.passes new hands;
+    bytes = bytes_more device old past now g.passes new hands;
     sorted = sorted;
     grows = g.grows;
     before = past;
@@ -165,12 +166,12 @@ module _ {S A State : Type 0} (settled : List A → List ℕ) (Kinds : Kind → 
   }
 
   -- the reading stops: at the end of the input
-  pub fed_all : (Stands : List A → Type 0) (new : MemberReader S A State) → IsOver left failed end now new → Sorted (member_items past) → Stands (member_items past)
-      → FeedsAll settled Kinds Sorted left failed end Stands old out new grown
+  pub fed_all : (Stands : List A → Type 0) (new : MemberReader S A State) → IsOver device now new → Sorted (member_items past) → Stands (member_items past)
+      → FeedsAll settled Kinds Sorted device Stands old out new grown
   fed_all Stands new over sorted stands = record {
     past = past;
-    took = taken new over.ends.stays.bytes sorted (read_here left failed end old past new (passes_end left failed end old past now g.passes new over));
-    whole = passes_all left failed end old past now g.passes new over;
+    took = taken new over.ends.stays.bytes sorted (read_here device old past new (passes_end device old past now g.passes new over));
+    whole = passes_all device old past now g.passes new over;
     stands = stands;
     puts = g.puts;
     works = g.works;
@@ -180,14 +181,14 @@ module _ {S A State : Type 0} (settled : List A → List ℕ) (Kinds : Kind → 
 
   -- or at a fault
   pub fed_up_to : ((state : State) (line : TextLine) (kind : Kind) → old.format.says state line ≡ Err kind → Kinds kind)
-      → (new : MemberReader S A State) (fault : FaultValue) → IsStopped left failed end now fault new → Sorted (member_items past) → UpTo fault new grown
+      → (new : MemberReader S A State) (fault : FaultValue) → IsStopped device now fault new → Sorted (member_items past) → UpTo fault new grown
   unfolding taken
   fed_up_to of_format new fault stopped sorted =
-      let stops = passes_stop left failed end old past now g.passes Kinds of_format new fault stopped in
+      let stops = passes_stop device old past now g.passes Kinds of_format new fault stopped in
       record {
         past = past;
-        took = taken new stopped.answers.stays.bytes sorted (read_at_stop left failed end old past now g.passes new fault stopped);
-        begins = begins_with (good_coming left old) (good_coming left now) past g.passes.come;
+        took = taken new stopped.answers.stays.bytes sorted (read_at_stop device old past now g.passes new fault stopped);
+        begins = begins_with (good_coming device.left old) (good_coming device.left now) past g.passes.come;
         cause = elim stops.cause [
           | inl wrong ↦ inl (record { behind = inl wrong; puts = g.puts; works = g.works })
           | inr others ↦ elim others [
@@ -203,16 +204,16 @@ module _ {S A State : Type 0} (settled : List A → List ℕ) (Kinds : Kind → 
       }
 
 -- members were taken, what those before the last one settle was written, and the last one failed
-module _ {S A State : Type 0} (settled : List A → List ℕ) (Kinds : Kind → Type 0) (Sorted : List A → Type 0) (left : S → Option (List ℕ)) (failed end : S → Bool) (old : MemberReader S A State) (out : Output)
-    (before given : List (Member A)) (a : A) (items : member_items given ≡ member_items before ++ a ∷ []) (new : MemberReader S A State) (passes : Passes left failed end old given new) (read : IsReadFor left failed end old before given new)
+module _ {S A State : Type 0} (settled : List A → List ℕ) (Kinds : Kind → Type 0) (Sorted : List A → Type 0) (device : Source S) (old : MemberReader S A State) (out : Output)
+    (before given : List (Member A)) (a : A) (items : member_items given ≡ member_items before ++ a ∷ []) (new : MemberReader S A State) (passes : Passes device old given new) (read : IsReadFor device old before given new)
     (through : Output) (grows_through : Grows out.took through.took) (puts_through : PutsLines out (settled (member_items before)) through) (works_through : WorksAsBefore out through) (block : HoldsBlock through.took through.put)
     (sorted : Sorted (member_items before ++ a ∷ [])) where
-  begins_given : IfSome (good_coming left old) (λ good. (rest : List (Member A)) × (good.members ≡ given ++ rest))
-  begins_given = begins_with (good_coming left old) (good_coming left new) given passes.come
+  begins_given : IfSome (good_coming device.left old) (λ good. (rest : List (Member A)) × (good.members ≡ given ++ rest))
+  begins_given = begins_with (good_coming device.left old) (good_coming device.left new) given passes.come
 
   -- what is settled with it couldn't be written
   pub fails_writing : (fault : FaultValue) (later : Output) (lines : List ℕ) → settled (member_items before ++ a ∷ []) ≡ settled (member_items before) ++ lines → fault ≡ write_failed
-      → IsPrefixOf later.took through.put lines → later.has_failed ≡ true → later.sink_has_failed ≡ true → Grows through.took later.took → FeedsUpTo settled Kinds Sorted left failed end old out fault new later
+      → IsPrefixOf later.took through.put lines → later.has_failed ≡ true → later.sink_has_failed ≡ true → Grows through.took later.took → FeedsUpTo settled Kinds Sorted device old out fault new later
   fails_writing fault later lines more is front fails sink grows = record {
     past = given;
     took = record {
@@ -238,7 +239,7 @@ module _ {S A State : Type 0} (settled : List A → List ℕ) (Kinds : Kind → 
 
   -- what is settled with it was put, but memory ran out with it
   pub fails_growing : (fault : FaultValue) (later : Output) (lines : List ℕ) → settled (member_items before ++ a ∷ []) ≡ settled (member_items before) ++ lines → fault ≡ no_memory
-      → Appends through.put later.put lines → WorksAsBefore through later → Grows through.took later.took → FeedsUpTo settled Kinds Sorted left failed end old out fault new later
+      → Appends through.put later.put lines → WorksAsBefore through later → Grows through.took later.took → FeedsUpTo settled Kinds Sorted device old out fault new later
   fails_growing fault later lines more is appends works grows =
       let puts : PutsLines out (settled (member_items given)) later =
       λ bytes e. text_grows through.put later.put bytes (settled (member_items before)) lines (settled (member_items given)) (ap settled items ∙ more) appends (puts_through bytes e) in
@@ -249,7 +250,7 @@ module _ {S A State : Type 0} (settled : List A → List ℕ) (Kinds : Kind → 
           sorted = rw items sorted;
           grows = grows_both out.took through.took later.took grows_through grows;
           before = given;
-          read = read_here left failed end old given new passes;
+          read = read_here device old given new passes;
           kept = took_lines out later (settled (member_items given)) puts (works.block block);
         };
         begins = begins_given;
@@ -315,19 +316,19 @@ module _ {E : Type 0} (MayTake : E → List Feature → Type 0) (Stands : E → 
 -- ---- the run
 
 module _ {S O E : Type 0} {ghosts : Ghosts O} (MayTake : E → List Feature → Type 0) (Stands : E → List Feature → E → Type 0) (engine_fault : E → Option FaultValue) (settled : E → List Feature → List ℕ) (first : E)
-    (left : S → Option (List ℕ)) (failed end : S → Bool) (old : Records S O ghosts) (out : Output) where
+    (device : Source S) (old : Records S O ghosts) (out : Output) where
   -- the records so far were taken
   pub record Going (now : Records S O ghosts) (engine : E) (grown : Output) : Type 0 where
     pub past : List (Member Feature)
-    pub fed : Fed (settled first) left failed end (view_of old) out past (view_of now) grown
+    pub fed : Fed (settled first) device (view_of old) out past (view_of now) grown
     pub order : order_in now ≡ order_in old
     pub stands : Stands first (member_items past) engine
 
   -- before the first record
-  pub going_start : IsFresh left end (view_of old) → Stands first [] first → settled first [] ≡ [] → HoldsBlock out.took out.put → Going old first out
+  pub going_start : IsFresh device.left device.end_told (view_of old) → Stands first [] first → settled first [] ≡ [] → HoldsBlock out.took out.put → Going old first out
   going_start fresh stands nothing block = record {
     past = [];
-    fed = fed_none (settled first) left failed end (view_of old) out fresh (line_going old fresh.going) nothing block;
+    fed = fed_none (settled first) device (view_of old) out fresh (line_going old fresh.going) nothing block;
     order = refl;
     stands = stands;
   }
@@ -336,33 +337,33 @@ module _ {S O E : Type 0} {ghosts : Ghosts O} (MayTake : E → List Feature → 
       (takes : (past : List Feature) → ArePlaced (order_in old) (intervals_of past) → AreNonEmpty (intervals_of past) → MayTake first past)
       (now : Records S O ghosts) (engine : E) (grown : Output) (g : Going now engine grown) where
     abbrev StopsUpTo : FaultValue → Records S O ghosts → Output → Type 0
-    StopsUpTo fault new later = FeedsUpTo (settled first) (IsBedKind (order_in old)) (AreInOrder (order_in old)) left failed end (view_of old) out fault (view_of new) later
+    StopsUpTo fault new later = FeedsUpTo (settled first) (IsBedKind (order_in old)) (AreInOrder (order_in old)) device (view_of old) out fault (view_of new) later
 
-    in_order : (past : List (Member Feature)) (new : MemberReader S Feature (Option Locus)) → Passes left failed end (view_of old) past new → AreInOrder (order_in old) (member_items past)
+    in_order : (past : List (Member Feature)) (new : MemberReader S Feature (Option Locus)) → Passes device (view_of old) past new → AreInOrder (order_in old) (member_items past)
     in_order past new passes =
         said_in_order (order_in old) (member_items past) total
         (subst (λ (f : Format Feature (Option Locus)). AreSaid f None (member_items past)) is_bed (subst (λ (s : Option Locus). AreSaid (view_of old).format s (member_items past)) none_last passes.said))
 
     -- a record is buffered
-    pub going_fill : (new : Records S O ghosts) → IsFilled left failed end (view_of now) (view_of new) → order_in new ≡ order_in now → Going new engine grown
+    pub going_fill : (new : Records S O ghosts) → IsFilled device (view_of now) (view_of new) → order_in new ≡ order_in now → Going new engine grown
     going_fill new fills same = record {
       past = g.past;
-      fed = fed_fill (settled first) (IsBedKind (order_in old)) (AreInOrder (order_in old)) left failed end (view_of old) out g.past (view_of now) grown g.fed (view_of new) fills;
+      fed = fed_fill (settled first) (IsBedKind (order_in old)) (AreInOrder (order_in old)) device (view_of old) out g.past (view_of now) grown g.fed (view_of new) fills;
       order = same ∙ g.order;
       stands = g.stands;
     }
 
     -- after the last record
-    pub feeds_all : (new : Records S O ghosts) → IsOver left failed end (view_of now) (view_of new)
-        → FeedsAll (settled first) (IsBedKind (order_in old)) (AreInOrder (order_in old)) left failed end (λ past. Stands first past engine) (view_of old) out (view_of new) grown
+    pub feeds_all : (new : Records S O ghosts) → IsOver device (view_of now) (view_of new)
+        → FeedsAll (settled first) (IsBedKind (order_in old)) (AreInOrder (order_in old)) device (λ past. Stands first past engine) (view_of old) out (view_of new) grown
     feeds_all new over =
-        fed_all (settled first) (IsBedKind (order_in old)) (AreInOrder (order_in old)) left failed end (view_of old) out g.past (view_of now) grown g.fed (λ past. Stands first past engine) (view_of new) over
+        fed_all (settled first) (IsBedKind (order_in old)) (AreInOrder (order_in old)) device (view_of old) out g.past (view_of now) grown g.fed (λ past. Stands first past engine) (view_of new) over
         (in_order g.past (view_of now) g.fed.passes) g.stands
 
     -- the reader reported a fault
-    pub stops_reading : (new : Records S O ghosts) (fault : FaultValue) → IsStopped left failed end (view_of now) fault (view_of new) → StopsUpTo fault new grown
+    pub stops_reading : (new : Records S O ghosts) (fault : FaultValue) → IsStopped device (view_of now) fault (view_of new) → StopsUpTo fault new grown
     stops_reading new fault stopped =
-        fed_up_to (settled first) (IsBedKind (order_in old)) (AreInOrder (order_in old)) left failed end (view_of old) out g.past (view_of now) grown g.fed
+        fed_up_to (settled first) (IsBedKind (order_in old)) (AreInOrder (order_in old)) device (view_of old) out g.past (view_of now) grown g.fed
         (λ state line kind says. wrong_of_bed (order_in old) state line.text kind (ap (λ (f : Format Feature (Option Locus)). f.says state line) (sym is_bed) ∙ says))
         (view_of new) fault stopped (in_order g.past (view_of now) g.fed.passes)
 
@@ -370,9 +371,9 @@ module _ {S O E : Type 0} {ghosts : Ghosts O} (MayTake : E → List Feature → 
     at_now = record { stands = g.stands; grows = g.fed.grows; puts = g.fed.puts; works = g.fed.works; block = g.fed.block }
 
     -- the records that were buffered were taken
-    pub going_taken : (Quiet : E → List Feature → Feature → Type 0) (new : Records S O ghosts) (fed : E) (later : Output) → TakesBuffered left failed end MayTake Stands engine_fault settled Quiet now engine grown new fed later → Going new fed later
+    pub going_taken : (Quiet : E → List Feature → Feature → Type 0) (new : Records S O ghosts) (fed : E) (later : Output) → TakesBuffered device MayTake Stands engine_fault settled Quiet now engine grown new fed later → Going new fed later
     going_taken Quiet new fed later t =
-        let passes = passes_take left failed end (view_of old) g.past (view_of now) g.fed.passes (buffered_in now) (view_of new) t.takes in
+        let passes = passes_take device (view_of old) g.past (view_of now) g.fed.passes (buffered_in now) (view_of new) t.takes in
         let items = items_take g.past (suc (lines_given (below now))) (buffered_in now) in
         let at = at_each MayTake Stands engine_fault settled Quiet first out (order_in old) takes (member_items g.past) (buffered_in now) engine fed grown later
         (subst (AreInOrder (order_in old)) items (in_order (g.past ++ members_from (suc (lines_given (below now))) (buffered_in now)) (view_of new) passes)) at_now t.taken in
@@ -384,7 +385,7 @@ module _ {S O E : Type 0} {ghosts : Ghosts O} (MayTake : E → List Feature → 
         }
 
     -- one of them wasn't
-    module _ (Quiet : E → List Feature → Feature → Type 0) (fault : Fault) (new : Records S O ghosts) (fed : E) (later : Output) (f : FailsAmong left failed end MayTake Stands engine_fault settled Quiet now engine grown fault new fed later) where
+    module _ (Quiet : E → List Feature → Feature → Type 0) (fault : Fault) (new : Records S O ghosts) (fed : E) (later : Output) (f : FailsAmong device MayTake Stands engine_fault settled Quiet now engine grown fault new fed later) where
       abbrev from : ℕ
       from = suc (lines_given (below now))
 
@@ -400,8 +401,8 @@ module _ {S O E : Type 0} {ghosts : Ghosts O} (MayTake : E → List Feature → 
       given_items : member_items given ≡ member_items before ++ f.r ∷ []
       given_items = items_take g.past from (f.records ++ f.r ∷ []) ∙ sym (append_assoc (member_items g.past) f.records (f.r ∷ [])) ∙ ap (λ (l : List Feature). l ++ f.r ∷ []) (sym before_items)
 
-      passes : Passes left failed end (view_of old) given (view_of new)
-      passes = passes_take left failed end (view_of old) g.past (view_of now) g.fed.passes (f.records ++ f.r ∷ []) (view_of new) f.takes
+      passes : Passes device (view_of old) given (view_of new)
+      passes = passes_take device (view_of old) g.past (view_of now) g.fed.passes (f.records ++ f.r ∷ []) (view_of new) f.takes
 
       sorted_given : AreInOrder (order_in old) (member_items before ++ f.r ∷ [])
       sorted_given = subst (AreInOrder (order_in old)) given_items (in_order given (view_of new) passes)
@@ -412,18 +413,18 @@ module _ {S O E : Type 0} {ghosts : Ghosts O} (MayTake : E → List Feature → 
           (at_each MayTake Stands engine_fault settled Quiet first out (order_in old) takes (member_items g.past) f.records engine f.mid grown f.through
           (subst (AreInOrder (order_in old)) before_items (order_front (order_in old) (member_items before) (f.r ∷ []) sorted_given)) at_now f.taken)
 
-      read : IsReadFor left failed end (view_of old) before given (view_of new)
-      read = read_before left failed end (view_of old) g.past (view_of now) g.fed.passes f.records f.r (view_of new) f.takes
+      read : IsReadFor device (view_of old) before given (view_of new)
+      read = read_before device (view_of old) g.past (view_of now) g.fed.passes f.records f.r (view_of new) f.takes
 
       not_taken : MayTake first (member_items before ++ f.r ∷ []) → engine_fault f.mid ≡ None → Grows (f.through).took later.took → NotTaken MayTake Stands engine_fault settled f.mid f.r f.through (fault_value fault) fed later → StopsUpTo (fault_value fault) new later
       not_taken may going grows (inl again) = absurd (let apart : None ≡ Some (fault_value fault) = sym going ∙ again.is in cc)
       not_taken may going grows (inr (inl fails)) =
           let cuts = fails.cuts first (member_items before) at_mid.stands may in
-          fails_writing (settled first) (IsBedKind (order_in old)) (AreInOrder (order_in old)) left failed end (view_of old) out before given f.r given_items (view_of new) passes read
+          fails_writing (settled first) (IsBedKind (order_in old)) (AreInOrder (order_in old)) device (view_of old) out before given f.r given_items (view_of new) passes read
           f.through at_mid.grows at_mid.puts at_mid.works at_mid.block sorted_given (fault_value fault) later cuts.bytes cuts.goes_on fails.is cuts.front fails.failed fails.sink_failed grows
       not_taken may going grows (inr (inr out_of)) =
           let puts = out_of.puts first (member_items before) at_mid.stands may in
-          fails_growing (settled first) (IsBedKind (order_in old)) (AreInOrder (order_in old)) left failed end (view_of old) out before given f.r given_items (view_of new) passes read
+          fails_growing (settled first) (IsBedKind (order_in old)) (AreInOrder (order_in old)) device (view_of old) out before given f.r given_items (view_of new) passes read
           f.through at_mid.grows at_mid.puts at_mid.works at_mid.block sorted_given (fault_value fault) later puts.bytes puts.goes_on out_of.is puts.appends out_of.works grows
 
       pub stops_feeding : StopsUpTo (fault_value fault) new later
@@ -431,9 +432,9 @@ module _ {S O E : Type 0} {ghosts : Ghosts O} (MayTake : E → List Feature → 
           not_taken (takes (member_items before ++ f.r ∷ []) sorted_given.0 sorted_given.1) (f.fails.going first (member_items before) at_mid.stands) f.fails.grows f.fails.answers
 
 -- an engine that is after some records has failed at one
-pub failed_among : {S O E : Type 0} {g : Ghosts O} {left : S → Option (List ℕ)} {failed end : S → Bool} {MayTake : E → List Feature → Type 0} {Stands : E → List Feature → E → Type 0}
+pub failed_among : {S O E : Type 0} {g : Ghosts O} {device : Source S} {MayTake : E → List Feature → Type 0} {Stands : E → List Feature → E → Type 0}
     {engine_fault : E → Option FaultValue} {settled : E → List Feature → List ℕ} {Quiet : E → List Feature → Feature → Type 0} {old : Records S O g} {engine : E} {out : Output} {fault : Fault} {new : Records S O g} {fed : E} {grown : Output}
-    → FeedsBuffered left failed end MayTake Stands engine_fault settled Quiet old engine out {A = Unit {0}} (Err fault) new fed grown → (first : E) (past : List Feature) → Stands first past engine
-    → FailsAmong left failed end MayTake Stands engine_fault settled Quiet old engine out fault new fed grown
+    → FeedsBuffered device MayTake Stands engine_fault settled Quiet old engine out {A = Unit {0}} (Err fault) new fed grown → (first : E) (past : List Feature) → Stands first past engine
+    → FailsAmong device MayTake Stands engine_fault settled Quiet old engine out fault new fed grown
 failed_among (inl f) first past stands = f
 failed_among (inr spent) first past stands = absurd (spent first past stands)

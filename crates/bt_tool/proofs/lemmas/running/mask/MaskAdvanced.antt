@@ -1,6 +1,7 @@
 -- Lemmas on lines and records that were given to a masking engine together, over two readers.
 use Rattle.std.proofs.Common.{◌≡◌, ℕ, suc, Bool, true, false, List, [], ◌∷◌, ◌++◌, length, Option, None, Some, Err, refl, sym, ap, ◌∙◌, subst, append-nil, option_to_list, arith, inl, inr}
 use Rattle.std.specs.Prelude.{◌⊎◌, IsTrue}
+use Rattle.bt_lines.specs.declared.device.Source.{Ghosts as Source}
 use Rattle.bt_lines.specs.model.Fault.{FaultValue, no_memory, read_failed}
 use Rattle.bt_lines.specs.model.Lines.{AreNumbered, TextLine}
 use Rattle.bt_lines.specs.calls.Output.{Output}
@@ -67,25 +68,25 @@ state_more : {A State : Type 0} (format : Format A State) (state : State) (items
 state_more format state [] more = refl
 state_more format state (x ∷ items) more = state_more format (format.after state x) items more
 
-module _ {A B : Type 0} (a_left : A → Option (List ℕ)) (a_failed a_end : A → Bool) (b_left : B → Option (List ℕ)) (b_failed b_end : B → Bool) (run : MaskRun A B) where
+module _ {A B : Type 0} (source_a : Source A) (source_b : Source B) (run : MaskRun A B) where
   abbrev Going : Reached → LineReader A → MemberReader B Feature (Option Locus) → Masking → Output → Type 0
-  Going = GoesOnAt a_left a_failed a_end b_left b_failed b_end run
+  Going = GoesOnAt source_a source_b run
 
   abbrev EndsAt : Option FaultValue → LineReader A → MemberReader B Feature (Option Locus) → Output → Type 0
-  EndsAt = Ends a_left a_failed a_end b_left b_failed b_end run
+  EndsAt = Ends source_a source_b run
 
   abbrev rule : JoinDef SequenceLine Feature
-  rule = join a_left a_failed a_end b_left b_failed b_end run
+  rule = join source_a source_b run
 
   abbrev both : Pair A B SequenceLine Feature Reached (Option Locus)
-  both = pair a_left a_failed a_end b_left b_failed b_end run
+  both = pair source_a source_b run
 
   abbrev old_first : MemberReader A SequenceLine Reached
   old_first = line_members run.full nothing_reached run.lines
 
   module _ (at : Reached) (lines : LineReader A) (second : MemberReader B Feature (Option Locus)) (mask : Masking) (grown : Output) (s : Going at lines second mask grown)
-      (new : LineReader A) (over : has_ended lines ≡ true → buffered_in lines ≡ []) (consumed : ConsumedLines) (takes : TakesLines a_left a_end lines consumed new)
-      (taken : List Feature) (second_now : MemberReader B Feature (Option Locus)) (has : HasTaken b_left b_failed b_end second taken second_now) where
+      (new : LineReader A) (over : has_ended lines ≡ true → buffered_in lines ≡ []) (consumed : ConsumedLines) (takes : TakesLines source_a.left source_a.end_told lines consumed new)
+      (taken : List Feature) (second_now : MemberReader B Feature (Option Locus)) (has : HasTaken source_b second taken second_now) where
     abbrev stage : MaskStage
     stage = s.stage
 
@@ -103,14 +104,14 @@ module _ {A B : Type 0} (a_left : A → Option (List ℕ)) (a_failed a_end : A �
     settled_now known =
         subst (λ (o : Option Feature). Settles rule stage.written s.comes.bytes (stage.taken ++ option_to_list o) stage.bed_ended) (ahead_first second ∙ ap first_of has.takes.buffered) (s.comes.settles known)
 
-    takes_second : TakesFurther b_left b_failed b_end run.records s.past_second more_second second second_now
-    takes_second = turned.takes_further b_left b_failed b_end run.records s.past_second second s.comes.second_passes taken second_now has
+    takes_second : TakesFurther source_b run.records s.past_second more_second second second_now
+    takes_second = turned.takes_further source_b run.records s.past_second second s.comes.second_passes taken second_now has
 
     asks_here : stage.lines_ended ≡ false → AsksFor rule both run.out s.past_first second
-    asks_here = asks_for a_left a_failed a_end b_left b_failed b_end run at lines second mask grown s
+    asks_here = asks_for source_a source_b run at lines second mask grown s
 
     asked_here : stage.lines_ended ≡ false → rule.Asks (given stage) stage.taken
-    asked_here = asked a_left a_failed a_end b_left b_failed b_end run at lines second mask grown s
+    asked_here = asked source_a source_b run at lines second mask grown s
 
     -- some lines and these records led to a stage, and the record ahead is the next one
     module _ (texts : List TextLine) (final : MaskStage) (bytes : List ℕ) (goes : GoesOn run.how run.full stage texts taken final bytes) (kept : (r : Feature) → final.ahead ≡ Some r → item_ahead second_now ≡ Some r) where
@@ -121,11 +122,11 @@ module _ {A B : Type 0} (a_left : A → Option (List ℕ)) (a_failed a_end : A �
       more_first = members_from (suc (lines_given lines)) items
 
       say_here : SayEach run.full at texts items
-      say_here = subst (λ (r : Reached). SayEach run.full r texts items) (sym (come_so_far a_left a_failed a_end b_left b_failed b_end run at lines second mask grown s)) goes.say
+      say_here = subst (λ (r : Reached). SayEach run.full r texts items) (sym (come_so_far source_a source_b run at lines second mask grown s)) goes.say
 
       reached_now : state_behind (sequence_format run.full) at items ≡ reached final
       reached_now =
-          ap (λ (r : Reached). state_behind (sequence_format run.full) r items) (come_so_far a_left a_failed a_end b_left b_failed b_end run at lines second mask grown s ∙ sym (reached_behind run.full (given stage)))
+          ap (λ (r : Reached). state_behind (sequence_format run.full) r items) (come_so_far source_a source_b run at lines second mask grown s ∙ sym (reached_behind run.full (given stage)))
           ∙ sym (state_more (sequence_format run.full) nothing_reached (given stage) items) ∙ ap (state_behind (sequence_format run.full) nothing_reached) (sym goes.given_is) ∙ reached_behind run.full (given final)
 
       given_now : given final ≡ given stage ++ member_items more_first
@@ -144,13 +145,13 @@ module _ {A B : Type 0} (a_left : A → Option (List ℕ)) (a_failed a_end : A �
         abbrev pub first_now : MemberReader A SequenceLine Reached
         first_now = line_members run.full (state_behind (sequence_format run.full) at items) new
 
-        has_first : HasTaken a_left a_failed a_end (known_members a_left a_failed a_end run.full at items lines) items first_now
-        has_first = has_taken a_left a_failed a_end run.full at lines new s.comes.first_passes.clear texts more items say_here parts numbered consumed (length texts) are takes (say_count run.full at texts items say_here)
+        has_first : HasTaken source_a (known_members source_a run.full at items lines) items first_now
+        has_first = has_taken source_a run.full at lines new s.comes.first_passes.clear texts more items say_here parts numbered consumed (length texts) are takes (say_count run.full at texts items say_here)
 
-        takes_first : TakesFurther a_left a_failed a_end old_first s.past_first more_first (line_members run.full at lines) first_now
+        takes_first : TakesFurther source_a old_first s.past_first more_first (line_members run.full at lines) first_now
         takes_first =
-            let known = passes_known a_left a_failed a_end run.full at lines new s.comes.first_passes.clear texts more items say_here parts numbered consumed (length texts) are takes (say_count run.full at texts items say_here) old_first s.past_first s.comes.first_passes in
-            let t = turned.takes_further a_left a_failed a_end old_first s.past_first (known_members a_left a_failed a_end run.full at items lines) known items first_now has_first in
+            let known = passes_known source_a run.full at lines new s.comes.first_passes.clear texts more items say_here parts numbered consumed (length texts) are takes (say_count run.full at texts items say_here) old_first s.past_first s.comes.first_passes in
+            let t = turned.takes_further source_a old_first s.past_first (known_members source_a run.full at items lines) known items first_now has_first in
             record { passes = t.passes; last = t.last; source = t.source; told = t.told }
 
         ended_first : stage.lines_ended ≡ true → (more_first ≡ []) × (first_now.buffered ≡ [])
@@ -228,15 +229,15 @@ module _ {A B : Type 0} (a_left : A → Option (List ℕ)) (a_failed a_end : A �
 
         pub refuses_line : (through : Output) → Grown grown bytes through → EndsAt (Some fault) new second_now through
         refuses_line through adds = (
-          refused a_left a_failed a_end run.full old_first s.past_first at lines new s.comes.first_passes texts line more items say_here kind says_now parts numbered consumed are takes fault is_now,
+          refused source_a run.full old_first s.past_first at lines new s.comes.first_passes texts line more items say_here kind says_now parts numbered consumed are takes fault is_now,
           refl,
           stop.first_fails rule both run.out (stage_of stage) s.past_first s.past_second (line_members run.full at lines) second grown s.comes asks_here (λ known. tt) going more_first more_second second_now takes_second ended_second bytes
               (λ known. rw (← all_written, ← taken_now) (settled known)) (λ known. tt)
               (stop.asks_then rule both run.out (stage_of stage) s.past_first s.past_second (line_members run.full at lines) second grown s.comes (asked_here going) (λ extra asks. asked_more (given stage) extra stage.taken asks) more_first more_second second_now takes_second)
-              fault (refused a_left a_failed a_end run.full old_first s.past_first at lines new s.comes.first_passes texts line more items say_here kind says_now parts numbered consumed are takes fault is_now)
-              (refuses a_left a_failed a_end run.full old_first s.past_first at lines new s.comes.first_passes texts line more items say_here kind says_now parts numbered consumed are takes fault is_now (λ k. is_fasta_kind k ≡ true)
+              fault (refused source_a run.full old_first s.past_first at lines new s.comes.first_passes texts line more items say_here kind says_now parts numbered consumed are takes fault is_now)
+              (refuses source_a run.full old_first s.past_first at lines new s.comes.first_passes texts line more items say_here kind says_now parts numbered consumed are takes fault is_now (λ k. is_fasta_kind k ≡ true)
               (subst (λ (k : Kind). is_fasta_kind k ≡ true) (sym (wrong_is_text run.full (reached final) line kind says)) refl))
-              (refuses_read a_left a_failed a_end run.full old_first s.past_first at lines new s.comes.first_passes texts line more items say_here kind says_now parts numbered consumed are takes fault is_now)
+              (refuses_read source_a run.full old_first s.past_first at lines new s.comes.first_passes texts line more items say_here kind says_now parts numbered consumed are takes fault is_now)
               through adds,
           λ input number e. absurd (never_read input number e),
         )

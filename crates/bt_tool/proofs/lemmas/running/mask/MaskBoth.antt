@@ -2,6 +2,7 @@
 use Rattle.std.proofs.Common.{◌≡◌, ℕ, zero, suc, ◌-◌, drop, length-take, ◌+◌, ◌≤◌, ◌<◌, Bool, true, false, List, [], ◌∷◌, ◌++◌, length, take, Option, None, Some, Result, Ok, Err, refl, sym, ap, ◌∙◌, subst, append-nil, append_assoc, option_to_list, arith, inl, inr}
 use Rattle.std.specs.Prelude.{◌⊎◌, OnOk, is_some, nat_eq, option_map}
 use Rattle.std.proofs.lemmas.Bool.{false≢true}
+use Rattle.bt_lines.specs.declared.device.Source.{Ghosts as Source}
 use Rattle.bt_lines.proofs.lemmas.reader.block.BufferLemmas.{fed_none}
 use Rattle.bt_lines.proofs.lemmas.reader.lines.TextLemmas.{bytes_in-lines, whole_count}
 use Rattle.bt_lines.specs.calls.Buffered.{BeginsLines, buffered_lines, lines_in}
@@ -134,14 +135,14 @@ no_length : {A : Type 0} (items : List A) → length items ≡ 0 → items ≡ [
 no_length [] e = refl
 no_length (x ∷ items) e = absurd (omega (arith, e))
 
-module _ {A B : Type 0} (a_left : A → Option (List ℕ)) (a_failed a_end : A → Bool) (b_left : B → Option (List ℕ)) (b_failed b_end : B → Bool) (run : MaskRun A B) (at : Reached) (lines : LineReader A)
-    (second : MemberReader B Feature (Option Locus)) (mask : Masking) (out : Output) (s : GoesOnAt a_left a_failed a_end b_left b_failed b_end run at lines second mask out)
+module _ {A B : Type 0} (source_a : Source A) (source_b : Source B) (run : MaskRun A B) (at : Reached) (lines : LineReader A)
+    (second : MemberReader B Feature (Option Locus)) (mask : Masking) (out : Output) (s : GoesOnAt source_a source_b run at lines second mask out)
     (first_lines last_lines : BufferedLines) (begins : BeginsLines (buffered_bytes lines) (lines_given lines) (is_open lines) first_lines) (texts : List TextLine) (parts : buffered_in lines ≡ texts ++ lines_in last_lines)
     (numbered : AreNumbered (suc (lines_given lines)) texts) (first_beds last_beds : Batch) (lent : left first_beds ≡ second.buffered) (lent_at : (cursor_in first_beds).lines ≡ lines_given second.below)
-    (taken : List Feature) (gave : Passes first_beds taken last_beds) (new : LineReader A) (over : has_ended lines ≡ true → buffered_in lines ≡ []) (consumed : ConsumedLines) (are : TakenLines lines consumed (length texts)) (takes : TakesLines a_left a_end lines consumed new)
-    (second_now : MemberReader B Feature (Option Locus)) (has : HasTaken b_left b_failed b_end second taken second_now) where
+    (taken : List Feature) (gave : Passes first_beds taken last_beds) (new : LineReader A) (over : has_ended lines ≡ true → buffered_in lines ≡ []) (consumed : ConsumedLines) (are : TakenLines lines consumed (length texts)) (takes : TakesLines source_a.left source_a.end_told lines consumed new)
+    (second_now : MemberReader B Feature (Option Locus)) (has : HasTaken source_b second taken second_now) where
   abbrev EndsAt : Option FaultValue → Output → Type 0
-  EndsAt fault grown = Ends a_left a_failed a_end b_left b_failed b_end run fault new second_now grown
+  EndsAt fault grown = Ends source_a source_b run fault new second_now grown
 
   -- the record ahead is the next one that is given
   comes_next : ComesNext Passes line_in HasEnded s.stage.ahead first_beds
@@ -203,12 +204,12 @@ module _ {A B : Type 0} (a_left : A → Option (List ℕ)) (a_failed a_end : A �
         let less : left_to_ask new second_now masked < left_to_ask lines second mask = omega (arith, less_room, has.takes.shrinks, most, e) in
         (omega (arith, less), λ there. less)
 
-    gave_both : ComesAfter Passes line_in HasEnded s.stage.ahead first_beds taken final.ahead → {T : Type 0} (done : T) → Gives a_left a_failed a_end b_left b_failed b_end run lines second mask (Ok done) new second_now masked now
+    gave_both : ComesAfter Passes line_in HasEnded s.stage.ahead first_beds taken final.ahead → {T : Type 0} (done : T) → Gives source_a source_b run lines second mask (Ok done) new second_now masked now
     gave_both after done =
         let few = few_by (length texts + length taken) refl in (
           (
             state_behind (sequence_format run.full) at comes.goes_on.items,
-            (come_on a_left a_failed a_end b_left b_failed b_end run at lines second mask out s new over consumed takes taken second_now has texts final comes.bytes comes.goes_on (kept_then final.ahead after) (lines_in last_lines) parts numbered are masked now comes.stands comes.puts).0,
+            (come_on source_a source_b run at lines second mask out s new over consumed takes taken second_now has texts final comes.bytes comes.goes_on (kept_then final.ahead after) (lines_in last_lines) parts numbered are masked now comes.stands comes.puts).0,
           ),
           few.0,
           few.1,
@@ -235,7 +236,7 @@ module _ {A B : Type 0} (a_left : A → Option (List ℕ)) (a_failed a_end : A �
 
       fails_copying : FailsToAdd behind.through bytes fault now → EndsAt (Some fault) now
       fails_copying fails =
-          fails_write a_left a_failed a_end b_left b_failed b_end run at lines second mask out s new over consumed takes taken second_now has texts final (comes.bytes ++ bytes) all_go kept_final (lines_in last_lines) parts numbered are comes.bytes bytes refl
+          fails_write source_a source_b run at lines second mask out s new over consumed takes taken second_now has texts final (comes.bytes ++ bytes) all_go kept_final (lines_in last_lines) parts numbered are comes.bytes bytes refl
           behind.through now fault comes.puts fails
 
     -- a line failed
@@ -250,7 +251,7 @@ module _ {A B : Type 0} (a_left : A → Option (List ℕ)) (a_failed a_end : A �
         refuses_one : RefusesLine run.how run.full comes.stage line behind.through fault now → EndsAt (Some fault) now
         refuses_one refuses =
             rw refuses.same_output
-            (refuses_line a_left a_failed a_end b_left b_failed b_end run at lines second mask out s new over consumed takes taken second_now has behind.before comes.stage comes.bytes comes.goes_on kept line (lines_in last_lines)
+            (refuses_line source_a source_b run at lines second mask out s new over consumed takes taken second_now has behind.before comes.stage comes.bytes comes.goes_on kept line (lines_in last_lines)
             (parts ∙ ap (λ l. l ++ lines_in last_lines) texts_are) (subst (AreNumbered (suc (lines_given lines))) texts_are numbered) (subst (λ (l : List TextLine). TakenLines lines consumed (length l)) texts_are are)
             none_waits refuses.kind refuses.says fault refuses.is behind.through comes.puts)
 
@@ -289,7 +290,7 @@ module _ {A B : Type 0} (a_left : A → Option (List ℕ)) (a_failed a_end : A �
 
           lacks_one : fault ≡ no_memory → EndsAt (Some fault) behind.through
           lacks_one is =
-              lacks_room a_left a_failed a_end b_left b_failed b_end run at lines second mask out s new over consumed takes taken second_now has texts (with_line comes.stage fails.item) (comes.bytes ++ bytes_with run.how comes.stage fails.item) whole kept_whole
+              lacks_room source_a source_b run at lines second mask out s new over consumed takes taken second_now has texts (with_line comes.stage fails.item) (comes.bytes ++ bytes_with run.how comes.stage fails.item) whole kept_whole
               (lines_in last_lines) parts numbered are mid comes.goes_on.newly
               (record {
                 given_is = sym (with_given (is_written_at_once comes.stage fails.item) refl) ∙ whole.given_is ∙ ap (λ l. given s.stage ++ l) (sym (items_from (suc (lines_given lines)) whole.items));
@@ -300,7 +301,7 @@ module _ {A B : Type 0} (a_left : A → Option (List ℕ)) (a_failed a_end : A �
               })
               comes.bytes behind.through
               (λ known. subst (λ (b : Bool). Settles (mask_join run.how) comes.stage.written (s.comes.bytes ++ comes.bytes) (comes.stage.taken ++ option_to_list (item_ahead second_now)) b) (sym comes.goes_on.bed_ended_is)
-              (settled a_left a_failed a_end b_left b_failed b_end run at lines second mask out s new over consumed takes taken second_now has behind.before comes.stage comes.bytes comes.goes_on kept known)) comes.puts fault is
+              (settled source_a source_b run at lines second mask out s new over consumed takes taken second_now has behind.before comes.stage comes.bytes comes.goes_on kept known)) comes.puts fault is
 
           fails_one : EndsAt (Some fault) now
           fails_one = elim fails.fails [
@@ -325,9 +326,9 @@ module _ {A B : Type 0} (a_left : A → Option (List ℕ)) (a_failed a_end : A �
       fails_next : FailsAtRecord run.how run.full comes.stage.waiting comes.stage r (line_in later) behind.through fault now → EndsAt (Some fault) now
       fails_next fails =
           let here =
-          come_on a_left a_failed a_end b_left b_failed b_end run at lines second mask out s new over consumed takes taken second_now has behind.before comes.stage comes.bytes comes.goes_on kept (lines_in last_lines)
+          come_on source_a source_b run at lines second mask out s new over consumed takes taken second_now has behind.before comes.stage comes.bytes comes.goes_on kept (lines_in last_lines)
           (parts ∙ ap (λ l. l ++ lines_in last_lines) before_is) (subst (AreNumbered (suc (lines_given lines))) before_is numbered) (subst (λ (l : List TextLine). TakenLines lines consumed (length l)) before_is are) behind.mask behind.through comes.stands comes.puts in
-          fails_record a_left a_failed a_end b_left b_failed b_end run (state_behind (sequence_format run.full) at comes.goes_on.items) new second_now behind.mask behind.through here.0 (comes.stands.want_is ∙ wants) r (left later)
+          fails_record source_a source_b run (state_behind (sequence_format run.full) at comes.goes_on.items) new second_now behind.mask behind.through here.0 (comes.stands.want_is ∙ wants) r (left later)
           (sym left_then ∙ passes.left_is) fault now
           (subst (λ (n : ℕ). FailsAtRecord run.how run.full here.0.stage.waiting here.0.stage r n behind.through fault now) number_is
           (subst (λ (stage : MaskStage). FailsAtRecord run.how run.full stage.waiting stage r (line_in later) behind.through fault now) (sym here.1) fails))
@@ -343,6 +344,6 @@ module _ {A B : Type 0} (a_left : A → Option (List ℕ)) (a_failed a_end : A �
 
   -- what the result says
   pub gives_both : {T : Type 0} (answer : Result T Fault) (masked : Masking) (now : Output) → (ComesNext Passes line_in HasEnded s.stage.ahead first_beds → BothCome Passes line_in HasEnded run.how run.full s.stage texts taken out first_beds answer masked last_beds now)
-      → OnOk answer (StopsAt Passes line_in HasEnded masked.want last_lines last_beds) → Gives a_left a_failed a_end b_left b_failed b_end run lines second mask answer new second_now masked now
+      → OnOk answer (StopsAt Passes line_in HasEnded masked.want last_lines last_beds) → Gives source_a source_b run lines second mask answer new second_now masked now
   gives_both (Ok done) masked now come stops = let both = come comes_next in gave_both masked now both.0 stops both.2 done
   gives_both (Err fault) masked now come stops = let both = come comes_next in failed_both (fault_value fault) now both.1

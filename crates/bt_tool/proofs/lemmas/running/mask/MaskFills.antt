@@ -1,6 +1,7 @@
 -- Lemmas on a round of masking in which an input is read on: a line or a record is buffered, or its end is given.
 use Rattle.std.proofs.Common.{◌≡◌, ℕ, ◌≤◌, ◌<◌, Bool, true, false, List, [], ◌∷◌, length, Option, None, Some, Ok, Err, refl, sym, ap, ◌∙◌, subst, arith, inl, inr}
 use Rattle.std.specs.Prelude.{◌⊎◌, is_some}
+use Rattle.bt_lines.specs.declared.device.Source.{Ghosts as Source}
 use Rattle.bt_lines.specs.calls.Names.{fault_value}
 use Rattle.bt_lines.specs.calls.Output.{Output}
 use Rattle.bt_lines.specs.calls.Reader.{GivesEnd, IsKept, MakesLine}
@@ -51,23 +52,23 @@ pub turn_falls : (before filled after : ℕ) (There : Type 0) → (filled < befo
 turn_falls before filled after There (inl less) few some = omega (arith, less, few)
 turn_falls before filled after There (inr at) few some = omega (arith, at.0, some at.1)
 
-module _ {A B : Type 0} (a_left : A → Option (List ℕ)) (a_failed a_end : A → Bool) (b_left : B → Option (List ℕ)) (b_failed b_end : B → Bool) (run : MaskRun A B) (at : Reached) (lines : LineReader A)
-    (second : MemberReader B Feature (Option Locus)) (mask : Masking) (out : Output) (s : GoesOnAt a_left a_failed a_end b_left b_failed b_end run at lines second mask out) where
-  module _ (wants : mask.want ≡ WantLine) (new : LineReader A) (kept : IsKept a_left a_end lines → IsKept a_left a_end new) where
-    pub line_filled : MakesLine a_left a_failed lines new → Fills a_left a_failed a_end b_left b_failed b_end run lines second mask (Ok true) new second mask out
+module _ {A B : Type 0} (source_a : Source A) (source_b : Source B) (run : MaskRun A B) (at : Reached) (lines : LineReader A)
+    (second : MemberReader B Feature (Option Locus)) (mask : Masking) (out : Output) (s : GoesOnAt source_a source_b run at lines second mask out) where
+  module _ (wants : mask.want ≡ WantLine) (new : LineReader A) (kept : IsKept source_a.left source_a.end_told lines → IsKept source_a.left source_a.end_told new) where
+    pub line_filled : MakesLine source_a.left source_a.has_failed lines new → Fills source_a source_b run lines second mask (Ok true) new second mask out
     line_filled makes = (
-      (at, line_made a_left a_failed a_end b_left b_failed b_end run at lines second mask out s wants new makes kept),
+      (at, line_made source_a source_b run at lines second mask out s wants new makes kept),
       inr (
-        omega (arith, same_room a_left a_failed a_end lines new new makes),
+        omega (arith, same_room source_a.left source_a.has_failed source_a.end_told lines new new makes),
         subst (λ (w : MaskWant). IsThere w new second) (sym wants) makes.some,
       ),
     )
 
-    pub lines_ended : GivesEnd a_left a_failed lines new → (masked : Masking) → MaskStandsAt run.how run.full (with_lines_ended s.stage) masked → Fills a_left a_failed a_end b_left b_failed b_end run lines second mask (Ok true) new second masked out
+    pub lines_ended : GivesEnd source_a.left source_a.has_failed lines new → (masked : Masking) → MaskStandsAt run.how run.full (with_lines_ended s.stage) masked → Fills source_a source_b run lines second mask (Ok true) new second masked out
     lines_ended ends masked stands =
-        let over = gives_over a_left a_failed a_end run.full at lines new kept ends in
-        let none = ap is_some (none_waits a_left a_failed a_end b_left b_failed b_end run at lines second mask out s wants) in (
-          (at, ends_lines a_left a_failed a_end b_left b_failed b_end run at lines second mask out s wants new masked ends kept stands),
+        let over = gives_over source_a run.full at lines new kept ends in
+        let none = ap is_some (none_waits source_a source_b run at lines second mask out s wants) in (
+          (at, ends_lines source_a source_b run at lines second mask out s wants new masked ends kept stands),
           inl (omega (
             arith,
             over.ends.shrinks,
@@ -77,22 +78,22 @@ module _ {A B : Type 0} (a_left : A → Option (List ℕ)) (a_failed a_end : A �
         )
 
   module _ (wants : mask.want ≡ WantBed) (second_now : MemberReader B Feature (Option Locus)) where
-    pub record_filled : IsFilled b_left b_failed b_end second second_now → Fills a_left a_failed a_end b_left b_failed b_end run lines second mask (Ok true) lines second_now mask out
+    pub record_filled : IsFilled source_b second second_now → Fills source_a source_b run lines second mask (Ok true) lines second_now mask out
     record_filled filled = (
-      (at, record_made a_left a_failed a_end b_left b_failed b_end run at lines second mask out s wants second_now filled),
+      (at, record_made source_a source_b run at lines second mask out s wants second_now filled),
       inr (
         omega (arith, filled.gives.shrinks),
         subst (λ (w : MaskWant). IsThere w lines second_now) (sym wants) (some_there _ second_now.buffered filled.m filled.gives.ahead),
       ),
     )
 
-    module _ (over : IsOver b_left b_failed b_end second second_now) (masked : Masking) (now : Output) where
+    module _ (over : IsOver source_b second second_now) (masked : Masking) (now : Output) where
       ends_by : (o : Option SequenceLine) → s.stage.waiting ≡ o → {T : Type 0} (done : T)
           → ((waiting : SequenceLine) → s.stage.waiting ≡ Some waiting → EndsRecords run.how run.full s.stage waiting out (Ok done) masked now) → (s.stage.waiting ≡ None → EndsCheck run.how run.full s.stage out (Ok done) masked now)
-          → Fills a_left a_failed a_end b_left b_failed b_end run lines second mask (Ok true) lines second_now masked now
+          → Fills source_a source_b run lines second mask (Ok true) lines second_now masked now
       ends_by (Some a) e done waits none =
           let ends = waits a e in (
-            (at, ends_waiting a_left a_failed a_end b_left b_failed b_end run at lines second mask out s wants second_now over a e masked now ends.0 ends.1),
+            (at, ends_waiting source_a source_b run at lines second mask out s wants second_now over a e masked now ends.0 ends.1),
             inl (omega (
               arith,
               over.ends.shrinks,
@@ -102,8 +103,8 @@ module _ {A B : Type 0} (a_left : A → Option (List ℕ)) (a_failed a_end : A �
           )
       ends_by None e done waits none =
           let ends = none e in
-          let finished = lines_done a_left a_failed a_end b_left b_failed b_end run at lines second mask out s wants e in (
-            (at, rw ends.1 (ends_alone a_left a_failed a_end b_left b_failed b_end run at lines second mask out s wants second_now over e masked ends.0)),
+          let finished = lines_done source_a source_b run at lines second mask out s wants e in (
+            (at, rw ends.1 (ends_alone source_a source_b run at lines second mask out s wants second_now over e masked ends.0)),
             inl (omega (
               arith,
               over.ends.shrinks,
@@ -113,15 +114,15 @@ module _ {A B : Type 0} (a_left : A → Option (List ℕ)) (a_failed a_end : A �
           )
 
       pub records_ended : {T : Type 0} (done : T) → ((waiting : SequenceLine) → s.stage.waiting ≡ Some waiting → EndsRecords run.how run.full s.stage waiting out (Ok done) masked now) → (s.stage.waiting ≡ None → EndsCheck run.how run.full s.stage out (Ok done) masked now)
-          → Fills a_left a_failed a_end b_left b_failed b_end run lines second mask (Ok true) lines second_now masked now
+          → Fills source_a source_b run lines second mask (Ok true) lines second_now masked now
       records_ended done waits none = ends_by s.stage.waiting refl done waits none
 
       unended_by : (o : Option SequenceLine) → s.stage.waiting ≡ o → (fault : Fault)
           → ((waiting : SequenceLine) → s.stage.waiting ≡ Some waiting → EndsRecords {A = Unit {0}} run.how run.full s.stage waiting out (Err fault) masked now) → (s.stage.waiting ≡ None → EndsCheck {A = Unit {0}} run.how run.full s.stage out (Err fault) masked now)
-          → Fills a_left a_failed a_end b_left b_failed b_end run lines second mask (Err fault) lines second_now masked now
-      unended_by (Some a) e fault waits none = fails_at_end a_left a_failed a_end b_left b_failed b_end run at lines second mask out s wants second_now over a e (fault_value fault) now (waits a e).1
+          → Fills source_a source_b run lines second mask (Err fault) lines second_now masked now
+      unended_by (Some a) e fault waits none = fails_at_end source_a source_b run at lines second mask out s wants second_now over a e (fault_value fault) now (waits a e).1
       unended_by None e fault waits none = absurd (none e)
 
       pub records_unended : (fault : Fault) → ((waiting : SequenceLine) → s.stage.waiting ≡ Some waiting → EndsRecords {A = Unit {0}} run.how run.full s.stage waiting out (Err fault) masked now)
-          → (s.stage.waiting ≡ None → EndsCheck {A = Unit {0}} run.how run.full s.stage out (Err fault) masked now) → Fills a_left a_failed a_end b_left b_failed b_end run lines second mask (Err fault) lines second_now masked now
+          → (s.stage.waiting ≡ None → EndsCheck {A = Unit {0}} run.how run.full s.stage out (Err fault) masked now) → Fills source_a source_b run lines second mask (Err fault) lines second_now masked now
       records_unended fault waits none = unended_by s.stage.waiting refl fault waits none

@@ -2,6 +2,7 @@
 use Rattle.std.proofs.Common.{◌≡◌, ℕ, Bool, false, List, [], Option, None, Some, refl, sym, ap, ◌∙◌, subst}
 use Rattle.std.specs.Prelude.{option_map}
 use Rattle.std.proofs.lemmas.Bool.{false≢true}
+use Rattle.bt_lines.specs.declared.device.Source.{Ghosts as Source}
 use Rattle.bt_lines.specs.model.Lines.{text_lines}
 use Rattle.bt_lines.specs.calls.Output.{Output, HoldsBlock}
 use Rattle.bt_lines.specs.calls.Reader.{IsSound, bytes_taken, fault_kept as line_fault, feeds_taken, input_of, lines_given, lines_left, source_of}
@@ -72,42 +73,42 @@ module _ {S : Type 0} (left : S → Option (List ℕ)) (end : S → Bool) (first
     good = known going ∙ ap (λ i. option_map (good block_format i) (lines_left left reader)) same ∙ ap (option_map (good block_format input)) lines;
   }
 
-module _ {A B : Type 0} (a_left : A → Option (List ℕ)) (a_failed a_end : A → Bool) (b_left : B → Option (List ℕ)) (b_failed b_end : B → Bool)
+module _ {A B : Type 0} (source_a : Source A) (source_b : Source B)
     (how : MaskHow) (full : Bool) (lines : LineReader A) (records : Blocks B) (out : Output) where
   -- nothing was given yet
-  pub masks_start : IsFresh a_left a_end (line_members full nothing_reached lines) → line_fault lines ≡ None → IsFresh b_left b_end (view_of records) → fault_kept records ≡ None
+  pub masks_start : IsFresh source_a.left source_a.end_told (line_members full nothing_reached lines) → line_fault lines ≡ None → IsFresh source_b.left source_b.end_told (view_of records) → fault_kept records ≡ None
       → HoldsBlock out.took out.put → (mask : Masking) → MaskStandsAt how full first_stage mask
-      → Masks a_left a_failed a_end b_left b_failed b_end how full (line_members full nothing_reached lines) (view_of records) out (line_members full nothing_reached lines) (view_of records) mask out
+      → Masks source_a source_b how full (line_members full nothing_reached lines) (view_of records) out (line_members full nothing_reached lines) (view_of records) mask out
   masks_start fresh going fresh_second kept block mask stands = record {
     past_first = [];
     past_second = [];
     stage = first_stage;
     stands = stands;
-    comes = comes_start (mask_join how) (mask_pair a_left a_failed a_end b_left b_failed b_end how full (line_members full nothing_reached lines) (view_of records)) out
-        (passes_start a_left a_failed a_end (line_members full nothing_reached lines) fresh going)
-        (passes_start b_left b_failed b_end (view_of records) fresh_second (blocks_going records kept)) block;
+    comes = comes_start (mask_join how) (mask_pair source_a source_b how full (line_members full nothing_reached lines) (view_of records)) out
+        (passes_start source_a (line_members full nothing_reached lines) fresh going)
+        (passes_start source_b (view_of records) fresh_second (blocks_going records kept)) block;
     kept_ahead = λ r e. absurd (let apart : None ≡ Some r = e in cc);
     lines_over = λ e. absurd (false≢true e);
   }
 
-module _ {A B : Type 0} (a_left : A → Option (List ℕ)) (a_failed a_end : A → Bool) (b_left : B → Option (List ℕ)) (b_failed b_end : B → Bool) where
+module _ {A B : Type 0} (source_a : Source A) (source_b : Source B) where
   -- the same by what the engine itself says that it wanted
   pub masks_as_new : (how : MaskHow) (full : Bool) (lines : LineReader A) (records : Blocks B) (out : Output) (own : Bool)
-      → IsFresh a_left a_end (line_members own nothing_reached lines) → line_fault lines ≡ None → IsFresh b_left b_end (view_of records) → fault_kept records ≡ None
+      → IsFresh source_a.left source_a.end_told (line_members own nothing_reached lines) → line_fault lines ≡ None → IsFresh source_b.left source_b.end_told (view_of records) → fault_kept records ≡ None
       → HoldsBlock out.took out.put → (mask : Masking) → MaskStandsAt how full first_stage mask
-      → Masks a_left a_failed a_end b_left b_failed b_end mask.how mask.full (line_members mask.full nothing_reached lines) (view_of records) out (line_members mask.full nothing_reached lines) (view_of records) mask out
+      → Masks source_a source_b mask.how mask.full (line_members mask.full nothing_reached lines) (view_of records) out (line_members mask.full nothing_reached lines) (view_of records) mask out
   masks_as_new how full lines records out own fresh going fresh_second kept block mask stands =
-      masks_start a_left a_failed a_end b_left b_failed b_end mask.how mask.full lines records out (record { none_given = fresh.none_given; none_buffered = refl; going = going; sound = fresh.sound }) going fresh_second kept block mask
+      masks_start source_a source_b mask.how mask.full lines records out (record { none_given = fresh.none_given; none_buffered = refl; going = going; sound = fresh.sound }) going fresh_second kept block mask
       (subst (λ (h : MaskHow). MaskStandsAt h mask.full first_stage mask) (sym stands.how_is) (subst (λ (f : Bool). MaskStandsAt how f first_stage mask) (sym stands.full_is) stands))
 
   -- and how it ends
   pub as_asked : (lines : LineReader A) (second : MemberReader B Feature (Option Locus)) (out : Output) (fault : Option FaultValue) (new : LineReader A) (second_now : MemberReader B Feature (Option Locus)) (grown : Output)
       (own : MaskHow) (own_full : Bool) (how : MaskHow) (full : Bool) → own ≡ how → own_full ≡ full
-      → (members : MemberReader A SequenceLine Reached) × (members.below ≡ new) × MaskEnds a_left a_failed a_end b_left b_failed b_end own own_full (line_members own_full nothing_reached lines) second out fault members second_now grown × IsKeptBelow members new
-      → (members : MemberReader A SequenceLine Reached) × (members.below ≡ new) × MaskEnds a_left a_failed a_end b_left b_failed b_end how full (line_members full nothing_reached lines) second out fault members second_now grown × IsKeptBelow members new
+      → (members : MemberReader A SequenceLine Reached) × (members.below ≡ new) × MaskEnds source_a source_b own own_full (line_members own_full nothing_reached lines) second out fault members second_now grown × IsKeptBelow members new
+      → (members : MemberReader A SequenceLine Reached) × (members.below ≡ new) × MaskEnds source_a source_b how full (line_members full nothing_reached lines) second out fault members second_now grown × IsKeptBelow members new
   as_asked lines second out fault new second_now grown own own_full how full same same_full ends = (
     ends.0,
     ends.1,
-    rw (← same) (subst (λ (f : Bool). MaskEnds a_left a_failed a_end b_left b_failed b_end own f (line_members f nothing_reached lines) second out fault ends.0 second_now grown) same_full ends.2),
+    rw (← same) (subst (λ (f : Bool). MaskEnds source_a source_b own f (line_members f nothing_reached lines) second out fault ends.0 second_now grown) same_full ends.2),
     ends.3,
   )

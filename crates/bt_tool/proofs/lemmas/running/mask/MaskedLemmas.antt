@@ -3,6 +3,7 @@ use Rattle.std.proofs.Common.{◌≡◌, ℕ, suc, Bool, true, false, not, ◌||
 use Rattle.std.specs.Prelude.{◌⊎◌, IfSome, IsSome, IsTrue, is_some, option_map}
 use Rattle.std.proofs.lemmas.Bool.{false≢true, or_left, or_right}
 use Rattle.std.proofs.lemmas.List.{map-append}
+use Rattle.bt_lines.specs.declared.device.Source.{Ghosts as Source}
 use Rattle.bt_lines.specs.model.Fault.{FaultValue}
 use Rattle.bt_lines.specs.model.Lines.{TextLine}
 use Rattle.bt_lines.specs.calls.Output.{Output}
@@ -113,8 +114,8 @@ told_by names None past m fault is owned unowned begins = tt
 told_by names (Some good) past m fault is owned unowned begins = lacks_told names good.members past m owned unowned begins ∙ ap Some (sym is)
 
 -- a record that was ahead still is
-kept_filled : {S State : Type 0} (left : S → Option (List ℕ)) (failed end : S → Bool) (now new : MemberReader S Feature State) (r : Feature) → item_ahead now ≡ Some r → IsFilled left failed end now new → item_ahead new ≡ Some r
-kept_filled {S} {State} left failed end now new r was filled = ap (λ (x : MemberReader S Feature State). item_ahead x) (filled.gives.again (some_ahead (ahead_in now) r was)) ∙ was
+kept_filled : {S State : Type 0} (device : Source S) (now new : MemberReader S Feature State) (r : Feature) → item_ahead now ≡ Some r → IsFilled device now new → item_ahead new ≡ Some r
+kept_filled {S} {State} device now new r was filled = ap (λ (x : MemberReader S Feature State). item_ahead x) (filled.gives.again (some_ahead (ahead_in now) r was)) ∙ was
   where
     some_ahead : (o : Option (Member Feature)) (r : Feature) → option_map (λ m. m.item) o ≡ Some r → IsSome o
     some_ahead None r e = cc
@@ -124,18 +125,18 @@ kept_filled {S} {State} left failed end now new r was filled = ap (λ (x : Membe
 none_ahead : {S State : Type 0} (now : MemberReader S Feature State) (r : Feature) → now.buffered ≡ [] → item_ahead now ≡ Some r → ⊥
 none_ahead now r none was = let apart : None ≡ Some r = sym (ahead_first now ∙ ap first_of none) ∙ was in cc
 
-module _ {A B : Type 0} (a_left : A → Option (List ℕ)) (a_failed a_end : A → Bool) (b_left : B → Option (List ℕ)) (b_failed b_end : B → Bool) (run : MaskRun A B) where
+module _ {A B : Type 0} (source_a : Source A) (source_b : Source B) (run : MaskRun A B) where
   abbrev pub join : JoinDef SequenceLine Feature
   join = mask_join run.how
 
   abbrev pub pair : Pair A B SequenceLine Feature Reached (Option Locus)
-  pair = mask_pair a_left a_failed a_end b_left b_failed b_end run.how run.full (line_members run.full nothing_reached run.lines) run.records
+  pair = mask_pair source_a source_b run.how run.full (line_members run.full nothing_reached run.lines) run.records
 
   abbrev Going : Reached → LineReader A → MemberReader B Feature (Option Locus) → Masking → Output → Type 0
-  Going = GoesOnAt a_left a_failed a_end b_left b_failed b_end run
+  Going = GoesOnAt source_a source_b run
 
   abbrev EndsAt : Option FaultValue → LineReader A → MemberReader B Feature (Option Locus) → Output → Type 0
-  EndsAt = Ends a_left a_failed a_end b_left b_failed b_end run
+  EndsAt = Ends source_a source_b run
 
   wrong_first : (state : Reached) (line : TextLine) (kind : Kind) → line_says run.full state line ≡ Err kind → is_fasta_kind kind ≡ true
   wrong_first state line kind e = subst (λ (k : Kind). is_fasta_kind k ≡ true) (sym (wrong_is_text run.full state line kind e)) refl
@@ -203,10 +204,10 @@ module _ {A B : Type 0} (a_left : A → Option (List ℕ)) (a_failed a_end : A �
       all_done = sym s.comes.all_given ∙ ap (λ (o : Option SequenceLine). stage.written ++ option_to_list o) none_waits ∙ append-nil stage.written
 
       -- one is buffered now
-      pub line_made : (new : LineReader A) → MakesLine a_left a_failed lines new → (IsKept a_left a_end lines → IsKept a_left a_end new) → Going at new second mask grown
+      pub line_made : (new : LineReader A) → MakesLine source_a.left source_a.has_failed lines new → (IsKept source_a.left source_a.end_told lines → IsKept source_a.left source_a.end_told new) → Going at new second mask grown
       line_made new makes kept =
           let c = s.comes in
-          let passes = passes_made a_left a_failed a_end run.full (line_members run.full nothing_reached run.lines) s.past_first at lines new c.first_passes makes kept in
+          let passes = passes_made source_a run.full (line_members run.full nothing_reached run.lines) s.past_first at lines new c.first_passes makes kept in
           record {
             past_first = s.past_first;
             past_second = s.past_second;
@@ -228,7 +229,7 @@ module _ {A B : Type 0} (a_left : A → Option (List ℕ)) (a_failed a_end : A �
               near_first = (
                 s.past_first,
                 all_done,
-                read_here a_left a_failed a_end (line_members run.full nothing_reached run.lines) s.past_first (line_members run.full at new) passes,
+                read_here source_a (line_members run.full nothing_reached run.lines) s.past_first (line_members run.full at new) passes,
                 λ e. absurd (false≢true (sym no_line.1 ∙ e)),
               );
             };
@@ -237,9 +238,9 @@ module _ {A B : Type 0} (a_left : A → Option (List ℕ)) (a_failed a_end : A �
           }
 
       -- the end of the lines was given
-      pub ends_lines : (new : LineReader A) (masked : Masking) → GivesEnd a_left a_failed lines new → (IsKept a_left a_end lines → IsKept a_left a_end new) → MaskStandsAt run.how run.full (with_lines_ended stage) masked → Going at new second masked grown
+      pub ends_lines : (new : LineReader A) (masked : Masking) → GivesEnd source_a.left source_a.has_failed lines new → (IsKept source_a.left source_a.end_told lines → IsKept source_a.left source_a.end_told new) → MaskStandsAt run.how run.full (with_lines_ended stage) masked → Going at new second masked grown
       ends_lines new masked ends kept stands =
-          let over = gives_over a_left a_failed a_end run.full at lines new kept ends in
+          let over = gives_over source_a run.full at lines new kept ends in
           record {
             past_first = s.past_first;
             past_second = s.past_second;
@@ -251,12 +252,12 @@ module _ {A B : Type 0} (a_left : A → Option (List ℕ)) (a_failed a_end : A �
           }
 
       -- a line couldn't be read
-      pub stops_lines : (fault : FaultValue) (new : LineReader A) → GivesFault a_left a_failed lines fault new → (IsKept a_left a_end lines → IsKept a_left a_end new) → EndsAt (Some fault) new second grown
+      pub stops_lines : (fault : FaultValue) (new : LineReader A) → GivesFault source_a.left source_a.has_failed lines fault new → (IsKept source_a.left source_a.end_told lines → IsKept source_a.left source_a.end_told new) → EndsAt (Some fault) new second grown
       stops_lines fault new gives kept = (
         line_members run.full at new,
         refl,
         stop.stops_first join pair run.out (stage_of stage) s.past_first s.past_second first second grown s.comes asks_for (λ known. tt) wrong_first none_waits no_line.1 fault (line_members run.full at new)
-            (gives_unread a_left a_failed a_end run.full at lines new kept fault gives),
+            (gives_unread source_a run.full at lines new kept fault gives),
         λ input line e. e,
       )
 
@@ -276,19 +277,19 @@ module _ {A B : Type 0} (a_left : A → Option (List ℕ)) (a_failed a_end : A �
       lines_done e = (bed_goes (is_some stage.waiting) stage.lines_ended stage.bed_ended want_bed (ap is_some e)).0
 
       -- one is buffered now
-      pub record_made : (second_now : MemberReader B Feature (Option Locus)) → IsFilled b_left b_failed b_end second second_now → Going at lines second_now mask grown
+      pub record_made : (second_now : MemberReader B Feature (Option Locus)) → IsFilled source_b second second_now → Going at lines second_now mask grown
       record_made second_now filled = record {
         past_first = s.past_first;
         past_second = s.past_second;
         stage = stage;
         stands = s.stands;
         comes = turned.fills_second join pair run.out (stage_of stage) s.past_first s.past_second first second grown s.comes goes second_now filled;
-        kept_ahead = λ r e. kept_filled b_left b_failed b_end second second_now r (s.kept_ahead r e) filled;
+        kept_ahead = λ r e. kept_filled source_b second second_now r (s.kept_ahead r e) filled;
         lines_over = s.lines_over;
       }
 
       -- the end of the records was given
-      module _ (second_now : MemberReader B Feature (Option Locus)) (over : IsOver b_left b_failed b_end second second_now) where
+      module _ (second_now : MemberReader B Feature (Option Locus)) (over : IsOver source_b second second_now) where
         -- and the waiting line was written
         pub ends_waiting : (a : SequenceLine) → stage.waiting ≡ Some a → (masked : Masking) (now : Output) → MaskStandsAt run.how run.full (with_bed_ended stage) masked → Grown grown (masked_line run.how stage.taken a) now
             → Going at lines second_now masked now
@@ -324,7 +325,7 @@ module _ {A B : Type 0} (a_left : A → Option (List ℕ)) (a_failed a_end : A �
         )
 
       -- the second input couldn't give a record
-      stops_by : (o : Option SequenceLine) → stage.waiting ≡ o → (fault : FaultValue) (second_now : MemberReader B Feature (Option Locus)) → IsStopped b_left b_failed b_end second fault second_now → EndsAt (Some fault) lines second_now grown
+      stops_by : (o : Option SequenceLine) → stage.waiting ≡ o → (fault : FaultValue) (second_now : MemberReader B Feature (Option Locus)) → IsStopped source_b second fault second_now → EndsAt (Some fault) lines second_now grown
       stops_by None e fault second_now stopped = (
         first,
         refl,
@@ -338,7 +339,7 @@ module _ {A B : Type 0} (a_left : A → Option (List ℕ)) (a_failed a_end : A �
         λ input line e. e,
       )
 
-      pub stops_records : (fault : FaultValue) (second_now : MemberReader B Feature (Option Locus)) → IsStopped b_left b_failed b_end second fault second_now → EndsAt (Some fault) lines second_now grown
+      pub stops_records : (fault : FaultValue) (second_now : MemberReader B Feature (Option Locus)) → IsStopped source_b second fault second_now → EndsAt (Some fault) lines second_now grown
       stops_records fault second_now stopped = stops_by stage.waiting refl fault second_now stopped
 
     -- a record is buffered, and failed
@@ -395,8 +396,8 @@ module _ {A B : Type 0} (a_left : A → Option (List ℕ)) (a_failed a_end : A �
                 kind = NoSequence;
                 is = lacks.is;
                 of_kind = refl;
-                told = told_by (names_of stage.written) (good_coming b_left run.records) s.past_second m fault lacks.is (owned_alone none) (unowned_by none lacks.unowned)
-                    (begins_by (good_coming b_left run.records) (good_coming b_left second) (λ known. s.comes.second_passes.ahead known m m_ahead) s.comes.second_passes.come);
+                told = told_by (names_of stage.written) (good_coming source_b.left run.records) s.past_second m fault lacks.is (owned_alone none) (unowned_by none lacks.unowned)
+                    (begins_by (good_coming source_b.left run.records) (good_coming source_b.left second) (λ known. s.comes.second_passes.ahead known m m_ahead) s.comes.second_passes.come);
                 serves = record { served = s.comes.second_passes.served; within = s.comes.second_passes.kept.within s.comes.second_passes.clear };
               },
             )))),

@@ -2,6 +2,7 @@
 use Rattle.std.proofs.Common.{◌≡◌, ℕ, suc, Bool, true, false, List, ◌++◌, [], take, Option, None, Ok, Err, refl, ap, ◌∙◌, subst, arith}
 use Rattle.std.specs.Prelude.{IfSome, option_map}
 use Rattle.std.proofs.lemmas.Bool.{false≢true}
+use Rattle.bt_lines.specs.declared.device.Source.{Ghosts as Source}
 use Rattle.bt_lines.proofs.lemmas.reader.lines.BufferedLemmas.{none_left}
 use Rattle.bt_lines.specs.calls.Buffered.{buffered_lines}
 use Rattle.bt_lines.specs.calls.Names.{fault_value}
@@ -58,26 +59,26 @@ pub lent_at : {S : Type 0} (records : Blocks S) (batch : Batch) → Lends record
 unfolding view_of view_with
 lent_at records batch lends = lends.given
 
-module _ {S : Type 0} (left : S → Option (List ℕ)) (failed end : S → Bool) (IsRead : S → Option ℕ → S → Type 0) (now new : Blocks S) where
-  pub block_filled : FillsBlocks left failed end IsRead now (Ok true) new → IsFilled left failed end (view_of now) (view_of new)
+module _ {S : Type 0} (device : Source S) (now new : Blocks S) where
+  pub block_filled : FillsBlocks device.left device.has_failed device.end_told device.is_read now (Ok true) new → IsFilled device (view_of now) (view_of new)
   block_filled fills = record { m = record { line = fills.answers.1.line; item = fills.answers.0 }; gives = fills.answers.1.read; kept = fills.kept; clear = blocks_going new }
 
-  pub block_over : FillsBlocks left failed end IsRead now (Ok false) new → IsOver left failed end (view_of now) (view_of new)
+  pub block_over : FillsBlocks device.left device.has_failed device.end_told device.is_read now (Ok false) new → IsOver device (view_of now) (view_of new)
   block_over fills = record { ends = fills.answers; kept = fills.kept; clear = blocks_going new }
 
-  pub block_stopped : (fault : Fault) → FillsBlocks left failed end IsRead now (Err fault) new → IsStopped left failed end (view_of now) (fault_value fault) (view_of new)
+  pub block_stopped : (fault : Fault) → FillsBlocks device.left device.has_failed device.end_told device.is_read now (Err fault) new → IsStopped device (view_of now) (fault_value fault) (view_of new)
   block_stopped fault fills = record { answers = fills.answers; kept = fills.kept }
 
-module _ {S : Type 0} (left : S → Option (List ℕ)) (failed end : S → Bool) (now new : Blocks S) (count : ℕ) (records : List Feature) (are : take count (records_in now) ≡ records) where
+module _ {S : Type 0} (device : Source S) (now new : Blocks S) (count : ℕ) (records : List Feature) (are : take count (records_in now) ≡ records) where
   -- records were consumed of those that are buffered
-  pub blocks_taken : BeginsComing left (view_of now) → TakesBlocks left end now count new → HasTaken left failed end (view_of now) records (view_of new)
+  pub blocks_taken : BeginsComing device.left (view_of now) → TakesBlocks device.left device.end_told now count new → HasTaken device (view_of now) records (view_of new)
   blocks_taken comes takes =
-      let t = subst (λ (l : List Feature). Takes left end (view_of now) l (view_of new)) are takes.takes in
+      let t = subst (λ (l : List Feature). Takes device.left device.end_told (view_of now) l (view_of new)) are takes.takes in
       record {
         takes = t;
         clear = blocks_going new;
         ahead = λ m is.
-            comes_next (suc (lines_given (below now))) (suc (lines_given (below new))) (good_coming left (view_of now)) (good_coming left (view_of new)) records (records_in new) m (omega (arith, t.given))
-            (subst (λ (l : List Feature). IfSome (good_coming left (view_of now)) (λ good. (rest : List (Member Feature)) × (good.members ≡ members_from (suc (lines_given (below now))) l ++ rest))) t.buffered comes)
+            comes_next (suc (lines_given (below now))) (suc (lines_given (below new))) (good_coming device.left (view_of now)) (good_coming device.left (view_of new)) records (records_in new) m (omega (arith, t.given))
+            (subst (λ (l : List Feature). IfSome (good_coming device.left (view_of now)) (λ good. (rest : List (Member Feature)) × (good.members ≡ members_from (suc (lines_given (below now))) l ++ rest))) t.buffered comes)
             t.good is;
       }

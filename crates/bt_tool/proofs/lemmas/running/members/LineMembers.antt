@@ -4,6 +4,7 @@ use Rattle.std.specs.Prelude.{All, IfSome, option_map}
 use Rattle.std.proofs.Math.Seq.{drop-append_seam}
 use Rattle.std.proofs.lemmas.List.{drop-drop}
 use Rattle.std.proofs.lemmas.List.Elements.{All-append, All-nil}
+use Rattle.bt_lines.specs.declared.device.Source.{Ghosts as Source}
 use Rattle.bt_lines.proofs.lemmas.reader.lines.ReaderLemmas.{hands_both, sound_near}
 use Rattle.bt_lines.proofs.lemmas.reader.lines.TakingLemmas.{is_prefix, near_next}
 use Rattle.bt_lines.specs.model.Fault.{FaultValue}
@@ -119,7 +120,7 @@ some_bytes : (count : ℕ) (bytes : List ℕ) → 0 < line_feeds (take count byt
 some_bytes zero bytes e = let none : 0 < 0 = e in absurd (omega (arith, none))
 some_bytes (suc n) bytes e = omega arith
 
-module _ {S : Type 0} (left : S → Option (List ℕ)) (failed end : S → Bool) (full : Bool) where
+module _ {S : Type 0} (device : Source S) (full : Bool) where
   -- lines of which these are known to be lines of sequences
   abbrev pub known_members : Reached → List SequenceLine → LineReader S → MemberReader S SequenceLine Reached
   known_members reached items lines = record {
@@ -131,24 +132,24 @@ module _ {S : Type 0} (left : S → Option (List ℕ)) (failed end : S → Bool)
   }
 
   good_lines : (reached : Reached) (items : List SequenceLine) (lines : LineReader S) → line_fault lines ≡ None
-      → good_coming left (known_members reached items lines) ≡ option_map (good_from (sequence_format full) (input_of lines) reached) (lines_left left lines)
+      → good_coming device.left (known_members reached items lines) ≡ option_map (good_from (sequence_format full) (input_of lines) reached) (lines_left device.left lines)
   unfolding good_coming
-  good_lines reached items lines none = ap (λ fault. option_map (good_behind (sequence_format full) (input_of lines) fault reached) (lines_left left lines)) none
+  good_lines reached items lines none = ap (λ fault. option_map (good_behind (sequence_format full) (input_of lines) fault reached) (lines_left device.left lines)) none
 
   -- a line was made buffered
-  module _ (old : MemberReader S SequenceLine Reached) (past : List (Member SequenceLine)) (reached : Reached) (lines new : LineReader S) (g : Passes left failed end old past (line_members full reached lines)) where
-    pub passes_made : MakesLine left failed lines new → (IsKept left end lines → IsKept left end new) → Passes left failed end old past (line_members full reached new)
+  module _ (old : MemberReader S SequenceLine Reached) (past : List (Member SequenceLine)) (reached : Reached) (lines new : LineReader S) (g : Passes device old past (line_members full reached lines)) where
+    pub passes_made : MakesLine device.left device.has_failed lines new → (IsKept device.left device.end_told lines → IsKept device.left device.end_told new) → Passes device old past (line_members full reached new)
     passes_made makes kept =
-        let lines_now = lines_same (lines_left left old.below) (lines_left left lines) (lines_left left new) (lines_given lines) (lines_given new) makes.counted g.lines makes.same in
+        let lines_now = lines_same (lines_left device.left old.below) (lines_left device.left lines) (lines_left device.left new) (lines_given lines) (lines_given new) makes.counted g.lines makes.same in
         record {
           format = g.format;
-          bytes = (g.bytes.0 ++ makes.bytes.0, hands_both left old.below lines new g.bytes.0 makes.bytes.0 g.bytes.1 makes.bytes.1);
+          bytes = (g.bytes.0 ++ makes.bytes.0, hands_both device.left old.below lines new g.bytes.0 makes.bytes.0 g.bytes.1 makes.bytes.1);
           said = g.said;
           state = g.state;
-          come = subst (ComeFirst (good_coming left old) past) (sym (good_lines reached [] new makes.goes))
-              (come_same (good_coming left old) (good_from (sequence_format full) (input_of lines) reached) (good_from (sequence_format full) (input_of new) reached) (lines_left left lines) (lines_left left new) past
+          come = subst (ComeFirst (good_coming device.left old) past) (sym (good_lines reached [] new makes.goes))
+              (come_same (good_coming device.left old) (good_from (sequence_format full) (input_of lines) reached) (good_from (sequence_format full) (input_of new) reached) (lines_left device.left lines) (lines_left device.left new) past
               (λ l. ap (λ input. good_from (sequence_format full) input reached l) (sym makes.bytes.1.same_input)) makes.same
-              (subst (ComeFirst (good_coming left old) past) (good_lines reached [] lines g.clear) g.come));
+              (subst (ComeFirst (good_coming device.left old) past) (good_lines reached [] lines g.clear) g.come));
           behind = up_to (lines_given lines) (lines_given new) past (omega (arith, makes.counted)) g.behind;
           lines = lines_now;
           going = makes.goes;
@@ -156,41 +157,41 @@ module _ {S : Type 0} (left : S → Option (List ℕ)) (failed end : S → Bool)
           kept = kept g.kept;
           served = makes.served ∙ g.served;
           ahead = λ known m is. absurd (let apart : None ≡ Some m = is in cc);
-          near = near_by (lines_left left old.below) (lines_left left new) (left (source_of new)) (lines_given new) lines_now (near_next left new);
+          near = near_by (lines_left device.left old.below) (lines_left device.left new) (device.left (source_of new)) (lines_given new) lines_now (near_next device.left new);
         }
 
   -- the lines have ended
-  module _ (reached : Reached) (lines new : LineReader S) (kept : IsKept left end lines → IsKept left end new) where
-    start : Going left failed end (line_members full reached lines) (line_members full reached lines)
-    start = going_start left failed end (line_members full reached lines) refl refl
+  module _ (reached : Reached) (lines new : LineReader S) (kept : IsKept device.left device.end_told lines → IsKept device.left device.end_told new) where
+    start : Going device.left device.has_failed device.end_told (line_members full reached lines) (line_members full reached lines)
+    start = going_start device.left device.has_failed device.end_told (line_members full reached lines) refl refl
 
-    pub gives_over : GivesEnd left failed lines new → IsOver left failed end (line_members full reached lines) (line_members full reached new)
+    pub gives_over : GivesEnd device.left device.has_failed lines new → IsOver device (line_members full reached lines) (line_members full reached new)
     gives_over ends = record {
-      ends = going_end left failed end (line_members full reached lines) (line_members full reached lines) (line_members full reached new) start ends refl refl (record { state = refl; format = refl })
+      ends = going_end device.left device.has_failed device.end_told (line_members full reached lines) (line_members full reached lines) (line_members full reached new) start ends refl refl (record { state = refl; format = refl })
           (λ same was. ap (line_members full reached) same);
       kept = kept;
       clear = λ e. e;
     }
 
     -- or couldn't be read
-    pub gives_unread : (fault : FaultValue) → GivesFault left failed lines fault new → IsStopped left failed end (line_members full reached lines) fault (line_members full reached new)
+    pub gives_unread : (fault : FaultValue) → GivesFault device.left device.has_failed lines fault new → IsStopped device (line_members full reached lines) fault (line_members full reached new)
     gives_unread fault gives = record {
-      answers = going_unread left failed end (line_members full reached lines) (line_members full reached lines) (line_members full reached new) fault start gives gives.kept refl (record { state = refl; format = refl })
+      answers = going_unread device.left device.has_failed device.end_told (line_members full reached lines) (line_members full reached lines) (line_members full reached new) fault start gives gives.kept refl (record { state = refl; format = refl })
           (λ same was. ap (line_members full reached) same);
       kept = kept;
     }
 
   -- lines were taken
   module _ (reached : Reached) (lines new : LineReader S) (going : line_fault lines ≡ None) (texts more : List TextLine) (items : List SequenceLine) (say : SayEach full reached texts items)
-      (parts : buffered_in lines ≡ texts ++ more) (numbered : AreNumbered (suc (lines_given lines)) texts) (consumed : ConsumedLines) (count : ℕ) (are : TakenLines lines consumed count) (takes : TakesLines left end lines consumed new) where
+      (parts : buffered_in lines ≡ texts ++ more) (numbered : AreNumbered (suc (lines_given lines)) texts) (consumed : ConsumedLines) (count : ℕ) (are : TakenLines lines consumed count) (takes : TakesLines device.left device.end_told lines consumed new) where
     abbrev pub reached_then : Reached
     reached_then = state_behind (sequence_format full) reached items
 
     goes : line_fault new ≡ None
     goes = takes.fault_is ∙ going
 
-    say_known : IfSome (lines_left left lines) (λ all. LinesSay (sequence_format full) reached all items)
-    say_known = say_by (lines_left left lines) (is_prefix left lines)
+    say_known : IfSome (lines_left device.left lines) (λ all. LinesSay (sequence_format full) reached all items)
+    say_known = say_by (lines_left device.left lines) (is_prefix device.left lines)
       where
         say_by : (all : Option (List TextLine)) → IfSome all (λ all. take (length (buffered_in lines)) all ≡ buffered_in lines) → IfSome all (λ all. LinesSay (sequence_format full) reached all items)
         say_by None e = tt
@@ -206,15 +207,15 @@ module _ {S : Type 0} (left : S → Option (List ℕ)) (failed end : S → Bool)
           ap (λ o. option_map (with_members (members_from (suc (lines_given lines)) items)) (option_map (good_from (sequence_format full) (input_of lines) reached_then) o)) drops
           ∙ ap Some (good_said (sequence_format full) (input_of lines) (suc (lines_given lines)) reached all items n s)
 
-      good_then : option_map (with_members (members_from (suc (lines_given lines)) items)) (good_coming left (line_members full reached_then new)) ≡ good_coming left (known_members reached items lines)
+      good_then : option_map (with_members (members_from (suc (lines_given lines)) items)) (good_coming device.left (line_members full reached_then new)) ≡ good_coming device.left (known_members reached items lines)
       good_then =
           ap (option_map (with_members (members_from (suc (lines_given lines)) items)))
-          (good_lines reached_then [] new goes ∙ ap (λ input. option_map (good_from (sequence_format full) input reached_then) (lines_left left new)) takes.input_is)
-          ∙ good_by (lines_left left lines) (lines_left left new) (left_numbered left end lines) say_known (still_unknown left lines new takes.source_is)
-          (subst (λ k. DropsLines (lines_left left lines) k (lines_left left new)) (are.feeds ∙ all) takes.left_is)
+          (good_lines reached_then [] new goes ∙ ap (λ input. option_map (good_from (sequence_format full) input reached_then) (lines_left device.left new)) takes.input_is)
+          ∙ good_by (lines_left device.left lines) (lines_left device.left new) (left_numbered device.left device.end_told lines) say_known (still_unknown device.left lines new takes.source_is)
+          (subst (λ k. DropsLines (lines_left device.left lines) k (lines_left device.left new)) (are.feeds ∙ all) takes.left_is)
           ∙ sym (good_lines reached items lines going)
 
-      pub has_taken : HasTaken left failed end (known_members reached items lines) items (line_members full reached_then new)
+      pub has_taken : HasTaken device (known_members reached items lines) items (line_members full reached_then new)
       has_taken = record {
         takes = record {
           buffered = sym (append-nil items);
@@ -227,7 +228,7 @@ module _ {S : Type 0} (left : S → Option (List ℕ)) (failed end : S → Bool)
           below = takes.below;
           hands = takes.hands;
           source = takes.source_is;
-          lines = drops_pass (lines_left left lines) (lines_left left new) _ (lines_given new - lines_given lines) takes.left_is (omega (arith, takes.given, are.given, are.feeds));
+          lines = drops_pass (lines_left device.left lines) (lines_left device.left new) _ (lines_given new - lines_given lines) takes.left_is (omega (arith, takes.given, are.given, are.feeds));
           kept = takes.kept;
           near = λ some. takes.near (some_bytes consumed.bytes (buffered_bytes lines) (omega (arith, are.feeds, all, some)));
           shrinks = omega (arith, takes.taken_is, takes.shrinks, are.feeds, all);
@@ -247,28 +248,28 @@ module _ {S : Type 0} (left : S → Option (List ℕ)) (failed end : S → Bool)
           (members_from (suc number) items ++ then.members, ap (λ g. g.members) (sym whole) ∙ ap (λ x. x ∷ (members_from (suc number) items ++ then.members)) same)
 
       -- they were known to come
-      pub passes_known : (old : MemberReader S SequenceLine Reached) (past : List (Member SequenceLine)) → Passes left failed end old past (line_members full reached lines) → Passes left failed end old past (known_members reached items lines)
+      pub passes_known : (old : MemberReader S SequenceLine Reached) (past : List (Member SequenceLine)) → Passes device old past (line_members full reached lines) → Passes device old past (known_members reached items lines)
       passes_known old past g = record {
         format = g.format;
         bytes = g.bytes;
         said = g.said;
         state = g.state;
-        come = subst (ComeFirst (good_coming left old) past) (good_lines reached [] lines going ∙ sym (good_lines reached items lines going)) g.come;
+        come = subst (ComeFirst (good_coming device.left old) past) (good_lines reached [] lines going ∙ sym (good_lines reached items lines going)) g.come;
         behind = g.behind;
         lines = g.lines;
         going = g.going;
         clear = g.clear;
         kept = g.kept;
         served = g.served;
-        ahead = λ known m is. first_by (suc (lines_given lines)) items m (good_coming left (known_members reached items lines)) (good_coming left (line_members full reached_then new)) good_then is;
+        ahead = λ known m is. first_by (suc (lines_given lines)) items m (good_coming device.left (known_members reached items lines)) (good_coming device.left (line_members full reached_then new)) good_then is;
         near = g.near;
       }
 
   -- lines were taken, of which the last one is at fault
-  module _ (old : MemberReader S SequenceLine Reached) (past : List (Member SequenceLine)) (reached : Reached) (lines new : LineReader S) (g : Passes left failed end old past (line_members full reached lines))
+  module _ (old : MemberReader S SequenceLine Reached) (past : List (Member SequenceLine)) (reached : Reached) (lines new : LineReader S) (g : Passes device old past (line_members full reached lines))
       (before : List TextLine) (line : TextLine) (more : List TextLine) (items : List SequenceLine) (say : SayEach full reached before items) (kind : Kind) (says : line_says full (state_behind (sequence_format full) reached items) line ≡ Err kind)
       (parts : buffered_in lines ≡ (before ++ line ∷ []) ++ more) (numbered : AreNumbered (suc (lines_given lines)) (before ++ line ∷ [])) (consumed : ConsumedLines) (are : TakenLines lines consumed (length (before ++ line ∷ [])))
-      (takes : TakesLines left end lines consumed new) (fault : FaultValue) (is : fault ≡ fault_at_line (input_of old.below) line.number kind) where
+      (takes : TakesLines device.left device.end_told lines consumed new) (fault : FaultValue) (is : fault ≡ fault_at_line (input_of old.below) line.number kind) where
     abbrev pub refused : MemberReader S SequenceLine Reached
     refused = record {
       format = sequence_format full;
@@ -324,19 +325,19 @@ module _ {S : Type 0} (left : S → Option (List ℕ)) (failed end : S → Bool)
           c.1 ∙ ap (λ (g : Good SequenceLine). g.fault) known,
         )
 
-    whole : IfSome (good_coming left old) (λ good. (good.members ≡ past ++ members) × (good.fault ≡ Some fault))
+    whole : IfSome (good_coming device.left old) (λ good. (good.members ≡ past ++ members) × (good.fault ≡ Some fault))
     whole =
-        whole_by (good_coming left old) (lines_left left lines) (is_prefix left lines) (left_numbered left end lines)
-        (subst (ComeFirst (good_coming left old) past) (good_lines reached [] lines g.clear) g.come)
+        whole_by (good_coming device.left old) (lines_left device.left lines) (is_prefix device.left lines) (left_numbered device.left device.end_told lines)
+        (subst (ComeFirst (good_coming device.left old) past) (good_lines reached [] lines g.clear) g.come)
 
     clear : line_fault new ≡ None
     clear = takes.fault_is ∙ g.clear
 
-    bytes_then : (bytes : List ℕ) × Hands left old.below bytes new
-    bytes_then = (g.bytes.0 ++ [], hands_both left old.below lines new g.bytes.0 [] g.bytes.1 takes.hands)
+    bytes_then : (bytes : List ℕ) × Hands device.left old.below bytes new
+    bytes_then = (g.bytes.0 ++ [], hands_both device.left old.below lines new g.bytes.0 [] g.bytes.1 takes.hands)
 
     -- so it stops there
-    pub refuses : (Kinds : Kind → Type 0) → Kinds kind → StopsAfter left failed end old Kinds (past ++ members) fault refused
+    pub refuses : (Kinds : Kind → Type 0) → Kinds kind → StopsAfter device old Kinds (past ++ members) fault refused
     refuses Kinds of_kind = record {
       bytes = bytes_then;
       cause = inl (record {
@@ -345,15 +346,15 @@ module _ {S : Type 0} (left : S → Option (List ℕ)) (failed end : S → Bool)
         kind = kind;
         is = is;
         of_kind = of_kind;
-        served = ap failed takes.source_is ∙ g.served;
+        served = ap device.has_failed takes.source_is ∙ g.served;
         within = (takes.kept g.kept).within clear;
       });
     }
 
-    lines_then : IfSome (lines_left left old.below) (λ all. lines_left left new ≡ Some (drop (lines_given new) all))
+    lines_then : IfSome (lines_left device.left old.below) (λ all. lines_left device.left new ≡ Some (drop (lines_given new) all))
     lines_then =
-        lines_on (lines_left left old.below) (lines_left left lines) (lines_left left new) (lines_given lines) (lines_given new) (omega (arith, given_is)) g.lines
-        (drops_pass (lines_left left lines) (lines_left left new) _ (lines_given new - lines_given lines) takes.left_is (omega (arith, takes.given, are.given, are.feeds)))
+        lines_on (lines_left device.left old.below) (lines_left device.left lines) (lines_left device.left new) (lines_given lines) (lines_given new) (omega (arith, given_is)) g.lines
+        (drops_pass (lines_left device.left lines) (lines_left device.left new) _ (lines_given new - lines_given lines) takes.left_is (omega (arith, takes.given, are.given, are.feeds)))
 
     held_block : length (held new) ≤ block_size
     held_block = takes.near (some_bytes consumed.bytes (buffered_bytes lines) (omega (arith, are.feeds, length-append before (line ∷ []))))
@@ -379,15 +380,15 @@ module _ {S : Type 0} (left : S → Option (List ℕ)) (failed end : S → Bool)
     low_then =
         All-append (λ (m : Member SequenceLine). m.line ≤ count) past members (up_to (lines_given lines) count past (omega arith) g.behind) (members_low (lines_given lines) items)
 
-    pub refuses_read : IsReadFor left failed end old (past ++ members) (past ++ members) refused
+    pub refuses_read : IsReadFor device old (past ++ members) (past ++ members) refused
     refuses_read = record {
       to = record {
         count = count;
-        near = near_all (lines_left left old.below) (lines_left left new) (left (source_of new)) (lines_given new) (suc count) given_is lines_then
-            (sound_near left end new (record { end = (takes.kept g.kept).end; within = (takes.kept g.kept).within; near = λ none. held_block }) clear);
-        behind = behind_by (good_coming left old) whole;
+        near = near_all (lines_left device.left old.below) (lines_left device.left new) (device.left (source_of new)) (lines_given new) (suc count) given_is lines_then
+            (sound_near device.left device.end_told new (record { end = (takes.kept g.kept).end; within = (takes.kept g.kept).within; near = λ none. held_block }) clear);
+        behind = behind_by (good_coming device.left old) whole;
       };
       low = low_then;
       high = up_to count (suc count) (past ++ members) (omega arith) low_then;
-      begins = begins_by (good_coming left old) whole;
+      begins = begins_by (good_coming device.left old) whole;
     }

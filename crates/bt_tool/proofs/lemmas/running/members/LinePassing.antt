@@ -3,6 +3,7 @@ use Rattle.std.proofs.Common.{◌≡◌, ℕ, suc, ◌+◌, ◌-◌, ◌≤◌, 
 use Rattle.std.specs.Prelude.{All, IfSome, option_map}
 use Rattle.std.proofs.lemmas.List.{map-append}
 use Rattle.std.proofs.lemmas.List.Elements.{All-push}
+use Rattle.bt_lines.specs.declared.device.Source.{Ghosts as Source}
 use Rattle.bt_lines.proofs.lemmas.reader.lines.ReaderLemmas.{given_drops, hands_both, sound_near}
 use Rattle.bt_lines.specs.calls.LentLine.{GivesFirst}
 use Rattle.bt_lines.specs.model.Lines.{TextLine, bytes_in}
@@ -59,37 +60,37 @@ one_given : (lines : Option (List TextLine)) (new : Option (List TextLine)) (giv
 one_given None new given more e h = tt
 one_given (Some lines) new given more e h = let one : more - given ≡ 1 = omega (arith, e) in rw one h
 
-module _ {S A State : Type 0} (left : S → Option (List ℕ)) (failed end : S → Bool) (old now : MemberReader S A State) (past : List (Member A)) (g : Passes left failed end old past now) (new : MemberReader S A State) (line : TextLine)
-    (gives : GivesLine left failed now.below line new.below) (kept : IsKept left end now.below → IsKept left end new.below) (format : new.format ≡ now.format) (none : new.buffered ≡ []) (going : new.fault ≡ None) where
-  lines_pass : LinesPass left now.below new.below
-  lines_pass = one_given (lines_left left now.below) (lines_left left new.below) (lines_given now.below) (lines_given new.below) gives.counted (given_drops (lines_left left now.below) line (lines_left left new.below) gives.first)
+module _ {S A State : Type 0} (device : Source S) (old now : MemberReader S A State) (past : List (Member A)) (g : Passes device old past now) (new : MemberReader S A State) (line : TextLine)
+    (gives : GivesLine device.left device.has_failed now.below line new.below) (kept : IsKept device.left device.end_told now.below → IsKept device.left device.end_told new.below) (format : new.format ≡ now.format) (none : new.buffered ≡ []) (going : new.fault ≡ None) where
+  lines_pass : LinesPass device.left now.below new.below
+  lines_pass = one_given (lines_left device.left now.below) (lines_left device.left new.below) (lines_given now.below) (lines_given new.below) gives.counted (given_drops (lines_left device.left now.below) line (lines_left device.left new.below) gives.first)
 
   rises : lines_given now.below ≤ lines_given new.below
   rises = omega (arith, gives.counted)
 
-  lines : IfSome (lines_left left old.below) (λ lines. lines_left left new.below ≡ Some (drop (lines_given new.below) lines))
-  lines = lines_on (lines_left left old.below) (lines_left left now.below) (lines_left left new.below) (lines_given now.below) (lines_given new.below) rises g.lines lines_pass
+  lines : IfSome (lines_left device.left old.below) (λ lines. lines_left device.left new.below ≡ Some (drop (lines_given new.below) lines))
+  lines = lines_on (lines_left device.left old.below) (lines_left device.left now.below) (lines_left device.left new.below) (lines_given now.below) (lines_given new.below) rises g.lines lines_pass
 
   -- at most a block is held after it
-  near_line : IfSome (lines_left left old.below) (λ lines. IfSome (left (source_of new.below)) (λ rest. bytes_in (drop (lines_given new.below) lines) ≤ length rest + block_size))
+  near_line : IfSome (lines_left device.left old.below) (λ lines. IfSome (device.left (source_of new.below)) (λ rest. bytes_in (drop (lines_given new.below) lines) ≤ length rest + block_size))
   near_line =
       let was = kept g.kept in
-      near_given (lines_left left old.below) (lines_left left new.below) (left (source_of new.below)) (lines_given new.below) lines
-      (sound_near left end new.below (record { end = was.end; within = was.within; near = λ fine. gives.ahead }) gives.goes)
+      near_given (lines_left device.left old.below) (lines_left device.left new.below) (device.left (source_of new.below)) (lines_given new.below) lines
+      (sound_near device.left device.end_told new.below (record { end = was.end; within = was.within; near = λ fine. gives.ahead }) gives.goes)
 
-  coming_before : good_coming left now ≡ option_map (good_from now.format (input_of now.below) now.state) (lines_left left now.below)
-  coming_before = coming_is left now g.going
+  coming_before : good_coming device.left now ≡ option_map (good_from now.format (input_of now.below) now.state) (lines_left device.left now.below)
+  coming_before = coming_is device.left now g.going
 
-  coming_after : good_coming left new ≡ option_map (good_from now.format (input_of now.below) new.state) (lines_left left new.below)
+  coming_after : good_coming device.left new ≡ option_map (good_from now.format (input_of now.below) new.state) (lines_left device.left new.below)
   coming_after =
-      coming_is left new going ∙ ap (λ (f : Format A State). option_map (good_from f (input_of new.below) new.state) (lines_left left new.below)) format
-      ∙ ap (λ (i : Input). option_map (good_from now.format i new.state) (lines_left left new.below)) gives.bytes.1.same_input
+      coming_is device.left new going ∙ ap (λ (f : Format A State). option_map (good_from f (input_of new.below) new.state) (lines_left device.left new.below)) format
+      ∙ ap (λ (i : Input). option_map (good_from now.format i new.state) (lines_left device.left new.below)) gives.bytes.1.same_input
 
   passes_with : (given : List (Member A)) → AreSaid old.format old.state (member_items given) → new.state ≡ state_behind old.format old.state (member_items given)
-      → ComeFirst (good_coming left old) given (good_coming left new) → All (λ m. m.line ≤ lines_given new.below) given → Passes left failed end old given new
+      → ComeFirst (good_coming device.left old) given (good_coming device.left new) → All (λ m. m.line ≤ lines_given new.below) given → Passes device old given new
   passes_with given said state come behind = record {
     format = format ∙ g.format;
-    bytes = (g.bytes.0 ++ gives.bytes.0, hands_both left old.below now.below new.below g.bytes.0 gives.bytes.0 g.bytes.1 gives.bytes.1);
+    bytes = (g.bytes.0 ++ gives.bytes.0, hands_both device.left old.below now.below new.below g.bytes.0 gives.bytes.0 g.bytes.1 gives.bytes.1);
     said = said;
     state = state;
     come = come;
@@ -100,15 +101,15 @@ module _ {S A State : Type 0} (left : S → Option (List ℕ)) (failed end : S �
     kept = kept g.kept;
     served = gives.served ∙ g.served;
     ahead = λ known m is. absurd (nothing_ahead new m none is);
-    near = let one : lines_given new.below + 1 ≡ suc (lines_given new.below) = omega arith in rw (← one) (near_more (lines_left left old.below) (left (source_of new.below)) (lines_given new.below) 1 near_line);
+    near = let one : lines_given new.below + 1 ≡ suc (lines_given new.below) = omega arith in rw (← one) (near_more (lines_left device.left old.below) (device.left (source_of new.below)) (lines_given new.below) 1 near_line);
   }
 
   -- the line says no member
-  pub passes_none : now.format.says now.state line ≡ Ok None → new.state ≡ now.state → Passes left failed end old past new
+  pub passes_none : now.format.says now.state line ≡ Ok None → new.state ≡ now.state → Passes device old past new
   passes_none says same =
       passes_with past g.said (same ∙ g.state)
-      (rw (coming_after, same) (come_none now.format (input_of now.below) now.state (good_coming left old) (lines_left left now.below) (lines_left left new.below) line past
-      (subst (ComeFirst (good_coming left old) past) coming_before g.come) gives.first says))
+      (rw (coming_after, same) (come_none now.format (input_of now.below) now.state (good_coming device.left old) (lines_left device.left now.below) (lines_left device.left new.below) line past
+      (subst (ComeFirst (good_coming device.left old) past) coming_before g.come) gives.first says))
       (up_to (lines_given now.below) (lines_given new.below) past rises g.behind)
 
   -- the line says this one
@@ -119,19 +120,19 @@ module _ {S A State : Type 0} (left : S → Option (List ℕ)) (failed end : S �
     items : member_items (past ++ member ∷ []) ≡ member_items past ++ item ∷ []
     items = map-append (λ m. m.item) past (member ∷ [])
 
-    pub passes_some : Passes left failed end old (past ++ member ∷ []) new
+    pub passes_some : Passes device old (past ++ member ∷ []) new
     passes_some =
         passes_with (past ++ member ∷ [])
         (rw items (said_more old.format old.state (member_items past) (item ∷ []) g.said
         ((line, subst (λ (f : Format A State). f.says (state_behind old.format old.state (member_items past)) line ≡ Ok (Some item)) g.format (subst (λ (s : State). now.format.says s line ≡ Ok (Some item)) g.state says)), tt)))
         (after ∙ ap (λ (f : Format A State). f.after now.state item) g.format ∙ ap (λ (s : State). old.format.after s item) g.state
         ∙ sym (state_more old.format old.state (member_items past) (item ∷ [])) ∙ ap (state_behind old.format old.state) (sym items))
-        (rw (coming_after, after) (come_some now.format (input_of now.below) now.state (good_coming left old) (lines_left left now.below) (lines_left left new.below) line item past
-        (subst (ComeFirst (good_coming left old) past) coming_before g.come) gives.first says))
+        (rw (coming_after, after) (come_some now.format (input_of now.below) now.state (good_coming device.left old) (lines_left device.left now.below) (lines_left device.left new.below) line item past
+        (subst (ComeFirst (good_coming device.left old) past) coming_before g.come) gives.first says))
         (All-push (λ m. m.line ≤ lines_given new.below) past member (up_to (lines_given now.below) (lines_given new.below) past rises g.behind) (omega (arith, gives.number, gives.counted)))
 
     -- how far the input was read beside those before it
-    pub read_line : IsReadFor left failed end old past (past ++ member ∷ []) new
+    pub read_line : IsReadFor device old past (past ++ member ∷ []) new
     unfolding lines_given read_here
     read_line =
         let count = lines_given now.below in
@@ -140,9 +141,9 @@ module _ {S A State : Type 0} (left : S → Option (List ℕ)) (failed end : S �
           to = record {
             count = count;
             near = rw given near_line;
-            behind = behind_last count (good_coming left old) past member (sym gives.number) (rw given (read_here left failed end old (past ++ member ∷ []) new passes_some).to.behind);
+            behind = behind_last count (good_coming device.left old) past member (sym gives.number) (rw given (read_here device old (past ++ member ∷ []) new passes_some).to.behind);
           };
           low = g.behind;
           high = up_to (lines_given new.below) (suc count) (past ++ member ∷ []) (omega (arith, given)) passes_some.behind;
-          begins = begins_with (good_coming left old) (good_coming left new) (past ++ member ∷ []) passes_some.come;
+          begins = begins_with (good_coming device.left old) (good_coming device.left new) (past ++ member ∷ []) passes_some.come;
         }

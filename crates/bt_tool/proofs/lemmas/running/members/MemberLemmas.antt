@@ -3,6 +3,7 @@ use Rattle.std.proofs.Common.{◌≡◌, ℕ, suc, ◌+◌, ◌-◌, ◌≤◌, 
 use Rattle.std.specs.Prelude.{◌⊎◌, All, IfSome, IsSome, option_map}
 use Rattle.std.proofs.lemmas.List.{drop-drop, length-append, length-drop, map-append, take-append-drop}
 use Rattle.std.proofs.lemmas.List.Elements.{All-append, All-cons, All-head, All-nil, All-tail}
+use Rattle.bt_lines.specs.declared.device.Source.{Ghosts as Source}
 use Rattle.bt_lines.proofs.lemmas.reader.block.ReadsLemmas.{memory_no_read}
 use Rattle.bt_lines.specs.model.Fault.{FaultValue, no_memory, read_failed}
 use Rattle.std.proofs.lemmas.Bool.{false≢true}
@@ -264,53 +265,53 @@ behind_last {A} count (Some good) past m at b =
       record { members = All-cons (λ (m : Member A). count < m.line) m b.0 (omega (arith, at)) less.members; fault = less.fault },
     )
 
-module _ {S A State : Type 0} (left : S → Option (List ℕ)) (failed end : S → Bool) (old : MemberReader S A State) where
+module _ {S A State : Type 0} (device : Source S) (old : MemberReader S A State) where
   -- before the first record
-  pub passes_start : IsFresh left end old → line_fault old.below ≡ None → Passes left failed end old [] old
+  pub passes_start : IsFresh device.left device.end_told old → line_fault old.below ≡ None → Passes device old [] old
   passes_start fresh clear = record {
     format = refl;
-    bytes = ([], hands_none left old.below);
+    bytes = ([], hands_none device.left old.below);
     said = tt;
     state = refl;
-    come = come_none (good_coming left old);
+    come = come_none (good_coming device.left old);
     behind = λ k d h. absurd (omega arith);
-    lines = none_passed (lines_left left old.below) (lines_given old.below) fresh.none_given.0;
+    lines = none_passed (lines_left device.left old.below) (lines_given old.below) fresh.none_given.0;
     going = fresh.going;
     clear = clear;
     kept = record { end = fresh.sound.end; within = fresh.sound.within };
     served = refl;
     ahead = λ known m is. absurd (nothing_ahead old m fresh.none_buffered is);
-    near = near_start (lines_left left old.below) (left (source_of old.below)) (lines_given old.below) fresh.none_given.0 (sound_near left end old.below fresh.sound clear);
+    near = near_start (lines_left device.left old.below) (device.left (source_of old.below)) (lines_given old.below) fresh.none_given.0 (sound_near device.left device.end_told old.below fresh.sound clear);
   }
 
-  module _ (past : List (Member A)) (now : MemberReader S A State) (g : Passes left failed end old past now) where
-    pub bytes_more : (new : MemberReader S A State) → (bytes : List ℕ) × Hands left now.below bytes new.below → (bytes : List ℕ) × Hands left old.below bytes new.below
-    bytes_more new hands = (g.bytes.0 ++ hands.0, hands_both left old.below now.below new.below g.bytes.0 hands.0 g.bytes.1 hands.1)
+  module _ (past : List (Member A)) (now : MemberReader S A State) (g : Passes device old past now) where
+    pub bytes_more : (new : MemberReader S A State) → (bytes : List ℕ) × Hands device.left now.below bytes new.below → (bytes : List ℕ) × Hands device.left old.below bytes new.below
+    bytes_more new hands = (g.bytes.0 ++ hands.0, hands_both device.left old.below now.below new.below g.bytes.0 hands.0 g.bytes.1 hands.1)
 
     -- a member is buffered
-    pub passes_fill : (new : MemberReader S A State) → IsFilled left failed end now new → Passes left failed end old past new
+    pub passes_fill : (new : MemberReader S A State) → IsFilled device now new → Passes device old past new
     passes_fill new fills =
         let gives = fills.gives in
         record {
           format = gives.stays.format ∙ g.format;
           bytes = bytes_more new gives.stays.bytes;
           said = g.said;
-          come = come_same (good_coming left old) (good_coming left now) (good_coming left new) past g.come (some_remains (good_coming left now) (good_coming left new) gives.good);
+          come = come_same (good_coming device.left old) (good_coming device.left now) (good_coming device.left new) past g.come (some_remains (good_coming device.left now) (good_coming device.left new) gives.good);
           behind = up_to (lines_given now.below) (lines_given new.below) past gives.rises g.behind;
-          lines = lines_on (lines_left left old.below) (lines_left left now.below) (lines_left left new.below) (lines_given now.below) (lines_given new.below) gives.rises g.lines gives.lines;
+          lines = lines_on (lines_left device.left old.below) (lines_left device.left now.below) (lines_left device.left new.below) (lines_given now.below) (lines_given new.below) gives.rises g.lines gives.lines;
           state = gives.state ∙ g.state;
           going = gives.goes ∙ g.going;
           clear = fills.clear (gives.goes ∙ g.going);
           kept = fills.kept g.kept;
           served = gives.served ∙ g.served;
-          ahead = λ known m is. let same : fills.m ≡ m = one_ahead gives.ahead is in subst (λ (m : Member A). IfSome (good_coming left new) (λ good. (rest : List (Member A)) × (good.members ≡ m ∷ rest))) same
-              (still_first (good_coming left now) (good_coming left new) fills.m gives.good gives.first (come_known (good_coming left old) (good_coming left now) past g.come known));
-          near = near_from_start (lines_left left old.below) (lines_left left now.below) (left (source_of new.below)) (lines_given now.below) (lines_given new.below) gives.rises g.lines gives.near;
+          ahead = λ known m is. let same : fills.m ≡ m = one_ahead gives.ahead is in subst (λ (m : Member A). IfSome (good_coming device.left new) (λ good. (rest : List (Member A)) × (good.members ≡ m ∷ rest))) same
+              (still_first (good_coming device.left now) (good_coming device.left new) fills.m gives.good gives.first (come_known (good_coming device.left old) (good_coming device.left now) past g.come known));
+          near = near_from_start (lines_left device.left old.below) (lines_left device.left now.below) (device.left (source_of new.below)) (lines_given now.below) (lines_given new.below) gives.rises g.lines gives.near;
         }
 
     -- members were taken
-    pub passes_take : (taken : List A) (new : MemberReader S A State) → HasTaken left failed end now taken new
-        → Passes left failed end old (past ++ members_from (suc (lines_given now.below)) taken) new
+    pub passes_take : (taken : List A) (new : MemberReader S A State) → HasTaken device now taken new
+        → Passes device old (past ++ members_from (suc (lines_given now.below)) taken) new
     passes_take taken new has =
         let takes = has.takes in
         let items = items_take past (suc (lines_given now.below)) taken in
@@ -322,47 +323,47 @@ module _ {S A State : Type 0} (left : S → Option (List ℕ)) (failed end : S �
           said = rw items (said_more old.format old.state (member_items past) taken g.said
               (subst (λ (f : Format A State). AreSaid f (state_behind old.format old.state (member_items past)) taken) g.format
               (subst (λ (s : State). AreSaid now.format s taken) g.state takes.said)));
-          come = come_taken (good_coming left old) (good_coming left now) (good_coming left new) past (members_from (suc (lines_given now.below)) taken) g.come takes.good;
+          come = come_taken (good_coming device.left old) (good_coming device.left now) (good_coming device.left new) past (members_from (suc (lines_given now.below)) taken) g.come takes.good;
           behind = All-append (λ (m : Member A). m.line ≤ lines_given new.below) past (members_from (suc (lines_given now.below)) taken)
               (up_to (lines_given now.below) (lines_given new.below) past rises g.behind)
               (up_to (lines_given now.below + length taken) (lines_given new.below) (members_from (suc (lines_given now.below)) taken) (omega (arith, takes.given)) (members_low (lines_given now.below) taken));
-          lines = lines_on (lines_left left old.below) (lines_left left now.below) (lines_left left new.below) (lines_given now.below) (lines_given new.below) rises g.lines takes.lines;
+          lines = lines_on (lines_left device.left old.below) (lines_left device.left now.below) (lines_left device.left new.below) (lines_given now.below) (lines_given new.below) rises g.lines takes.lines;
           state = takes.state ∙ ap (λ (f : Format A State). state_behind f now.state taken) g.format ∙ ap (λ (s : State). state_behind old.format s taken) g.state
               ∙ sym (state_more old.format old.state (member_items past) taken) ∙ ap (state_behind old.format old.state) (sym items);
           going = takes.goes ∙ g.going;
           clear = has.clear (takes.goes ∙ g.going);
           kept = takes.kept g.kept;
-          served = ap failed takes.source ∙ g.served;
+          served = ap device.has_failed takes.source ∙ g.served;
           ahead = λ known. has.ahead;
-          near = rw (takes.source, ← counted) (near_more (lines_left left old.below) (left (source_of now.below)) (suc (lines_given now.below)) (length taken) g.near);
+          near = rw (takes.source, ← counted) (near_more (lines_left device.left old.below) (device.left (source_of now.below)) (suc (lines_given now.below)) (length taken) g.near);
         }
 
     -- the input has ended
-    pub passes_all : (new : MemberReader S A State) → IsOver left failed end now new → AreAll left failed end old past
-    passes_all new ended = whole_with (good_coming left old) (good_coming left now) past None g.come ended.ends.none_left
+    pub passes_all : (new : MemberReader S A State) → IsOver device now new → AreAll device old past
+    passes_all new ended = whole_with (good_coming device.left old) (good_coming device.left now) past None g.come ended.ends.none_left
 
-    pub passes_end : (new : MemberReader S A State) → IsOver left failed end now new → Passes left failed end old past new
+    pub passes_end : (new : MemberReader S A State) → IsOver device now new → Passes device old past new
     passes_end new ended = record {
       format = ended.ends.stays.format ∙ g.format;
       bytes = bytes_more new ended.ends.stays.bytes;
       said = g.said;
-      come = come_end (good_coming left old) (good_coming left now) (good_coming left new) past g.come
-          (coming_known left now new ended.ends.stays.bytes.0 ended.ends.stays.bytes.1) ended.ends.none_left ended.ends.none_comes;
+      come = come_end (good_coming device.left old) (good_coming device.left now) (good_coming device.left new) past g.come
+          (coming_known device.left now new ended.ends.stays.bytes.0 ended.ends.stays.bytes.1) ended.ends.none_left ended.ends.none_comes;
       behind = up_to (lines_given now.below) (lines_given new.below) past ended.ends.rises g.behind;
-      lines = lines_on (lines_left left old.below) (lines_left left now.below) (lines_left left new.below) (lines_given now.below) (lines_given new.below) ended.ends.rises g.lines
-          (lines_end (lines_left left now.below) (lines_left left new.below) (lines_given new.below - lines_given now.below)
-          (λ k. none_left_told left new.below ended.ends.told ended.ends.ends (bytes_known left now.below new.below ended.ends.stays.bytes.0 ended.ends.stays.bytes.1 k)) ended.ends.lines);
+      lines = lines_on (lines_left device.left old.below) (lines_left device.left now.below) (lines_left device.left new.below) (lines_given now.below) (lines_given new.below) ended.ends.rises g.lines
+          (lines_end (lines_left device.left now.below) (lines_left device.left new.below) (lines_given new.below - lines_given now.below)
+          (λ k. none_left_told device.left new.below ended.ends.told ended.ends.ends (bytes_known device.left now.below new.below ended.ends.stays.bytes.0 ended.ends.stays.bytes.1 k)) ended.ends.lines);
       state = ended.ends.state ∙ g.state;
       going = ended.ends.goes;
       clear = ended.clear ended.ends.goes;
       kept = ended.kept g.kept;
       served = ended.ends.served ∙ g.served;
       ahead = λ known m is. absurd (nothing_ahead new m ended.ends.none_buffered is);
-      near = near_none (lines_left left old.below) (lines_left left now.below) (left (source_of new.below)) (lines_given now.below) (lines_given new.below) ended.ends.rises g.lines ended.ends.lines;
+      near = near_none (lines_left device.left old.below) (lines_left device.left now.below) (device.left (source_of new.below)) (lines_given now.below) (lines_given new.below) ended.ends.rises g.lines ended.ends.lines;
     }
 
     -- nothing is read after the end
-    pub fails_before_end : (new : MemberReader S A State) (fault : FaultValue) → IsStopped left failed end now fault new → (input : Input) (line : ℕ) → fault ≡ read_failed input line → end_told now.below ≡ false
+    pub fails_before_end : (new : MemberReader S A State) (fault : FaultValue) → IsStopped device now fault new → (input : Input) (line : ℕ) → fault ≡ read_failed input line → end_told now.below ≡ false
     fails_before_end new fault stopped input line e =
         elim (stopped.answers.first g.going) [
           | inl at ↦ absurd (line_no_read (input_of now.below) (lines_given new.below) at.kind input line at.of_line (sym at.place ∙ e))
@@ -376,11 +377,11 @@ module _ {S A State : Type 0} (left : S → Option (List ℕ)) (failed end : S �
     same_input = g.bytes.1.same_input
 
     module _ (kinds : Kind → Type 0) (of_format : (state : State) (line : TextLine) (kind : Kind) → old.format.says state line ≡ Err kind → kinds kind) where
-      cause_of : (new : MemberReader S A State) (fault : FaultValue) → IsKept left end new.below → AnswersFault left failed end now fault new
-          → Cause left failed end now fault new
-          → IsWrongBehind left failed end old kinds past fault new ⊎ (IsUnreadBehind left failed end old past fault new ⊎ LacksMemory left failed end old fault new)
+      cause_of : (new : MemberReader S A State) (fault : FaultValue) → IsKept device.left device.end_told new.below → AnswersFault device.left device.has_failed device.end_told now fault new
+          → Cause device.left device.has_failed device.end_told now fault new
+          → IsWrongBehind device old kinds past fault new ⊎ (IsUnreadBehind device old past fault new ⊎ LacksMemory device old fault new)
       cause_of new fault kept answers (inl at) = inl (record {
-        whole = whole_with (good_coming left old) (good_coming left now) past (Some fault) g.come at.none_left;
+        whole = whole_with (good_coming device.left old) (good_coming device.left now) past (Some fault) g.come at.none_left;
         line = lines_given new.below;
         kind = at.kind;
         is = at.place ∙ ap (λ input. fault_at_line input (lines_given new.below) at.kind) same_input;
@@ -392,54 +393,54 @@ module _ {S A State : Type 0} (left : S → Option (List ℕ)) (failed end : S �
         is = unread.fails.is ∙ ap (λ input. read_failed input (suc (lines_given new.below))) same_input;
         kept = answers.kept;
         cause = unread.fails.cause;
-        cut = cuts_both left old.below now.below new.below g.bytes.0 g.bytes.1 unread.fails.before_end (g.kept.within g.clear) (unread.fails.cut g.kept);
-        members = begins_beyond (good_coming left old) (good_coming left now) past (lines_given new.below) g.come unread.passed;
+        cut = cuts_both device.left old.below now.below new.below g.bytes.0 g.bytes.1 unread.fails.before_end (g.kept.within g.clear) (unread.fails.cut g.kept);
+        members = begins_beyond (good_coming device.left old) (good_coming device.left now) past (lines_given new.below) g.come unread.passed;
         behind = up_to (lines_given now.below) (lines_given new.below) past answers.rises g.behind;
       }))
       cause_of new fault kept answers (inr (inr ran)) = inr (inr (record { is = ran.is; served = ran.served ∙ g.served }))
 
       -- it reports a fault
-      pub passes_stop : (new : MemberReader S A State) (fault : FaultValue) → IsStopped left failed end now fault new
-          → StopsAfter left failed end old kinds past fault new
+      pub passes_stop : (new : MemberReader S A State) (fault : FaultValue) → IsStopped device now fault new
+          → StopsAfter device old kinds past fault new
       passes_stop new fault stopped = record {
         bytes = bytes_more new stopped.answers.stays.bytes;
         cause = cause_of new fault (stopped.kept g.kept) stopped.answers (stopped.answers.first g.going);
       }
 
     -- how far the input was read
-    unfoldable pub read_here : IsReadFor left failed end old past past now
+    unfoldable pub read_here : IsReadFor device old past past now
     read_here = record {
       to = record {
         count = lines_given now.below;
         near = g.near;
-        behind = begins_beyond (good_coming left old) (good_coming left now) past (lines_given now.below) g.come (beyond_now left now g.going);
+        behind = begins_beyond (good_coming device.left old) (good_coming device.left now) past (lines_given now.below) g.come (beyond_now device.left now g.going);
       };
       low = g.behind;
       high = up_to (lines_given now.below) (suc (lines_given now.below)) past (omega arith) g.behind;
-      begins = begins_with (good_coming left old) (good_coming left now) past g.come;
+      begins = begins_with (good_coming device.left old) (good_coming device.left now) past g.come;
     }
 
     -- and there are no more lines at its end
-    pub ended_after_all : (new : MemberReader S A State) → IsOver left failed end now new → IfSome (lines_left left old.below) (λ lines. length lines ≤ lines_given new.below)
-    ended_after_all new over = no_more (lines_left left old.below) (lines_left left now.below) (lines_given now.below) (lines_given new.below) over.ends.rises g.lines over.ends.lines
+    pub ended_after_all : (new : MemberReader S A State) → IsOver device now new → IfSome (lines_left device.left old.below) (λ lines. length lines ≤ lines_given new.below)
+    ended_after_all new over = no_more (lines_left device.left old.below) (lines_left device.left now.below) (lines_given now.below) (lines_given new.below) over.ends.rises g.lines over.ends.lines
 
     -- if it stops at a fault
-    pub read_at_stop : (new : MemberReader S A State) (fault : FaultValue) → IsStopped left failed end now fault new → IsReadFor left failed end old past past new
+    pub read_at_stop : (new : MemberReader S A State) (fault : FaultValue) → IsStopped device now fault new → IsReadFor device old past past new
     read_at_stop new fault stopped =
-        let stops = stops_faulty left failed end now g.going g.kept new fault stopped.answers (stopped.kept g.kept) in
+        let stops = stops_faulty device now g.going g.kept new fault stopped.answers (stopped.kept g.kept) in
         record {
           to = record {
             count = stops.0;
-            near = near_from_start (lines_left left old.below) (lines_left left now.below) (left (source_of new.below)) (lines_given now.below) stops.0 stops.1.from g.lines stops.1.near;
-            behind = begins_beyond (good_coming left old) (good_coming left now) past stops.0 g.come stops.1.passed;
+            near = near_from_start (lines_left device.left old.below) (lines_left device.left now.below) (device.left (source_of new.below)) (lines_given now.below) stops.0 stops.1.from g.lines stops.1.near;
+            behind = begins_beyond (good_coming device.left old) (good_coming device.left now) past stops.0 g.come stops.1.passed;
           };
           low = up_to (lines_given now.below) stops.0 past stops.1.from g.behind;
           high = up_to (lines_given now.below) (suc stops.0) past (let from = stops.1.from in omega arith) g.behind;
-          begins = begins_with (good_coming left old) (good_coming left now) past g.come;
+          begins = begins_with (good_coming device.left old) (good_coming device.left now) past g.come;
         }
 
   -- members were taken: how far the input was read beside those before the last one
-  module _ (past : List (Member A)) (now : MemberReader S A State) (g : Passes left failed end old past now) (xs : List A) (a : A) (new : MemberReader S A State) (has : HasTaken left failed end now (xs ++ a ∷ []) new) where
+  module _ (past : List (Member A)) (now : MemberReader S A State) (g : Passes device old past now) (xs : List A) (a : A) (new : MemberReader S A State) (has : HasTaken device now (xs ++ a ∷ []) new) where
     abbrev from : ℕ
     from = suc (lines_given now.below)
 
@@ -452,24 +453,24 @@ module _ {S A State : Type 0} (left : S → Option (List ℕ)) (failed end : S �
     all_is : past ++ members_from from (xs ++ a ∷ []) ≡ before ++ m ∷ []
     all_is = ap (λ (l : List (Member A)). past ++ l) (members_last from xs a) ∙ sym (append_assoc past (members_from from xs) (m ∷ []))
 
-    pub read_before : IsReadFor left failed end old before (past ++ members_from from (xs ++ a ∷ [])) new
+    pub read_before : IsReadFor device old before (past ++ members_from from (xs ++ a ∷ [])) new
     unfolding lines_given read_here
     read_before =
         let p = passes_take past now g (xs ++ a ∷ []) new has in
         let size = length-append xs (a ∷ []) in
         let count = lines_given now.below + length xs in
         let given : suc count ≡ lines_given new.below = omega (arith, has.takes.given, size) in
-        let near = sound_near left end new.below (record { end = p.kept.end; within = p.kept.within; near = λ none. has.takes.near (omega (arith, size)) }) p.clear in
+        let near = sound_near device.left device.end_told new.below (record { end = p.kept.end; within = p.kept.within; near = λ none. has.takes.near (omega (arith, size)) }) p.clear in
         record {
           to = record {
             count = count;
-            near = rw given (near_given (lines_left left old.below) (lines_left left new.below) (left (source_of new.below)) (lines_given new.below) p.lines near);
-            behind = behind_last count (good_coming left old) before m (omega arith)
+            near = rw given (near_given (lines_left device.left old.below) (lines_left device.left new.below) (device.left (source_of new.below)) (lines_given new.below) p.lines near);
+            behind = behind_last count (good_coming device.left old) before m (omega arith)
                 (rw (← all_is, given) (read_here (past ++ members_from from (xs ++ a ∷ [])) new p).to.behind);
           };
           low = All-append (λ (m : Member A). m.line ≤ count) past (members_from from xs) (up_to (lines_given now.below) count past (omega arith) g.behind) (members_low (lines_given now.below) xs);
           high = up_to (lines_given new.below) (suc count) (past ++ members_from from (xs ++ a ∷ [])) (omega (arith, given)) p.behind;
-          begins = begins_with (good_coming left old) (good_coming left new) (past ++ members_from from (xs ++ a ∷ [])) p.come;
+          begins = begins_with (good_coming device.left old) (good_coming device.left new) (past ++ members_from from (xs ++ a ∷ [])) p.come;
         }
 
 begins_behind : {A : Type 0} (count : ℕ) (old : Option (Good A)) (past : List (Member A)) → IfSome old (λ good. (rest : List (Member A)) × (good.members ≡ past ++ rest) × IsBeyond count (record { members = rest; fault = good.fault }))
@@ -478,11 +479,11 @@ begins_behind count None past b = tt
 begins_behind count (Some good) past b = (b.0, b.1)
 
 -- how far the input was read beside some members, whatever else was given
-pub read_alone : {S A State : Type 0} {left : S → Option (List ℕ)} {failed end : S → Bool} {old : MemberReader S A State} {past given : List (Member A)} {now : MemberReader S A State}
-    → IsReadFor left failed end old past given now → IsReadFor left failed end old past past now
-read_alone {S} {A} {State} {left} {failed} {end} {old} {past} {given} {now} read = record {
+pub read_alone : {S A State : Type 0} {device : Source S} {old : MemberReader S A State} {past given : List (Member A)} {now : MemberReader S A State}
+    → IsReadFor device old past given now → IsReadFor device old past past now
+read_alone {S} {A} {State} {device} {old} {past} {given} {now} read = record {
   to = read.to;
   low = read.low;
   high = up_to read.to.count (suc read.to.count) past (omega arith) read.low;
-  begins = begins_behind read.to.count (good_coming left old) past read.to.behind;
+  begins = begins_behind read.to.count (good_coming device.left old) past read.to.behind;
 }

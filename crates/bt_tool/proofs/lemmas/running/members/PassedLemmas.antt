@@ -4,6 +4,7 @@ use Rattle.std.specs.Prelude.{IfSome, IsTrue, map, option_map}
 use Rattle.std.specs.Option.{ForSome}
 use Rattle.std.proofs.lemmas.List.{map-append}
 use Rattle.std.proofs.lemmas.List.Elements.{All-push}
+use Rattle.bt_lines.specs.declared.device.Source.{Ghosts as Source}
 use Rattle.bt_lines.specs.model.Fault.{FaultValue}
 use Rattle.bt_lines.specs.calls.Names.{fault_value}
 use Rattle.bt_lines.specs.calls.Reader.{HasRead, bytes_taken, fault_kept as line_fault, lines_given, source_of}
@@ -68,35 +69,35 @@ comes_next {A} from given (Some n) (Some x) taken left m at b e f =
 
 -- ---- what a reader of records does, as a reader of members
 
-module _ {S O : Type 0} {ghosts : Ghosts O} (left : S → Option (List ℕ)) (failed end : S → Bool) (IsRead : S → Option ℕ → S → Type 0) (now new : Records S O ghosts) where
-  pub is_filled : FillsRecords left failed end IsRead now (Ok true) new → IsFilled left failed end (view_of now) (view_of new)
+module _ {S O : Type 0} {ghosts : Ghosts O} (device : Source S) (now new : Records S O ghosts) where
+  pub is_filled : FillsRecords device.left device.has_failed device.end_told device.is_read now (Ok true) new → IsFilled device (view_of now) (view_of new)
   is_filled fills = record { m = record { line = fills.answers.1.line; item = fills.answers.0 }; gives = fills.answers.1.read; kept = fills.kept; clear = line_going new }
 
-  pub is_over : FillsRecords left failed end IsRead now (Ok false) new → IsOver left failed end (view_of now) (view_of new)
+  pub is_over : FillsRecords device.left device.has_failed device.end_told device.is_read now (Ok false) new → IsOver device (view_of now) (view_of new)
   is_over fills = record { ends = fills.answers; kept = fills.kept; clear = line_going new }
 
-  pub is_stopped : (fault : Fault) → FillsRecords left failed end IsRead now (Err fault) new → IsStopped left failed end (view_of now) (fault_value fault) (view_of new)
+  pub is_stopped : (fault : Fault) → FillsRecords device.left device.has_failed device.end_told device.is_read now (Err fault) new → IsStopped device (view_of now) (fault_value fault) (view_of new)
   is_stopped fault fills = record { answers = fills.answers; kept = fills.kept }
 
-module _ {S O : Type 0} {ghosts : Ghosts O} (left : S → Option (List ℕ)) (failed end : S → Bool) (now new : Records S O ghosts) (count : ℕ) (records : List Feature) (are : take count (buffered_in now) ≡ records) where
+module _ {S O : Type 0} {ghosts : Ghosts O} (device : Source S) (now new : Records S O ghosts) (count : ℕ) (records : List Feature) (are : take count (buffered_in now) ≡ records) where
   -- records were consumed of those that are buffered
-  pub has_taken : BeginsComing left (view_of now) → TakesRecords left end now count new → HasTaken left failed end (view_of now) records (view_of new)
+  pub has_taken : BeginsComing device.left (view_of now) → TakesRecords device.left device.end_told now count new → HasTaken device (view_of now) records (view_of new)
   has_taken comes takes =
-      let t = subst (λ (l : List Feature). Takes left end (view_of now) l (view_of new)) are takes.takes in
+      let t = subst (λ (l : List Feature). Takes device.left device.end_told (view_of now) l (view_of new)) are takes.takes in
       record {
         takes = t;
         clear = line_going new;
         ahead = λ m is.
-            comes_next (suc (lines_given (below now))) (suc (lines_given (below new))) (good_coming left (view_of now)) (good_coming left (view_of new)) records (buffered_in new) m (omega (arith, t.given))
-            (subst (λ (l : List Feature). IfSome (good_coming left (view_of now)) (λ good. (rest : List (Member Feature)) × (good.members ≡ members_from (suc (lines_given (below now))) l ++ rest))) t.buffered comes)
+            comes_next (suc (lines_given (below now))) (suc (lines_given (below new))) (good_coming device.left (view_of now)) (good_coming device.left (view_of new)) records (buffered_in new) m (omega (arith, t.given))
+            (subst (λ (l : List Feature). IfSome (good_coming device.left (view_of now)) (λ good. (rest : List (Member Feature)) × (good.members ≡ members_from (suc (lines_given (below now))) l ++ rest))) t.buffered comes)
             t.good is;
       }
 
 -- taking members reads nothing
-pub taken_reads : {S A State : Type 0} (IsRead : S → Option ℕ → S → Type 0) (left : S → Option (List ℕ)) (failed end : S → Bool) (old : MemberReader S A State) (taken : List A) (new : MemberReader S A State) → HasTaken left failed end old taken new
-    → HasRead IsRead old.below new.below
-taken_reads IsRead left failed end old taken new has =
-    counts_none IsRead (source_of old.below) (source_of new.below) (bytes_taken old.below) (bytes_taken new.below) has.takes.source (omega (arith, has.takes.hands.counted))
+pub taken_reads : {S A State : Type 0} (device : Source S) (old : MemberReader S A State) (taken : List A) (new : MemberReader S A State) → HasTaken device old taken new
+    → HasRead device.is_read old.below new.below
+taken_reads device old taken new has =
+    counts_none device.is_read (source_of old.below) (source_of new.below) (bytes_taken old.below) (bytes_taken new.below) has.takes.source (omega (arith, has.takes.hands.counted))
 
 -- ---- the order of records that were consumed
 

@@ -1,6 +1,7 @@
 -- Lemmas on feeding an engine with the records that a reader has buffered.
 use Rattle.std.proofs.Common.{◌≡◌, ℕ, Bool, true, List, [], ◌∷◌, ◌++◌, take, Option, None, Some, Result, Ok, Err, refl, sym, ap, ◌∙◌, subst, append-nil, inl, inr}
 use Rattle.std.specs.Prelude.{◌⊎◌}
+use Rattle.bt_lines.specs.declared.device.Source.{Ghosts as Source}
 use Rattle.bt_lines.specs.model.Fault.{FaultValue}
 use Rattle.bt_lines.specs.calls.Names.{fault_value}
 use Rattle.bt_lines.specs.calls.Output.{Output}
@@ -21,7 +22,7 @@ use Rattle.bt_tool.specs.inside.feed.FeedsBuffered.{FailsAmong, FeedsBuffered}
 use Rattle.bt_tool.specs.inside.feed.Passed.{HasTaken}
 use Rattle.bt_tool.proofs.lemmas.running.members.PassedLemmas.{has_taken}
 
-module _ {S O E : Type 0} {g : Ghosts O} (left : S → Option (List ℕ)) (failed end : S → Bool) (MayTake : E → List Feature → Type 0) (Stands : E → List Feature → E → Type 0)
+module _ {S O E : Type 0} {g : Ghosts O} (device : Source S) (MayTake : E → List Feature → Type 0) (Stands : E → List Feature → E → Type 0)
     (engine_fault : E → Option FaultValue) (settled : E → List Feature → List ℕ) (Quiet : E → List Feature → Feature → Type 0) (wants : E → Feature → Type 0)
     (old : Records S O g) (engine : E) (out : Output) (first : Batch) (lends : Lends old first) where
   abbrev Feeding : {A : Type 0} → Result A Fault → E → Batch → Output → Type 0
@@ -37,22 +38,22 @@ module _ {S O E : Type 0} {g : Ghosts O} (left : S → Option (List ℕ)) (faile
   pub token : {A : Type 0} (result : Result A Fault) (fed : E) (last : Batch) (grown : Output) (consumed : Consumed) → Feeding result fed last grown → IsWhere last consumed → IsTaken old consumed
   token result fed last grown consumed f is = let given = given_by result fed last grown f in token_is old.sorted first last given.0 consumed lends given.1 is
 
-  module _ (comes : BeginsComing left (view_of old)) (last : Batch) (consumed : Consumed) (is : IsWhere last consumed) (new : Records S O g) (takes : TakesRecords left end old (count_in old consumed) new) where
-    taken : (records : List Feature) → Passes first records last → HasTaken left failed end (view_of old) records (view_of new)
+  module _ (comes : BeginsComing device.left (view_of old)) (last : Batch) (consumed : Consumed) (is : IsWhere last consumed) (new : Records S O g) (takes : TakesRecords device.left device.end_told old (count_in old consumed) new) where
+    taken : (records : List Feature) → Passes first records last → HasTaken device (view_of old) records (view_of new)
     unfolding view_of view_with
-    taken records passes = has_taken left failed end old new (count_in old consumed) records (taken_are old.sorted first last records consumed lends passes is) comes takes
+    taken records passes = has_taken device old new (count_in old consumed) records (taken_are old.sorted first last records consumed lends passes is) comes takes
 
     -- all that were buffered, where none is left
     all_given : (records : List Feature) → Passes first records last → HasEnded last → records ≡ buffered_in old
     unfolding view_of view_with
     all_given records passes ended = sym (append-nil records) ∙ ap (λ (l : List Feature). records ++ l) (sym ended.none) ∙ sym passes.left_is ∙ lends.left_is
 
-    pub fed_by : {A : Type 0} (result : Result A Fault) (fed : E) (grown : Output) → Feeding result fed last grown → FeedsBuffered left failed end MayTake Stands engine_fault settled Quiet old engine out result new fed grown
+    pub fed_by : {A : Type 0} (result : Result A Fault) (fed : E) (grown : Output) → Feeding result fed last grown → FeedsBuffered device MayTake Stands engine_fault settled Quiet old engine out result new fed grown
     unfolding given_by
     fed_by (Ok done) fed grown f =
         let all = all_given f.0.records f.0.given f.1 in
         record {
-          takes = subst (λ (l : List Feature). HasTaken left failed end (view_of old) l (view_of new)) all (taken f.0.records f.0.given);
+          takes = subst (λ (l : List Feature). HasTaken device (view_of old) l (view_of new)) all (taken f.0.records f.0.given);
           order = takes.order;
           taken = subst (λ (l : List Feature). TakesEach MayTake Stands engine_fault settled Quiet engine out l fed grown) all f.0.taken;
         }

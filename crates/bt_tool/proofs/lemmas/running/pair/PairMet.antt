@@ -133,7 +133,7 @@ from_known (Some x) P k h = h
 
 module _ {A B X Y U V : Type 0} (join : JoinDef X Y) (pair : Pair A B X Y U V) (out : Output)
     (first_format : Format X U) (second_format : Format Y V) (in_order : (two : Handed) → join.InOrder (items_in (good_handed second_format Second two))) (limits : AreLimits join)
-    (one_before : A) (two_before : B) (begins : BeginsAt pair.a_left first_format First one_before pair.first) (begins_second : BeginsAt pair.b_left second_format Second two_before pair.second)
+    (one_before : A) (two_before : B) (begins : BeginsAt pair.source_a.left first_format First one_before pair.first) (begins_second : BeginsAt pair.source_b.left second_format Second two_before pair.second)
     (first : MemberReader A X U) (second : MemberReader B Y V) (one_after : A) (two_after : B) (ended : source_of first.below ≡ one_after) (ended_second : source_of second.below ≡ two_after)
     (fault : Option FaultValue) (grown : Output) (w : Finishes join pair out fault first second grown) where
   abbrev good_one : Handed → Good X
@@ -143,10 +143,10 @@ module _ {A B X Y U V : Type 0} (join : JoinDef X Y) (pair : Pair A B X Y U V) (
   good_two two = good_handed second_format Second two
 
   abbrev CameOne : Option FaultValue → Handed → Type 0
-  CameOne = Came pair.a_left pair.a_failed one_before one_after
+  CameOne = Came pair.source_a.left pair.source_a.has_failed one_before one_after
 
   abbrev CameTwo : Option FaultValue → Handed → Type 0
-  CameTwo = Came pair.b_left pair.b_failed two_before two_after
+  CameTwo = Came pair.source_b.left pair.source_b.has_failed two_before two_after
 
   -- what the first meets of the second
   abbrev limit : Handed → Handed → Good Y
@@ -156,19 +156,19 @@ module _ {A B X Y U V : Type 0} (join : JoinDef X Y) (pair : Pair A B X Y U V) (
   MayBe good = MayCome (member_items w.wrote.seen) w.wrote.ended (items_in good) good.fault
 
   -- what the second input may have
-  second_may : IfSome (good_coming pair.b_left pair.second) MayBe
-  second_may = may_come (good_coming pair.b_left pair.second) w.wrote.seen w.wrote.ended w.wrote.second_begins w.wrote.second_all
+  second_may : IfSome (good_coming pair.source_b.left pair.second) MayBe
+  second_may = may_come (good_coming pair.source_b.left pair.second) w.wrote.seen w.wrote.ended w.wrote.second_begins w.wrote.second_all
 
   abbrev SeesTwo : Good Y → Type 0
   SeesTwo = Sees w.wrote.seen w.wrote.ended
 
-  second_sees : IfSome (good_coming pair.b_left pair.second) SeesTwo
-  second_sees = sees_by (good_coming pair.b_left pair.second) w.wrote.seen w.wrote.ended w.wrote.second_begins w.wrote.second_all
+  second_sees : IfSome (good_coming pair.source_b.left pair.second) SeesTwo
+  second_sees = sees_by (good_coming pair.source_b.left pair.second) w.wrote.seen w.wrote.ended w.wrote.second_begins w.wrote.second_all
 
   abbrev Begins : Good X → Type 0
   Begins good = (rest : List X) × (items_in good ≡ w.wrote.given ++ rest)
 
-  module _ (first_good : Good X) (second_good : Good Y) (known : IsSome (good_coming pair.b_left pair.second)) (begun : Begins first_good) where
+  module _ (first_good : Good X) (second_good : Good Y) (known : IsSome (good_coming pair.source_b.left pair.second)) (begun : Begins first_good) where
     abbrev firsts : List X
     firsts = items_in first_good
 
@@ -227,30 +227,30 @@ module _ {A B X Y U V : Type 0} (join : JoinDef X Y) (pair : Pair A B X Y U V) (
         → (w.wrote.ended ≡ true → second_good.members ≡ w.wrote.seen) → join.limited firsts second_good ≡ second_good
     free all ordered rest begins ends = free_by w.wrote.ended refl all ordered rest begins ends
 
-  first_whole : (other : Option FaultValue) (one : Handed) → CameOne other one → Serves pair.a_failed pair.first first → (P : Good X → Type 0) → IfSome (good_coming pair.a_left pair.first) P → P (good_one one)
+  first_whole : (other : Option FaultValue) (one : Handed) → CameOne other one → Serves pair.source_a.has_failed pair.first first → (P : Good X → Type 0) → IfSome (good_coming pair.source_a.left pair.first) P → P (good_one one)
   first_whole other one came serves =
-      came_whole pair.a_left pair.a_failed pair.a_end first_format First one_before pair.first begins first one_after ended other one came w.wrote.first_bytes serves.served serves.within
+      came_whole pair.source_a first_format First one_before pair.first begins first one_after ended other one came w.wrote.first_bytes serves.served serves.within
 
-  second_whole : (other : Option FaultValue) (two : Handed) → CameTwo other two → Serves pair.b_failed pair.second second → (P : Good Y → Type 0) → IfSome (good_coming pair.b_left pair.second) P → P (good_two two)
+  second_whole : (other : Option FaultValue) (two : Handed) → CameTwo other two → Serves pair.source_b.has_failed pair.second second → (P : Good Y → Type 0) → IfSome (good_coming pair.source_b.left pair.second) P → P (good_two two)
   second_whole other two came serves =
-      came_whole pair.b_left pair.b_failed pair.b_end second_format Second two_before pair.second begins_second second two_after ended_second other two came w.wrote.second_bytes serves.served serves.within
+      came_whole pair.source_b second_format Second two_before pair.second begins_second second two_after ended_second other two came w.wrote.second_bytes serves.served serves.within
 
-  known_by : (two : List ℕ) → pair.b_left two_before ≡ Some two → IsSome (good_coming pair.b_left pair.second)
-  known_by two e = is_known pair.b_left pair.b_failed pair.b_end second_format Second two_before pair.second begins_second second two_after ended_second two e
+  known_by : (two : List ℕ) → pair.source_b.left two_before ≡ Some two → IsSome (good_coming pair.source_b.left pair.second)
+  known_by two e = is_known pair.source_b second_format Second two_before pair.second begins_second second two_after ended_second two e
 
-  known_two : (other : Option FaultValue) (two : Handed) → CameTwo other two → IsSome (good_coming pair.b_left pair.second)
+  known_two : (other : Option FaultValue) (two : Handed) → CameTwo other two → IsSome (good_coming pair.source_b.left pair.second)
   known_two other two came =
-      let text = text_known pair.b_left pair.b_failed pair.b_end second_format Second two_before pair.second begins_second second two_after ended_second other two came in
+      let text = text_known pair.source_b second_format Second two_before pair.second begins_second second two_after ended_second other two came in
       known_by text.0 text.1
 
-  here_by : (one two : Handed) → IsSome (good_coming pair.b_left pair.second) → MayBe (limit one two) → HereAs join (limit one two) w.written w.bytes
+  here_by : (one two : Handed) → IsSome (good_coming pair.source_b.left pair.second) → MayBe (limit one two) → HereAs join (limit one two) w.written w.bytes
   here_by one two known may = (w.wrote.settles known).whatever (items_in (limit one two)) (limit one two).fault (limits.ordered (items_in (good_one one)) (good_two two) (in_order two)) may
 
   -- what the fault of an input says of it
   first_wrong : (past : List (Member X)) (other : FaultValue) (one : Handed) → CameOne (Some other) one → FirstFails join pair out past first other
       → ((good_one one).members ≡ past) × ((good_one one).fault ≡ Some other)
   first_wrong past other one came fails =
-      says_fault pair.a_left pair.a_failed pair.a_end first_format First one_before pair.first begins first one_after ended join.first_kinds past other one came w.wrote.first_bytes fails
+      says_fault pair.source_a first_format First one_before pair.first begins first one_after ended join.first_kinds past other one came w.wrote.first_bytes fails
 
   second_wrong : (past : List (Member Y)) (other : FaultValue) (two : Handed) → CameTwo (Some other) two → SecondFails join pair out w.wrote.ended past second other
       → ((good_two two).members ≡ past) × ((good_two two).fault ≡ Some other) × MayBe (good_two two)
@@ -258,13 +258,13 @@ module _ {A B X Y U V : Type 0} (join : JoinDef X Y) (pair : Pair A B X Y U V) (
   second_wrong past other two came fails =
       elim fails.cause [
         | inl wrong ↦
-            let serves : Serves pair.b_failed pair.second second = record { served = wrong.served; within = wrong.within } in
+            let serves : Serves pair.source_b.has_failed pair.second second = record { served = wrong.served; within = wrong.within } in
             let is = second_whole (Some other) two came serves (λ good. (good.members ≡ past) × (good.fault ≡ Some other)) wrong.whole in
             let sees = second_whole (Some other) two came serves SeesTwo second_sees in
             (is.0, is.1, second_whole (Some other) two came serves MayBe second_may, sees.0, λ e. (sees.1 e).0)
         | inr unread ↦
-            let is = came_cut pair.b_left pair.b_failed pair.b_end second_format Second two_before pair.second begins_second second two_after ended_second past other two came unread in
-            let k = seen_in (good_coming pair.b_left pair.second) past w.wrote.seen (lines_given second.below) (known_two (Some other) two came) unread.members w.wrote.second_begins (w.wrote.low (subst IsSome (sym unread.kept) refl)) in
+            let is = came_cut pair.source_b second_format Second two_before pair.second begins_second second two_after ended_second past other two came unread in
+            let k = seen_in (good_coming pair.source_b.left pair.second) past w.wrote.seen (lines_given second.below) (known_two (Some other) two came) unread.members w.wrote.second_begins (w.wrote.low (subst IsSome (sym unread.kept) refl)) in
             let may : MayCome (member_items w.wrote.seen) w.wrote.ended (member_items past) (Some other) = record {
               begins = (member_items k.0, ap member_items k.1 ∙ map-append (λ m. m.item) w.wrote.seen k.0);
               all = λ e. absurd (fails.before_end e (input_of pair.second.below) (suc (lines_given second.below)) unread.is);
@@ -279,7 +279,7 @@ module _ {A B X Y U V : Type 0} (join : JoinDef X Y) (pair : Pair A B X Y U V) (
 
   -- the inputs tell the end
   module _ (one two : Handed) (came : CameOne fault one) (came_second : CameTwo fault two) where
-    known_now : IsSome (good_coming pair.b_left pair.second)
+    known_now : IsSome (good_coming pair.source_b.left pair.second)
     known_now = known_two fault two came_second
 
     abbrev MeetsHere : Type 0
@@ -304,7 +304,7 @@ module _ {A B X Y U V : Type 0} (join : JoinDef X Y) (pair : Pair A B X Y U V) (
         let undecided_by : join.decided stops.waiting (items_in (limit one two)) ≡ false =
         ap (λ (g : Good Y). join.decided stops.waiting (items_in g)) same
         ∙ ap (λ ms. join.decided stops.waiting (member_items ms)) says.0
-        ∙ from_known (good_coming pair.b_left pair.second) (join.decided stops.waiting (member_items stops.past) ≡ false) known_now stops.undecided in
+        ∙ from_known (good_coming pair.source_b.left pair.second) (join.decided stops.waiting (member_items stops.past) ≡ false) known_now stops.undecided in
         let told : (limit one two).fault ≡ Some other = ap (λ (g : Good Y). g.fault) same ∙ says.1 in
         let met = meets_stop join (good_one one) (limit one two) w.written w.bytes (here_by one two known_now (subst MayBe (sym same) says.2)) stops.waiting waits.0 other waits.1 told undecided_by in
         (met.0, met.1 ∙ sym is)
@@ -374,32 +374,32 @@ module _ {A B X Y U V : Type 0} (join : JoinDef X Y) (pair : Pair A B X Y U V) (
     reported before put end puts = let met = meets end in (sym met.1, puts before put ∙ ap (λ l. Some (before ++ l)) (sym met.0))
 
   -- what was written begins the report on the whole texts
-  front_of : (first second : Handed) → Holds pair.a_left one_before first → Holds pair.b_left two_before second
+  front_of : (first second : Handed) → Holds pair.source_a.left one_before first → Holds pair.source_b.left two_before second
       → (more : List ℕ) × ((met_by join (good_one first) (good_two second)).lines ≡ w.bytes ++ more)
   front_of first_handed second_handed holds others =
       let one = holds.text in
       let two = others.text in
       let e = holds.known in
       let f = others.known in
-      let sees = at_whole pair.b_left pair.b_failed pair.b_end second_format Second two_before pair.second begins_second second two_after ended_second two f SeesTwo second_sees in
-      let begun = at_whole pair.a_left pair.a_failed pair.a_end first_format First one_before pair.first begins first one_after ended one e Begins w.wrote.given_begin in
+      let sees = at_whole pair.source_b second_format Second two_before pair.second begins_second second two_after ended_second two f SeesTwo second_sees in
+      let begun = at_whole pair.source_a first_format First one_before pair.first begins first one_after ended one e Begins w.wrote.given_begin in
       let may = limited_may (good_one (whole_text one)) (good_two (whole_text two)) (known_by two f) begun sees in
-      let rest = at_whole pair.a_left pair.a_failed pair.a_end first_format First one_before pair.first begins first one_after ended one e (λ good. (rest : List X) × (items_in good ≡ w.written ++ rest)) w.wrote.first_begins in
+      let rest = at_whole pair.source_a first_format First one_before pair.first begins first one_after ended one e (λ good. (rest : List X) × (items_in good ≡ w.written ++ rest)) w.wrote.first_begins in
       rw (holds.is, others.is) (meets_front join (good_one (whole_text one)) (limit (whole_text one) (whole_text two)) w.written w.bytes (here_by (whole_text one) (whole_text two) (known_by two f) may) rest.0 rest.1)
 
-  first_named : (past : List (Member X)) (other : FaultValue) → FirstFails join pair out past first other → TellsInput pair.a_left pair.a_failed join.first_kinds First one_before one_after other
+  first_named : (past : List (Member X)) (other : FaultValue) → FirstFails join pair out past first other → TellsInput pair.source_a.left pair.source_a.has_failed join.first_kinds First one_before one_after other
   first_named past other fails =
-      tells_fault pair.a_left pair.a_failed pair.a_end first_format First one_before pair.first begins first one_after ended join.first_kinds past other w.wrote.first_bytes fails
+      tells_fault pair.source_a first_format First one_before pair.first begins first one_after ended join.first_kinds past other w.wrote.first_bytes fails
 
-  second_named : (past : List (Member Y)) (other : FaultValue) → SecondFails join pair out w.wrote.ended past second other → TellsInput pair.b_left pair.b_failed join.second_kinds Second two_before two_after other
+  second_named : (past : List (Member Y)) (other : FaultValue) → SecondFails join pair out w.wrote.ended past second other → TellsInput pair.source_b.left pair.source_b.has_failed join.second_kinds Second two_before two_after other
   second_named past other fails =
-      tells_fault pair.b_left pair.b_failed pair.b_end second_format Second two_before pair.second begins_second second two_after ended_second join.second_kinds past other w.wrote.second_bytes fails.cause
+      tells_fault pair.source_b second_format Second two_before pair.second begins_second second two_after ended_second join.second_kinds past other w.wrote.second_bytes fails.cause
 
   abbrev Because : Type 0
   Because = Why join pair out w.written w.bytes w.wrote.given w.wrote.ended first second fault grown
 
   abbrev TellsBoth : FaultValue → Type 0
-  TellsBoth told = TellsInput pair.a_left pair.a_failed join.first_kinds First one_before one_after told ⊎ TellsInput pair.b_left pair.b_failed join.second_kinds Second two_before two_after told
+  TellsBoth told = TellsInput pair.source_a.left pair.source_a.has_failed join.first_kinds First one_before one_after told ⊎ TellsInput pair.source_b.left pair.source_b.has_failed join.second_kinds Second two_before two_after told
 
   -- what the inputs tell
   tells_by : (told : FaultValue) → fault ≡ Some told → InputsEnd join pair out w.written w.wrote.given w.wrote.ended first second fault → TellsBoth told
@@ -419,8 +419,8 @@ module _ {A B X Y U V : Type 0} (join : JoinDef X Y) (pair : Pair A B X Y U V) (
   inputs_no_write : InputsEnd join pair out w.written w.wrote.given w.wrote.ended first second fault → fault ≡ Some write_failed → ⊥
   inputs_no_write end e =
       elim (tells_by write_failed e end) [
-        | inl tells ↦ tells_no_write pair.a_left pair.a_failed join.first_kinds First one_before one_after tells
-        | inr tells ↦ tells_no_write pair.b_left pair.b_failed join.second_kinds Second two_before two_after tells
+        | inl tells ↦ tells_no_write pair.source_a.left pair.source_a.has_failed join.first_kinds First one_before one_after tells
+        | inr tells ↦ tells_no_write pair.source_b.left pair.source_b.has_failed join.second_kinds Second two_before two_after tells
       ]
 
   named_by : (told : FaultValue) → fault ≡ Some told → Because → TellsBoth told ⊎ TellsDevice grown.sink_has_failed told
@@ -429,14 +429,14 @@ module _ {A B X Y U V : Type 0} (join : JoinDef X Y) (pair : Pair A B X Y U V) (
   named_by told e (inr (inr cut)) = inr (inl (some_is told write_failed (sym e ∙ cut.0), cut.1.sink_failed))
 
   served_by : fault ≡ None → Because
-      → ((pair.a_failed one_after ≡ pair.a_failed one_before) × (pair.b_failed two_after ≡ pair.b_failed two_before)) × (grown.sink_has_failed ≡ out.sink_has_failed)
+      → ((pair.source_a.has_failed one_after ≡ pair.source_a.has_failed one_before) × (pair.source_b.has_failed two_after ≡ pair.source_b.has_failed two_before)) × (grown.sink_has_failed ≡ out.sink_has_failed)
   served_by e (inl ((inl stops), puts, works)) = absurd (let apart : None ≡ Some stops.0 = sym e ∙ stops.1 in cc)
   served_by e (inl ((inr (inl stops)), puts, works)) = absurd (let apart : None ≡ Some stops.0 = sym e ∙ stops.1 in cc)
   served_by e (inl ((inr (inr (inr stops))), puts, works)) = absurd (let apart : None ≡ Some stops.0 = sym e ∙ stops.1 in cc)
   served_by e (inl ((inr (inr (inl stops))), puts, works)) =
       elim stops.rest [
         | inl end ↦ (
-          (ap pair.a_failed (sym ended) ∙ stops.serves.served ∙ ap pair.a_failed begins.source, ap pair.b_failed (sym ended_second) ∙ end.2.served ∙ ap pair.b_failed begins_second.source),
+          (ap pair.source_a.has_failed (sym ended) ∙ stops.serves.served ∙ ap pair.source_a.has_failed begins.source, ap pair.source_b.has_failed (sym ended_second) ∙ end.2.served ∙ ap pair.source_b.has_failed begins_second.source),
           works.sink_served,
         )
         | inr others ↦ elim others [
@@ -465,9 +465,9 @@ module _ {A B X Y U V : Type 0} (join : JoinDef X Y) (pair : Pair A B X Y U V) (
 
   module _ (settles : Handed → List TextLine → List ℕ) (reaches : Handed → List TextLine → ℕ) where
     abbrev pub NearBoth : Type 0
-    NearBoth = (one two before taken : List ℕ) → pair.a_left one_before ≡ Some one → pair.b_left two_before ≡ Some two → out.put ≡ Some before → out.took ≡ Some taken
-        → ReadsNoFurther (λ n. IsWithin (pair.a_end one_after) one n → HandsUpTo pair.b_left (reaches (whole_text two) (take n (text_lines one)) + block_size) two_before two_after)
-        (settles (whole_text two)) one (pair.a_left one_after) before grown.took (grown.has_failed ≡ true) (IsFaultButWrite fault) grown.put
+    NearBoth = (one two before taken : List ℕ) → pair.source_a.left one_before ≡ Some one → pair.source_b.left two_before ≡ Some two → out.put ≡ Some before → out.took ≡ Some taken
+        → ReadsNoFurther (λ n. IsWithin (pair.source_a.end_told one_after) one n → HandsUpTo pair.source_b.left (reaches (whole_text two) (take n (text_lines one)) + block_size) two_before two_after)
+        (settles (whole_text two)) one (pair.source_a.left one_after) before grown.took (grown.has_failed ≡ true) (IsFaultButWrite fault) grown.put
 
     abbrev behaviour : Behaviour
     behaviour = record {
@@ -479,23 +479,23 @@ module _ {A B X Y U V : Type 0} (join : JoinDef X Y) (pair : Pair A B X Y U V) (
     }
 
     -- the report on how the inputs meet, by how far they were read
-    pub writes_both : NearBoth → WritesBy pair.a_left pair.a_failed pair.a_end pair.b_left pair.b_failed behaviour one_before (Some two_before) out fault one_after (Some two_after) grown
+    pub writes_both : NearBoth → WritesBy pair.source_a.left pair.source_a.has_failed pair.source_a.end_told pair.source_b.left pair.source_b.has_failed behaviour one_before (Some two_before) out fault one_after (Some two_after) grown
     writes_both near = record {
-      whole = λ one two before reads others put write memory. whole_by one (or_empty two) before (inl reads) (inl (read_if pair.b_left pair.b_failed two_before two_after two others)) put write memory w.why;
+      whole = λ one two before reads others put write memory. whole_by one (or_empty two) before (inl reads) (inl (read_if pair.source_b.left pair.source_b.has_failed two_before two_after two others)) put write memory w.why;
       told = λ one two before holds others put is.
-          whole_by one (or_empty two) before (inr (is_whole pair.a_left pair.a_failed one_before one_after fault one holds is))
-          (inr (is_whole pair.b_left pair.b_failed two_before two_after fault (or_empty two) (held_if pair.b_left two_before two others) is)) put is.no_write is.no_growth w.why;
+          whole_by one (or_empty two) before (inr (is_whole pair.source_a.left pair.source_a.has_failed one_before one_after fault one holds is))
+          (inr (is_whole pair.source_b.left pair.source_b.has_failed two_before two_after fault (or_empty two) (held_if pair.source_b.left two_before two others) is)) put is.no_write is.no_growth w.why;
       cut = λ is one two before holds others put.
-          let more = front_of one (or_empty two) holds (held_if pair.b_left two_before two others) in
+          let more = front_of one (or_empty two) holds (held_if pair.source_b.left two_before two others) in
           (w.bytes, more.0, more.1, cut_by is before put w.why);
       kept = λ other one two before holds others put.
-          let more = front_of one (or_empty two) holds (held_if pair.b_left two_before two others) in
+          let more = front_of one (or_empty two) holds (held_if pair.source_b.left two_before two others) in
           let part = kept_by other w.why in
           (part.front, part.rest ++ more.0, more.1 ∙ ap (λ l. l ++ more.0) part.parts ∙ append_assoc part.front part.rest more.0, part.puts before put);
       grows = w.wrote.grows;
       served = λ e. served_by e w.why;
       near = λ one two before taken holds others put took.
-          let held = held_if pair.b_left two_before two others in
+          let held = held_if pair.source_b.left two_before two others in
           rw (holds.is, held.is) (near holds.text held.text before taken holds.known held.known put took);
       named = λ told e. named_by told e w.why;
     }

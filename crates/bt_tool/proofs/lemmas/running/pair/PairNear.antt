@@ -97,7 +97,7 @@ AreNeeded {X} {Y} join =
 
 module _ {A B X Y U V : Type 0} (join : JoinDef X Y) (pair : Pair A B X Y U V) (out : Output)
     (first_format : Format X U) (second_format : Format Y V) (in_order : (two : Handed) → join.InOrder (items_in (good_handed second_format Second two))) (needed : AreNeeded join)
-    (one_before : A) (two_before : B) (begins : BeginsAt pair.a_left first_format First one_before pair.first) (begins_second : BeginsAt pair.b_left second_format Second two_before pair.second)
+    (one_before : A) (two_before : B) (begins : BeginsAt pair.source_a.left first_format First one_before pair.first) (begins_second : BeginsAt pair.source_b.left second_format Second two_before pair.second)
     (first : MemberReader A X U) (second : MemberReader B Y V) (one_after : A) (two_after : B) (ended : source_of first.below ≡ one_after) (ended_second : source_of second.below ≡ two_after)
     (fault : Option FaultValue) (grown : Output) (w : Finishes join pair out fault first second grown) where
   abbrev near : StaysNear join pair out first second grown
@@ -115,21 +115,21 @@ module _ {A B X Y U V : Type 0} (join : JoinDef X Y) (pair : Pair A B X Y U V) (
   abbrev pub reaches : Handed → List TextLine → ℕ
   reaches two lines = join.reaches (items_on lines) (good_handed second_format Second two).members (text_lines two.text)
 
-  module _ (one two : List ℕ) (e : pair.a_left one_before ≡ Some one) (f : pair.b_left two_before ≡ Some two) where
+  module _ (one two : List ℕ) (e : pair.source_a.left one_before ≡ Some one) (f : pair.source_b.left two_before ≡ Some two) where
     abbrev good_one : Good X
     good_one = good first_format First (text_lines one)
 
     abbrev good_two : Good Y
     good_two = good_handed second_format Second (whole_text two)
 
-    known : IsSome (good_coming pair.b_left pair.second)
-    known = is_known pair.b_left pair.b_failed pair.b_end second_format Second two_before pair.second begins_second second two_after ended_second two f
+    known : IsSome (good_coming pair.source_b.left pair.second)
+    known = is_known pair.source_b second_format Second two_before pair.second begins_second second two_after ended_second two f
 
-    of_one : (P : Good X → Type 0) → IfSome (good_coming pair.a_left pair.first) P → P good_one
-    of_one P h = subst P (good_whole first_format First one) (at_whole pair.a_left pair.a_failed pair.a_end first_format First one_before pair.first begins first one_after ended one e P h)
+    of_one : (P : Good X → Type 0) → IfSome (good_coming pair.source_a.left pair.first) P → P good_one
+    of_one P h = subst P (good_whole first_format First one) (at_whole pair.source_a first_format First one_before pair.first begins first one_after ended one e P h)
 
-    of_two : (P : Good Y → Type 0) → IfSome (good_coming pair.b_left pair.second) P → P good_two
-    of_two P h = at_whole pair.b_left pair.b_failed pair.b_end second_format Second two_before pair.second begins_second second two_after ended_second two f P h
+    of_two : (P : Good Y → Type 0) → IfSome (good_coming pair.source_b.left pair.second) P → P good_two
+    of_two P h = at_whole pair.source_b second_format Second two_before pair.second begins_second second two_after ended_second two f P h
 
     -- the members on the first lines
     on_lines : items_on (take count (text_lines one)) ≡ near.written
@@ -148,15 +148,15 @@ module _ {A B X Y U V : Type 0} (join : JoinDef X Y) (pair : Pair A B X Y U V) (
     settled : settles (whole_text two) (take count (text_lines one)) ≡ near.bytes
     settled =
         let may = of_two (λ good. MayCome (member_items near.wrote.seen) near.wrote.ended (items_in good) good.fault)
-        (may_come (good_coming pair.b_left pair.second) near.wrote.seen near.wrote.ended near.wrote.second_begins near.wrote.second_all) in
+        (may_come (good_coming pair.source_b.left pair.second) near.wrote.seen near.wrote.ended near.wrote.second_begins near.wrote.second_all) in
         ap (flat_map (λ x. join.bytes x (items_in good_two))) on_lines
         ∙ ((near.wrote.settles known).whatever (items_in good_two) good_two.fault (in_order (whole_text two)) may).1
 
     -- the second input was read as far as they need
-    beside_by : AsksFor join pair out near.given_first second → HandsUpTo pair.b_left (reaches (whole_text two) (take (suc count) (text_lines one)) + block_size) two_before two_after
+    beside_by : AsksFor join pair out near.given_first second → HandsUpTo pair.source_b.left (reaches (whole_text two) (take (suc count) (text_lines one)) + block_size) two_before two_after
     beside_by asks =
         let read = asks.near known in
-        let handed = handed_to pair.b_left pair.b_failed pair.b_end second_format Second two_before pair.second begins_second second two_after ended_second read.count two f read.near near.wrote.second_bytes in
+        let handed = handed_to pair.source_b second_format Second two_before pair.second begins_second second two_after ended_second read.count two f read.near near.wrote.second_bytes in
         let b = of_two (λ good. (rest : List (Member Y)) × (good.members ≡ asks.past ++ rest) × IsBeyond read.count (record { members = rest; fault = good.fault })) read.behind in
         let given = member_items near.given_first ++ member_items given_on.0 in
         let is : join.reaches given (asks.past ++ b.0) (text_lines two) ≡ reaches (whole_text two) (take (suc count) (text_lines one)) =
@@ -166,24 +166,24 @@ module _ {A B X Y U V : Type 0} (join : JoinDef X Y) (pair : Pair A B X Y U V) (
         record { handed = handed.0; consumed = handed.1; read = omega (arith, handed.2, least) }
 
     -- the end of the first input wasn't reported, or not all of its lines were consumed
-    no_end : HasNoMore pair first count → IsWithin (pair.a_end one_after) one (suc count) → ⊥
-    no_end all (inl open_end) = absurd (false≢true (sym open_end ∙ ap pair.a_end (sym ended) ∙ all.0))
+    no_end : HasNoMore pair first count → IsWithin (pair.source_a.end_told one_after) one (suc count) → ⊥
+    no_end all (inl open_end) = absurd (false≢true (sym open_end ∙ ap pair.source_a.end_told (sym ended) ∙ all.0))
     no_end all (inr within) =
-        let lines : lines_left pair.a_left pair.first.below ≡ Some (text_lines one) = begins.lines ∙ ap (option_map text_lines) e in
-        let few = some_of (lines_left pair.a_left pair.first.below) (text_lines one) (λ lines. length lines ≤ count) lines all.1 in
+        let lines : lines_left pair.source_a.left pair.first.below ≡ Some (text_lines one) = begins.lines ∙ ap (option_map text_lines) e in
+        let few = some_of (lines_left pair.source_a.left pair.first.below) (text_lines one) (λ lines. length lines ≤ count) lines all.1 in
         absurd (omega (arith, within, few))
 
-    beside : HasNoMore pair first count ⊎ AsksFor join pair out near.given_first second → IsWithin (pair.a_end one_after) one (suc count)
-        → HandsUpTo pair.b_left (reaches (whole_text two) (take (suc count) (text_lines one)) + block_size) two_before two_after
+    beside : HasNoMore pair first count ⊎ AsksFor join pair out near.given_first second → IsWithin (pair.source_a.end_told one_after) one (suc count)
+        → HandsUpTo pair.source_b.left (reaches (whole_text two) (take (suc count) (text_lines one)) + block_size) two_before two_after
     beside (inl all) within = absurd (no_end all within)
     beside (inr asks) within = beside_by asks
 
   -- how far both inputs were read
-  pub near_both : (one two before taken : List ℕ) → pair.a_left one_before ≡ Some one → pair.b_left two_before ≡ Some two → out.put ≡ Some before → out.took ≡ Some taken
-      → ReadsNoFurther (λ n. IsWithin (pair.a_end one_after) one n → HandsUpTo pair.b_left (reaches (whole_text two) (take n (text_lines one)) + block_size) two_before two_after)
-      (settles (whole_text two)) one (pair.a_left one_after) before grown.took (grown.has_failed ≡ true) (IsFaultButWrite fault) grown.put
+  pub near_both : (one two before taken : List ℕ) → pair.source_a.left one_before ≡ Some one → pair.source_b.left two_before ≡ Some two → out.put ≡ Some before → out.took ≡ Some taken
+      → ReadsNoFurther (λ n. IsWithin (pair.source_a.end_told one_after) one n → HandsUpTo pair.source_b.left (reaches (whole_text two) (take n (text_lines one)) + block_size) two_before two_after)
+      (settles (whole_text two)) one (pair.source_a.left one_after) before grown.took (grown.has_failed ≡ true) (IsFaultButWrite fault) grown.put
   near_both one two before taken e f put took =
-      let handed = handed_to pair.a_left pair.a_failed pair.a_end first_format First one_before pair.first begins first one_after ended count one e near.first_near.to.near near.wrote.first_bytes in
+      let handed = handed_to pair.source_a first_format First one_before pair.first begins first one_after ended count one e near.first_near.to.near near.wrote.first_bytes in
       let less : suc count - 1 ≡ count = omega arith in
       let same : near.bytes ≡ settles (whole_text two) (take count (text_lines one)) = sym (settled one two e f) in
       let lines : TookButBlock out (settles (whole_text two) (take count (text_lines one))) grown = subst (λ l. TookButBlock out l grown) same near.took in
@@ -191,7 +191,7 @@ module _ {A B X Y U V : Type 0} (join : JoinDef X Y) (pair : Pair A B X Y U V) (
         n = suc count;
         some = omega arith;
         handed = handed.0;
-        consumed = subst (λ o. Consumes o (pair.a_left one_after) handed.0) e handed.1;
+        consumed = subst (λ o. Consumes o (pair.source_a.left one_after) handed.0) e handed.1;
         read = handed.2;
         settled = rw less (lines.took before taken put took);
         kept = rw less (elim lines.put [ inl failed ↦ inl failed | inr kept ↦ inr (kept before put) ]);

@@ -3,6 +3,7 @@ use Rattle.std.proofs.Common.{◌≡◌, ℕ, suc, ◌+◌, ◌≤◌, Bool, tru
 use Rattle.std.specs.Prelude.{◌⊎◌, All, IfSome, IsSome, is_some}
 use Rattle.std.proofs.lemmas.Bool.{false≢true}
 use Rattle.std.proofs.lemmas.List.{map-append}
+use Rattle.bt_lines.specs.declared.device.Source.{Ghosts as Source}
 use Rattle.bt_lines.proofs.lemmas.writer.OutputLemmas.{grows_both}
 use Rattle.bt_lines.proofs.lemmas.writer.PuttingLemmas.{grown_none, grown_works}
 use Rattle.bt_lines.specs.model.Fault.{FaultValue, no_memory, read_failed}
@@ -48,9 +49,9 @@ seen_low : {S A State : Type 0} (past : List (Member A)) (now : MemberReader S A
 seen_low {S} {A} {State} past now count none low = subst (λ (l : List (Member A)). All (λ m. m.line ≤ count) l) (sym (ap (λ (o : Option (Member A)). past ++ option_to_list o) none ∙ append-nil past)) low
 
 -- nothing more was taken
-takes_none : {S A State : Type 0} (left : S → Option (List ℕ)) (failed end : S → Bool) (old : MemberReader S A State) (past : List (Member A)) (now : MemberReader S A State) → Passes left failed end old past now → TakesFurther left failed end old past [] now now
-takes_none {S} {A} {State} left failed end old past now p = record {
-  passes = subst (λ (l : List (Member A)). Passes left failed end old l now) (sym (append-nil past)) p;
+takes_none : {S A State : Type 0} (device : Source S) (old : MemberReader S A State) (past : List (Member A)) (now : MemberReader S A State) → Passes device old past now → TakesFurther device old past [] now now
+takes_none {S} {A} {State} device old past now p = record {
+  passes = subst (λ (l : List (Member A)). Passes device old l now) (sym (append-nil past)) p;
   last = λ before m e. absurd (none_pushed before m e);
   source = refl;
   told = λ told. told;
@@ -64,24 +65,24 @@ module _ {A B X Y U V : Type 0} (join : JoinDef X Y) (pair : Pair A B X Y U V) (
   Near = StaysNear join pair out
 
   abbrev BeginsWith : List X → Type 0
-  BeginsWith written = IfSome (good_coming pair.a_left pair.first) (λ good. (rest : List X) × (items_in good ≡ written ++ rest))
+  BeginsWith written = IfSome (good_coming pair.source_a.left pair.first) (λ good. (rest : List X) × (items_in good ≡ written ++ rest))
 
   abbrev HandsFirst : MemberReader A X U → Type 0
-  HandsFirst first = (bytes : List ℕ) × Hands pair.a_left pair.first.below bytes first.below
+  HandsFirst first = (bytes : List ℕ) × Hands pair.source_a.left pair.first.below bytes first.below
 
   abbrev HandsSecond : MemberReader B Y V → Type 0
-  HandsSecond second = (bytes : List ℕ) × Hands pair.b_left pair.second.below bytes second.below
+  HandsSecond second = (bytes : List ℕ) × Hands pair.source_b.left pair.second.below bytes second.below
 
   -- the good members of the first input begin with some items
-  begins_items : (past : List (Member X)) (written rest : List X) → member_items past ≡ written ++ rest → IfSome (good_coming pair.a_left pair.first) (λ good. (rest : List (Member X)) × (good.members ≡ past ++ rest)) → BeginsWith written
-  begins_items past written rest e begins = items_first (good_coming pair.a_left pair.first) written rest (items_begin (good_coming pair.a_left pair.first) past written rest e begins)
+  begins_items : (past : List (Member X)) (written rest : List X) → member_items past ≡ written ++ rest → IfSome (good_coming pair.source_a.left pair.first) (λ good. (rest : List (Member X)) × (good.members ≡ past ++ rest)) → BeginsWith written
+  begins_items past written rest e begins = items_first (good_coming pair.source_a.left pair.first) written rest (items_begin (good_coming pair.source_a.left pair.first) past written rest e begins)
 
   -- what was written, by the second reader where it is, and what was read of it later
-  wrote_by : (past : List (Member Y)) (now new : MemberReader B Y V) → Passes pair.b_left pair.b_failed pair.b_end pair.second past now
+  wrote_by : (past : List (Member Y)) (now new : MemberReader B Y V) → Passes pair.source_b pair.second past now
       → (IsSome new.fault → All (λ m. m.line ≤ lines_given new.below) (past ++ option_to_list (ahead_in now)))
       → HandsSecond new → (first : MemberReader A X U) → HandsFirst first → (written : List X) (bytes : List ℕ) (ended : Bool) (grown : Output)
       → (IsKnown pair → Settles join written bytes (member_items past ++ option_to_list (item_ahead now)) ended)
-      → BeginsWith written → (ended ≡ true → AreAll pair.b_left pair.b_failed pair.b_end pair.second past × (ahead_in now ≡ None)) → Grows out.took grown.took
+      → BeginsWith written → (ended ≡ true → AreAll pair.source_b pair.second past × (ahead_in now ≡ None)) → Grows out.took grown.took
       → (given : List X) → BeginsWith given → (IsKnown pair → join.Fits given past)
       → Wrote join pair out written bytes first new grown
   wrote_by past now new p low handed first first_bytes written bytes ended grown settles begins all grows given given_begin fits = record {
@@ -89,11 +90,11 @@ module _ {A B X Y U V : Type 0} (join : JoinDef X Y) (pair : Pair A B X Y U V) (
     ended = ended;
     settles = λ known. subst (λ (l : List Y). Settles join written bytes l ended) (sym (seen_items past (ahead_in now))) (settles known);
     first_begins = begins;
-    second_begins = seen_begins pair.b_left (good_coming pair.b_left pair.second) now past (ahead_in now) refl p.come p.ahead;
+    second_begins = seen_begins pair.source_b.left (good_coming pair.source_b.left pair.second) now past (ahead_in now) refl p.come p.ahead;
     low = low;
     second_all = λ e.
         let whole = all e in
-        subst (AreAll pair.b_left pair.b_failed pair.b_end pair.second) (sym (ap (λ (o : Option (Member Y)). past ++ option_to_list o) whole.1 ∙ append-nil past)) whole.0;
+        subst (AreAll pair.source_b pair.second) (sym (ap (λ (o : Option (Member Y)). past ++ option_to_list o) whole.1 ∙ append-nil past)) whole.0;
     given = given;
     taken = past;
     ahead = ahead_in now;
@@ -118,14 +119,14 @@ module _ {A B X Y U V : Type 0} (join : JoinDef X Y) (pair : Pair A B X Y U V) (
     asks_now asks = record {
       past = past_second;
       reached = reached_items past_first s.all_given asks;
-      near = λ known. (read_here pair.b_left pair.b_failed pair.b_end pair.second past_second second s.second_passes).to;
+      near = λ known. (read_here pair.source_b pair.second past_second second s.second_passes).to;
     }
 
-    read_to_same : (past : List (Member Y)) (second_now : MemberReader B Y V) → source_of second_now.below ≡ source_of second.below → IsReadTo pair.b_left pair.b_failed pair.b_end pair.second past second
-        → IsReadTo pair.b_left pair.b_failed pair.b_end pair.second past second_now
+    read_to_same : (past : List (Member Y)) (second_now : MemberReader B Y V) → source_of second_now.below ≡ source_of second.below → IsReadTo pair.source_b pair.second past second
+        → IsReadTo pair.source_b pair.second past second_now
     read_to_same past second_now same read = record {
       count = read.count;
-      near = subst (λ (b : B). IfSome (lines_left pair.b_left pair.second.below) (λ lines. IfSome (pair.b_left b) (λ rest. bytes_in (drop (suc read.count) lines) ≤ length rest + block_size))) (sym same) read.near;
+      near = subst (λ (b : B). IfSome (lines_left pair.source_b.left pair.second.below) (λ lines. IfSome (pair.source_b.left b) (λ rest. bytes_in (drop (suc read.count) lines) ≤ length rest + block_size))) (sym same) read.near;
       behind = read.behind;
     }
 
@@ -134,27 +135,27 @@ module _ {A B X Y U V : Type 0} (join : JoinDef X Y) (pair : Pair A B X Y U V) (
 
     -- it still is after more members were taken of both
     pub asks_then : join.Asks (given stage) stage.taken → ((more : List X) → join.Asks (given stage) stage.taken → join.Asks (given stage ++ more) stage.taken)
-        → (more_first : List (Member X)) (more_second : List (Member Y)) (second_now : MemberReader B Y V) → TakesFurther pair.b_left pair.b_failed pair.b_end pair.second past_second more_second second second_now
+        → (more_first : List (Member X)) (more_second : List (Member Y)) (second_now : MemberReader B Y V) → TakesFurther pair.source_b pair.second past_second more_second second second_now
         → AsksFor join pair out (past_first ++ more_first) second_now
     asks_then asks wider more_first more_second second_now takes = record {
       past = past_second;
       reached =
           subst (λ (l : List X). join.Asks l (member_items past_second)) (ap (λ l. l ++ member_items more_first) s.all_given ∙ sym (map-append (λ m. m.item) past_first more_first))
           (subst (λ (l : List Y). join.Asks (given stage ++ member_items more_first) l) s.all_taken (wider (member_items more_first) asks));
-      near = λ known. read_to_same past_second second_now takes.source (read_here pair.b_left pair.b_failed pair.b_end pair.second past_second second s.second_passes).to;
+      near = λ known. read_to_same past_second second_now takes.source (read_here pair.source_b pair.second past_second second s.second_passes).to;
     }
 
-    second_serves : Serves pair.b_failed pair.second second
+    second_serves : Serves pair.source_b.has_failed pair.second second
     second_serves = record { served = s.second_passes.served; within = s.second_passes.kept.within s.second_passes.clear }
 
-    first_serves : Serves pair.a_failed pair.first first
+    first_serves : Serves pair.source_a.has_failed pair.first first
     first_serves = record { served = s.first_passes.served; within = s.first_passes.kept.within s.first_passes.clear }
 
     settled_now : IsKnown pair → Settles join stage.written s.bytes (member_items past_second ++ option_to_list (item_ahead second)) stage.second_ended
     settled_now known = subst (λ (l : List Y). Settles join stage.written s.bytes (l ++ option_to_list (item_ahead second)) stage.second_ended) s.all_taken (s.settles known)
 
-    came_first : IfSome (good_coming pair.a_left pair.first) (λ good. (rest : List (Member X)) × (good.members ≡ past_first ++ rest))
-    came_first = begins_with (good_coming pair.a_left pair.first) (good_coming pair.a_left first) past_first s.first_passes.come
+    came_first : IfSome (good_coming pair.source_a.left pair.first) (λ good. (rest : List (Member X)) × (good.members ≡ past_first ++ rest))
+    came_first = begins_with (good_coming pair.source_a.left pair.first) (good_coming pair.source_a.left first) past_first s.first_passes.come
 
     begins_now : BeginsWith stage.written
     begins_now = begins_items past_first stage.written (option_to_list stage.waiting) (sym s.all_given) came_first
@@ -166,7 +167,7 @@ module _ {A B X Y U V : Type 0} (join : JoinDef X Y) (pair : Pair A B X Y U V) (
     none_buffered : second.buffered ≡ [] → ahead_in second ≡ None
     none_buffered none = ap (λ (l : List Y). first_from (suc (lines_given second.below)) l) none
 
-    ended_now : stage.second_ended ≡ true → AreAll pair.b_left pair.b_failed pair.b_end pair.second past_second × (ahead_in second ≡ None)
+    ended_now : stage.second_ended ≡ true → AreAll pair.source_b pair.second past_second × (ahead_in second ≡ None)
     ended_now e = let all = s.second_all e in (all.0, none_buffered all.1)
 
     module _ (asks : stage.first_ended ≡ false → AsksFor join pair out past_first second) (fits : IsKnown pair → join.Fits (given stage) past_second) where
@@ -193,8 +194,8 @@ module _ {A B X Y U V : Type 0} (join : JoinDef X Y) (pair : Pair A B X Y U V) (
         past = s.near_first.0;
         given_first = past_first;
         items = s.near_first.1;
-        first_near = read_same pair.a_left pair.a_failed pair.a_end pair.first s.near_first.0 past_first past_first first first_now same refl s.near_first.2;
-        beside = elim beside [ inl ended ↦ inl (let all = s.near_first.3 ended in (ap pair.a_end same ∙ all.0, all.1)) | inr asks ↦ inr asks ];
+        first_near = read_same pair.source_a pair.first s.near_first.0 past_first past_first first first_now same refl s.near_first.2;
+        beside = elim beside [ inl ended ↦ inl (let all = s.near_first.3 ended in (ap pair.source_a.end_told same ∙ all.0, all.1)) | inr asks ↦ inr asks ];
       }
 
       beside_if : (b : Bool) → stage.first_ended ≡ b → (second_now : MemberReader B Y V) → source_of second_now.below ≡ source_of second.below → (stage.first_ended ≡ true) ⊎ AsksFor join pair out past_first second_now
@@ -212,11 +213,11 @@ module _ {A B X Y U V : Type 0} (join : JoinDef X Y) (pair : Pair A B X Y U V) (
 
       -- more members of both were taken, then the first input stopped: all members of it were written
       module _ (going : stage.first_ended ≡ false) (more_first : List (Member X)) (more_second : List (Member Y)) (second_now : MemberReader B Y V)
-          (takes_second : TakesFurther pair.b_left pair.b_failed pair.b_end pair.second past_second more_second second second_now) (ended : stage.second_ended ≡ true → (more_second ≡ []) × (second_now.buffered ≡ [])) (more : List ℕ)
+          (takes_second : TakesFurther pair.source_b pair.second past_second more_second second second_now) (ended : stage.second_ended ≡ true → (more_second ≡ []) × (second_now.buffered ≡ [])) (more : List ℕ)
           (settles : IsKnown pair → Settles join (given stage ++ member_items more_first) (s.bytes ++ more) ((stage.taken ++ member_items more_second) ++ option_to_list (item_ahead second_now)) stage.second_ended)
           (fits_now : IsKnown pair → join.Fits (given stage ++ member_items more_first) (past_second ++ more_second)) (asks_first : AsksFor join pair out (past_first ++ more_first) second_now)
-          (fault : FaultValue) (first_now : MemberReader A X U) (stops : StopsAfter pair.a_left pair.a_failed pair.a_end pair.first join.first_kinds (past_first ++ more_first) fault first_now)
-          (read : IsReadFor pair.a_left pair.a_failed pair.a_end pair.first (past_first ++ more_first) (past_first ++ more_first) first_now)
+          (fault : FaultValue) (first_now : MemberReader A X U) (stops : StopsAfter pair.source_a pair.first join.first_kinds (past_first ++ more_first) fault first_now)
+          (read : IsReadFor pair.source_a pair.first (past_first ++ more_first) (past_first ++ more_first) first_now)
           (now : Output) (adds : Grown grown more now) where
         abbrev written : List X
         written = given stage ++ member_items more_first
@@ -227,7 +228,7 @@ module _ {A B X Y U V : Type 0} (join : JoinDef X Y) (pair : Pair A B X Y U V) (
         taken_now : stage.taken ++ member_items more_second ≡ member_items (past_second ++ more_second)
         taken_now = ap (λ l. l ++ member_items more_second) s.all_taken ∙ sym (map-append (λ m. m.item) past_second more_second)
 
-        serves_now : Serves pair.b_failed pair.second second_now
+        serves_now : Serves pair.source_b.has_failed pair.second second_now
         serves_now = record { served = takes_second.passes.served; within = takes_second.passes.kept.within takes_second.passes.clear }
 
         puts_now : PutsLines out (s.bytes ++ more) now
@@ -242,7 +243,7 @@ module _ {A B X Y U V : Type 0} (join : JoinDef X Y) (pair : Pair A B X Y U V) (
             (λ known. subst (λ (l : List Y). Settles join written (s.bytes ++ more) (l ++ option_to_list (item_ahead second_now)) stage.second_ended) taken_now (settles known))
             (begins_items (past_first ++ more_first) written [] (sym all_written_now ∙ sym (append-nil written)) read.begins)
             (λ e. let none = ended e in (
-              subst (AreAll pair.b_left pair.b_failed pair.b_end pair.second) (sym (append-nil past_second) ∙ ap (λ (l : List (Member Y)). past_second ++ l) (sym none.0)) (s.second_all e).0,
+              subst (AreAll pair.source_b pair.second) (sym (append-nil past_second) ∙ ap (λ (l : List (Member Y)). past_second ++ l) (sym none.0)) (s.second_all e).0,
               ap (λ (l : List Y). first_from (suc (lines_given second_now.below)) l) none.1,
             ))
             grows_now written (begins_items (past_first ++ more_first) written [] (sym all_written_now ∙ sym (append-nil written)) read.begins) fits_now
@@ -282,21 +283,21 @@ module _ {A B X Y U V : Type 0} (join : JoinDef X Y) (pair : Pair A B X Y U V) (
 
       -- the first input couldn't give a member
       pub stops_first : ((state : U) (line : TextLine) (kind : Kind) → pair.first.format.says state line ≡ Err kind → join.first_kinds kind)
-          → stage.waiting ≡ None → stage.first_ended ≡ false → (fault : FaultValue) (first_now : MemberReader A X U) → IsStopped pair.a_left pair.a_failed pair.a_end first fault first_now
+          → stage.waiting ≡ None → stage.first_ended ≡ false → (fault : FaultValue) (first_now : MemberReader A X U) → IsStopped pair.source_a first fault first_now
           → Ends (Some fault) first_now second grown
       stops_first wrong none going fault first_now stopped =
           let same : past_first ≡ past_first ++ [] = sym (append-nil past_first) in
-          let stops = passes_stop pair.a_left pair.a_failed pair.a_end pair.first past_first first s.first_passes join.first_kinds wrong first_now fault stopped in
-          let read = read_at_stop pair.a_left pair.a_failed pair.a_end pair.first past_first first s.first_passes first_now fault stopped in
+          let stops = passes_stop pair.source_a pair.first past_first first s.first_passes join.first_kinds wrong first_now fault stopped in
+          let read = read_at_stop pair.source_a pair.first past_first first s.first_passes first_now fault stopped in
           let alone : given stage ++ [] ≡ stage.written = append-nil (given stage) ∙ ap (λ (o : Option X). stage.written ++ option_to_list o) none ∙ append-nil stage.written in
           let bytes : s.bytes ++ [] ≡ s.bytes = append-nil s.bytes in
           let taken : stage.taken ++ [] ≡ stage.taken = append-nil stage.taken in
-          first_fails going [] [] second (takes_none pair.b_left pair.b_failed pair.b_end pair.second past_second second s.second_passes) (λ e. (refl, (s.second_all e).1)) []
+          first_fails going [] [] second (takes_none pair.source_b pair.second past_second second s.second_passes) (λ e. (refl, (s.second_all e).1)) []
           (λ known. rw (alone, bytes, taken) (s.settles known))
           (λ known. subst (λ (l : List X). join.Fits l (past_second ++ [])) (sym (append-nil (given stage))) (subst (λ (l : List (Member Y)). join.Fits (given stage) l) (sym (append-nil past_second)) (fits known)))
           (subst (λ (l : List (Member X)). AsksFor join pair out l second) same (asks going)) fault first_now
-          (subst (λ (l : List (Member X)). StopsAfter pair.a_left pair.a_failed pair.a_end pair.first join.first_kinds l fault first_now) same stops)
-          (subst (λ (l : List (Member X)). IsReadFor pair.a_left pair.a_failed pair.a_end pair.first l l first_now) same read) grown (grown_none grown)
+          (subst (λ (l : List (Member X)). StopsAfter pair.source_a pair.first join.first_kinds l fault first_now) same stops)
+          (subst (λ (l : List (Member X)). IsReadFor pair.source_a pair.first l l first_now) same read) grown (grown_none grown)
 
       -- memory ran out
       pub lacks_memory : (fault : FaultValue) → fault ≡ no_memory → Ends (Some fault) first second grown
@@ -312,8 +313,8 @@ module _ {A B X Y U V : Type 0} (join : JoinDef X Y) (pair : Pair A B X Y U V) (
 
       -- more members of both were taken, and some lines that are settled then weren't all written
       pub fails_to_write : (more_first : List (Member X)) (more_second : List (Member Y)) (first_now : MemberReader A X U) (second_now : MemberReader B Y V)
-          → TakesFurther pair.a_left pair.a_failed pair.a_end pair.first past_first more_first first first_now
-          → TakesFurther pair.b_left pair.b_failed pair.b_end pair.second past_second more_second second second_now
+          → TakesFurther pair.source_a pair.first past_first more_first first first_now
+          → TakesFurther pair.source_b pair.second past_second more_second second second_now
           → (written rest : List X) → written ++ rest ≡ given stage ++ member_items more_first
           → (IsKnown pair → join.Fits (given stage ++ member_items more_first) (past_second ++ more_second))
           → (stage.second_ended ≡ true → (more_second ≡ []) × (second_now.buffered ≡ []))
@@ -322,7 +323,7 @@ module _ {A B X Y U V : Type 0} (join : JoinDef X Y) (pair : Pair A B X Y U V) (
       fails_to_write more_first more_second first_now second_now takes takes_second written rest parts fits_now ended puts more settles through now fault adds fails =
           let all : given stage ++ member_items more_first ≡ member_items (past_first ++ more_first) = ap (λ l. l ++ member_items more_first) s.all_given ∙ sym (map-append (λ m. m.item) past_first more_first) in
           let taken : stage.taken ++ member_items more_second ≡ member_items (past_second ++ more_second) = ap (λ l. l ++ member_items more_second) s.all_taken ∙ sym (map-append (λ m. m.item) past_second more_second) in
-          let begun = begins_with (good_coming pair.a_left pair.first) (good_coming pair.a_left first_now) (past_first ++ more_first) takes.passes.come in
+          let begun = begins_with (good_coming pair.source_a.left pair.first) (good_coming pair.source_a.left first_now) (past_first ++ more_first) takes.passes.come in
           let grows = grows_both out.took through.took now.took (grows_both out.took grown.took through.took s.grows adds.grows) fails.puts.grows in
           record {
             written = written;
@@ -331,7 +332,7 @@ module _ {A B X Y U V : Type 0} (join : JoinDef X Y) (pair : Pair A B X Y U V) (
                 (λ known. subst (λ (l : List Y). Settles join written (s.bytes ++ (puts ++ more)) (l ++ option_to_list (item_ahead second_now)) stage.second_ended) taken (settles known))
                 (begins_items (past_first ++ more_first) written rest (sym all ∙ sym parts) begun)
                 (λ e. let none = ended e in (
-                  subst (AreAll pair.b_left pair.b_failed pair.b_end pair.second) (sym (append-nil past_second) ∙ ap (λ (l : List (Member Y)). past_second ++ l) (sym none.0)) (s.second_all e).0,
+                  subst (AreAll pair.source_b pair.second) (sym (append-nil past_second) ∙ ap (λ (l : List (Member Y)). past_second ++ l) (sym none.0)) (s.second_all e).0,
                   ap (λ (l : List Y). first_from (suc (lines_given second_now.below)) l) none.1,
                 ))
                 grows (given stage ++ member_items more_first)
@@ -349,7 +350,7 @@ module _ {A B X Y U V : Type 0} (join : JoinDef X Y) (pair : Pair A B X Y U V) (
       pub fails_waiting : (a : X) → stage.waiting ≡ Some a → (more : List ℕ) → (IsKnown pair → Settles join (stage.written ++ a ∷ []) (s.bytes ++ more) (stage.taken ++ option_to_list (item_ahead second)) stage.second_ended)
           → (fault : FaultValue) (now : Output) → FailsToAdd grown more fault now → Ends (Some fault) first second now
       fails_waiting a waits more settles fault now fails =
-          fails_to_write [] [] first second (takes_none pair.a_left pair.a_failed pair.a_end pair.first past_first first s.first_passes) (takes_none pair.b_left pair.b_failed pair.b_end pair.second past_second second s.second_passes)
+          fails_to_write [] [] first second (takes_none pair.source_a pair.first past_first first s.first_passes) (takes_none pair.source_b pair.second past_second second s.second_passes)
           (stage.written ++ a ∷ []) [] (ap (λ l. l ++ []) (ap (λ (o : Option X). stage.written ++ option_to_list o) (sym waits)))
           (λ known. subst (λ (l : List X). join.Fits l (past_second ++ [])) (sym (append-nil (given stage))) (subst (λ (l : List (Member Y)). join.Fits (given stage) l) (sym (append-nil past_second)) (fits known)))
           (λ e. (refl, (s.second_all e).1)) [] more
@@ -358,9 +359,9 @@ module _ {A B X Y U V : Type 0} (join : JoinDef X Y) (pair : Pair A B X Y U V) (
 
       -- while one of the first waits
       module _ (a : X) (waits : stage.waiting ≡ Some a) where
-        begins_before : IfSome (good_coming pair.a_left pair.first) (λ good. (rest : List X) × (items_in good ≡ stage.written ++ a ∷ rest))
+        begins_before : IfSome (good_coming pair.source_a.left pair.first) (λ good. (rest : List X) × (items_in good ≡ stage.written ++ a ∷ rest))
         begins_before =
-            items_begin (good_coming pair.a_left pair.first) past_first stage.written (a ∷ []) (sym s.all_given ∙ ap (λ (o : Option X). stage.written ++ option_to_list o) waits) came_first
+            items_begin (good_coming pair.source_a.left pair.first) past_first stage.written (a ∷ []) (sym s.all_given ∙ ap (λ (o : Option X). stage.written ++ option_to_list o) waits) came_first
 
         with_waiting : given stage ≡ stage.written ++ a ∷ []
         with_waiting = ap (λ (o : Option X). stage.written ++ option_to_list o) waits
@@ -388,8 +389,8 @@ module _ {A B X Y U V : Type 0} (join : JoinDef X Y) (pair : Pair A B X Y U V) (
                 m = m;
                 waiting = a;
                 begins = begins_before;
-                comes = subst (λ (o : Option (Member Y)). IfSome (good_coming pair.b_left pair.second) (λ good. (rest : List (Member Y)) × (good.members ≡ (past_second ++ option_to_list o) ++ rest))) ahead
-                    (seen_begins pair.b_left (good_coming pair.b_left pair.second) second past_second (ahead_in second) refl s.second_passes.come s.second_passes.ahead);
+                comes = subst (λ (o : Option (Member Y)). IfSome (good_coming pair.source_b.left pair.second) (λ good. (rest : List (Member Y)) × (good.members ≡ (past_second ++ option_to_list o) ++ rest))) ahead
+                    (seen_begins pair.source_b.left (good_coming pair.source_b.left pair.second) second past_second (ahead_in second) refl s.second_passes.come s.second_passes.ahead);
                 undecided = undecided;
                 cuts = cuts;
                 kind = kind;
@@ -409,7 +410,7 @@ module _ {A B X Y U V : Type 0} (join : JoinDef X Y) (pair : Pair A B X Y U V) (
         -- the second input couldn't give a member
         module _ (wrong : (state : V) (line : TextLine) (kind : Kind) → pair.second.format.says state line ≡ Err kind → join.second_kinds kind)
             (reached : join.Asks (given stage) stage.taken) (goes : stage.second_ended ≡ false) (opens : IsKnown pair → second.buffered ≡ [] → join.decided a stage.taken ≡ false)
-            (fault : FaultValue) (second_now : MemberReader B Y V) (stopped : IsStopped pair.b_left pair.b_failed pair.b_end second fault second_now) where
+            (fault : FaultValue) (second_now : MemberReader B Y V) (stopped : IsStopped pair.source_b second fault second_now) where
           low_stopped : IsSome second_now.fault → All (λ m. m.line ≤ lines_given second_now.below) (past_second ++ option_to_list (ahead_in second))
           low_stopped some = seen_low past_second second (lines_given second_now.below) (none_buffered stopped.answers.was_none) (up_to (lines_given second.below) (lines_given second_now.below) past_second stopped.answers.rises s.second_passes.behind)
 
@@ -417,7 +418,7 @@ module _ {A B X Y U V : Type 0} (join : JoinDef X Y) (pair : Pair A B X Y U V) (
           near_stopped handed = near_by first second_now grown (wrote_later first s.first_passes.bytes second_now low_stopped handed) no_more refl (inr (record {
             past = past_second;
             reached = reached_items past_first s.all_given reached;
-            near = λ known. (read_at_stop pair.b_left pair.b_failed pair.b_end pair.second past_second second s.second_passes second_now fault stopped).to;
+            near = λ known. (read_at_stop pair.source_b pair.second past_second second s.second_passes second_now fault stopped).to;
           }))
 
           second_why : SecondFails join pair out stage.second_ended past_second second_now fault → Why join pair out stage.written s.bytes (given stage) stage.second_ended first second_now (Some fault) grown
@@ -430,7 +431,7 @@ module _ {A B X Y U V : Type 0} (join : JoinDef X Y) (pair : Pair A B X Y U V) (
                     past = past_second;
                     waiting = a;
                     begins = begins_before;
-                    undecided = if_known (good_coming pair.b_left pair.second) (join.decided a (member_items past_second) ≡ false) (λ known. ap (join.decided a) (sym s.all_taken) ∙ opens known stopped.answers.was_none);
+                    undecided = if_known (good_coming pair.source_b.left pair.second) (join.decided a (member_items past_second) ≡ false) (λ known. ap (join.decided a) (sym s.all_taken) ∙ opens known stopped.answers.was_none);
                     fails = fails;
                     fits = λ known. subst (λ (l : List X). join.Fits l past_second) with_waiting (fits known);
                     serves = first_serves;
@@ -440,7 +441,7 @@ module _ {A B X Y U V : Type 0} (join : JoinDef X Y) (pair : Pair A B X Y U V) (
                 s.works,
               )
 
-          second_stops : StopsAfter pair.b_left pair.b_failed pair.b_end pair.second join.second_kinds past_second fault second_now → Why join pair out stage.written s.bytes (given stage) stage.second_ended first second_now (Some fault) grown
+          second_stops : StopsAfter pair.source_b pair.second join.second_kinds past_second fault second_now → Why join pair out stage.written s.bytes (given stage) stage.second_ended first second_now (Some fault) grown
           second_stops stops =
               elim stops.cause [
                 | inl wrong ↦ second_why (record { cause = inl wrong; before_end = λ e. absurd (false≢true (sym goes ∙ e)) })
@@ -453,7 +454,7 @@ module _ {A B X Y U V : Type 0} (join : JoinDef X Y) (pair : Pair A B X Y U V) (
           pub stops_second : Ends (Some fault) first second_now grown
           unfolding wrote_later wrote_by near_stopped near_by
           stops_second =
-              let stops = passes_stop pair.b_left pair.b_failed pair.b_end pair.second past_second second s.second_passes join.second_kinds wrong second_now fault stopped in
+              let stops = passes_stop pair.source_b pair.second past_second second s.second_passes join.second_kinds wrong second_now fault stopped in
               record {
                 written = stage.written;
                 bytes = s.bytes;
@@ -465,10 +466,10 @@ module _ {A B X Y U V : Type 0} (join : JoinDef X Y) (pair : Pair A B X Y U V) (
 
         -- at its end the waiting member wasn't written
         pub fails_at_end : join.Asks (given stage) stage.taken → stage.second_ended ≡ false
-            → (fault : FaultValue) (second_now : MemberReader B Y V) (now : Output) → IsOver pair.b_left pair.b_failed pair.b_end second second_now
+            → (fault : FaultValue) (second_now : MemberReader B Y V) (now : Output) → IsOver pair.source_b second second_now
             → FailsToAdd grown (join.bytes a stage.taken) fault now → Ends (Some fault) first second_now now
         fails_at_end reached goes fault second_now now over fails =
-            let p = passes_end pair.b_left pair.b_failed pair.b_end pair.second past_second second s.second_passes second_now over in
+            let p = passes_end pair.source_b pair.second past_second second s.second_passes second_now over in
             let more = join.bytes a stage.taken in
             let seen : member_items past_second ++ option_to_list (item_ahead second_now) ≡ stage.taken = seen_alone (member_items past_second) second_now over.ends.none_buffered ∙ sym s.all_taken in
             record {
@@ -477,13 +478,13 @@ module _ {A B X Y U V : Type 0} (join : JoinDef X Y) (pair : Pair A B X Y U V) (
               wrote = wrote_by past_second second_now second_now p (none_low second_now p.going) p.bytes first s.first_passes.bytes (stage.written ++ a ∷ []) (s.bytes ++ more) true now
                   (λ known. rw seen (settles_end join stage.written s.bytes stage.taken false a (settles_ended join pair out stage past_first past_second first second grown s goes second_now over known)))
                   (begins_items past_first (stage.written ++ a ∷ []) [] (sym s.all_given ∙ with_waiting ∙ sym (append-nil (stage.written ++ a ∷ []))) came_first)
-                  (λ e. (passes_all pair.b_left pair.b_failed pair.b_end pair.second past_second second s.second_passes second_now over, ap (λ (l : List Y). first_from (suc (lines_given second_now.below)) l) over.ends.none_buffered))
+                  (λ e. (passes_all pair.source_b pair.second past_second second s.second_passes second_now over, ap (λ (l : List Y). first_from (suc (lines_given second_now.below)) l) over.ends.none_buffered))
                   (grows_both out.took grown.took now.took s.grows fails.puts.grows) (given stage) given_now fits;
               why = inr (inr (ap Some fails.puts.is, cuts_more out grown now s.bytes more fault s.puts fails));
               near = near_by first second_now now (wrote_later first s.first_passes.bytes second_now (none_low second_now p.going) p.bytes) (goes_failed grown now fails.puts.grows fails.puts.failed) refl (inr (record {
                 past = past_second;
                 reached = reached_items past_first s.all_given reached;
-                near = λ known. (read_here pair.b_left pair.b_failed pair.b_end pair.second past_second second_now p).to;
+                near = λ known. (read_here pair.source_b pair.second past_second second_now p).to;
               }));
               exact = λ stops. absurd (stops.1 (ap Some fails.puts.is));
             }
@@ -496,7 +497,7 @@ module _ {A B X Y U V : Type 0} (join : JoinDef X Y) (pair : Pair A B X Y U V) (
 
           -- the second was read on
           pub ends_rest : (past : List (Member Y)) (fault : Option FaultValue)
-              → ((fault ≡ None) × AreAll pair.b_left pair.b_failed pair.b_end pair.second past × Serves pair.b_failed pair.second second_now × (join.last stage.written past ≡ None))
+              → ((fault ≡ None) × AreAll pair.source_b pair.second past × Serves pair.source_b.has_failed pair.second second_now × (join.last stage.written past ≡ None))
               ⊎ (((other : FaultValue) × (fault ≡ Some other) × SecondFails join pair out stage.second_ended past second_now other × (join.last stage.written past ≡ None))
               ⊎ ((other : FaultValue) × (fault ≡ Some other) × LastTold join pair out stage.written second_now other))
               → Ends fault first second_now grown
@@ -540,7 +541,7 @@ module _ {A B X Y U V : Type 0} (join : JoinDef X Y) (pair : Pair A B X Y U V) (
 
         -- the rest of the second input stopped
         pub stops_rest : (second_now : MemberReader B Y V) → (IsSome second_now.fault → All (λ m. m.line ≤ lines_given second_now.below) (past_second ++ option_to_list (ahead_in second))) → (past : List (Member Y)) (fault : FaultValue)
-            → StopsAfter pair.b_left pair.b_failed pair.b_end pair.second join.second_kinds past fault second_now
+            → StopsAfter pair.source_b pair.second join.second_kinds past fault second_now
             → (stage.second_ended ≡ true → (input : Input) (line : ℕ) → fault ≡ read_failed input line → ⊥) → join.last stage.written past ≡ None → Ends (Some fault) first second_now grown
         stops_rest second_now low past fault stops before_end none =
             elim stops.cause [
@@ -554,9 +555,9 @@ module _ {A B X Y U V : Type 0} (join : JoinDef X Y) (pair : Pair A B X Y U V) (
         -- after the last member of the first the second couldn't give one
         pub stops_behind : ((state : V) (line : TextLine) (kind : Kind) → pair.second.format.says state line ≡ Err kind → join.second_kinds kind)
             → stage.second_ended ≡ false → join.last stage.written past_second ≡ None
-            → (fault : FaultValue) (second_now : MemberReader B Y V) → IsStopped pair.b_left pair.b_failed pair.b_end second fault second_now → Ends (Some fault) first second_now grown
+            → (fault : FaultValue) (second_now : MemberReader B Y V) → IsStopped pair.source_b second fault second_now → Ends (Some fault) first second_now grown
         stops_behind wrong goes none fault second_now stopped =
             stops_rest second_now
             (λ some. seen_low past_second second (lines_given second_now.below) (none_buffered stopped.answers.was_none) (up_to (lines_given second.below) (lines_given second_now.below) past_second stopped.answers.rises s.second_passes.behind))
             past_second fault
-            (passes_stop pair.b_left pair.b_failed pair.b_end pair.second past_second second s.second_passes join.second_kinds wrong second_now fault stopped) (λ e. absurd (false≢true (sym goes ∙ e))) none
+            (passes_stop pair.source_b pair.second past_second second s.second_passes join.second_kinds wrong second_now fault stopped) (λ e. absurd (false≢true (sym goes ∙ e))) none

@@ -4,6 +4,7 @@ use Rattle.std.specs.Prelude.{◌⊎◌, All, IfSome, option_map}
 use Rattle.std.proofs.KnownBytes.{Appends-nil}
 use Rattle.std.proofs.lemmas.Bool.{false≢true}
 use Rattle.std.proofs.lemmas.List.{map-append}
+use Rattle.bt_lines.specs.declared.device.Source.{Ghosts as Source}
 use Rattle.bt_lines.proofs.lemmas.writer.PuttingLemmas.{grown_works}
 use Rattle.bt_lines.proofs.lemmas.writer.OutputLemmas.{grows_both}
 use Rattle.bt_lines.specs.model.Lines.{bytes_in}
@@ -50,25 +51,25 @@ from_push line [] x = (record { line = line; item = x }, refl)
 from_push line (y ∷ items) x = let rest = from_push (suc line) items x in (rest.0, ap (λ l. record { line = line; item = y } ∷ l) rest.1)
 
 -- a reader of members took some
-module _ {S A State : Type 0} (left : S → Option (List ℕ)) (failed end : S → Bool) (old : MemberReader S A State) (past : List (Member A)) (now : MemberReader S A State) (p : Passes left failed end old past now) where
+module _ {S A State : Type 0} (device : Source S) (old : MemberReader S A State) (past : List (Member A)) (now : MemberReader S A State) (p : Passes device old past now) where
   abbrev n : ℕ
   n = suc (lines_given now.below)
 
-  read_last : (taken xs : List A) (a : A) → taken ≡ xs ++ a ∷ [] → (new : MemberReader S A State) → HasTaken left failed end now taken new
-      → IsReadFor left failed end old (past ++ members_from n xs) (past ++ members_from n taken) new
+  read_last : (taken xs : List A) (a : A) → taken ≡ xs ++ a ∷ [] → (new : MemberReader S A State) → HasTaken device now taken new
+      → IsReadFor device old (past ++ members_from n xs) (past ++ members_from n taken) new
   read_last taken xs a e new has =
-      subst (λ (l : List A). IsReadFor left failed end old (past ++ members_from n xs) (past ++ members_from n l) new) (sym e)
-      (read_before left failed end old past now p xs a new (subst (λ (l : List A). HasTaken left failed end now l new) e has))
+      subst (λ (l : List A). IsReadFor device old (past ++ members_from n xs) (past ++ members_from n l) new) (sym e)
+      (read_before device old past now p xs a new (subst (λ (l : List A). HasTaken device now l new) e has))
 
-  pub takes_further : (taken : List A) (new : MemberReader S A State) → HasTaken left failed end now taken new → TakesFurther left failed end old past (members_from n taken) now new
+  pub takes_further : (taken : List A) (new : MemberReader S A State) → HasTaken device now taken new → TakesFurther device old past (members_from n taken) now new
   takes_further taken new has = record {
-    passes = passes_take left failed end old past now p taken new has;
+    passes = passes_take device old past now p taken new has;
     last = λ before m e.
         let xs = member_items before in
         let parts : taken ≡ xs ++ m.item ∷ [] = sym (items_from n taken) ∙ ap member_items e ∙ map-append (λ m. m.item) before (m ∷ []) in
         let push = from_push n xs m.item in
         let fronts : before ++ m ∷ [] ≡ members_from n xs ++ push.0 ∷ [] = sym e ∙ ap (members_from n) parts ∙ push.1 in
-        subst (λ (l : List (Member A)). IsReadFor left failed end old (past ++ l) (past ++ members_from n taken) new) (sym (push_front before (members_from n xs) m push.0 fronts))
+        subst (λ (l : List (Member A)). IsReadFor device old (past ++ l) (past ++ members_from n taken) new) (sym (push_front before (members_from n xs) m push.0 fronts))
         (read_last taken xs m.item parts new has);
     source = has.takes.source;
     told = has.takes.hands.told_stays;
@@ -98,17 +99,17 @@ none_new [] (Some x) e = cc
 none_new (y ∷ newly) o e = cc
 
 -- the same reads, by a reader of the same source
-unfoldable pub read_same : {S A State : Type 0} (left : S → Option (List ℕ)) (failed end : S → Bool) (old : MemberReader S A State) (past given more : List (Member A)) (now new : MemberReader S A State) → source_of new.below ≡ source_of now.below → given ≡ more
-    → IsReadFor left failed end old past given now → IsReadFor left failed end old past more new
-read_same {S} {A} {State} left failed end old past given more now new same e read = record {
+unfoldable pub read_same : {S A State : Type 0} (device : Source S) (old : MemberReader S A State) (past given more : List (Member A)) (now new : MemberReader S A State) → source_of new.below ≡ source_of now.below → given ≡ more
+    → IsReadFor device old past given now → IsReadFor device old past more new
+read_same {S} {A} {State} device old past given more now new same e read = record {
   to = record {
     count = read.to.count;
-    near = subst (λ (s : S). IfSome (lines_left left old.below) (λ lines. IfSome (left s) (λ rest. bytes_in (drop (suc read.to.count) lines) ≤ length rest + block_size))) (sym same) read.to.near;
+    near = subst (λ (s : S). IfSome (lines_left device.left old.below) (λ lines. IfSome (device.left s) (λ rest. bytes_in (drop (suc read.to.count) lines) ≤ length rest + block_size))) (sym same) read.to.near;
     behind = read.to.behind;
   };
   low = read.low;
   high = subst (λ (l : List (Member A)). All (λ m. m.line ≤ suc read.to.count) l) e read.high;
-  begins = subst (λ (l : List (Member A)). IfSome (good_coming left old) (λ good. (rest : List (Member A)) × (good.members ≡ l ++ rest))) e read.begins;
+  begins = subst (λ (l : List (Member A)). IfSome (good_coming device.left old) (λ good. (rest : List (Member A)) × (good.members ≡ l ++ rest))) e read.begins;
 }
 
 -- if nothing is buffered, nothing is ahead
@@ -121,7 +122,7 @@ module _ {A B X Y U V : Type 0} (join : JoinDef X Y) (pair : Pair A B X Y U V) (
   first_stage = record { written = []; waiting = None; taken = []; first_ended = false; second_ended = false }
 
   -- nothing was given yet
-  pub comes_start : Passes pair.a_left pair.a_failed pair.a_end pair.first [] pair.first → Passes pair.b_left pair.b_failed pair.b_end pair.second [] pair.second
+  pub comes_start : Passes pair.source_a pair.first [] pair.first → Passes pair.source_b pair.second [] pair.second
       → HoldsBlock out.took out.put → Comes join pair out first_stage [] [] pair.first pair.second out
   comes_start passes passes_second block = record {
     first_passes = passes;
@@ -136,7 +137,7 @@ module _ {A B X Y U V : Type 0} (join : JoinDef X Y) (pair : Pair A B X Y U V) (
     works = record { served = refl; sink_served = refl; put = ([], Appends-nil out.put); block = λ h. h };
     block = block;
     grows = ([], Appends-nil out.took);
-    near_first = ([], refl, read_here pair.a_left pair.a_failed pair.a_end pair.first [] pair.first passes, λ e. absurd (false≢true e));
+    near_first = ([], refl, read_here pair.source_a pair.first [] pair.first passes, λ e. absurd (false≢true e));
   }
 
   module _ (stage : Stage X Y) (past_first : List (Member X)) (past_second : List (Member Y)) (first : MemberReader A X U) (second : MemberReader B Y V) (grown : Output) (s : Comes join pair out stage past_first past_second first second grown) where
@@ -145,10 +146,10 @@ module _ {A B X Y U V : Type 0} (join : JoinDef X Y) (pair : Pair A B X Y U V) (
     all_written none = sym (append-nil stage.written) ∙ ap (λ (o : Option X). stage.written ++ option_to_list o) (sym none) ∙ s.all_given
 
     -- a member of the first input is buffered
-    pub fills_first : stage.waiting ≡ None → stage.first_ended ≡ false → (first_now : MemberReader A X U) → IsFilled pair.a_left pair.a_failed pair.a_end first first_now
+    pub fills_first : stage.waiting ≡ None → stage.first_ended ≡ false → (first_now : MemberReader A X U) → IsFilled pair.source_a first first_now
         → Comes join pair out stage past_first past_second first_now second grown
     fills_first none going first_now filled =
-        let p = passes_fill pair.a_left pair.a_failed pair.a_end pair.first past_first first s.first_passes first_now filled in
+        let p = passes_fill pair.source_a pair.first past_first first s.first_passes first_now filled in
         record {
           first_passes = p;
           second_passes = s.second_passes;
@@ -162,21 +163,21 @@ module _ {A B X Y U V : Type 0} (join : JoinDef X Y) (pair : Pair A B X Y U V) (
           works = s.works;
           block = s.block;
           grows = s.grows;
-          near_first = (past_first, sym (all_written none), read_here pair.a_left pair.a_failed pair.a_end pair.first past_first first_now p, λ e. absurd (false≢true (sym going ∙ e)));
+          near_first = (past_first, sym (all_written none), read_here pair.source_a pair.first past_first first_now p, λ e. absurd (false≢true (sym going ∙ e)));
         }
 
     -- a member of the second is
-    pub fills_second : stage.second_ended ≡ false → (second_now : MemberReader B Y V) → IsFilled pair.b_left pair.b_failed pair.b_end second second_now
+    pub fills_second : stage.second_ended ≡ false → (second_now : MemberReader B Y V) → IsFilled pair.source_b second second_now
         → Comes join pair out stage past_first past_second first second_now grown
     fills_second going second_now filled = record {
       first_passes = s.first_passes;
-      second_passes = passes_fill pair.b_left pair.b_failed pair.b_end pair.second past_second second s.second_passes second_now filled;
+      second_passes = passes_fill pair.source_b pair.second past_second second s.second_passes second_now filled;
       all_given = s.all_given;
       all_taken = s.all_taken;
       bytes = s.bytes;
       settles = λ known.
           rw going (subst (λ (o : Option (Member Y)). Settles join stage.written s.bytes (stage.taken ++ option_to_list (option_map (λ m. m.item) o)) false) (sym filled.gives.ahead)
-          (seen_by join pair.b_left pair.b_failed second second_now filled.m _ refl filled.gives stage.written s.bytes stage.taken
+          (seen_by join pair.source_b.left pair.source_b.has_failed second second_now filled.m _ refl filled.gives stage.written s.bytes stage.taken
           (subst (λ (b : Bool). Settles join stage.written s.bytes (stage.taken ++ option_to_list (item_ahead second)) b) going (s.settles known))));
       first_all = s.first_all;
       second_all = λ e. absurd (false≢true (sym going ∙ e));
@@ -189,8 +190,8 @@ module _ {A B X Y U V : Type 0} (join : JoinDef X Y) (pair : Pair A B X Y U V) (
 
     -- more members of both were taken, after their ends none, and these bytes were put for those that are written now
     module _ (more_first : List (Member X)) (more_second : List (Member Y)) (first_now : MemberReader A X U) (second_now : MemberReader B Y V)
-        (takes : TakesFurther pair.a_left pair.a_failed pair.a_end pair.first past_first more_first first first_now)
-        (takes_second : TakesFurther pair.b_left pair.b_failed pair.b_end pair.second past_second more_second second second_now)
+        (takes : TakesFurther pair.source_a pair.first past_first more_first first first_now)
+        (takes_second : TakesFurther pair.source_b pair.second past_second more_second second second_now)
         (ended : stage.first_ended ≡ true → (more_first ≡ []) × (first_now.buffered ≡ [])) (ended_second : stage.second_ended ≡ true → (more_second ≡ []) × (second_now.buffered ≡ []))
         (newly : List X) (new : Stage X Y) (follows : Follows stage (member_items more_first) newly (member_items more_second) new) where
       all_now : given new ≡ member_items (past_first ++ more_first)
@@ -218,7 +219,7 @@ module _ {A B X Y U V : Type 0} (join : JoinDef X Y) (pair : Pair A B X Y U V) (
       abbrev Near : Type 0
       Near =
           (past : List (Member X)) × (member_items past ≡ new.written)
-          × (read : IsReadFor pair.a_left pair.a_failed pair.a_end pair.first past (past_first ++ more_first) first_now)
+          × (read : IsReadFor pair.source_a pair.first past (past_first ++ more_first) first_now)
           × (new.first_ended ≡ true → HasNoMore pair first_now read.to.count)
 
       -- no more was given of the first
@@ -228,8 +229,8 @@ module _ {A B X Y U V : Type 0} (join : JoinDef X Y) (pair : Pair A B X Y U V) (
           let was = s.near_first in (
             was.0,
             was.1 ∙ same_written unwritten,
-            read_same pair.a_left pair.a_failed pair.a_end pair.first was.0 past_first (past_first ++ more_first) first first_now takes.source (none_more past_first more_first none) was.2,
-            λ e. let all = was.3 (sym follows.first_is ∙ e) in (ap pair.a_end takes.source ∙ all.0, all.1),
+            read_same pair.source_a pair.first was.0 past_first (past_first ++ more_first) first first_now takes.source (none_more past_first more_first none) was.2,
+            λ e. let all = was.3 (sym follows.first_is ∙ e) in (ap pair.source_a.end_told takes.source ∙ all.0, all.1),
           )
 
       near_waiting : (x : X) → new.waiting ≡ Some x → stage.first_ended ≡ false → Near
@@ -252,7 +253,7 @@ module _ {A B X Y U V : Type 0} (join : JoinDef X Y) (pair : Pair A B X Y U V) (
       near_by None e false going = (
         past_first ++ more_first,
         sym all_now ∙ ap (λ (o : Option X). new.written ++ option_to_list o) e ∙ append-nil new.written,
-        read_here pair.a_left pair.a_failed pair.a_end pair.first (past_first ++ more_first) first_now takes.passes,
+        read_here pair.source_a pair.first (past_first ++ more_first) first_now takes.passes,
         λ e. absurd (false≢true (sym going ∙ sym follows.first_is ∙ e)),
       )
 
@@ -268,7 +269,7 @@ module _ {A B X Y U V : Type 0} (join : JoinDef X Y) (pair : Pair A B X Y U V) (
         first_all = λ e.
             let was = sym follows.first_is ∙ e in
             let all = s.first_all was in (
-              subst (AreAll pair.a_left pair.a_failed pair.a_end pair.first) (none_more past_first more_first (ended was).0) all.0,
+              subst (AreAll pair.source_a pair.first) (none_more past_first more_first (ended was).0) all.0,
               (none_then was).1,
               (ended was).1,
               takes.told all.3,
@@ -276,7 +277,7 @@ module _ {A B X Y U V : Type 0} (join : JoinDef X Y) (pair : Pair A B X Y U V) (
         second_all = λ e.
             let was = sym follows.second_is ∙ e in
             let all = s.second_all was in (
-              subst (AreAll pair.b_left pair.b_failed pair.b_end pair.second) (none_more past_second more_second (ended_second was).0) all.0,
+              subst (AreAll pair.source_b pair.second) (none_more past_second more_second (ended_second was).0) all.0,
               (ended_second was).1,
               takes_second.told all.2,
             );
@@ -288,15 +289,15 @@ module _ {A B X Y U V : Type 0} (join : JoinDef X Y) (pair : Pair A B X Y U V) (
       }
 
     -- the first input has ended
-    module _ (none : stage.waiting ≡ None) (going : stage.first_ended ≡ false) (first_now : MemberReader A X U) (over : IsOver pair.a_left pair.a_failed pair.a_end first first_now) where
-      ended_passes : Passes pair.a_left pair.a_failed pair.a_end pair.first past_first first_now
-      ended_passes = passes_end pair.a_left pair.a_failed pair.a_end pair.first past_first first s.first_passes first_now over
+    module _ (none : stage.waiting ≡ None) (going : stage.first_ended ≡ false) (first_now : MemberReader A X U) (over : IsOver pair.source_a first first_now) where
+      ended_passes : Passes pair.source_a pair.first past_first first_now
+      ended_passes = passes_end pair.source_a pair.first past_first first s.first_passes first_now over
 
-      no_more_first : HasNoMore pair first_now (read_here pair.a_left pair.a_failed pair.a_end pair.first past_first first_now ended_passes).to.count
+      no_more_first : HasNoMore pair first_now (read_here pair.source_a pair.first past_first first_now ended_passes).to.count
       unfolding read_here
       no_more_first = (
         (ended_passes.kept.end over.ends.told).0,
-        ended_after_all pair.a_left pair.a_failed pair.a_end pair.first past_first first s.first_passes first_now over,
+        ended_after_all pair.source_a pair.first past_first first s.first_passes first_now over,
       )
 
       pub ends_first : Comes join pair out (record stage { first_ended = true }) past_first past_second first_now second grown
@@ -307,13 +308,13 @@ module _ {A B X Y U V : Type 0} (join : JoinDef X Y) (pair : Pair A B X Y U V) (
         all_taken = s.all_taken;
         bytes = s.bytes;
         settles = s.settles;
-        first_all = λ e. (passes_all pair.a_left pair.a_failed pair.a_end pair.first past_first first s.first_passes first_now over, none, over.ends.none_buffered, over.ends.told);
+        first_all = λ e. (passes_all pair.source_a pair.first past_first first s.first_passes first_now over, none, over.ends.none_buffered, over.ends.told);
         second_all = s.second_all;
         puts = s.puts;
         works = s.works;
         block = s.block;
         grows = s.grows;
-        near_first = (past_first, sym (all_written none), read_here pair.a_left pair.a_failed pair.a_end pair.first past_first first_now ended_passes, λ e. no_more_first);
+        near_first = (past_first, sym (all_written none), read_here pair.source_a pair.first past_first first_now ended_passes, λ e. no_more_first);
       }
 
     -- once the second input has ended, the bytes of a member of the first are those against what was taken
@@ -332,7 +333,7 @@ module _ {A B X Y U V : Type 0} (join : JoinDef X Y) (pair : Pair A B X Y U V) (
     first_waits a waits = waits_by a waits stage.first_ended refl
 
     -- if the second input ends now
-    module _ (goes : stage.second_ended ≡ false) (second_now : MemberReader B Y V) (over : IsOver pair.b_left pair.b_failed pair.b_end second second_now) where
+    module _ (goes : stage.second_ended ≡ false) (second_now : MemberReader B Y V) (over : IsOver pair.source_b second second_now) where
       -- those written are settled by what was taken
       pub settles_ended : IsKnown pair → Settles join stage.written s.bytes stage.taken false
       settles_ended known =
@@ -342,17 +343,17 @@ module _ {A B X Y U V : Type 0} (join : JoinDef X Y) (pair : Pair A B X Y U V) (
       -- its end was given
       ends_by : (now : Output) (bytes : List ℕ) → (IsKnown pair → Settles join (given stage) bytes stage.taken true) → PutsLines out bytes now → WorksAsBefore out now → HoldsBlock now.took now.put → Grows out.took now.took
           → ((past : List (Member X)) × (member_items past ≡ given stage)
-          × (read : IsReadFor pair.a_left pair.a_failed pair.a_end pair.first past past_first first) × (stage.first_ended ≡ true → HasNoMore pair first read.to.count))
+          × (read : IsReadFor pair.source_a pair.first past past_first first) × (stage.first_ended ≡ true → HasNoMore pair first read.to.count))
           → Comes join pair out (record stage { written = given stage; waiting = None; second_ended = true }) past_first past_second first second_now now
       ends_by now bytes settles puts works block grows near = record {
         first_passes = s.first_passes;
-        second_passes = passes_end pair.b_left pair.b_failed pair.b_end pair.second past_second second s.second_passes second_now over;
+        second_passes = passes_end pair.source_b pair.second past_second second s.second_passes second_now over;
         all_given = append-nil (given stage) ∙ s.all_given;
         all_taken = s.all_taken;
         bytes = bytes;
         settles = λ known. subst (λ (l : List Y). Settles join (given stage) bytes l true) (sym (seen_alone stage.taken second_now over.ends.none_buffered)) (settles known);
         first_all = λ e. let was = s.first_all e in (was.0, refl, was.2, was.3);
-        second_all = λ e. (passes_all pair.b_left pair.b_failed pair.b_end pair.second past_second second s.second_passes second_now over, over.ends.none_buffered, over.ends.told);
+        second_all = λ e. (passes_all pair.source_b pair.second past_second second s.second_passes second_now over, over.ends.none_buffered, over.ends.told);
         puts = puts;
         works = works;
         block = block;
@@ -370,7 +371,7 @@ module _ {A B X Y U V : Type 0} (join : JoinDef X Y) (pair : Pair A B X Y U V) (
           (λ known. subst (λ (w : List X). Settles join w (s.bytes ++ more) stage.taken true) (sym with_waiting) (settles_end join stage.written s.bytes stage.taken false a (settles_ended known)))
           (grown_puts out grown now s.bytes more s.puts adds) (works_both out grown now s.works (grown_works grown now more adds)) (adds.block s.block)
           (grows_both out.took grown.took now.took s.grows adds.grows)
-          (past_first, sym s.all_given, read_here pair.a_left pair.a_failed pair.a_end pair.first past_first first s.first_passes, λ e. absurd (false≢true (sym (first_waits a waits) ∙ e)))
+          (past_first, sym s.all_given, read_here pair.source_a pair.first past_first first s.first_passes, λ e. absurd (false≢true (sym (first_waits a waits) ∙ e)))
 
       -- or none waited
       pub ends_alone : stage.waiting ≡ None → Comes join pair out (record stage { written = given stage; waiting = None; second_ended = true }) past_first past_second first second_now grown

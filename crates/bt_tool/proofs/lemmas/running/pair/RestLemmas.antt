@@ -3,6 +3,7 @@ use Rattle.std.proofs.Common.{◌≡◌, ℕ, suc, ◌≤◌, ◌<◌, inl, inr,
 use Rattle.std.specs.Prelude.{All}
 use Rattle.std.proofs.lemmas.Bool.{false≢true}
 use Rattle.std.proofs.lemmas.List.Elements.{All-push}
+use Rattle.bt_lines.specs.declared.device.Source.{Ghosts as Source}
 use Rattle.bt_lines.specs.model.Fault.{FaultValue}
 use Rattle.bt_lines.specs.model.Lines.{TextLine}
 use Rattle.bt_lines.specs.calls.Device.{ReadsCounted}
@@ -28,26 +29,26 @@ first_line line [] m e = cc
 first_line {A} line (x ∷ items) m e = let same : record { line = line; item = x } ≡ m = cc in ap (λ (m : Member A). m.line) (sym same)
 
 -- taking what is buffered reads nothing
-pub reads_taken : {S A State : Type 0} (left : S → Option (List ℕ)) (failed end : S → Bool) (IsRead : S → Option ℕ → S → Type 0) (old : LineReader S) (taken : List A) (now new : MemberReader S A State) → HasTaken left failed end now taken new
-    → HasRead IsRead old now.below → HasRead IsRead old new.below
-reads_taken {S} left failed end IsRead old taken now new has read =
+pub reads_taken : {S A State : Type 0} (device : Source S) (old : LineReader S) (taken : List A) (now new : MemberReader S A State) → HasTaken device now taken new
+    → HasRead device.is_read old now.below → HasRead device.is_read old new.below
+reads_taken {S} device old taken now new has read =
     let bytes : bytes_taken now.below ≡ bytes_taken new.below = omega (arith, has.takes.hands.counted) in
-    subst (λ (n : ℕ). ReadsCounted IsRead (source_of old) (bytes_taken old) (source_of new.below) n) bytes
-    (subst (λ (s : S). ReadsCounted IsRead (source_of old) (bytes_taken old) s (bytes_taken now.below)) (sym has.takes.source) read)
+    subst (λ (n : ℕ). ReadsCounted device.is_read (source_of old) (bytes_taken old) (source_of new.below) n) bytes
+    (subst (λ (s : S). ReadsCounted device.is_read (source_of old) (bytes_taken old) s (bytes_taken now.below)) (sym has.takes.source) read)
 
-module _ {S A State : Type 0} (left : S → Option (List ℕ)) (failed end : S → Bool) (before : MemberReader S A State) where
-  pub reads_start : IsReadOn left failed end before before
+module _ {S A State : Type 0} (device : Source S) (before : MemberReader S A State) where
+  pub reads_start : IsReadOn device before before
   reads_start = record {
-    bytes = ([], hands_none left before.below);
+    bytes = ([], hands_none device.left before.below);
     rises = omega arith;
     moves = inl refl;
     going = λ none. none;
-    passes = λ old past p. ([], subst (λ l. Passes left failed end old l before) (sym (append-nil past)) p);
+    passes = λ old past p. ([], subst (λ l. Passes device old l before) (sym (append-nil past)) p);
   }
 
-  module _ (now : MemberReader S A State) (on : IsReadOn left failed end before now) where
+  module _ (now : MemberReader S A State) (on : IsReadOn device before now) where
     -- what was made buffered was taken
-    pub reads_more : (filled next : MemberReader S A State) → IsFilled left failed end now filled → HasTaken left failed end filled filled.buffered next → IsReadOn left failed end before next
+    pub reads_more : (filled next : MemberReader S A State) → IsFilled device now filled → HasTaken device filled filled.buffered next → IsReadOn device before next
     reads_more filled next fills has =
         let gives = fills.gives in
         let hands = gives.stays.bytes in
@@ -57,7 +58,7 @@ module _ {S A State : Type 0} (left : S → Option (List ℕ)) (failed end : S �
         record {
           bytes = (
             (on.bytes.0 ++ hands.0) ++ [],
-            hands_both left before.below filled.below next.below (on.bytes.0 ++ hands.0) [] (hands_both left before.below now.below filled.below on.bytes.0 hands.0 on.bytes.1 hands.1) has.takes.hands,
+            hands_both device.left before.below filled.below next.below (on.bytes.0 ++ hands.0) [] (hands_both device.left before.below now.below filled.below on.bytes.0 hands.0 on.bytes.1 hands.1) has.takes.hands,
           );
           rises = omega (arith, less);
           moves = inr less;
@@ -65,18 +66,18 @@ module _ {S A State : Type 0} (left : S → Option (List ℕ)) (failed end : S �
           passes = λ old past p.
               let was = on.passes old past p in (
                 was.0 ++ more,
-                rw (← append_assoc past was.0 more) (passes_take left failed end old (past ++ was.0) filled (passes_fill left failed end old (past ++ was.0) now was.1 filled fills) filled.buffered next has),
+                rw (← append_assoc past was.0 more) (passes_take device old (past ++ was.0) filled (passes_fill device old (past ++ was.0) now was.1 filled fills) filled.buffered next has),
               );
         }
 
-    pub reads_end : (new : MemberReader S A State) → IsOver left failed end now new → (old : MemberReader S A State) (past : List (Member A))
-        → Passes left failed end old past before → ChecksAll left failed end old past before new
+    pub reads_end : (new : MemberReader S A State) → IsOver device now new → (old : MemberReader S A State) (past : List (Member A))
+        → Passes device old past before → ChecksAll device old past before new
     reads_end new over old past p =
         let was = on.passes old past p in
         record {
           more = was.0;
-          passes = passes_end left failed end old (past ++ was.0) now was.1 new over;
-          all = passes_all left failed end old (past ++ was.0) now was.1 new over;
+          passes = passes_end device old (past ++ was.0) now was.1 new over;
+          all = passes_all device old (past ++ was.0) now was.1 new over;
         }
 
     -- the member that was ahead at first was consumed
@@ -89,15 +90,15 @@ module _ {S A State : Type 0} (left : S → Option (List ℕ)) (failed end : S �
           | inr less ↦ All-push (λ (m : Member A). m.line ≤ lines_given new.below) past m low (omega (arith, less, up, first_line (suc (lines_given before.below)) before.buffered m e))
         ]
 
-    pub reads_stop : (kinds : Kind → Type 0) (new : MemberReader S A State) (fault : FaultValue) → IsStopped left failed end now fault new → (old : MemberReader S A State) (past : List (Member A))
-        → Passes left failed end old past before → ((state : State) (line : TextLine) (kind : Kind) → old.format.says state line ≡ Err kind → kinds kind)
-        → ChecksUpTo left failed end old past before kinds fault new
+    pub reads_stop : (kinds : Kind → Type 0) (new : MemberReader S A State) (fault : FaultValue) → IsStopped device now fault new → (old : MemberReader S A State) (past : List (Member A))
+        → Passes device old past before → ((state : State) (line : TextLine) (kind : Kind) → old.format.says state line ≡ Err kind → kinds kind)
+        → ChecksUpTo device old past before kinds fault new
     reads_stop kinds new fault stopped old past p wrong =
         let was = on.passes old past p in
         record {
           more = was.0;
-          stops = passes_stop left failed end old (past ++ was.0) now was.1 kinds wrong new fault stopped;
+          stops = passes_stop device old (past ++ was.0) now was.1 kinds wrong new fault stopped;
           low = low_ahead new stopped.answers.rises stopped.answers.was_none (ahead_in before) refl past
               (up_to (lines_given before.below) (lines_given new.below) past (omega (arith, on.rises, stopped.answers.rises)) p.behind);
-          before_end = λ told input line e. false≢true (sym (fails_before_end left failed end old (past ++ was.0) now was.1 new fault stopped input line e) ∙ on.bytes.1.told_stays told);
+          before_end = λ told input line e. false≢true (sym (fails_before_end device old (past ++ was.0) now was.1 new fault stopped input line e) ∙ on.bytes.1.told_stays told);
         }

@@ -1,6 +1,7 @@
 -- Lemmas on the beginning of a sweep over two readers.
 use Rattle.std.proofs.Common.{◌≡◌, ℕ, Bool, List, [], Option, None, ap, ◌∙◌, refl}
 use Rattle.std.specs.Prelude.{option_map}
+use Rattle.bt_lines.specs.declared.device.Source.{Ghosts as Source}
 use Rattle.bt_lines.specs.model.Lines.{text_lines}
 use Rattle.bt_lines.specs.calls.Output.{Output, HoldsBlock}
 use Rattle.bt_lines.specs.calls.Reader.{bytes_taken, fault_kept as line_fault, feeds_taken, input_of, lines_left, source_of}
@@ -13,37 +14,36 @@ use Rattle.bt_bed.specs.calls.Records.{below, good_left, last_locus, order_in, v
 use Rattle.bt_bed.specs.model.order.Sorting.{sorting_of}
 use Rattle.bt_bed.specs.declared.order.ChromOrder.{Ghosts}
 use Rattle.bt_bed.specs.declared.read.records.Records.{Records}
-use Rattle.bt_sweep.specs.calls.Standing.{StandsAt, first_stage}
+use Rattle.bt_sweep.specs.calls.Standing.{first_stage}
 use Rattle.bt_sweep.specs.calls.SweepState.{Sweeping}
-use Rattle.bt_sweep.specs.declared.hits.hit_rule.HitRule.{HitRule}
-use Rattle.bt_sweep.specs.declared.output.shape.Shape.{Shape}
+use Rattle.bt_tool.specs.declared.loops.sweeping.SweepConfig.{SweepConfig}
 use Rattle.bt_tool.specs.inside.feed.Feeding.{IsFresh}
-use Rattle.bt_tool.specs.inside.pair.SweepLoop.{Sweeps, records_pair, sweep_join}
+use Rattle.bt_tool.specs.inside.pair.SweepLoop.{StandsBy, Sweeps, records_pair, sweep_join}
 use Rattle.bt_tool.proofs.lemmas.running.members.CameMembers.{BeginsAt}
 use Rattle.bt_tool.proofs.lemmas.running.members.MemberLemmas.{passes_start}
 use Rattle.bt_tool.proofs.lemmas.running.pair.PairTurns.{comes_start}
 use Rattle.bt_tool.proofs.lemmas.running.members.PassedLemmas.{line_going}
 use Rattle.bt_tool.proofs.lemmas.running.sweep.SweepLimits.{within_start}
 
-module _ {A B O : Type 0} {g : Ghosts O} (a_left : A → Option (List ℕ)) (a_failed a_end : A → Bool) (b_left : B → Option (List ℕ)) (b_failed b_end : B → Bool)
-    (shape : Shape) (rule : HitRule) (limit : Option ℕ) (first : Records A O g) (second : Records B O g) (out : Output) where
+module _ {A B O : Type 0} {g : Ghosts O} (source_a : Source A) (source_b : Source B)
+    (config : SweepConfig) (first : Records A O g) (second : Records B O g) (out : Output) where
   -- nothing was given yet
-  pub sweeps_start : IsFresh a_left a_end (view_of first) → last_locus first ≡ None → IsFresh b_left b_end (view_of second) → last_locus second ≡ None
-      → HoldsBlock out.took out.put → (sweep : Sweeping) → StandsAt (order_in first) shape rule limit first_stage sweep
-      → Sweeps a_left a_failed a_end b_left b_failed b_end (order_in first) shape rule limit first second out first second sweep out
+  pub sweeps_start : IsFresh source_a.left source_a.end_told (view_of first) → last_locus first ≡ None → IsFresh source_b.left source_b.end_told (view_of second) → last_locus second ≡ None
+      → HoldsBlock out.took out.put → (sweep : Sweeping) → StandsBy (order_in first) config first_stage sweep
+      → Sweeps source_a source_b (order_in first) config first second out first second sweep out
   sweeps_start fresh none fresh_second none_second block sweep stands = record {
     past_first = [];
     past_second = [];
     stage = first_stage;
     stands = stands;
-    comes = comes_start (sweep_join (order_in first) shape rule limit) (records_pair a_left a_failed a_end b_left b_failed b_end first second) out
-        (passes_start a_left a_failed a_end (view_of first) fresh (line_going first fresh.going))
-        (passes_start b_left b_failed b_end (view_of second) fresh_second (line_going second fresh_second.going)) block;
+    comes = comes_start (sweep_join (order_in first) config) (records_pair source_a source_b first second) out
+        (passes_start source_a (view_of first) fresh (line_going first fresh.going))
+        (passes_start source_b (view_of second) fresh_second (line_going second fresh_second.going)) block;
     first_order = refl;
     second_order = refl;
     first_begins = none;
     second_begins = none_second;
-    fits = λ known. within_start (order_in first) limit [];
+    fits = λ known. within_start (order_in first) config.limit [];
   }
 
 module _ {S O : Type 0} {ghosts : Ghosts O} (left : S → Option (List ℕ)) (order : Order) (input : Input) (first : S) (reader : LineReader S) (records : Records S O ghosts) where

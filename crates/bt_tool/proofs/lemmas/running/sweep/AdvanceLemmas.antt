@@ -5,6 +5,7 @@ use Rattle.std.specs.Prelude.{IfSome, IsTrue, option_map}
 use Rattle.std.specs.List.{list_all}
 use Rattle.std.proofs.lemmas.Bool.{false≢true, and_from, and_parts}
 use Rattle.std.proofs.lemmas.List.{map-append}
+use Rattle.bt_lines.specs.declared.device.Source.{Ghosts as Source}
 use Rattle.bt_lines.specs.calls.Names.{fault_value}
 use Rattle.bt_lines.specs.calls.Output.{Output}
 use Rattle.bt_lines.specs.calls.Reader.{lines_given}
@@ -81,9 +82,9 @@ module _ {S O : Type 0} {g : Ghosts O} (now : Records S O g) (batch : Batch) (le
     unfolding view_of view_with
     records_are = taken_are now.sorted batch last records consumed lends passes is
 
-    module _ (left : S → Option (List ℕ)) (failed end : S → Bool) (comes : BeginsComing left (view_of now)) (new : Records S O g) (takes : TakesRecords left end now (count_in now consumed) new) where
-      pub taken_of : HasTaken left failed end (view_of now) records (view_of new)
-      taken_of = has_taken left failed end now new (count_in now consumed) records records_are comes takes
+    module _ (device : Source S) (comes : BeginsComing device.left (view_of now)) (new : Records S O g) (takes : TakesRecords device.left device.end_told now (count_in now consumed) new) where
+      pub taken_of : HasTaken device (view_of now) records (view_of new)
+      taken_of = has_taken device now new (count_in now consumed) records records_are comes takes
 
       -- what is buffered then is what the batch has left
       pub left_then : (view_of new).buffered ≡ left_in last
@@ -93,9 +94,9 @@ module _ {S O : Type 0} {g : Ghosts O} (now : Records S O g) (batch : Batch) (le
       ended_then ended = left_then ∙ ended.none
 
       -- where it has none left, all that was buffered is taken
-      pub all_taken : left_in last ≡ [] → HasTaken left failed end (view_of now) (buffered_in now) (view_of new)
+      pub all_taken : left_in last ≡ [] → HasTaken device (view_of now) (buffered_in now) (view_of new)
       all_taken none =
-          subst (λ (l : List Feature). HasTaken left failed end (view_of now) l (view_of new)) (sym (append-nil records) ∙ ap (λ (l : List Feature). records ++ l) (sym none) ∙ sym passes.left_is ∙ lent_is) taken_of
+          subst (λ (l : List Feature). HasTaken device (view_of now) l (view_of new)) (sym (append-nil records) ∙ ap (λ (l : List Feature). records ++ l) (sym none) ∙ sym passes.left_is ∙ lent_is) taken_of
 
       first_then : (b : Feature) (after : Batch) → Passes last (b ∷ []) after → ahead_in (view_of new) ≡ Some (record { line = suc (lines_given (below new)); item = b })
       first_then b after next = ap (first_from (suc (lines_given (below new)))) (left_then ∙ next.left_is)
@@ -168,32 +169,32 @@ settles_seen order phase newly seconds None ahead is (inr all) =
     inr (decided_before order newly seconds (option_to_list ahead) (let e = append-nil seconds in subst (λ (l : List Feature). list_all (λ a. decided order a l) newly ≡ true) e all))
 settles_seen order phase newly seconds (Some b) ahead is all = subst (λ (o : Option Feature). Settles order phase newly (seconds ++ option_to_list o)) (sym is) all
 
-module _ {A B O : Type 0} {g : Ghosts O} (a_left : A → Option (List ℕ)) (a_failed a_end : A → Bool) (ReadsA : A → Option ℕ → A → Type 0) (b_left : B → Option (List ℕ)) (b_failed b_end : B → Bool) (ReadsB : B → Option ℕ → B → Type 0)
+module _ {A B O : Type 0} {g : Ghosts O} (source_a : Source A) (source_b : Source B)
     (order : Order) (first new_first : Records A O g) (second new_second : Records B O g) (sweep : Sweeping) (out : Output)
-    (firsts last_firsts : Batch) (lends : Lends first firsts) (comes : BeginsComing a_left (view_of first)) (first_consumed : Consumed) (first_is : IsWhere last_firsts first_consumed)
-    (first_takes : TakesRecords a_left a_end first (count_in first first_consumed) new_first)
-    (seconds last_seconds : Batch) (lends_second : Lends second seconds) (comes_second : BeginsComing b_left (view_of second)) (second_consumed : Consumed) (second_is : IsWhere last_seconds second_consumed)
-    (second_takes : TakesRecords b_left b_end second (count_in second second_consumed) new_second) where
-  takes_both : (fs ss : List Feature) → Passes firsts fs last_firsts → Passes seconds ss last_seconds → TakesBoth a_left a_failed a_end ReadsA b_left b_failed b_end ReadsB order first second sweep out fs ss new_first new_second
+    (firsts last_firsts : Batch) (lends : Lends first firsts) (comes : BeginsComing source_a.left (view_of first)) (first_consumed : Consumed) (first_is : IsWhere last_firsts first_consumed)
+    (first_takes : TakesRecords source_a.left source_a.end_told first (count_in first first_consumed) new_first)
+    (seconds last_seconds : Batch) (lends_second : Lends second seconds) (comes_second : BeginsComing source_b.left (view_of second)) (second_consumed : Consumed) (second_is : IsWhere last_seconds second_consumed)
+    (second_takes : TakesRecords source_b.left source_b.end_told second (count_in second second_consumed) new_second) where
+  takes_both : (fs ss : List Feature) → Passes firsts fs last_firsts → Passes seconds ss last_seconds → TakesBoth source_a source_b order first second sweep out fs ss new_first new_second
   takes_both fs ss passes passes_second = record {
-    first_taken = taken_of first firsts lends last_firsts fs passes first_consumed first_is a_left a_failed a_end comes new_first first_takes;
-    second_taken = taken_of second seconds lends_second last_seconds ss passes_second second_consumed second_is b_left b_failed b_end comes_second new_second second_takes;
+    first_taken = taken_of first firsts lends last_firsts fs passes first_consumed first_is source_a comes new_first first_takes;
+    second_taken = taken_of second seconds lends_second last_seconds ss passes_second second_consumed second_is source_b comes_second new_second second_takes;
     first_order = first_takes.order;
     second_order = second_takes.order;
   }
 
   seen_then : (ss newly : List Feature) (next : Option Feature) → Passes seconds ss last_seconds → ComesNext Passes last_seconds next → Settles order sweep.phase newly (ss ++ option_to_list next) → Settles order sweep.phase newly (ss ++ option_to_list (item_ahead (view_of new_second)))
   seen_then ss newly next passes comes_next settles =
-      settles_seen order sweep.phase newly ss next (item_ahead (view_of new_second)) (next_then second seconds lends_second last_seconds ss passes second_consumed second_is b_left b_failed b_end comes_second new_second second_takes next comes_next) settles
+      settles_seen order sweep.phase newly ss next (item_ahead (view_of new_second)) (next_then second seconds lends_second last_seconds ss passes second_consumed second_is source_b comes_second new_second second_takes next comes_next) settles
 
   stops_for : (want : Want) (fs ss : List Feature) → Passes firsts fs last_firsts → Passes seconds ss last_seconds → StopsFor Passes HasEnded Passes HasEnded line_in order sweep firsts seconds out want last_firsts last_seconds
-      → NotBuffered a_left a_failed a_end ReadsA b_left b_failed b_end ReadsB order first second sweep out want new_first new_second
-  stops_for WantA fs ss passes passes_second ended = ended_then first firsts lends last_firsts fs passes first_consumed first_is a_left a_failed a_end comes new_first first_takes ended
-  stops_for WantB fs ss passes passes_second ended = ended_then second seconds lends_second last_seconds ss passes_second second_consumed second_is b_left b_failed b_end comes_second new_second second_takes ended
+      → NotBuffered source_a source_b order first second sweep out want new_first new_second
+  stops_for WantA fs ss passes passes_second ended = ended_then first firsts lends last_firsts fs passes first_consumed first_is source_a comes new_first first_takes ended
+  stops_for WantB fs ss passes passes_second ended = ended_then second seconds lends_second last_seconds ss passes_second second_consumed second_is source_b comes_second new_second second_takes ended
   stops_for Nothing fs ss passes passes_second ended = tt
 
   pub advances_both : {T : Type 0} (result : Result T Fault) (swept : Sweeping) (grown : Output) → AdvancesOn Passes HasEnded Passes HasEnded line_in order sweep firsts seconds out result swept last_firsts last_seconds grown
-      → AdvancesBoth a_left a_failed a_end ReadsA b_left b_failed b_end ReadsB order first second sweep out result new_first new_second swept grown
+      → AdvancesBoth source_a source_b order first second sweep out result new_first new_second swept grown
   advances_both (Ok done) swept grown (so, stops) = record {
     firsts = so.firsts;
     seconds = so.seconds;
@@ -225,14 +226,14 @@ module _ {A B O : Type 0} {g : Ghosts O} (a_left : A → Option (List ℕ)) (a_f
           last = lack.last;
           waits = lack.waits;
           m = record { line = suc (lines_given (below new_second)); item = lack.b };
-          ahead = first_then second seconds lends_second last_seconds fails.seconds fails.gives_seconds second_consumed second_is b_left b_failed b_end comes_second new_second second_takes lack.b lack.after lack.gives;
+          ahead = first_then second seconds lends_second last_seconds fails.seconds fails.gives_seconds second_consumed second_is source_b comes_second new_second second_takes lack.b lack.after lack.gives;
           chrom = lack.chrom;
           starts = lack.starts;
           ends = lack.ends;
           puts = lack.puts;
           lacks = λ shape rule limit stage stands placed placed_second.
               subst (λ (n : ℕ). CannotBeHeld limit lack.last (stage.taken ++ fails.seconds) n (fault_value fault))
-              (line_then second seconds lends_second last_seconds fails.seconds fails.gives_seconds second_consumed second_is b_left b_failed b_end comes_second new_second second_takes lack.b lack.after lack.gives)
+              (line_then second seconds lends_second last_seconds fails.seconds fails.gives_seconds second_consumed second_is source_b comes_second new_second second_takes lack.b lack.after lack.gives)
               (lack.lacks shape rule limit stage stands placed placed_second);
         }))
         | inr keep ↦ inr (inr (record {
@@ -241,7 +242,7 @@ module _ {A B O : Type 0} {g : Ghosts O} (a_left : A → Option (List ℕ)) (a_f
           is = keep.is;
           none = keep.none;
           both = keep.both;
-          ended = ended_then second seconds lends_second last_seconds fails.seconds fails.gives_seconds second_consumed second_is b_left b_failed b_end comes_second new_second second_takes keep.ended;
+          ended = ended_then second seconds lends_second last_seconds fails.seconds fails.gives_seconds second_consumed second_is source_b comes_second new_second second_takes keep.ended;
           puts = keep.puts;
         }))
       ]

@@ -11,8 +11,7 @@ use Rattle.bt_bed.specs.model.input.Good.{Member}
 use Rattle.bt_bed.specs.model.order.Order.{Order}
 use Rattle.bt_sweep.specs.model.Deciding.{decides}
 use Rattle.bt_sweep.specs.calls.Standing.{leaves_some}
-use Rattle.bt_sweep.specs.declared.hits.hit_rule.HitRule.{HitRule}
-use Rattle.bt_sweep.specs.declared.output.shape.Shape.{Shape}
+use Rattle.bt_tool.specs.declared.loops.sweeping.SweepConfig.{SweepConfig}
 use Rattle.bt_tool.specs.model.report.SweepReport.{bytes_up_to, decider}
 use Rattle.bt_tool.specs.inside.feed.Feeding.{member_items}
 use Rattle.bt_tool.specs.inside.pair.SweepLoop.{sweep_join}
@@ -48,7 +47,7 @@ module _ (order : Order) where
       (reaches_least as_given ms lines count (All-tail (λ (m : Member Feature). count < m.line) m ms high))
 
   -- what records of the first need lies after those that were taken for them
-  pub sweep_needs : (shape : Shape) (rule : HitRule) (limit : Option ℕ) → AreNeeded (sweep_join order shape rule limit)
-  sweep_needs shape rule limit given extra past rest lines count reached high =
+  pub sweep_needs : (config : SweepConfig) → AreNeeded (sweep_join order config)
+  sweep_needs config given extra past rest lines count reached high =
       subst (λ o. bytes_in (take (suc count) lines) ≤ bytes_up_to lines o) (sym (decider_behind (given ++ extra) past rest (leaves_more given extra (member_items past) reached)))
       (reaches_least (given ++ extra) rest lines count high)

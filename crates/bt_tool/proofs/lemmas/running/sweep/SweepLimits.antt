@@ -18,9 +18,8 @@ use Rattle.bt_bed.proofs.lemmas.order.TogetherLemmas.{placed_front}
 use Rattle.bt_sweep.specs.model.Deciding.{decided, decides}
 use Rattle.bt_sweep.specs.model.Limit.{are_too_many, cut_behind, is_held, limited}
 use Rattle.bt_sweep.specs.calls.Steps.{has_room}
-use Rattle.bt_sweep.specs.declared.hits.hit_rule.HitRule.{HitRule}
-use Rattle.bt_sweep.specs.declared.output.shape.Shape.{Shape}
 use Rattle.bt_sweep.proofs.lemmas.laws.LimitLemmas.{cut_front, cut_here, cut_keeps, cut_next, cut_none, cut_on, few_decided, many_by}
+use Rattle.bt_tool.specs.declared.loops.sweeping.SweepConfig.{SweepConfig}
 use Rattle.bt_tool.specs.inside.feed.Feeding.{member_items}
 use Rattle.bt_tool.specs.inside.pair.SweepLoop.{AreWithin, sweep_join}
 use Rattle.bt_tool.proofs.lemmas.running.pair.PairLimits.{AreLimits}
@@ -163,11 +162,11 @@ module _ (order : Order) where
       front_placed (limited order (Some most) first second).members front.0 (subst (λ ms. ArePlaced order (intervals_of (member_items ms))) front.1 placed)
 
   -- what a run owes for the limit
-  pub sweep_limits : (shape : Shape) (rule : HitRule) (limit : Option ℕ) → AreLimits (sweep_join order shape rule limit)
-  sweep_limits shape rule limit = record {
-    more = within_given limit;
-    whole = whole_limited limit;
-    keeps = keeps_limited limit;
-    done = done_limited limit;
-    ordered = ordered_limited limit;
+  pub sweep_limits : (config : SweepConfig) → AreLimits (sweep_join order config)
+  sweep_limits config = record {
+    more = within_given config.limit;
+    whole = whole_limited config.limit;
+    keeps = keeps_limited config.limit;
+    done = done_limited config.limit;
+    ordered = ordered_limited config.limit;
   }

@@ -2,6 +2,7 @@
 use Rattle.std.proofs.Common.{◌≡◌, ℕ, zero, suc, ◌+◌, ◌*◌, ◌≤◌, ◌<◌, Bool, true, false, List, [], length, length-append, Option, None, Some, Ok, Err, refl, sym, ap, ◌∙◌, subst, arith, inl, inr, option_to_list}
 use Rattle.std.specs.Prelude.{◌⊎◌, is_some}
 use Rattle.std.proofs.lemmas.Bool.{false≢true}
+use Rattle.bt_lines.specs.declared.device.Source.{Ghosts as Source}
 use Rattle.bt_lines.proofs.lemmas.reader.block.ReadsLemmas.{reads_same}
 use Rattle.bt_lines.specs.calls.Names.{fault_value}
 use Rattle.bt_lines.specs.calls.Output.{Output}
@@ -15,16 +16,16 @@ use Rattle.bt_bed.specs.model.order.Sorting.{sorting_of}
 use Rattle.bt_bed.specs.declared.order.ChromOrder.{Ghosts}
 use Rattle.bt_bed.specs.declared.read.records.Records.{Records}
 use Rattle.bt_sweep.specs.calls.SweepState.{Sweeping, is_over as is_done, want_in, want_of}
-use Rattle.bt_sweep.specs.declared.hits.hit_rule.HitRule.{HitRule}
-use Rattle.bt_sweep.specs.declared.output.shape.Shape.{Shape}
 use Rattle.bt_sweep.specs.declared.sweep.want.Want.{Want}
 use Rattle.bt_sweep.specs.declared.sweep.want.Want.TheVariants.{A as WantA, B as WantB, Nothing}
+use Rattle.bt_tool.specs.declared.loops.sweeping.SweepConfig.{SweepConfig}
 use Rattle.bt_tool.specs.calls.run.OwnReads.{TellsNoRead}
 use Rattle.bt_tool.specs.inside.feed.Passed.{KeepsOwnFault}
 use Rattle.bt_tool.specs.inside.pair.SweepLoop.{SweepEnds, Sweeps}
 use Rattle.bt_tool.specs.inside.pair.SweepSteps.{AdvancesBoth, EndsFirst, EndsSecond, FailsAmong, FillsWanted, GivesBoth, NotBuffered, TakesBoth}
 use Rattle.bt_tool.proofs.lemmas.running.whole.OwnFailureLemmas.{none_kept, told_kept}
 use Rattle.bt_tool.proofs.lemmas.running.pair.RestLemmas.{reads_taken, some_buffered}
+use Rattle.bt_tool.proofs.lemmas.running.sweep.SweepBegun.{At, Begun}
 use Rattle.bt_tool.proofs.lemmas.running.sweep.SweptLemmas.{ends_first, ends_second, fails_at_end, fails_both, fills_first, fills_second, goes_both, none_waits, over_is, placed_first, placed_second, placed_taken, stops_first, stops_second, waiting}
 
 -- ---- how much is still wanted
@@ -85,92 +86,113 @@ want_cases WantA = inl refl
 want_cases WantB = inr (inl refl)
 want_cases Nothing = inr (inr refl)
 
-module _ {A B O : Type 0} {g : Ghosts O} (a_left : A → Option (List ℕ)) (a_failed a_end : A → Bool) (ReadsA : A → Option ℕ → A → Type 0) (b_left : B → Option (List ℕ)) (b_failed b_end : B → Bool) (ReadsB : B → Option ℕ → B → Type 0)
-    (order : Order) (first : Records A O g) (second : Records B O g) (sweep : Sweeping) (out : Output) where
+module _ {A B O : Type 0} {g : Ghosts O} (source_a : Source A) (source_b : Source B)
+    (order : Order) (at : At A B O g) where
   -- ---- what a round reads
 
   abbrev ReadBoth : Records A O g → Records B O g → Type 0
-  ReadBoth new_first new_second = HasRead ReadsA (below first) (below new_first) × HasRead ReadsB (below second) (below new_second)
+  ReadBoth new_first new_second = HasRead source_a.is_read (below at.first) (below new_first) × HasRead source_b.is_read (below at.second) (below new_second)
 
   abbrev OwnBoth : Records A O g → Records B O g → Type 0
-  OwnBoth new_first new_second = KeepsOwnFault ReadsA (below first) (view_of new_first) × KeepsOwnFault ReadsB (below second) (view_of new_second)
+  OwnBoth new_first new_second = KeepsOwnFault source_a.is_read (below at.first) (view_of new_first) × KeepsOwnFault source_b.is_read (below at.second) (view_of new_second)
 
   abbrev Fills : Bool → Records A O g → Records B O g → Sweeping → Output → Type 0
-  Fills answer = FillsWanted a_left a_failed a_end ReadsA b_left b_failed b_end ReadsB order first second sweep out (Ok answer)
+  Fills answer = FillsWanted source_a source_b order at.first at.second at.sweep at.out (Ok answer)
 
   abbrev FillStops : Fault → Records A O g → Records B O g → Sweeping → Output → Type 0
-  FillStops fault = FillsWanted a_left a_failed a_end ReadsA b_left b_failed b_end ReadsB order first second sweep out (Err fault)
+  FillStops fault = FillsWanted source_a source_b order at.first at.second at.sweep at.out (Err fault)
 
-  same_first : (new_first : Records A O g) → new_first ≡ first → HasRead ReadsA (below first) (below new_first)
-  same_first new_first e = reads_same ReadsA (below first) (below new_first) (ap (λ (r : Records A O g). below r) e)
+  same_first : (new_first : Records A O g) → new_first ≡ at.first → HasRead source_a.is_read (below at.first) (below new_first)
+  same_first new_first e = reads_same source_a.is_read (below at.first) (below new_first) (ap (λ (r : Records A O g). below r) e)
 
-  same_second : (new_second : Records B O g) → new_second ≡ second → HasRead ReadsB (below second) (below new_second)
-  same_second new_second e = reads_same ReadsB (below second) (below new_second) (ap (λ (r : Records B O g). below r) e)
+  same_second : (new_second : Records B O g) → new_second ≡ at.second → HasRead source_b.is_read (below at.second) (below new_second)
+  same_second new_second e = reads_same source_b.is_read (below at.second) (below new_second) (ap (λ (r : Records B O g). below r) e)
 
-  pub reads_filled : (answer : Bool) (new_first : Records A O g) (new_second : Records B O g) (swept : Sweeping) (grown : Output) → Fills answer new_first new_second swept grown → ReadBoth new_first new_second
-  reads_filled true new_first new_second swept grown (inl f) = (f.fills.own_failure, same_second new_second f.same_second)
-  reads_filled true new_first new_second swept grown (inr f) = (same_first new_first f.same_first, f.fills.own_failure)
-  reads_filled false new_first new_second swept grown none = (same_first new_first none.same_first, same_second new_second none.same_second)
+  pub reads_filled : (answer : Bool) (new : At A B O g) → Fills answer new.first new.second new.sweep new.out → ReadBoth new.first new.second
+  reads_filled true new (inl f) = (f.fills.own_failure, same_second new.second f.same_second)
+  reads_filled true new (inr f) = (same_first new.first f.same_first, f.fills.own_failure)
+  reads_filled false new none = (same_first new.first none.same_first, same_second new.second none.same_second)
 
-  module _ (none : fault_kept first ≡ None) (none_second : fault_kept second ≡ None) where
-    pub reads_stopped : (fault : Fault) (new_first : Records A O g) (new_second : Records B O g) (swept : Sweeping) (grown : Output) → FillStops fault new_first new_second swept grown → TellsNoRead (Some (fault_value fault)) → ReadBoth new_first new_second
-    reads_stopped fault new_first new_second swept grown (inl f) never = ((f.fills.own_failure none).read never, same_second new_second f.same_second)
-    reads_stopped fault new_first new_second swept grown (inr (inl f)) never = (same_first new_first f.same_first, (f.fills.own_failure none_second).read never)
-    reads_stopped fault new_first new_second swept grown (inr (inr f)) never = (same_first new_first f.same_first, f.fills.own_failure)
+  module _ (none : fault_kept at.first ≡ None) (none_second : fault_kept at.second ≡ None) where
+    pub reads_stopped : (fault : Fault) (new : At A B O g) → FillStops fault new.first new.second new.sweep new.out → TellsNoRead (Some (fault_value fault)) → ReadBoth new.first new.second
+    reads_stopped fault new (inl f) never = ((f.fills.own_failure none).read never, same_second new.second f.same_second)
+    reads_stopped fault new (inr (inl f)) never = (same_first new.first f.same_first, (f.fills.own_failure none_second).read never)
+    reads_stopped fault new (inr (inr f)) never = (same_first new.first f.same_first, f.fills.own_failure)
 
-    none_first : (new_first : Records A O g) → new_first ≡ first → KeepsOwnFault ReadsA (below first) (view_of new_first)
-    none_first new_first e = none_kept ReadsA (below first) (view_of new_first).fault (below new_first) (ap (λ (r : Records A O g). fault_kept r) e ∙ none)
+    none_first : (new_first : Records A O g) → new_first ≡ at.first → KeepsOwnFault source_a.is_read (below at.first) (view_of new_first)
+    none_first new_first e = none_kept source_a.is_read (below at.first) (view_of new_first).fault (below new_first) (ap (λ (r : Records A O g). fault_kept r) e ∙ none)
 
-    pub own_stopped : (fault : Fault) (new_first : Records A O g) (new_second : Records B O g) (swept : Sweeping) (grown : Output) → FillStops fault new_first new_second swept grown → OwnBoth new_first new_second
-    own_stopped fault new_first new_second swept grown (inl f) = (
-      told_kept ReadsA (fault_kept first) (view_of new_first).fault (below first) (below new_first) fault f.fills.answers.kept none f.fills.own_failure,
-      none_kept ReadsB (below second) (view_of new_second).fault (below new_second) (ap (λ (r : Records B O g). fault_kept r) f.same_second ∙ none_second),
+    pub own_stopped : (fault : Fault) (new : At A B O g) → FillStops fault new.first new.second new.sweep new.out → OwnBoth new.first new.second
+    own_stopped fault new (inl f) = (
+      told_kept source_a.is_read (fault_kept at.first) (view_of new.first).fault (below at.first) (below new.first) fault f.fills.answers.kept none f.fills.own_failure,
+      none_kept source_b.is_read (below at.second) (view_of new.second).fault (below new.second) (ap (λ (r : Records B O g). fault_kept r) f.same_second ∙ none_second),
     )
-    own_stopped fault new_first new_second swept grown (inr (inl f)) = (
-      none_first new_first f.same_first,
-      told_kept ReadsB (fault_kept second) (view_of new_second).fault (below second) (below new_second) fault f.fills.answers.kept none_second f.fills.own_failure,
+    own_stopped fault new (inr (inl f)) = (
+      none_first new.first f.same_first,
+      told_kept source_b.is_read (fault_kept at.second) (view_of new.second).fault (below at.second) (below new.second) fault f.fills.answers.kept none_second f.fills.own_failure,
     )
-    own_stopped fault new_first new_second swept grown (inr (inr f)) = (
-      none_first new_first f.same_first,
-      none_kept ReadsB (below second) (view_of new_second).fault (below new_second) f.fills.answers.goes,
+    own_stopped fault new (inr (inr f)) = (
+      none_first new.first f.same_first,
+      none_kept source_b.is_read (below at.second) (view_of new.second).fault (below new.second) f.fills.answers.goes,
     )
 
-    module _ (fs ss : List Feature) (new_first : Records A O g) (new_second : Records B O g) (takes : TakesBoth a_left a_failed a_end ReadsA b_left b_failed b_end ReadsB order first second sweep out fs ss new_first new_second) where
+    module _ (fs ss : List Feature) (new_first : Records A O g) (new_second : Records B O g) (takes : TakesBoth source_a source_b order at.first at.second at.sweep at.out fs ss new_first new_second) where
       own_taken : OwnBoth new_first new_second
       own_taken = (
-        none_kept ReadsA (below first) (view_of new_first).fault (below new_first) (takes.first_taken.takes.goes ∙ none),
-        none_kept ReadsB (below second) (view_of new_second).fault (below new_second) (takes.second_taken.takes.goes ∙ none_second),
+        none_kept source_a.is_read (below at.first) (view_of new_first).fault (below new_first) (takes.first_taken.takes.goes ∙ none),
+        none_kept source_b.is_read (below at.second) (view_of new_second).fault (below new_second) (takes.second_taken.takes.goes ∙ none_second),
       )
 
-    pub own_advanced : (fault : Fault) (new_first : Records A O g) (new_second : Records B O g) (swept : Sweeping) (grown : Output)
-        → AdvancesBoth a_left a_failed a_end ReadsA b_left b_failed b_end ReadsB order first second sweep out {T = Unit {0}} (Err fault) new_first new_second swept grown → OwnBoth new_first new_second
-    own_advanced fault new_first new_second swept grown f = own_taken f.firsts f.seconds new_first new_second f.takes
+    pub own_advanced : (fault : Fault) (new : At A B O g)
+        → AdvancesBoth source_a source_b order at.first at.second at.sweep at.out {T = Unit {0}} (Err fault) new.first new.second new.sweep new.out → OwnBoth new.first new.second
+    own_advanced fault new f = own_taken f.firsts f.seconds new.first new.second f.takes
 
-  reads_both : (fs ss : List Feature) (new_first : Records A O g) (new_second : Records B O g) → TakesBoth a_left a_failed a_end ReadsA b_left b_failed b_end ReadsB order first second sweep out fs ss new_first new_second → ReadBoth new_first new_second
+  reads_both : (fs ss : List Feature) (new_first : Records A O g) (new_second : Records B O g) → TakesBoth source_a source_b order at.first at.second at.sweep at.out fs ss new_first new_second → ReadBoth new_first new_second
   reads_both fs ss new_first new_second takes = (
-    reads_taken a_left a_failed a_end ReadsA (below first) fs (view_of first) (view_of new_first) takes.first_taken (reads_same ReadsA (below first) (below first) refl),
-    reads_taken b_left b_failed b_end ReadsB (below second) ss (view_of second) (view_of new_second) takes.second_taken (reads_same ReadsB (below second) (below second) refl),
+    reads_taken source_a (below at.first) fs (view_of at.first) (view_of new_first) takes.first_taken (reads_same source_a.is_read (below at.first) (below at.first) refl),
+    reads_taken source_b (below at.second) ss (view_of at.second) (view_of new_second) takes.second_taken (reads_same source_b.is_read (below at.second) (below at.second) refl),
   )
 
-  pub reads_given : (new_first : Records A O g) (new_second : Records B O g) (swept : Sweeping) (grown : Output) → GivesBoth a_left a_failed a_end ReadsA b_left b_failed b_end ReadsB order first second sweep out new_first new_second swept grown → ReadBoth new_first new_second
-  reads_given new_first new_second swept grown gives = reads_both gives.firsts gives.seconds new_first new_second gives.takes
+  pub reads_given : (new : At A B O g) → GivesBoth source_a source_b order at.first at.second at.sweep at.out new.first new.second new.sweep new.out → ReadBoth new.first new.second
+  reads_given new gives = reads_both gives.firsts gives.seconds new.first new.second gives.takes
 
-  pub reads_failed : (fault : Fault) (new_first : Records A O g) (new_second : Records B O g) (swept : Sweeping) (grown : Output)
-      → AdvancesBoth a_left a_failed a_end ReadsA b_left b_failed b_end ReadsB order first second sweep out {T = Unit {0}} (Err fault) new_first new_second swept grown → ReadBoth new_first new_second
-  reads_failed fault new_first new_second swept grown f = reads_both f.firsts f.seconds new_first new_second f.takes
+  pub reads_failed : (fault : Fault) (new : At A B O g)
+      → AdvancesBoth source_a source_b order at.first at.second at.sweep at.out {T = Unit {0}} (Err fault) new.first new.second new.sweep new.out → ReadBoth new.first new.second
+  reads_failed fault new f = reads_both f.firsts f.seconds new.first new.second f.takes
 
 -- ---- how far it comes
 
-module _ {A B O : Type 0} {g : Ghosts O} (a_left : A → Option (List ℕ)) (a_failed a_end : A → Bool) (ReadsA : A → Option ℕ → A → Type 0) (b_left : B → Option (List ℕ)) (b_failed b_end : B → Bool) (ReadsB : B → Option ℕ → B → Type 0)
-    (shape : Shape) (rule : HitRule) (limit : Option ℕ) (old_first : Records A O g) (old_second : Records B O g) (out : Output) (total : IsTotal (order_in old_first)) (same_order : order_in old_second ≡ order_in old_first)
-    (is_bed : (view_of old_first).format ≡ bed_format (sorting_of (order_in old_first))) (is_bed_second : (view_of old_second).format ≡ bed_format (sorting_of (order_in old_second)))
-    (first : Records A O g) (second : Records B O g) (sweep : Sweeping) (grown : Output) (order : Order) (is_order : order ≡ order_in old_first)
-    (s : Sweeps a_left a_failed a_end b_left b_failed b_end (order_in old_first) shape rule limit old_first old_second out first second sweep grown) where
+module _ {A B O : Type 0} {g : Ghosts O} (source_a : Source A) (source_b : Source B) (begun : Begun A B O g) (at : At A B O g) (order : Order) (is_order : order ≡ order_in begun.first)
+    (s : Sweeps source_a source_b (order_in begun.first) begun.config begun.first begun.second begun.out at.first at.second at.sweep at.out) where
+  abbrev config : SweepConfig
+  config = begun.config
+
+  abbrev old_first : Records A O g
+  old_first = begun.first
+
+  abbrev old_second : Records B O g
+  old_second = begun.second
+
+  abbrev out : Output
+  out = begun.out
+
+  abbrev first : Records A O g
+  first = at.first
+
+  abbrev second : Records B O g
+  second = at.second
+
+  abbrev sweep : Sweeping
+  sweep = at.sweep
+
+  abbrev grown : Output
+  grown = at.out
+
   abbrev Going : Records A O g → Records B O g → Sweeping → Output → Type 0
-  Going = Sweeps a_left a_failed a_end b_left b_failed b_end (order_in old_first) shape rule limit old_first old_second out
+  Going = Sweeps source_a source_b (order_in old_first) config old_first old_second out
 
   abbrev Ends : Fault → Records A O g → Records B O g → Output → Type 0
-  Ends fault = SweepEnds a_left a_failed a_end b_left b_failed b_end (order_in old_first) shape rule limit old_first old_second out (Some (fault_value fault))
+  Ends fault = SweepEnds source_a source_b (order_in old_first) config old_first old_second out (Some (fault_value fault))
 
   -- a record is buffered of the input that is wanted, or the sweep was given its end
   abbrev IsReady : Records A O g → Records B O g → Sweeping → Type 0
@@ -186,101 +208,122 @@ module _ {A B O : Type 0} {g : Ghosts O} (a_left : A → Option (List ℕ)) (a_f
     pub ready : IsReady new_first new_second swept
 
   filled_first : (answer : Bool) (new_first : Records A O g) (new_second : Records B O g) (swept : Sweeping) (later : Output)
-      → want_in sweep ≡ WantA → FillsRecords a_left a_failed a_end ReadsA first (Ok answer) new_first → EndsFirst a_left a_failed a_end ReadsA b_left b_failed b_end ReadsB (order_in old_first) first second sweep grown answer swept
+      → want_in sweep ≡ WantA → FillsRecords source_a.left source_a.has_failed source_a.end_told source_a.is_read first (Ok answer) new_first → EndsFirst source_a source_b (order_in old_first) first second sweep grown answer swept
       → new_second ≡ second → later ≡ grown → Filled new_first new_second swept later
   filled_first true new_first new_second swept later wants fills ends same same_output =
       rw (same, same_output, ends) (record {
-        going = fills_first a_left a_failed a_end ReadsA b_left b_failed b_end ReadsB shape rule limit old_first old_second out total same_order is_bed is_bed_second first second sweep grown s wants new_first fills;
+        going = fills_first source_a source_b begun at s wants new_first fills;
         less = omega (arith, fills.answers.1.read.shrinks);
         ready = inl (some_buffered _ (view_of new_first).buffered _ fills.answers.1.read.ahead, refl, wants);
       })
   filled_first false new_first new_second swept later wants fills ends same same_output =
-      let stands = ends shape rule limit s.stage s.stands in
+      let stands = ends config s.stage s.stands in
       rw (same, same_output) (record {
-        going = ends_first a_left a_failed a_end ReadsA b_left b_failed b_end ReadsB shape rule limit old_first old_second out total same_order is_bed is_bed_second first second sweep grown s wants new_first swept fills stands;
+        going = ends_first source_a source_b begun at s wants new_first swept fills stands;
         less = omega (arith, fills.answers.shrinks);
         ready = inr (inr (inl (
           fills.answers.none_buffered,
-          stands.current_is ∙ none_waits a_left a_failed a_end ReadsA b_left b_failed b_end ReadsB shape rule limit old_first old_second out total same_order is_bed is_bed_second first second sweep grown s wants,
+          stands.current_is ∙ none_waits source_a source_b begun at s wants,
           ap is_done stands.phase_is ∙ over_is true s.stage.b_ended,
           wants,
         )));
       })
 
   filled_second : (answer : Bool) (new_first : Records A O g) (new_second : Records B O g) (swept : Sweeping) (later : Output)
-      → want_in sweep ≡ WantB → FillsRecords b_left b_failed b_end ReadsB second (Ok answer) new_second → EndsSecond a_left a_failed a_end ReadsA b_left b_failed b_end ReadsB (order_in old_first) first second sweep grown answer swept later
+      → want_in sweep ≡ WantB → FillsRecords source_b.left source_b.has_failed source_b.end_told source_b.is_read second (Ok answer) new_second → EndsSecond source_a source_b (order_in old_first) first second sweep grown answer swept later
       → new_first ≡ first → Filled new_first new_second swept later
   filled_second true new_first new_second swept later wants fills ends same =
       rw (same, ends.0, ends.1) (record {
-        going = fills_second a_left a_failed a_end ReadsA b_left b_failed b_end ReadsB shape rule limit old_first old_second out total same_order is_bed is_bed_second first second sweep grown s wants new_second fills;
+        going = fills_second source_a source_b begun at s wants new_second fills;
         less = omega (arith, fills.answers.1.read.shrinks);
         ready = inr (inl (some_buffered _ (view_of new_second).buffered _ fills.answers.1.read.ahead, refl, wants));
       })
   filled_second false new_first new_second swept later wants fills ends same =
-      let w = waiting a_left a_failed a_end ReadsA b_left b_failed b_end ReadsB shape rule limit old_first old_second out total same_order is_bed is_bed_second first second sweep grown s wants in
-      let ended = ends shape rule limit s.stage w.0 s.stands w.1 (placed_taken a_left a_failed a_end ReadsA b_left b_failed b_end ReadsB shape rule limit old_first old_second out total same_order is_bed is_bed_second first second sweep grown s) in
+      let w = waiting source_a source_b begun at s wants in
+      let ended = ends config s.stage w.0 s.stands w.1 (placed_taken source_a source_b begun at s) in
       rw same (record {
-        going = ends_second a_left a_failed a_end ReadsA b_left b_failed b_end ReadsB shape rule limit old_first old_second out total same_order is_bed is_bed_second first second sweep grown s wants new_second swept later fills ended.0 ended.1;
+        going = ends_second source_a source_b begun at s wants new_second swept later fills ended.0 ended.1;
         less = omega (arith, fills.answers.shrinks);
         ready = inr (inr (inr (ended.0.current_is, wants)));
       })
 
-  filled_at : (new_first : Records A O g) (new_second : Records B O g) (swept : Sweeping) (later : Output) → FillsWanted a_left a_failed a_end ReadsA b_left b_failed b_end ReadsB (order_in old_first) first second sweep grown (Ok true) new_first new_second swept later
+  filled_at : (new_first : Records A O g) (new_second : Records B O g) (swept : Sweeping) (later : Output) → FillsWanted source_a source_b (order_in old_first) first second sweep grown (Ok true) new_first new_second swept later
       → Filled new_first new_second swept later
   filled_at new_first new_second swept later (inl f) = filled_first f.answer new_first new_second swept later f.wants f.fills f.ends f.same_second f.same_output
   filled_at new_first new_second swept later (inr f) = filled_second f.answer new_first new_second swept later f.wants f.fills f.ends f.same_first
 
-  pub filled : (new_first : Records A O g) (new_second : Records B O g) (swept : Sweeping) (later : Output) → FillsWanted a_left a_failed a_end ReadsA b_left b_failed b_end ReadsB order first second sweep grown (Ok true) new_first new_second swept later
-      → Filled new_first new_second swept later
-  filled new_first new_second swept later fills =
-      filled_at new_first new_second swept later (subst (λ (o : Order). FillsWanted a_left a_failed a_end ReadsA b_left b_failed b_end ReadsB o first second sweep grown (Ok true) new_first new_second swept later) is_order fills)
+  pub filled : (new : At A B O g) → FillsWanted source_a source_b order first second sweep grown (Ok true) new.first new.second new.sweep new.out
+      → Filled new.first new.second new.sweep new.out
+  filled new fills =
+      filled_at new.first new.second new.sweep new.out (subst (λ (o : Order). FillsWanted source_a source_b o first second sweep grown (Ok true) new.first new.second new.sweep new.out) is_order fills)
 
-  stops_at : (fault : Fault) (new_first : Records A O g) (new_second : Records B O g) (swept : Sweeping) (later : Output) → FillsWanted a_left a_failed a_end ReadsA b_left b_failed b_end ReadsB (order_in old_first) first second sweep grown (Err fault) new_first new_second swept later
+  stops_at : (fault : Fault) (new_first : Records A O g) (new_second : Records B O g) (swept : Sweeping) (later : Output) → FillsWanted source_a source_b (order_in old_first) first second sweep grown (Err fault) new_first new_second swept later
       → Ends fault new_first new_second later
   stops_at fault new_first new_second swept later (inl f) =
-      rw (f.same_second, f.same_output) (stops_first a_left a_failed a_end ReadsA b_left b_failed b_end ReadsB shape rule limit old_first old_second out total same_order is_bed is_bed_second first second sweep grown s f.wants fault new_first f.fills)
+      rw (f.same_second, f.same_output) (stops_first source_a source_b begun at s f.wants fault new_first f.fills)
   stops_at fault new_first new_second swept later (inr (inl f)) =
-      rw (f.same_first, f.same_output) (stops_second a_left a_failed a_end ReadsA b_left b_failed b_end ReadsB shape rule limit old_first old_second out total same_order is_bed is_bed_second first second sweep grown s f.wants fault new_second f.fills)
+      rw (f.same_first, f.same_output) (stops_second source_a source_b begun at s f.wants fault new_second f.fills)
   stops_at fault new_first new_second swept later (inr (inr f)) =
-      let w = waiting a_left a_failed a_end ReadsA b_left b_failed b_end ReadsB shape rule limit old_first old_second out total same_order is_bed is_bed_second first second sweep grown s f.wants in
+      let w = waiting source_a source_b begun at s f.wants in
       rw f.same_first
-      (fails_at_end a_left a_failed a_end ReadsA b_left b_failed b_end ReadsB shape rule limit old_first old_second out total same_order is_bed is_bed_second first second sweep grown s f.wants (fault_value fault) new_second later f.fills
-      (f.fails shape rule limit s.stage w.0 s.stands w.1 (placed_taken a_left a_failed a_end ReadsA b_left b_failed b_end ReadsB shape rule limit old_first old_second out total same_order is_bed is_bed_second first second sweep grown s)))
+      (fails_at_end source_a source_b begun at s f.wants (fault_value fault) new_second later f.fills
+      (f.fails config s.stage w.0 s.stands w.1 (placed_taken source_a source_b begun at s)))
 
-  pub fill_stops : (fault : Fault) (new_first : Records A O g) (new_second : Records B O g) (swept : Sweeping) (later : Output) → FillsWanted a_left a_failed a_end ReadsA b_left b_failed b_end ReadsB order first second sweep grown (Err fault) new_first new_second swept later
-      → Ends fault new_first new_second later
-  fill_stops fault new_first new_second swept later fills =
-      stops_at fault new_first new_second swept later (subst (λ (o : Order). FillsWanted a_left a_failed a_end ReadsA b_left b_failed b_end ReadsB o first second sweep grown (Err fault) new_first new_second swept later) is_order fills)
+  pub fill_stops : (fault : Fault) (new : At A B O g) → FillsWanted source_a source_b order first second sweep grown (Err fault) new.first new.second new.sweep new.out
+      → Ends fault new.first new.second new.out
+  fill_stops fault new fills =
+      stops_at fault new.first new.second new.sweep new.out (subst (λ (o : Order). FillsWanted source_a source_b o first second sweep grown (Err fault) new.first new.second new.sweep new.out) is_order fills)
 
-  pub gave_both : (new_first : Records A O g) (new_second : Records B O g) (swept : Sweeping) (later : Output) → GivesBoth a_left a_failed a_end ReadsA b_left b_failed b_end ReadsB order first second sweep grown new_first new_second swept later
-      → Going new_first new_second swept later
-  gave_both new_first new_second swept later gives =
-      goes_both a_left a_failed a_end ReadsA b_left b_failed b_end ReadsB shape rule limit old_first old_second out total same_order is_bed is_bed_second first second sweep grown s new_first new_second swept later
-      (subst (λ (o : Order). GivesBoth a_left a_failed a_end ReadsA b_left b_failed b_end ReadsB o first second sweep grown new_first new_second swept later) is_order gives)
+  pub gave_both : (new : At A B O g) → GivesBoth source_a source_b order first second sweep grown new.first new.second new.sweep new.out
+      → Going new.first new.second new.sweep new.out
+  gave_both new gives =
+      goes_both source_a source_b begun at s new.first new.second new.sweep new.out
+      (subst (λ (o : Order). GivesBoth source_a source_b o first second sweep grown new.first new.second new.sweep new.out) is_order gives)
 
-  pub failed_both : (fault : Fault) (new_first : Records A O g) (new_second : Records B O g) (later : Output) → FailsAmong a_left a_failed a_end ReadsA b_left b_failed b_end ReadsB order first second sweep grown (fault_value fault) new_first new_second later
-      → Ends fault new_first new_second later
-  failed_both fault new_first new_second later fails =
-      fails_both a_left a_failed a_end ReadsA b_left b_failed b_end ReadsB shape rule limit old_first old_second out total same_order is_bed is_bed_second first second sweep grown s (fault_value fault) new_first new_second later
-      (subst (λ (o : Order). FailsAmong a_left a_failed a_end ReadsA b_left b_failed b_end ReadsB o first second sweep grown (fault_value fault) new_first new_second later) is_order fails)
+  pub failed_both : (fault : Fault) (new : At A B O g) → FailsAmong source_a source_b order first second sweep grown (fault_value fault) new.first new.second new.out
+      → Ends fault new.first new.second new.out
+  failed_both fault new fails =
+      fails_both source_a source_b begun at s (fault_value fault) new.first new.second new.out
+      (subst (λ (o : Order). FailsAmong source_a source_b o first second sweep grown (fault_value fault) new.first new.second new.out) is_order fails)
 
   -- whether the first input has ended doesn't change
-  done_at : (new_first : Records A O g) (new_second : Records B O g) (swept : Sweeping) (later : Output) → GivesBoth a_left a_failed a_end ReadsA b_left b_failed b_end ReadsB (order_in old_first) first second sweep grown new_first new_second swept later
+  done_at : (new_first : Records A O g) (new_second : Records B O g) (swept : Sweeping) (later : Output) → GivesBoth source_a source_b (order_in old_first) first second sweep grown new_first new_second swept later
       → is_done swept.phase ≡ is_done sweep.phase
   done_at new_first new_second swept later gives =
-      let placed = placed_first a_left a_failed a_end ReadsA b_left b_failed b_end ReadsB shape rule limit old_first old_second out total same_order is_bed is_bed_second first second sweep grown s new_first new_second gives.firsts gives.seconds gives.takes in
-      let placed_seconds = placed_second a_left a_failed a_end ReadsA b_left b_failed b_end ReadsB shape rule limit old_first old_second out total same_order is_bed is_bed_second first second sweep grown s new_first new_second gives.firsts gives.seconds gives.takes in
-      ap is_done (gives.stands shape rule limit s.stage s.stands placed placed_seconds).phase_is ∙ ap is_done (sym s.stands.phase_is)
+      let placed = placed_first source_a source_b begun at s new_first new_second gives.firsts gives.seconds gives.takes in
+      let placed_seconds = placed_second source_a source_b begun at s new_first new_second gives.firsts gives.seconds gives.takes in
+      ap is_done (gives.stands config.shape config.rule config.limit s.stage s.stands placed placed_seconds).phase_is ∙ ap is_done (sym s.stands.phase_is)
 
-  pub still_done : (new_first : Records A O g) (new_second : Records B O g) (swept : Sweeping) (later : Output) → GivesBoth a_left a_failed a_end ReadsA b_left b_failed b_end ReadsB order first second sweep grown new_first new_second swept later
-      → is_done swept.phase ≡ is_done sweep.phase
-  still_done new_first new_second swept later gives =
-      done_at new_first new_second swept later (subst (λ (o : Order). GivesBoth a_left a_failed a_end ReadsA b_left b_failed b_end ReadsB o first second sweep grown new_first new_second swept later) is_order gives)
+  pub still_done : (new : At A B O g) → GivesBoth source_a source_b order first second sweep grown new.first new.second new.sweep new.out
+      → is_done new.sweep.phase ≡ is_done sweep.phase
+  still_done new gives =
+      done_at new.first new.second new.sweep new.out (subst (λ (o : Order). GivesBoth source_a source_b o first second sweep grown new.first new.second new.sweep new.out) is_order gives)
 
   -- ---- a round leaves less to be wanted
 
-  module _ (mid_first new_first : Records A O g) (mid_second new_second : Records B O g) (mid swept : Sweeping) (before later : Output) (f : Filled mid_first mid_second mid before)
-      (gives : GivesBoth a_left a_failed a_end ReadsA b_left b_failed b_end ReadsB order mid_first mid_second mid before new_first new_second swept later) (same_done : is_done swept.phase ≡ is_done mid.phase) where
+  module _ (middle last : At A B O g) (f : Filled middle.first middle.second middle.sweep middle.out)
+      (gives : GivesBoth source_a source_b order middle.first middle.second middle.sweep middle.out last.first last.second last.sweep last.out) (same_done : is_done last.sweep.phase ≡ is_done middle.sweep.phase) where
+    abbrev mid_first : Records A O g
+    mid_first = middle.first
+
+    abbrev new_first : Records A O g
+    new_first = last.first
+
+    abbrev mid_second : Records B O g
+    mid_second = middle.second
+
+    abbrev new_second : Records B O g
+    new_second = last.second
+
+    abbrev mid : Sweeping
+    mid = middle.sweep
+
+    abbrev swept : Sweeping
+    swept = last.sweep
+
+    abbrev before : Output
+    before = middle.out
+
     abbrev waits : Sweeping → ℕ
     waits sweep = length (option_to_list sweep.current)
 
@@ -304,14 +347,14 @@ module _ {A B O : Type 0} {g : Ghosts O} (a_left : A → Option (List ℕ)) (a_f
 
     -- none of the first was taken, though one was buffered
     stopped_a : (w : Want) → want_in swept ≡ w → 0 < length (view_of mid_first).buffered → mid ≡ sweep → want_in sweep ≡ WantA → waits mid ≡ 0 → length gives.firsts ≡ 0
-        → NotBuffered a_left a_failed a_end ReadsA b_left b_failed b_end ReadsB order mid_first mid_second mid before w new_first new_second → Less
+        → NotBuffered source_a source_b order mid_first mid_second mid before w new_first new_second → Less
     stopped_a WantA e some same wants none few none_left = absurd (omega (arith, some, first_left, few, ap length none_left))
     stopped_a WantB e some same wants none few none_left = absurd (omega (arith, waits_some swept.current (is_done swept.phase) e, counted, few, none))
     stopped_a Nothing e some same wants none few none_left =
         omega (arith, rooms, asks_nothing (is_some swept.current) (is_done swept.phase) e, asks_first (is_some sweep.current) (is_done sweep.phase) wants)
 
     stopped_b : (w : Want) → want_in swept ≡ w → 0 < length (view_of mid_second).buffered → want_in sweep ≡ WantB → length gives.seconds ≡ 0
-        → NotBuffered a_left a_failed a_end ReadsA b_left b_failed b_end ReadsB order mid_first mid_second mid before w new_first new_second → Less
+        → NotBuffered source_a source_b order mid_first mid_second mid before w new_first new_second → Less
     stopped_b WantB e some wants few none_left = absurd (omega (arith, some, second_left, few, ap length none_left))
     stopped_b WantA e some wants few none_left = omega (arith, rooms, asks_first (is_some swept.current) (is_done swept.phase) e, asks_second (is_some sweep.current) (is_done sweep.phase) wants)
     stopped_b Nothing e some wants few none_left = omega (arith, rooms, asks_nothing (is_some swept.current) (is_done swept.phase) e, asks_second (is_some sweep.current) (is_done sweep.phase) wants)

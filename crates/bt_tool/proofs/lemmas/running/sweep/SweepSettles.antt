@@ -24,6 +24,7 @@ use Rattle.bt_sweep.specs.declared.output.shape.Shape.{Shape}
 use Rattle.bt_sweep.proofs.lemmas.laws.DecidingLemmas.{none_before, placed_back}
 use Rattle.bt_sweep.proofs.lemmas.sweep.KeepLemmas.{decided_before, decided_behind, decided_both, lines_stay_so}
 use Rattle.bt_sweep.proofs.lemmas.laws.PlacedLemmas.{front_placed}
+use Rattle.bt_tool.specs.declared.loops.sweeping.SweepConfig.{SweepConfig}
 use Rattle.bt_tool.specs.inside.feed.Feeding.{member_items}
 use Rattle.bt_tool.specs.inside.pair.Pair.{JoinDef, Settles}
 use Rattle.bt_tool.specs.inside.pair.SweepLoop.{AreWithin, sweep_join}
@@ -88,29 +89,29 @@ module _ (order : Order) (total : IsTotal order) where
   none_true [] second = refl
   none_true (x ∷ newly) second = none_true newly second
 
-  module _ (shape : Shape) (rule : HitRule) (limit : Option ℕ) where
+  module _ (config : SweepConfig) where
     abbrev join_of : JoinDef Feature Feature
-    join_of = sweep_join order shape rule limit
+    join_of = sweep_join order config
 
     -- more records of the first are settled
     pub settles_newly : (written newly : List Feature) (bytes : List ℕ) (taken : List Feature) (o : Option Feature) (ended : Bool) (phase : Phase) → Settles join_of written bytes (taken ++ option_to_list o) ended → ArePlaced order (intervals_of newly)
         → (phase ≡ First → (ended ≡ true) × (o ≡ None)) → (ss : List Feature) (before : List Feature) → taken ≡ before ++ ss → SettlesEach order phase newly (ss ++ option_to_list o)
-        → Settles join_of (written ++ newly) (bytes ++ intersect shape rule newly taken) (taken ++ option_to_list o) ended
+        → Settles join_of (written ++ newly) (bytes ++ intersect config.shape config.rule newly taken) (taken ++ option_to_list o) ended
     settles_newly written newly bytes taken o ended phase s known ends ss before parts (inl first) =
         let done = ends first in
-        settles_list join_of written newly bytes (intersect shape rule newly taken) (taken ++ option_to_list o) ended s
+        settles_list join_of written newly bytes (intersect config.shape config.rule newly taken) (taken ++ option_to_list o) ended s
         (λ second fault ordered may.
         let all = may.all done.0 in (
           subst (λ (f : Option FaultValue). list_all (λ x. is_none f || decided order x second) newly ≡ true) (sym all.1) (none_true newly second),
-          ap (intersect shape rule newly) (all.0 ∙ ap (λ (w : Option Feature). taken ++ option_to_list w) done.1 ∙ append-nil taken),
+          ap (intersect config.shape config.rule newly) (all.0 ∙ ap (λ (w : Option Feature). taken ++ option_to_list w) done.1 ∙ append-nil taken),
         ))
     settles_newly written newly bytes taken o ended phase s known ends ss before parts (inr each) =
         let all : AreDecided order newly (taken ++ option_to_list o) =
         subst (λ (l : List Feature). AreDecided order newly l) (sym (append_assoc before ss (option_to_list o)) ∙ ap (λ (l : List Feature). l ++ option_to_list o) (sym parts)) (decided_behind order newly before (ss ++ option_to_list o) each) in
-        settles_list join_of written newly bytes (intersect shape rule newly taken) (taken ++ option_to_list o) ended s
+        settles_list join_of written newly bytes (intersect config.shape config.rule newly taken) (taken ++ option_to_list o) ended s
         (λ second fault ordered may. (
           each_true fault newly second (subst (λ (l : List Feature). AreDecided order newly l) (sym may.begins.1) (decided_before order newly (taken ++ option_to_list o) may.begins.0 all)),
-          ap (intersect shape rule newly) may.begins.1 ∙ lines_then shape rule newly taken o may.begins.0 known all (subst (λ (l : List Feature). ArePlaced order (intervals_of l)) may.begins.1 ordered),
+          ap (intersect config.shape config.rule newly) may.begins.1 ∙ lines_then config.shape config.rule newly taken o may.begins.0 known all (subst (λ (l : List Feature). ArePlaced order (intervals_of l)) may.begins.1 ordered),
         ))
 
   -- ---- the limit

@@ -5,6 +5,7 @@ use Rattle.std.specs.List.{list_all}
 use Rattle.std.proofs.lemmas.Bool.{false≢true, and_from, and_parts, lt-ltb}
 use Rattle.std.proofs.lemmas.List.{map-append}
 use Rattle.std.proofs.lemmas.List.Folds.{list_all-append}
+use Rattle.bt_lines.specs.declared.device.Source.{Ghosts as Source}
 use Rattle.bt_lines.specs.model.Fault.{FaultValue, no_memory}
 use Rattle.bt_lines.specs.model.Lines.{TextLine}
 use Rattle.bt_lines.specs.calls.Names.{fault_value}
@@ -34,28 +35,28 @@ use Rattle.bt_sweep.specs.model.Deciding.{decided}
 use Rattle.bt_sweep.specs.model.IntersectLines.{intersect, lines_for}
 use Rattle.bt_sweep.specs.calls.Joining.{AreDecided, TakenEach}
 use Rattle.bt_sweep.specs.model.Limit.{held_for, is_held}
-use Rattle.bt_sweep.specs.calls.Standing.{Stage, StandsAt, given, leaves_some, phase_of, with_a_ended, with_b_ended}
+use Rattle.bt_sweep.specs.calls.Standing.{Stage, given, leaves_some, phase_of, with_a_ended, with_b_ended}
 use Rattle.bt_sweep.specs.calls.Steps.{has_room}
 use Rattle.bt_sweep.specs.calls.SweepState.{Sweeping, is_over as is_done, want_in, want_of}
-use Rattle.bt_sweep.specs.declared.hits.hit_rule.HitRule.{HitRule}
 use Rattle.bt_sweep.specs.declared.sweep.phase.Phase.{Phase}
 use Rattle.bt_sweep.specs.declared.sweep.phase.Phase.TheVariants.{Both, First, Over}
-use Rattle.bt_sweep.specs.declared.output.shape.Shape.{Shape}
 use Rattle.bt_sweep.specs.declared.sweep.want.Want.TheVariants.{A as WantA, B as WantB, Nothing}
 use Rattle.bt_sweep.proofs.lemmas.laws.DecidingLemmas.{none_before, placed_back}
 use Rattle.bt_sweep.proofs.lemmas.sweep.KeepLemmas.{undecided_beside}
 use Rattle.bt_sweep.proofs.lemmas.laws.PlacedLemmas.{front_placed}
+use Rattle.bt_tool.specs.declared.loops.sweeping.SweepConfig.{SweepConfig}
 use Rattle.bt_tool.specs.inside.feed.Feeding.{member_items}
 use Rattle.bt_tool.specs.inside.pair.Pair.{JoinDef, Pair, Settles, item_ahead}
 use Rattle.bt_tool.specs.inside.pair.Progress.{Comes, TakesFurther}
 use Rattle.bt_tool.specs.inside.pair.Endings.{AsksFor, IsKnown}
-use Rattle.bt_tool.specs.inside.pair.SweepLoop.{AreWithin, FinishesBoth, ReadsRest, SweepEnds, Sweeps, records_pair, stage_of, sweep_join}
+use Rattle.bt_tool.specs.inside.pair.SweepLoop.{AreWithin, FinishesBoth, ReadsRest, StandsBy, SweepEnds, Sweeps, records_pair, stage_of, sweep_join}
 use Rattle.bt_tool.specs.inside.pair.SweepSteps.{FailsAmong, GivesBoth, TakesBoth}
 use Rattle.bt_tool.specs.inside.feed.Passed.{Passes, StopsAfter}
 use Rattle.bt_tool.proofs.lemmas.running.sweep.AdvanceLemmas.{ahead_placed}
 use Rattle.bt_tool.proofs.lemmas.running.pair.PairSettles.{settles_seen}
 use Rattle.bt_tool.proofs.lemmas.running.pair.PairStops as stop
 use Rattle.bt_tool.proofs.lemmas.running.pair.PairTurns as turned
+use Rattle.bt_tool.proofs.lemmas.running.sweep.SweepBegun.{At, Begun}
 use Rattle.bt_tool.proofs.lemmas.running.sweep.SweepFacts.{leaves_more}
 use Rattle.bt_tool.proofs.lemmas.running.sweep.SweepLimits.{cuts_at, some_limit, within_given}
 use Rattle.bt_tool.proofs.lemmas.running.members.PassedLemmas.{is_filled, is_over, is_stopped, said_in_order}
@@ -96,9 +97,9 @@ says_bed : (order : Order) (format : Format Feature (Option Locus)) → format �
 says_bed order format is state line kind e = wrong_of_bed order state line.text kind (ap (λ (f : Format Feature (Option Locus)). f.says state line) (sym is) ∙ e)
 
 -- a fault of some kinds is one of wider kinds
-stops_wider : {S A State : Type 0} (left : S → Option (List ℕ)) (failed end : S → Bool) (old : MemberReader S A State) (Narrow Wide : Kind → Type 0) → ((kind : Kind) → Narrow kind → Wide kind)
-    → (past : List (Member A)) (fault : FaultValue) (new : MemberReader S A State) → StopsAfter left failed end old Narrow past fault new → StopsAfter left failed end old Wide past fault new
-stops_wider left failed end old Narrow Wide wider past fault new stops = record {
+stops_wider : {S A State : Type 0} (device : Source S) (old : MemberReader S A State) (Narrow Wide : Kind → Type 0) → ((kind : Kind) → Narrow kind → Wide kind)
+    → (past : List (Member A)) (fault : FaultValue) (new : MemberReader S A State) → StopsAfter device old Narrow past fault new → StopsAfter device old Wide past fault new
+stops_wider device old Narrow Wide wider past fault new stops = record {
   bytes = stops.bytes;
   cause = elim stops.cause [
     | inl wrong ↦ inl (record { whole = wrong.whole; line = wrong.line; kind = wrong.kind; is = wrong.is; of_kind = wider wrong.kind wrong.of_kind; served = wrong.served; within = wrong.within })
@@ -120,23 +121,45 @@ last_settled order phase newly last bs (inl first) = inl first
 last_settled order phase newly last bs (inr all) =
     inr (and_parts (list_all (λ x. decided order x bs) newly) (list_all (λ x. decided order x bs) (last ∷ [])) (sym (list_all-append (λ x. decided order x bs) newly (last ∷ [])) ∙ all)).1
 
-module _ {A B O : Type 0} {g : Ghosts O} (a_left : A → Option (List ℕ)) (a_failed a_end : A → Bool) (ReadsA : A → Option ℕ → A → Type 0) (b_left : B → Option (List ℕ)) (b_failed b_end : B → Bool) (ReadsB : B → Option ℕ → B → Type 0)
-    (shape : Shape) (rule : HitRule) (limit : Option ℕ) (old_first : Records A O g) (old_second : Records B O g) (out : Output) (total : IsTotal (order_in old_first)) (same_order : order_in old_second ≡ order_in old_first)
-    (is_bed : (view_of old_first).format ≡ bed_format (sorting_of (order_in old_first))) (is_bed_second : (view_of old_second).format ≡ bed_format (sorting_of (order_in old_second))) where
+module _ {A B O : Type 0} {g : Ghosts O} (source_a : Source A) (source_b : Source B) (begun : Begun A B O g) where
+  abbrev config : SweepConfig
+  config = begun.config
+
+  abbrev old_first : Records A O g
+  old_first = begun.first
+
+  abbrev old_second : Records B O g
+  old_second = begun.second
+
+  abbrev out : Output
+  out = begun.out
+
+  abbrev total : IsTotal (order_in begun.first)
+  total = begun.total
+
+  abbrev same_order : order_in begun.second ≡ order_in begun.first
+  same_order = begun.same_order
+
+  abbrev is_bed : (view_of begun.first).format ≡ bed_format (sorting_of (order_in begun.first))
+  is_bed = begun.is_bed
+
+  abbrev is_bed_second : (view_of begun.second).format ≡ bed_format (sorting_of (order_in begun.second))
+  is_bed_second = begun.is_bed_second
+
   abbrev order : Order
   order = order_in old_first
 
   abbrev join : JoinDef Feature Feature
-  join = sweep_join order shape rule limit
+  join = sweep_join order config
 
   abbrev pair : Pair A B Feature Feature (Option Locus) (Option Locus)
-  pair = records_pair a_left a_failed a_end b_left b_failed b_end old_first old_second
+  pair = records_pair source_a source_b old_first old_second
 
   abbrev Going : Records A O g → Records B O g → Sweeping → Output → Type 0
-  Going = Sweeps a_left a_failed a_end b_left b_failed b_end order shape rule limit old_first old_second out
+  Going = Sweeps source_a source_b order config old_first old_second out
 
   abbrev Ends : Option FaultValue → Records A O g → Records B O g → Output → Type 0
-  Ends = SweepEnds a_left a_failed a_end b_left b_failed b_end order shape rule limit old_first old_second out
+  Ends = SweepEnds source_a source_b order config old_first old_second out
 
   wrong : (state : Option Locus) (line : TextLine) (kind : Kind) → (view_of old_first).format.says state line ≡ Err kind → IsBedKind order kind
   wrong = says_bed order (view_of old_first).format is_bed
@@ -148,12 +171,12 @@ module _ {A B O : Type 0} {g : Ghosts O} (a_left : A → Option (List ℕ)) (a_f
   wrong_second state line kind e = inl (wrong_bed state line kind e)
 
   -- what was passed of either is in order
-  first_placed : (view_of old_first).state ≡ None → (past : List (Member Feature)) (now : MemberReader A Feature (Option Locus)) → Passes a_left a_failed a_end (view_of old_first) past now → ArePlaced order (intervals_of (member_items past))
+  first_placed : (view_of old_first).state ≡ None → (past : List (Member Feature)) (now : MemberReader A Feature (Option Locus)) → Passes source_a (view_of old_first) past now → ArePlaced order (intervals_of (member_items past))
   first_placed none past now p =
       (said_in_order order (member_items past) total
       (subst (λ (f : Format Feature (Option Locus)). AreSaid f None (member_items past)) is_bed (subst (λ (s : Option Locus). AreSaid (view_of old_first).format s (member_items past)) none p.said))).0
 
-  second_placed : (view_of old_second).state ≡ None → (past : List (Member Feature)) (now : MemberReader B Feature (Option Locus)) → Passes b_left b_failed b_end (view_of old_second) past now → ArePlaced order (intervals_of (member_items past))
+  second_placed : (view_of old_second).state ≡ None → (past : List (Member Feature)) (now : MemberReader B Feature (Option Locus)) → Passes source_b (view_of old_second) past now → ArePlaced order (intervals_of (member_items past))
   second_placed none past now p =
       (said_in_order order (member_items past) total
       (subst (λ (f : Format Feature (Option Locus)). AreSaid f None (member_items past)) (is_bed_second ∙ ap (λ (o : Order). bed_format (sorting_of o)) same_order)
@@ -163,8 +186,8 @@ module _ {A B O : Type 0} {g : Ghosts O} (a_left : A → Option (List ℕ)) (a_f
   limit_case : (fault : FaultValue) (first_now : Records A O g) (second_now : Records B O g) → order_in second_now ≡ order → (view_of old_second).state ≡ None → (later : Stage) (last : Feature) → later.waiting ≡ Some last → later.b_ended ≡ false
       → (past_first past_second : List (Member Feature)) (grown : Output)
       → Comes join pair out (stage_of later) past_first past_second (view_of first_now) (view_of second_now) grown → (later.a_ended ≡ false → AsksFor join pair out past_first (view_of second_now))
-      → (IsKnown pair → AreWithin order limit (given later) past_second) → (m : Member Feature) → ahead_in (view_of second_now) ≡ Some m → m.item.chrom ≡ last.chrom → m.item.start < last.stop → last.start < m.item.stop → order.knows last.chrom ≡ true
-      → has_room limit (length (held_for (Some last) later.taken)) ≡ false → fault ≡ fault_at_line Second m.line TooManyHeld → Ends (Some fault) first_now second_now grown
+      → (IsKnown pair → AreWithin order config.limit (given later) past_second) → (m : Member Feature) → ahead_in (view_of second_now) ≡ Some m → m.item.chrom ≡ last.chrom → m.item.start < last.stop → last.start < m.item.stop → order.knows last.chrom ≡ true
+      → has_room config.limit (length (held_for (Some last) later.taken)) ≡ false → fault ≡ fault_at_line Second m.line TooManyHeld → Ends (Some fault) first_now second_now grown
   limit_case fault first_now second_now is_order none later last waits going past_first past_second grown comes asks fits m ahead on starts ends known full is =
       let placed = second_placed none past_second (view_of second_now) comes.second_passes in
       let state : (view_of second_now).state ≡ state_behind (bed_format (sorting_of order)) None (member_items past_second) =
@@ -177,9 +200,9 @@ module _ {A B O : Type 0} {g : Ghosts O} (a_left : A → Option (List ℕ)) (a_f
       let parts : given later ≡ later.written ++ last ∷ [] = ap (λ (o : Option Feature). later.written ++ option_to_list o) waits in
       let held : is_held last m.item ≡ true = and_from (bytes_eq last.chrom m.item.chrom) (ltb last.start m.item.stop) (name_eq last.chrom m.item.chrom (sym on)) (lt-ltb last.start m.item.stop ends) in
       stop.passes_limit join pair out (stage_of later) past_first past_second (view_of first_now) (view_of second_now) grown comes asks fits last waits m ahead TooManyHeld
-      (inr (some_limit limit (length (held_for (Some last) later.taken)) full, refl)) fault is undecided
+      (inr (some_limit config.limit (length (held_for (Some last) later.taken)) full, refl)) fault is undecided
       (λ known_now.
-      cuts_at order limit later.written last past_second m fault is (subst (λ (l : List Feature). AreWithin order limit l past_second) parts (fits known_now))
+      cuts_at order config.limit later.written last past_second m fault is (subst (λ (l : List Feature). AreWithin order config.limit l past_second) parts (fits known_now))
       (subst (λ (l : List Feature). list_all (λ x. decided order x l) later.written ≡ true) (sym items)
       (((comes.settles known_now).whatever (member_items past_second ++ m.item ∷ []) (Some no_memory) with_m
       (record {
@@ -190,9 +213,21 @@ module _ {A B O : Type 0} {g : Ghosts O} (a_left : A → Option (List ℕ)) (a_f
         );
         all = λ e. absurd (false≢true (sym going ∙ e));
       })).0))
-      undecided held (subst (λ (l : List Feature). has_room limit (length (filter (is_held last) l)) ≡ false) comes.all_taken full))
+      undecided held (subst (λ (l : List Feature). has_room config.limit (length (filter (is_held last) l)) ≡ false) comes.all_taken full))
 
-  module _ (first : Records A O g) (second : Records B O g) (sweep : Sweeping) (grown : Output) (s : Going first second sweep grown) where
+  module _ (at : At A B O g) (s : Going at.first at.second at.sweep at.out) where
+    abbrev first : Records A O g
+    first = at.first
+
+    abbrev second : Records B O g
+    second = at.second
+
+    abbrev sweep : Sweeping
+    sweep = at.sweep
+
+    abbrev grown : Output
+    grown = at.out
+
     abbrev stage : Stage
     stage = s.stage
 
@@ -217,13 +252,13 @@ module _ {A B O : Type 0} {g : Ghosts O} (a_left : A → Option (List ℕ)) (a_f
       not_ended : stage.a_ended ≡ false
       not_ended = sym (over_is stage.a_ended stage.b_ended) ∙ ap is_done (sym s.stands.phase_is) ∙ going_by sweep.current (is_done sweep.phase) wants
 
-      pub fills_first : (first_now : Records A O g) → FillsRecords a_left a_failed a_end ReadsA first (Ok true) first_now → Going first_now second sweep grown
+      pub fills_first : (first_now : Records A O g) → FillsRecords source_a.left source_a.has_failed source_a.end_told source_a.is_read first (Ok true) first_now → Going first_now second sweep grown
       fills_first first_now fills = record {
         past_first = s.past_first;
         past_second = s.past_second;
         stage = stage;
         stands = s.stands;
-        comes = turned.fills_first join pair out (stage_of stage) s.past_first s.past_second (view_of first) (view_of second) grown s.comes none_waits not_ended (view_of first_now) (is_filled a_left a_failed a_end ReadsA first first_now fills);
+        comes = turned.fills_first join pair out (stage_of stage) s.past_first s.past_second (view_of first) (view_of second) grown s.comes none_waits not_ended (view_of first_now) (is_filled source_a first first_now fills);
         first_order = fills.order ∙ s.first_order;
         second_order = s.second_order;
         first_begins = s.first_begins;
@@ -231,14 +266,14 @@ module _ {A B O : Type 0} {g : Ghosts O} (a_left : A → Option (List ℕ)) (a_f
         fits = s.fits;
       }
 
-      pub ends_first : (first_now : Records A O g) (swept : Sweeping) → FillsRecords a_left a_failed a_end ReadsA first (Ok false) first_now
-          → StandsAt order shape rule limit (with_a_ended stage) swept → Going first_now second swept grown
+      pub ends_first : (first_now : Records A O g) (swept : Sweeping) → FillsRecords source_a.left source_a.has_failed source_a.end_told source_a.is_read first (Ok false) first_now
+          → StandsBy order config (with_a_ended stage) swept → Going first_now second swept grown
       ends_first first_now swept fills stands = record {
         past_first = s.past_first;
         past_second = s.past_second;
         stage = with_a_ended stage;
         stands = stands;
-        comes = turned.ends_first join pair out (stage_of stage) s.past_first s.past_second (view_of first) (view_of second) grown s.comes none_waits not_ended (view_of first_now) (is_over a_left a_failed a_end ReadsA first first_now fills);
+        comes = turned.ends_first join pair out (stage_of stage) s.past_first s.past_second (view_of first) (view_of second) grown s.comes none_waits not_ended (view_of first_now) (is_over source_a first first_now fills);
         first_order = fills.order ∙ s.first_order;
         second_order = s.second_order;
         first_begins = s.first_begins;
@@ -246,10 +281,10 @@ module _ {A B O : Type 0} {g : Ghosts O} (a_left : A → Option (List ℕ)) (a_f
         fits = s.fits;
       }
 
-      pub stops_first : (fault : Fault) (first_now : Records A O g) → FillsRecords a_left a_failed a_end ReadsA first (Err fault) first_now → Ends (Some (fault_value fault)) first_now second grown
+      pub stops_first : (fault : Fault) (first_now : Records A O g) → FillsRecords source_a.left source_a.has_failed source_a.end_told source_a.is_read first (Err fault) first_now → Ends (Some (fault_value fault)) first_now second grown
       stops_first fault first_now fills =
           stop.stops_first join pair out (stage_of stage) s.past_first s.past_second (view_of first) (view_of second) grown s.comes asks_here s.fits wrong none_waits not_ended (fault_value fault) (view_of first_now)
-          (is_stopped a_left a_failed a_end ReadsA first first_now fault fills)
+          (is_stopped source_a first first_now fault fills)
 
     -- ---- one of the second is
 
@@ -263,13 +298,13 @@ module _ {A B O : Type 0} {g : Ghosts O} (a_left : A → Option (List ℕ)) (a_f
       goes : stage.b_ended ≡ false
       goes = (s.stands.unended (ap is_some waiting.1)).1
 
-      pub fills_second : (second_now : Records B O g) → FillsRecords b_left b_failed b_end ReadsB second (Ok true) second_now → Going first second_now sweep grown
+      pub fills_second : (second_now : Records B O g) → FillsRecords source_b.left source_b.has_failed source_b.end_told source_b.is_read second (Ok true) second_now → Going first second_now sweep grown
       fills_second second_now fills = record {
         past_first = s.past_first;
         past_second = s.past_second;
         stage = stage;
         stands = s.stands;
-        comes = turned.fills_second join pair out (stage_of stage) s.past_first s.past_second (view_of first) (view_of second) grown s.comes goes (view_of second_now) (is_filled b_left b_failed b_end ReadsB second second_now fills);
+        comes = turned.fills_second join pair out (stage_of stage) s.past_first s.past_second (view_of first) (view_of second) grown s.comes goes (view_of second_now) (is_filled source_b second second_now fills);
         first_order = s.first_order;
         second_order = fills.order ∙ s.second_order;
         first_begins = s.first_begins;
@@ -277,19 +312,19 @@ module _ {A B O : Type 0} {g : Ghosts O} (a_left : A → Option (List ℕ)) (a_f
         fits = s.fits;
       }
 
-      pub ends_second : (second_now : Records B O g) (swept : Sweeping) (now : Output) → FillsRecords b_left b_failed b_end ReadsB second (Ok false) second_now
-          → StandsAt order shape rule limit (with_b_ended stage) swept → Grown grown (lines_for shape rule a stage.taken) now → Going first second_now swept now
+      pub ends_second : (second_now : Records B O g) (swept : Sweeping) (now : Output) → FillsRecords source_b.left source_b.has_failed source_b.end_told source_b.is_read second (Ok false) second_now
+          → StandsBy order config (with_b_ended stage) swept → Grown grown (lines_for config.shape config.rule a stage.taken) now → Going first second_now swept now
       ends_second second_now swept now fills stands adds = record {
         past_first = s.past_first;
         past_second = s.past_second;
         stage = with_b_ended stage;
         stands = stands;
-        comes = turned.ends_waiting join pair out (stage_of stage) s.past_first s.past_second (view_of first) (view_of second) grown s.comes goes (view_of second_now) (is_over b_left b_failed b_end ReadsB second second_now fills) a waiting.1 now adds;
+        comes = turned.ends_waiting join pair out (stage_of stage) s.past_first s.past_second (view_of first) (view_of second) grown s.comes goes (view_of second_now) (is_over source_b second second_now fills) a waiting.1 now adds;
         first_order = s.first_order;
         second_order = fills.order ∙ s.second_order;
         first_begins = s.first_begins;
         second_begins = s.second_begins;
-        fits = λ known. subst (λ (gs : List Feature). AreWithin order limit gs s.past_second) (sym (append-nil (given stage))) (s.fits known);
+        fits = λ known. subst (λ (gs : List Feature). AreWithin order config.limit gs s.past_second) (sym (append-nil (given stage))) (s.fits known);
       }
 
       -- it is undecided where nothing more of the second is buffered
@@ -301,31 +336,31 @@ module _ {A B O : Type 0} {g : Ghosts O} (a_left : A → Option (List ℕ)) (a_f
           open_last order total stage.taken stage.written a placed_taken (subst (λ (l : List Feature). ArePlaced order (intervals_of l)) parts placed_given) all
           (subst (λ (l : List Feature). IsTrue (list_all (leaves_some order l) stage.taken)) parts asked)
 
-      pub stops_second : (fault : Fault) (second_now : Records B O g) → FillsRecords b_left b_failed b_end ReadsB second (Err fault) second_now → Ends (Some (fault_value fault)) first second_now grown
+      pub stops_second : (fault : Fault) (second_now : Records B O g) → FillsRecords source_b.left source_b.has_failed source_b.end_told source_b.is_read second (Err fault) second_now → Ends (Some (fault_value fault)) first second_now grown
       stops_second fault second_now fills =
           stop.stops_second join pair out (stage_of stage) s.past_first s.past_second (view_of first) (view_of second) grown s.comes asks_here s.fits a waiting.1 wrong_second asked goes opens (fault_value fault) (view_of second_now)
-          (is_stopped b_left b_failed b_end ReadsB second second_now fault fills)
+          (is_stopped source_b second second_now fault fills)
 
-      pub fails_at_end : (fault : FaultValue) (second_now : Records B O g) (now : Output) → FillsRecords b_left b_failed b_end ReadsB second (Ok false) second_now → FailsToAdd grown (lines_for shape rule a stage.taken) fault now
+      pub fails_at_end : (fault : FaultValue) (second_now : Records B O g) (now : Output) → FillsRecords source_b.left source_b.has_failed source_b.end_told source_b.is_read second (Ok false) second_now → FailsToAdd grown (lines_for config.shape config.rule a stage.taken) fault now
           → Ends (Some fault) first second_now now
       fails_at_end fault second_now now fills fails =
           stop.fails_at_end join pair out (stage_of stage) s.past_first s.past_second (view_of first) (view_of second) grown s.comes asks_here s.fits a waiting.1 asked goes fault (view_of second_now) now
-          (is_over b_left b_failed b_end ReadsB second second_now fills) fails
+          (is_over source_b second second_now fills) fails
 
     -- ---- what both have buffered was given
 
-    module _ (first_now : Records A O g) (second_now : Records B O g) (fs ss : List Feature) (takes : TakesBoth a_left a_failed a_end ReadsA b_left b_failed b_end ReadsB order first second sweep grown fs ss first_now second_now) where
+    module _ (first_now : Records A O g) (second_now : Records B O g) (fs ss : List Feature) (takes : TakesBoth source_a source_b order first second sweep grown fs ss first_now second_now) where
       abbrev more_first : List (Member Feature)
       more_first = members_from (suc (lines_given (below first))) fs
 
       abbrev more_second : List (Member Feature)
       more_second = members_from (suc (lines_given (below second))) ss
 
-      further : TakesFurther a_left a_failed a_end (view_of old_first) s.past_first more_first (view_of first) (view_of first_now)
-      further = turned.takes_further a_left a_failed a_end (view_of old_first) s.past_first (view_of first) s.comes.first_passes fs (view_of first_now) takes.first_taken
+      further : TakesFurther source_a (view_of old_first) s.past_first more_first (view_of first) (view_of first_now)
+      further = turned.takes_further source_a (view_of old_first) s.past_first (view_of first) s.comes.first_passes fs (view_of first_now) takes.first_taken
 
-      further_second : TakesFurther b_left b_failed b_end (view_of old_second) s.past_second more_second (view_of second) (view_of second_now)
-      further_second = turned.takes_further b_left b_failed b_end (view_of old_second) s.past_second (view_of second) s.comes.second_passes ss (view_of second_now) takes.second_taken
+      further_second : TakesFurther source_b (view_of old_second) s.past_second more_second (view_of second) (view_of second_now)
+      further_second = turned.takes_further source_b (view_of old_second) s.past_second (view_of second) s.comes.second_passes ss (view_of second_now) takes.second_taken
 
       items_first : member_items more_first ≡ fs
       items_first = turned.items_from (suc (lines_given (below first))) fs
@@ -398,9 +433,9 @@ module _ {A B O : Type 0} {g : Ghosts O} (a_left : A → Option (List ℕ)) (a_f
       -- so far are the lines of some more settled
       settled_more : (written newly : List Feature) (bytes : List ℕ) → ArePlaced order (intervals_of newly) → SettlesEach order sweep.phase newly (ss ++ option_to_list (item_ahead (view_of second_now)))
           → Settles join written bytes ((stage.taken ++ ss) ++ option_to_list (item_ahead (view_of second_now))) stage.b_ended
-          → Settles join (written ++ newly) (bytes ++ intersect shape rule newly (stage.taken ++ ss)) ((stage.taken ++ ss) ++ option_to_list (item_ahead (view_of second_now))) stage.b_ended
+          → Settles join (written ++ newly) (bytes ++ intersect config.shape config.rule newly (stage.taken ++ ss)) ((stage.taken ++ ss) ++ option_to_list (item_ahead (view_of second_now))) stage.b_ended
       settled_more written newly bytes placed each settles =
-          settles_newly order total shape rule limit written newly bytes (stage.taken ++ ss) (item_ahead (view_of second_now)) stage.b_ended sweep.phase settles placed ends_then ss stage.taken refl each
+          settles_newly order total config written newly bytes (stage.taken ++ ss) (item_ahead (view_of second_now)) stage.b_ended sweep.phase settles placed ends_then ss stage.taken refl each
 
       -- the limit lies as far
       decided_first : IsKnown pair → (b : Feature) (more : List Feature) → ss ≡ b ∷ more → AreDecided order stage.written (stage.taken ++ b ∷ [])
@@ -426,24 +461,24 @@ module _ {A B O : Type 0} {g : Ghosts O} (a_left : A → Option (List ℕ)) (a_f
             placed_back order stage.written newly
             (front_placed order (stage.written ++ newly) (option_to_list w) (subst (λ (l : List Feature). ArePlaced order (intervals_of l)) (sym given_later) placed_first))
 
-        fits_later : TakenEach order limit (option_to_list sweep.current ++ fs) stage.taken ss → IsKnown pair → AreWithin order limit (given later) (s.past_second ++ more_second)
+        fits_later : TakenEach order config.limit (option_to_list sweep.current ++ fs) stage.taken ss → IsKnown pair → AreWithin order config.limit (given later) (s.past_second ++ more_second)
         fits_later each known =
             let whole : stage.written ++ (option_to_list stage.waiting ++ fs) ≡ given stage ++ fs = sym (append_assoc stage.written (option_to_list stage.waiting) fs) in
-            subst (λ (l : List Feature). AreWithin order limit l (s.past_second ++ more_second)) (whole ∙ sym given_later)
-            (fits_each order total limit stage.written (option_to_list stage.waiting ++ fs) (subst (λ (l : List Feature). ArePlaced order (intervals_of l)) (sym whole) placed_first) (suc (lines_given (below second))) ss stage.taken s.past_second
-            (sym s.comes.all_taken) placed_second (decided_first known) (subst (λ (o : Option Feature). TakenEach order limit (option_to_list o ++ fs) stage.taken ss) s.stands.current_is each)
-            (subst (λ (l : List Feature). AreWithin order limit l s.past_second) (sym whole) (within_given order limit (given stage) fs s.past_second (s.fits known))))
+            subst (λ (l : List Feature). AreWithin order config.limit l (s.past_second ++ more_second)) (whole ∙ sym given_later)
+            (fits_each order total config.limit stage.written (option_to_list stage.waiting ++ fs) (subst (λ (l : List Feature). ArePlaced order (intervals_of l)) (sym whole) placed_first) (suc (lines_given (below second))) ss stage.taken s.past_second
+            (sym s.comes.all_taken) placed_second (decided_first known) (subst (λ (o : Option Feature). TakenEach order config.limit (option_to_list o ++ fs) stage.taken ss) s.stands.current_is each)
+            (subst (λ (l : List Feature). AreWithin order config.limit l s.past_second) (sym whole) (within_given order config.limit (given stage) fs s.past_second (s.fits known))))
 
         -- the lines of some more, which are settled then, weren't all written
-        cuts_later : TakenEach order limit (option_to_list sweep.current ++ fs) stage.taken ss → SettlesEach order sweep.phase newly (ss ++ option_to_list (item_ahead (view_of second_now)))
-            → (fault : FaultValue) (now : Output) → FailsToAdd grown (intersect shape rule newly (stage.taken ++ ss)) fault now → Ends (Some fault) first_now second_now now
+        cuts_later : TakenEach order config.limit (option_to_list sweep.current ++ fs) stage.taken ss → SettlesEach order sweep.phase newly (ss ++ option_to_list (item_ahead (view_of second_now)))
+            → (fault : FaultValue) (now : Output) → FailsToAdd grown (intersect config.shape config.rule newly (stage.taken ++ ss)) fault now → Ends (Some fault) first_now second_now now
         cuts_later each settles fault now fails =
             let items : given later ≡ given stage ++ member_items more_first = given_later ∙ ap (λ (l : List Feature). given stage ++ l) (sym items_first) in
             stop.fails_to_write join pair out (stage_of stage) s.past_first s.past_second (view_of first) (view_of second) grown s.comes asks_here s.fits more_first more_second (view_of first_now) (view_of second_now) further further_second
             (stage.written ++ newly) (option_to_list w) items
-            (λ known. subst (λ (l : List Feature). AreWithin order limit l (s.past_second ++ more_second)) items (fits_later each known))
-            ended_second [] (intersect shape rule newly (stage.taken ++ ss))
-            (λ known. subst (λ (l : List Feature). Settles join (stage.written ++ newly) (s.comes.bytes ++ intersect shape rule newly (stage.taken ++ ss)) ((stage.taken ++ l) ++ option_to_list (item_ahead (view_of second_now))) stage.b_ended) (sym items_second)
+            (λ known. subst (λ (l : List Feature). AreWithin order config.limit l (s.past_second ++ more_second)) items (fits_later each known))
+            ended_second [] (intersect config.shape config.rule newly (stage.taken ++ ss))
+            (λ known. subst (λ (l : List Feature). Settles join (stage.written ++ newly) (s.comes.bytes ++ intersect config.shape config.rule newly (stage.taken ++ ss)) ((stage.taken ++ l) ++ option_to_list (item_ahead (view_of second_now))) stage.b_ended) (sym items_second)
             (settled_more stage.written newly s.comes.bytes newly_placed settles (settled_seen known)))
             grown now fault (grown_none grown) fails
 
@@ -452,11 +487,11 @@ module _ {A B O : Type 0} {g : Ghosts O} (a_left : A → Option (List ℕ)) (a_f
           comes_later =
               turned.goes_on join pair out (stage_of stage) s.past_first s.past_second (view_of first) (view_of second) grown s.comes more_first more_second (view_of first_now) (view_of second_now) further further_second ended_first ended_second newly (stage_of later)
               (record { given_is = given_later ∙ ap (λ (l : List Feature). given stage ++ l) (sym items_first); written_is = refl; taken_is = ap (λ (l : List Feature). stage.taken ++ l) (sym items_second); first_is = refl; second_is = refl })
-              (intersect shape rule newly (stage.taken ++ ss)) now (λ known. settled_more stage.written newly s.comes.bytes newly_placed each (settled_seen known)) (puts shape rule limit stage s.stands placed_first placed_second)
+              (intersect config.shape config.rule newly (stage.taken ++ ss)) now (λ known. settled_more stage.written newly s.comes.bytes newly_placed each (settled_seen known)) (puts config.shape config.rule config.limit stage s.stands placed_first placed_second)
 
     -- ---- it went on
 
-    pub goes_both : (first_now : Records A O g) (second_now : Records B O g) (swept : Sweeping) (now : Output) → GivesBoth a_left a_failed a_end ReadsA b_left b_failed b_end ReadsB order first second sweep grown first_now second_now swept now
+    pub goes_both : (first_now : Records A O g) (second_now : Records B O g) (swept : Sweeping) (now : Output) → GivesBoth source_a source_b order first second sweep grown first_now second_now swept now
         → Going first_now second_now swept now
     goes_both first_now second_now swept now gives =
         let placed = placed_first first_now second_now gives.firsts gives.seconds gives.takes in
@@ -465,32 +500,32 @@ module _ {A B O : Type 0} {g : Ghosts O} (a_left : A → Option (List ℕ)) (a_f
           past_first = s.past_first ++ members_from (suc (lines_given (below first))) gives.firsts;
           past_second = s.past_second ++ members_from (suc (lines_given (below second))) gives.seconds;
           stage = stage_after stage gives.newly swept.current gives.seconds;
-          stands = gives.stands shape rule limit stage s.stands placed placed_second;
+          stands = gives.stands config.shape config.rule config.limit stage s.stands placed placed_second;
           comes = comes_later first_now second_now gives.firsts gives.seconds gives.takes gives.newly swept.current gives.are gives.settles now gives.puts;
           first_order = gives.takes.first_order ∙ s.first_order;
           second_order = gives.takes.second_order ∙ s.second_order;
           first_begins = s.first_begins;
           second_begins = s.second_begins;
-          fits = fits_later first_now second_now gives.firsts gives.seconds gives.takes gives.newly swept.current gives.are (gives.each shape rule limit stage s.stands placed placed_second);
+          fits = fits_later first_now second_now gives.firsts gives.seconds gives.takes gives.newly swept.current gives.are (gives.each config.shape config.rule config.limit stage s.stands placed placed_second);
         }
 
     -- ---- it failed at one of the first
 
-    pub fails_both : (fault : FaultValue) (first_now : Records A O g) (second_now : Records B O g) (now : Output) → FailsAmong a_left a_failed a_end ReadsA b_left b_failed b_end ReadsB order first second sweep grown fault first_now second_now now
+    pub fails_both : (fault : FaultValue) (first_now : Records A O g) (second_now : Records B O g) (now : Output) → FailsAmong source_a source_b order first second sweep grown fault first_now second_now now
         → Ends (Some fault) first_now second_now now
     fails_both fault first_now second_now now fails =
         let fs = fails.firsts in
         let ss = fails.seconds in
         let placed = placed_first first_now second_now fs ss fails.takes in
         let placed_taken = placed_second first_now second_now fs ss fails.takes in
-        let each = fails.each shape rule limit stage s.stands placed placed_taken in
+        let each = fails.each config.shape config.rule config.limit stage s.stands placed placed_taken in
         let past_first = s.past_first ++ members_from (suc (lines_given (below first))) fs in
         let past_second = s.past_second ++ members_from (suc (lines_given (below second))) ss in
         let asks : stage.a_ended ≡ false → AsksFor join pair out past_first (view_of second_now) =
         λ going. stop.asks_then join pair out (stage_of stage) s.past_first s.past_second (view_of first) (view_of second) grown s.comes asked (λ more asks. leaves_more order (given stage) more stage.taken asks)
         (members_from (suc (lines_given (below first))) fs) (members_from (suc (lines_given (below second))) ss) (view_of second_now) (further_second first_now second_now fs ss fails.takes) in
         elim fails.cause [
-          | inl write ↦ cuts_later first_now second_now fs ss fails.takes fails.newly fails.waiting fails.are each fails.settles fault now (write.cuts shape rule limit stage s.stands placed placed_taken)
+          | inl write ↦ cuts_later first_now second_now fs ss fails.takes fails.newly fails.waiting fails.are each fails.settles fault now (write.cuts config.shape config.rule config.limit stage s.stands placed placed_taken)
           | inr others ↦ elim others [
             | inl lack ↦
                 let last = lack.last in
@@ -498,7 +533,7 @@ module _ {A B O : Type 0} {g : Ghosts O} (a_left : A → Option (List ℕ)) (a_f
                 let comes = comes_later first_now second_now fs ss fails.takes fails.newly (Some last) are fails.settles now lack.puts in
                 let fits = fits_later first_now second_now fs ss fails.takes fails.newly (Some last) are each in
                 let placed_last = placed_back order (stage.written ++ fails.newly) (last ∷ []) (subst (λ (l : List Feature). ArePlaced order (intervals_of l)) (sym (given_later first_now second_now fs ss fails.takes fails.newly (Some last) are)) placed) in
-                elim (lack.lacks shape rule limit stage s.stands placed placed_taken) [
+                elim (lack.lacks config.shape config.rule config.limit stage s.stands placed placed_taken) [
                   | inl full ↦
                       limit_case fault first_now second_now (fails.takes.second_order ∙ s.second_order ∙ same_order) s.second_begins (stage_after stage fails.newly (Some last) ss) last refl
                       (not_ended_with first_now second_now fs ss fails.takes lack.m lack.ahead stage.b_ended refl) past_first past_second now comes asks fits lack.m lack.ahead lack.chrom lack.starts lack.ends placed_last.0 full.0 full.1
@@ -518,14 +553,14 @@ module _ {A B O : Type 0} {g : Ghosts O} (a_left : A → Option (List ℕ)) (a_f
       done : stage.a_ended ≡ true
       done = sym (over_is stage.a_ended stage.b_ended) ∙ ap is_done (sym s.stands.phase_is) ∙ done_by sweep.current (is_done sweep.phase) wants
 
-      pub finishes_both : {T : Type 0} (result : Result T Fault) (second_now : Records B O g) → ReadsRest b_left b_failed b_end (IsBedKind (order_in second)) (view_of second) result (view_of second_now)
-          → FinishesBoth a_left a_failed a_end b_left b_failed b_end order shape rule limit old_first old_second out result first second_now grown
+      pub finishes_both : {T : Type 0} (result : Result T Fault) (second_now : Records B O g) → ReadsRest source_b (IsBedKind (order_in second)) (view_of second) result (view_of second_now)
+          → FinishesBoth source_a source_b order config old_first old_second out result first second_now grown
       finishes_both {T} (Ok unit) second_now reads =
-          let checks = subst (λ (o : Order). ReadsRest {T = T} b_left b_failed b_end (IsBedKind o) (view_of second) (Ok unit) (view_of second_now)) (s.second_order ∙ same_order) reads (view_of old_second) s.past_second s.comes.second_passes wrong_bed in
+          let checks = subst (λ (o : Order). ReadsRest {T = T} source_b (IsBedKind o) (view_of second) (Ok unit) (view_of second_now)) (s.second_order ∙ same_order) reads (view_of old_second) s.past_second s.comes.second_passes wrong_bed in
           stop.ends_rest join pair out (stage_of stage) s.past_first s.past_second (view_of first) (view_of second) grown s.comes asks_here s.fits done (view_of second_now) (λ some. absurd (false≢true (ap is_some (sym checks.passes.going) ∙ some))) checks.passes.bytes (s.past_second ++ checks.more) None
           (inl (refl, checks.all, record { served = checks.passes.served; within = checks.passes.kept.within checks.passes.clear }, refl))
       finishes_both {T} (Err fault) second_now reads =
-          let checks = subst (λ (o : Order). ReadsRest {T = T} b_left b_failed b_end (IsBedKind o) (view_of second) (Err fault) (view_of second_now)) (s.second_order ∙ same_order) reads (view_of old_second) s.past_second s.comes.second_passes wrong_bed in
+          let checks = subst (λ (o : Order). ReadsRest {T = T} source_b (IsBedKind o) (view_of second) (Err fault) (view_of second_now)) (s.second_order ∙ same_order) reads (view_of old_second) s.past_second s.comes.second_passes wrong_bed in
           stop.stops_rest join pair out (stage_of stage) s.past_first s.past_second (view_of first) (view_of second) grown s.comes asks_here s.fits done (view_of second_now) (λ some. checks.low) (s.past_second ++ checks.more) (fault_value fault)
-          (stops_wider b_left b_failed b_end (view_of old_second) (IsBedKind order) join.second_kinds (λ kind of_bed. inl of_bed) (s.past_second ++ checks.more) (fault_value fault) (view_of second_now) checks.stops)
+          (stops_wider source_b (view_of old_second) (IsBedKind order) join.second_kinds (λ kind of_bed. inl of_bed) (s.past_second ++ checks.more) (fault_value fault) (view_of second_now) checks.stops)
           (λ e. checks.before_end (s.comes.second_all e).2) refl

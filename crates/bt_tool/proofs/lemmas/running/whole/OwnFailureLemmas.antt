@@ -2,6 +2,7 @@
 use Rattle.std.proofs.Common.{◌≡◌, ℕ, Option, None, Some, Err, Bool, List, ap, sym, subst, ◌∙◌, inl, inr, arith}
 use Rattle.std.specs.Prelude.{◌⊎◌, ◌≢◌, ⊤, MatchResult, Ok, Result}
 use Rattle.std.proofs.lemmas.Bool.{false≢true}
+use Rattle.bt_lines.specs.declared.device.Source.{Ghosts as Source}
 use Rattle.bt_lines.proofs.lemmas.reader.block.ReadsLemmas.{memory_no_read, some_is, unread_then}
 use Rattle.bt_lines.specs.model.Fault.{FaultValue, no_memory, read_failed, write_failed}
 use Rattle.bt_lines.specs.calls.Device.{ReadsFail, ReadsOn, begun}
@@ -118,28 +119,28 @@ pub tells_first : (S F : Type 0) (fault : Option FaultValue) → TellsOwnReads �
 tells_first S F fault own = record { genome_file = own.genome_file; first_input = own.first_input; second_input = λ line e. absurd (own.second_input line e) }
 
 -- an input at its end, and what it was at first
-module _ {S A State : Type 0} (left : S → Option (List ℕ)) (failed end : S → Bool) (IsRead : S → Option ℕ → S → Type 0) (format : Format A State) (input : Input) (first : S) (old : MemberReader S A State) (begins : BeginsAt left format input first old)
-    (new : MemberReader S A State) (last : S) (ended : source_of new.below ≡ last) (own : KeepsOwnFault IsRead old.below new) where
+module _ {S A State : Type 0} (device : Source S) (format : Format A State) (input : Input) (first : S) (old : MemberReader S A State) (begins : BeginsAt device.left format input first old)
+    (new : MemberReader S A State) (last : S) (ended : source_of new.below ≡ last) (own : KeepsOwnFault device.is_read old.below new) where
   -- a failed read that is reported after some members
-  pub behind_own : (Kinds : Kind → Type 0) → (Kinds ReadFailed → ⊥) → (past : List (Member A)) (fault : FaultValue) → HasFaultBehind left failed end old Kinds past fault new → (other : Input) (line : ℕ) → fault ≡ read_failed other line
-      → (other ≡ input) × IsOwnFailure IsRead first last
+  pub behind_own : (Kinds : Kind → Type 0) → (Kinds ReadFailed → ⊥) → (past : List (Member A)) (fault : FaultValue) → HasFaultBehind device old Kinds past fault new → (other : Input) (line : ℕ) → fault ≡ read_failed other line
+      → (other ≡ input) × IsOwnFailure device.is_read first last
   behind_own Kinds never past fault (inl wrong) other line e = absurd (never_read Kinds never _ wrong.line wrong.kind wrong.of_kind other line (sym wrong.is ∙ e))
   behind_own Kinds never past fault (inr unread) other line e = (
     sym (same_input _ other _ line (sym unread.is ∙ e)) ∙ begins.input_is,
-    own_failure_of IsRead first last old.below new.below begins.source ended begins.bytes (own other line (unread.kept ∙ ap Some e)),
+    own_failure_of device.is_read first last old.below new.below begins.source ended begins.bytes (own other line (unread.kept ∙ ap Some e)),
   )
 
 -- the members of the first input were fed to an engine up to a fault
-module _ {S A State : Type 0} (left : S → Option (List ℕ)) (failed end : S → Bool) (IsRead : S → Option ℕ → S → Type 0) (format : Format A State) (first : S) (old : MemberReader S A State) (begins : BeginsAt left format First first old)
-    (new : MemberReader S A State) (last : S) (ended : source_of new.below ≡ last) (own : KeepsOwnFault IsRead old.below new) where
+module _ {S A State : Type 0} (device : Source S) (format : Format A State) (first : S) (old : MemberReader S A State) (begins : BeginsAt device.left format First first old)
+    (new : MemberReader S A State) (last : S) (ended : source_of new.below ≡ last) (own : KeepsOwnFault device.is_read old.below new) where
   pub feeds_own : (settled : List A → List ℕ) (Kinds : Kind → Type 0) → (Kinds ReadFailed → ⊥) → (Sorted : List A → Type 0) (out : Output) (fault : FaultValue) (grown : Output)
-      → FeedsUpTo settled Kinds Sorted left failed end old out fault new grown → TellsOwnReads ⊥ (IsOwnFailure IsRead first last) ⊥ (Some fault)
+      → FeedsUpTo settled Kinds Sorted device old out fault new grown → TellsOwnReads ⊥ (IsOwnFailure device.is_read first last) ⊥ (Some fault)
   feeds_own settled Kinds never Sorted out fault grown fed =
-      let by : (other : Input) (line : ℕ) → Some fault ≡ Some (read_failed other line) → (other ≡ First) × IsOwnFailure IsRead first last =
+      let by : (other : Input) (line : ℕ) → Some fault ≡ Some (read_failed other line) → (other ≡ First) × IsOwnFailure device.is_read first last =
       λ other line e.
       let is = some_is fault (read_failed other line) e in
       elim fed.cause [
-        | inl reading ↦ behind_own left failed end IsRead format First first old begins new last ended own Kinds never fed.past fault reading.behind other line is
+        | inl reading ↦ behind_own device format First first old begins new last ended own Kinds never fed.past fault reading.behind other line is
         | inr others ↦ elim others [
           | inl growing ↦ absurd (memory_no_read other line (sym growing.lacks.is ∙ is))
           | inr writing ↦ absurd (write_no_read other line (sym writing.is ∙ is))
@@ -153,23 +154,23 @@ module _ {S A State : Type 0} (left : S → Option (List ℕ)) (failed end : S �
       }
 
 -- a run over two readers ended
-module _ {A B X Y U V : Type 0} (join : JoinDef X Y) (pair : Pair A B X Y U V) (out : Output) (a_read : A → Option ℕ → A → Type 0) (b_read : B → Option ℕ → B → Type 0) (first_format : Format X U) (second_format : Format Y V)
-    (one_before : A) (two_before : B) (begins : BeginsAt pair.a_left first_format First one_before pair.first) (begins_second : BeginsAt pair.b_left second_format Second two_before pair.second)
+module _ {A B X Y U V : Type 0} (join : JoinDef X Y) (pair : Pair A B X Y U V) (out : Output) (first_format : Format X U) (second_format : Format Y V)
+    (one_before : A) (two_before : B) (begins : BeginsAt pair.source_a.left first_format First one_before pair.first) (begins_second : BeginsAt pair.source_b.left second_format Second two_before pair.second)
     (first : MemberReader A X U) (second : MemberReader B Y V) (one_after : A) (two_after : B) (ended : source_of first.below ≡ one_after) (ended_second : source_of second.below ≡ two_after) (fault : Option FaultValue) (grown : Output)
-    (w : Finishes join pair out fault first second grown) (no_first : join.first_kinds ReadFailed → ⊥) (no_second : join.second_kinds ReadFailed → ⊥) (own : KeepsOwnFault a_read pair.first.below first) (own_second : KeepsOwnFault b_read pair.second.below second) where
+    (w : Finishes join pair out fault first second grown) (no_first : join.first_kinds ReadFailed → ⊥) (no_second : join.second_kinds ReadFailed → ⊥) (own : KeepsOwnFault pair.source_a.is_read pair.first.below first) (own_second : KeepsOwnFault pair.source_b.is_read pair.second.below second) where
   abbrev OwnFirst : Input → Type 0
-  OwnFirst input = (input ≡ First) × IsOwnFailure a_read one_before one_after
+  OwnFirst input = (input ≡ First) × IsOwnFailure pair.source_a.is_read one_before one_after
 
   abbrev OwnSecond : Input → Type 0
-  OwnSecond input = (input ≡ Second) × IsOwnFailure b_read two_before two_after
+  OwnSecond input = (input ≡ Second) × IsOwnFailure pair.source_b.is_read two_before two_after
 
-  of_first : (past : List (Member X)) (other : FaultValue) → HasFaultBehind pair.a_left pair.a_failed pair.a_end pair.first join.first_kinds past other first → (input : Input) (line : ℕ) → other ≡ read_failed input line → OwnFirst input
+  of_first : (past : List (Member X)) (other : FaultValue) → HasFaultBehind pair.source_a pair.first join.first_kinds past other first → (input : Input) (line : ℕ) → other ≡ read_failed input line → OwnFirst input
   of_first past other behind =
-      behind_own pair.a_left pair.a_failed pair.a_end a_read first_format First one_before pair.first begins first one_after ended own join.first_kinds no_first past other behind
+      behind_own pair.source_a first_format First one_before pair.first begins first one_after ended own join.first_kinds no_first past other behind
 
-  of_second : (past : List (Member Y)) (other : FaultValue) → HasFaultBehind pair.b_left pair.b_failed pair.b_end pair.second join.second_kinds past other second → (input : Input) (line : ℕ) → other ≡ read_failed input line → OwnSecond input
+  of_second : (past : List (Member Y)) (other : FaultValue) → HasFaultBehind pair.source_b pair.second join.second_kinds past other second → (input : Input) (line : ℕ) → other ≡ read_failed input line → OwnSecond input
   of_second past other behind =
-      behind_own pair.b_left pair.b_failed pair.b_end b_read second_format Second two_before pair.second begins_second second two_after ended_second own_second join.second_kinds no_second past other behind
+      behind_own pair.source_b second_format Second two_before pair.second begins_second second two_after ended_second own_second join.second_kinds no_second past other behind
 
   -- the inputs reported it
   by_inputs : InputsEnd join pair out w.written w.wrote.given w.wrote.ended first second fault → (input : Input) (line : ℕ) → fault ≡ Some (read_failed input line) → OwnFirst input ⊎ OwnSecond input
@@ -195,15 +196,15 @@ module _ {A B X Y U V : Type 0} (join : JoinDef X Y) (pair : Pair A B X Y U V) (
   never_genome (inl own) = let apart : Genome ≡ First = own.0 in cc
   never_genome (inr own) = let apart : Genome ≡ Second = own.0 in cc
 
-  only_first : OwnFirst First ⊎ OwnSecond First → IsOwnFailure a_read one_before one_after
+  only_first : OwnFirst First ⊎ OwnSecond First → IsOwnFailure pair.source_a.is_read one_before one_after
   only_first (inl own) = own.1
   only_first (inr own) = absurd (let apart : First ≡ Second = own.0 in cc)
 
-  only_second : OwnFirst Second ⊎ OwnSecond Second → IsOwnFailure b_read two_before two_after
+  only_second : OwnFirst Second ⊎ OwnSecond Second → IsOwnFailure pair.source_b.is_read two_before two_after
   only_second (inl own) = absurd (let apart : Second ≡ First = own.0 in cc)
   only_second (inr own) = own.1
 
-  pub both_own : TellsOwnReads ⊥ (IsOwnFailure a_read one_before one_after) (IsOwnFailure b_read two_before two_after) fault
+  pub both_own : TellsOwnReads ⊥ (IsOwnFailure pair.source_a.is_read one_before one_after) (IsOwnFailure pair.source_b.is_read two_before two_after) fault
   both_own = record {
     genome_file = λ line e. never_genome (by_cause w.why Genome line e);
     first_input = λ line e. only_first (by_cause w.why First line e);

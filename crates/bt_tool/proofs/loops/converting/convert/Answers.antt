@@ -9,14 +9,14 @@ pub returns-in-Ok-clause-written : goal.returns-in-Ok-clause-written
 returns-in-Ok-clause-written g c =
     let reader = c.new-lines.ensures in
     let done = c.in-Ok.ensures.converts in
-    writes_all c.args.split c.args.cigar g.A.Source.left g.A.Source.has_failed g.A.Source.end_told c.args.first c.new-lines.result reader.source reader.input reader.none_taken.0 reader.none_fed reader.none_given reader.going.0 reader.lines reader.sound
+    writes_all c.args.split c.args.cigar g.A.Source c.args.first c.new-lines.result reader.source reader.input reader.none_taken.0 reader.none_fed reader.none_given reader.going.0 reader.lines reader.sound
     c.new-converter.result c.new-converter.ensures c.args.out.now.output done.0 c.into_source-first.result (ap source_of done.1 ∙ sym c.into_source-first.ensures) c.convert_all-converted.new.out.output done.2
 
 pub returns-in-Err-clause-written : goal.returns-in-Err-clause-written
 returns-in-Err-clause-written g c =
     let reader = c.new-lines.ensures in
     let done = c.in-Err.ensures.converts in
-    writes_up_to c.args.split c.args.cigar g.A.Source.left g.A.Source.has_failed g.A.Source.end_told c.args.first c.new-lines.result reader.source reader.input reader.none_taken.0 reader.none_fed reader.none_given reader.going.0 reader.lines reader.sound
+    writes_up_to c.args.split c.args.cigar g.A.Source c.args.first c.new-lines.result reader.source reader.input reader.none_taken.0 reader.none_fed reader.none_given reader.going.0 reader.lines reader.sound
     c.new-converter.result c.new-converter.ensures c.args.out.now.output done.0 c.into_source-first.result (ap source_of done.1 ∙ sym c.into_source-first.ensures) c.convert_all-converted.new.out.output (fault_value c.in-Err.fault) done.2
 
 pub returns-in-Ok-clause-own_failure : goal.returns-in-Ok-clause-own_failure
@@ -26,8 +26,8 @@ pub returns-in-Err-clause-own_failure : goal.returns-in-Err-clause-own_failure
 returns-in-Err-clause-own_failure g c =
     let reader = c.new-lines.ensures in
     let done = c.in-Err.ensures.converts in
-    own_up_to c.args.split c.args.cigar g.A.Source.left g.A.Source.has_failed g.A.Source.end_told c.args.first c.new-lines.result reader.source reader.input reader.none_taken.0 reader.none_fed reader.none_given reader.going.0 reader.lines reader.sound
-    c.new-converter.result c.new-converter.ensures c.args.out.now.output done.0 c.into_source-first.result (ap source_of done.1 ∙ sym c.into_source-first.ensures) c.convert_all-converted.new.out.output g.A.Source.is_read
+    own_up_to c.args.split c.args.cigar g.A.Source c.args.first c.new-lines.result reader.source reader.input reader.none_taken.0 reader.none_fed reader.none_given reader.going.0 reader.lines reader.sound
+    c.new-converter.result c.new-converter.ensures c.args.out.now.output done.0 c.into_source-first.result (ap source_of done.1 ∙ sym c.into_source-first.ensures) c.convert_all-converted.new.out.output
     (kept_below g.A.Source.is_read c.new-lines.result done.0 c.convert_all-converted.new.lines done.1 done.3 c.convert_all-converted.ensures.own_failure) (fault_value c.in-Err.fault) done.2
 
 pub returns-in-Ok-clause-reads : goal.returns-in-Ok-clause-reads

@@ -14,7 +14,7 @@ use Rattle.bt_tool.proofs.loops.converting.convert_all.Goals as goal
 
 pub loop-line-init : goal.loop-line-init
 loop-line-init g c = record {
-  going = going_start _ _ _ _ _ c.args.lines.now c.args.out.now.output c.requires.fresh c.requires.block;
+  going = going_start _ _ _ c.args.lines.now c.args.out.now.output c.requires.fresh c.requires.block;
   same = refl;
   input = c.input-input.ensures;
   read = reads_same g.S.Source.is_read c.args.lines.now c.args.lines.now refl;
@@ -24,11 +24,11 @@ pub returns-in_err-line-clause-converts : goal.returns-in_err-line-clause-conver
 returns-in_err-line-clause-converts g c =
     let gives = rw c.in_err-line.was at c.next.follows.holds-at-none in
     let now = c.loop-line.invariant in
-    passed_on (λ r. ConvertsAll g.S.Source.left g.S.Source.has_failed g.S.Source.end_told c.args.converter.now c.args.lines.now c.args.out.now.output r c.next.follows.lender-at-none c.loop-line.out.output) c.from_residual.result c.in_err-line.field-0.0
+    passed_on (λ r. ConvertsAll g.S.Source c.args.converter.now c.args.lines.now c.args.out.now.output r c.next.follows.lender-at-none c.loop-line.out.output) c.from_residual.result c.in_err-line.field-0.0
     c.from_residual.ensures.1 (
       sam_reader c.next.follows.lender-at-none,
       refl,
-      stops_reading _ _ _ _ _ c.args.lines.now c.args.out.now.output c.loop-line.lines c.loop-line.out.output now.going c.next.follows.lender-at-none (fault_value c.in_err-line.field-0.0) gives.answers gives.sound,
+      stops_reading _ _ _ c.args.lines.now c.args.out.now.output c.loop-line.lines c.loop-line.out.output now.going c.next.follows.lender-at-none (fault_value c.in_err-line.field-0.0) gives.answers gives.sound,
       λ input line e. e,
     )
 
@@ -58,7 +58,7 @@ loop-line-preserved g c =
     let first = c.args.converter.now in
     let written = c.in_ok-convert_line.ensures in
     record {
-      going = going_line first.split first.with_cigar _ _ _ c.args.lines.now c.args.out.now.output c.loop-line.lines c.loop-line.out.output now.going c.next.follows.lender-at-none (line_seen c.in-Some.line) gives.answers
+      going = going_line first.split first.with_cigar _ c.args.lines.now c.args.out.now.output c.loop-line.lines c.loop-line.out.output now.going c.next.follows.lender-at-none (line_seen c.in-Some.line) gives.answers
           gives.sound c.loop-line.converter c.convert_line.new.converter (ap (λ (m : Converting). m.split) now.same) (ap (λ (m : Converting). m.with_cigar) now.same) c.convert_line.new.out.output written;
       same = written.unchanged ∙ now.same;
       input = now.input;
@@ -72,20 +72,20 @@ returns-in_err-convert_line-clause-converts g c =
     let first = c.args.converter.now in
     let fault = fault_value c.in_err-convert_line.field-0.0 in
     let line = line_seen c.in-Some.line in
-    passed_on (λ r. ConvertsAll g.S.Source.left g.S.Source.has_failed g.S.Source.end_told c.args.converter.now c.args.lines.now c.args.out.now.output r c.next.follows.lender-at-none c.convert_line.new.out.output) c.from_residual-in_err-convert_line.result c.in_err-convert_line.field-0.0
+    passed_on (λ r. ConvertsAll g.S.Source c.args.converter.now c.args.lines.now c.args.out.now.output r c.next.follows.lender-at-none c.convert_line.new.out.output) c.from_residual-in_err-convert_line.result c.in_err-convert_line.field-0.0
     c.from_residual-in_err-convert_line.ensures.1
     (⊎_elim
     (λ refused. (
       _,
       refl,
-      stops_at_line first.split first.with_cigar _ _ _ c.args.lines.now c.args.out.now.output c.loop-line.lines c.loop-line.out.output now.going c.next.follows.lender-at-none line gives.answers
+      stops_at_line first.split first.with_cigar _ c.args.lines.now c.args.out.now.output c.loop-line.lines c.loop-line.out.output now.going c.next.follows.lender-at-none line gives.answers
           gives.sound fault c.convert_line.new.out.output (subst (λ (i : Input). LineRefused i line c.loop-line.out.output fault c.convert_line.new.out.output) now.input refused),
       λ input at e. absurd (refused_no_read _ line _ fault _ refused input at e),
     ))
     (λ unwritten. (
       _,
       refl,
-      stops_writing first.split first.with_cigar _ _ _ c.args.lines.now c.args.out.now.output c.loop-line.lines c.loop-line.out.output now.going c.next.follows.lender-at-none line gives.answers
+      stops_writing first.split first.with_cigar _ c.args.lines.now c.args.out.now.output c.loop-line.lines c.loop-line.out.output now.going c.next.follows.lender-at-none line gives.answers
           gives.sound c.loop-line.converter (ap (λ (m : Converting). m.split) now.same) (ap (λ (m : Converting). m.with_cigar) now.same) fault c.convert_line.new.out.output unwritten,
       λ input at e. e,
     ))
@@ -103,7 +103,7 @@ returns-clause-converts g c =
     let now = c.loop-line.invariant in (
       sam_reader c.next.follows.lender-at-none,
       refl,
-      converts_all _ _ _ _ _ c.args.lines.now c.args.out.now.output c.loop-line.lines c.loop-line.out.output now.going c.next.follows.lender-at-none gives.answers gives.sound,
+      converts_all _ _ _ c.args.lines.now c.args.out.now.output c.loop-line.lines c.loop-line.out.output now.going c.next.follows.lender-at-none gives.answers gives.sound,
       λ input line e. e,
     )
 

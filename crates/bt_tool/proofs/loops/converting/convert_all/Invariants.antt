@@ -6,7 +6,7 @@ use Rattle.bt_tool.proofs.loops.converting.convert_all.Given as goal
 -- the alignments of the lines so far were written
 abbrev pub invariant-loop-line : goal.invariant-loop-line
 invariant-loop-line g l = record {
-  going : Going l.initial.converter.split l.initial.converter.with_cigar g.S.Source.left g.S.Source.has_failed g.S.Source.end_told l.initial.lines l.initial.out.output l.lines l.out.output;
+  going : Going l.initial.converter.split l.initial.converter.with_cigar g.S.Source l.initial.lines l.initial.out.output l.lines l.out.output;
   same : l.converter ≡ l.initial.converter;
   input : l.input ≡ input_of l.initial.lines;
   read : HasRead g.S.Source.is_read l.initial.lines l.lines;

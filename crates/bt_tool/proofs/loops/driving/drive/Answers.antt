@@ -29,12 +29,11 @@ pub returns-in-Err-clause-written : goal.returns-in-Err-clause-written
 returns-in-Err-clause-written g c =
     let reader = c.new-reader.ensures in
     let records = c.new-records.ensures in
-    let left = g.A.Source.left in
     let order = g.O.ChromOrder.order c.args.order.now in
     let written : Written Feature = record { whole = g.E.Engine.output c.args.engine; settled = g.E.Engine.settled c.args.engine } in
-    let starts = begins_by left order First c.args.first c.new-reader.result c.new-records.result records.below reader.source reader.input reader.none_taken.0 reader.none_fed reader.going.0 reader.lines records.good in
+    let starts = begins_by g.A.Source.left order First c.args.first c.new-reader.result c.new-records.result records.below reader.source reader.input reader.none_taken.0 reader.none_fed reader.going.0 reader.lines records.good in
     let ended = sym (c.into_source-first.ensures ∙ ap source_of c.into_reader.ensures) in
-    rw records.order at (drives_fault written (IsBedKind (order_in c.new-records.result)) (AreInOrder (order_in c.new-records.result)) (g.E.Engine.takes c.args.engine) c.requires.stays c.requires.begins left g.A.Source.has_failed g.A.Source.end_told (bed_format (sorting_of order))
+    rw records.order at (drives_fault written (IsBedKind (order_in c.new-records.result)) (AreInOrder (order_in c.new-records.result)) (g.E.Engine.takes c.args.engine) c.requires.stays c.requires.begins g.A.Source (bed_format (sorting_of order))
     (records_sorted (g.E.Engine.takes c.args.engine) order (g.met.O.ChromOrder.total c.args.order.now) c.requires.takes) (view_of c.new-records.result) c.args.first c.args.out.now.output starts (view_of c.feed_all-fed.new.records) c.into_source-first.result ended
     (fault_value c.in-Err.fault) c.feed_all-fed.new.out.output c.in-Err.ensures.feeds)
 
@@ -42,15 +41,14 @@ pub returns-in-Err-finish-clause-written : goal.returns-in-Err-finish-clause-wri
 returns-in-Err-finish-clause-written g c =
     let reader = c.new-reader.ensures in
     let records = c.new-records.ensures in
-    let left = g.A.Source.left in
     let order = g.O.ChromOrder.order c.args.order.now in
     let written : Written Feature = record { whole = g.E.Engine.output c.args.engine; settled = g.E.Engine.settled c.args.engine } in
-    let starts = begins_by left order First c.args.first c.new-reader.result c.new-records.result records.below reader.source reader.input reader.none_taken.0 reader.none_fed reader.going.0 reader.lines records.good in
+    let starts = begins_by g.A.Source.left order First c.args.first c.new-reader.result c.new-records.result records.below reader.source reader.input reader.none_taken.0 reader.none_fed reader.going.0 reader.lines records.good in
     let ended = sym (c.into_source-first.ensures ∙ ap source_of c.into_reader.ensures) in
     let fed = c.in_default.ensures.feeds in
     let takes = c.requires.takes (member_items fed.past) (subst (λ o. ArePlaced o (intervals_of (member_items fed.past))) records.order fed.took.sorted.0) fed.took.sorted.1 in
     let said = finish_cut g.E.Engine.takes g.E.Engine.is_after g.E.Engine.fault g.E.Engine.settled g.E.Engine.output c.args.engine c.feed_all-fed.new.engine (member_items fed.past) c.feed_all-fed.new.out.output c.finish.new.out.output c.in-Err-finish.fault fed.stands takes c.in-Err-finish.ensures in
-    rw records.order at (drives_cut written (IsBedKind (order_in c.new-records.result)) (AreInOrder (order_in c.new-records.result)) (g.E.Engine.takes c.args.engine) c.requires.stays c.requires.begins left g.A.Source.has_failed g.A.Source.end_told (bed_format (sorting_of order))
+    rw records.order at (drives_cut written (IsBedKind (order_in c.new-records.result)) (AreInOrder (order_in c.new-records.result)) (g.E.Engine.takes c.args.engine) c.requires.stays c.requires.begins g.A.Source (bed_format (sorting_of order))
     (records_sorted (g.E.Engine.takes c.args.engine) order (g.met.O.ChromOrder.total c.args.order.now) c.requires.takes) (view_of c.new-records.result) c.args.first c.args.out.now.output starts (view_of c.feed_all-fed.new.records) c.into_source-first.result ended
     (λ past. g.E.Engine.is_after c.args.engine past c.feed_all-fed.new.engine) c.feed_all-fed.new.out.output fed c.finish.new.out.output (goes_failed c.feed_all-fed.new.out.output c.finish.new.out.output c.in-Err-finish.ensures.grows said.failed)
     (fault_value c.in-Err-finish.fault) said.is said.cuts.bytes said.cuts.goes_on said.cuts.front said.sink_failed)
@@ -59,15 +57,14 @@ pub returns-clause-written : goal.returns-clause-written
 returns-clause-written g c =
     let reader = c.new-reader.ensures in
     let records = c.new-records.ensures in
-    let left = g.A.Source.left in
     let order = g.O.ChromOrder.order c.args.order.now in
     let written : Written Feature = record { whole = g.E.Engine.output c.args.engine; settled = g.E.Engine.settled c.args.engine } in
-    let starts = begins_by left order First c.args.first c.new-reader.result c.new-records.result records.below reader.source reader.input reader.none_taken.0 reader.none_fed reader.going.0 reader.lines records.good in
+    let starts = begins_by g.A.Source.left order First c.args.first c.new-reader.result c.new-records.result records.below reader.source reader.input reader.none_taken.0 reader.none_fed reader.going.0 reader.lines records.good in
     let ended = sym (c.into_source-first.ensures ∙ ap source_of c.into_reader.ensures) in
     let fed = c.in_default.ensures.feeds in
     let takes = c.requires.takes (member_items fed.past) (subst (λ o. ArePlaced o (intervals_of (member_items fed.past))) records.order fed.took.sorted.0) fed.took.sorted.1 in
     let puts = finish_put g.E.Engine.takes g.E.Engine.is_after g.E.Engine.fault g.E.Engine.settled g.E.Engine.output c.args.engine c.feed_all-fed.new.engine (member_items fed.past) c.feed_all-fed.new.out.output c.finish.new.out.output fed.stands takes c.in_default-finish.ensures in
-    rw records.order at (drives_all written (IsBedKind (order_in c.new-records.result)) (AreInOrder (order_in c.new-records.result)) (g.E.Engine.takes c.args.engine) c.requires.stays c.requires.begins left g.A.Source.has_failed g.A.Source.end_told (bed_format (sorting_of order))
+    rw records.order at (drives_all written (IsBedKind (order_in c.new-records.result)) (AreInOrder (order_in c.new-records.result)) (g.E.Engine.takes c.args.engine) c.requires.stays c.requires.begins g.A.Source (bed_format (sorting_of order))
     (records_sorted (g.E.Engine.takes c.args.engine) order (g.met.O.ChromOrder.total c.args.order.now) c.requires.takes) (view_of c.new-records.result) c.args.first c.args.out.now.output starts (view_of c.feed_all-fed.new.records) c.into_source-first.result ended
     (λ past. g.E.Engine.is_after c.args.engine past c.feed_all-fed.new.engine) c.feed_all-fed.new.out.output fed c.finish.new.out.output (finish_goes g.E.Engine.takes g.E.Engine.is_after g.E.Engine.fault g.E.Engine.settled g.E.Engine.output c.args.engine c.feed_all-fed.new.engine (member_items fed.past) c.feed_all-fed.new.out.output c.finish.new.out.output c.in_default-finish.ensures)
     puts.bytes puts.goes_on puts.appends
@@ -77,11 +74,10 @@ pub returns-in-Err-clause-own_failure : goal.returns-in-Err-clause-own_failure
 returns-in-Err-clause-own_failure g c =
     let reader = c.new-reader.ensures in
     let records = c.new-records.ensures in
-    let left = g.A.Source.left in
     let order = g.O.ChromOrder.order c.args.order.now in
-    let starts = begins_by left order First c.args.first c.new-reader.result c.new-records.result records.below reader.source reader.input reader.none_taken.0 reader.none_fed reader.going.0 reader.lines records.good in
+    let starts = begins_by g.A.Source.left order First c.args.first c.new-reader.result c.new-records.result records.below reader.source reader.input reader.none_taken.0 reader.none_fed reader.going.0 reader.lines records.good in
     let ended = sym (c.into_source-first.ensures ∙ ap source_of c.into_reader.ensures) in
-    feeds_own left g.A.Source.has_failed g.A.Source.end_told g.A.Source.is_read (bed_format (sorting_of order)) c.args.first (view_of c.new-records.result) starts (view_of c.feed_all-fed.new.records) c.into_source-first.result ended c.feed_all-fed.ensures.own_failure
+    feeds_own g.A.Source (bed_format (sorting_of order)) c.args.first (view_of c.new-records.result) starts (view_of c.feed_all-fed.new.records) c.into_source-first.result ended c.feed_all-fed.ensures.own_failure
     (g.E.Engine.settled c.args.engine) (IsBedKind (order_in c.new-records.result)) (bed_no_read (order_in c.new-records.result)) (AreInOrder (order_in c.new-records.result)) c.args.out.now.output (fault_value c.in-Err.fault) c.feed_all-fed.new.out.output c.in-Err.ensures.feeds
 
 pub returns-in-Err-finish-clause-own_failure : goal.returns-in-Err-finish-clause-own_failure

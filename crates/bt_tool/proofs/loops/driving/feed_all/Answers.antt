@@ -13,16 +13,16 @@ use Rattle.bt_tool.proofs.loops.driving.feed_all.Goals as goal
 
 pub loop-records-init : goal.loop-records-init
 loop-records-init g c = (
-  going_start g.E.Engine.takes g.E.Engine.is_after g.E.Engine.fault g.E.Engine.settled c.args.engine.now g.S.Source.left g.S.Source.has_failed g.S.Source.end_told c.args.records.now c.args.out.now.output c.requires.fresh c.requires.stands c.requires.nothing c.requires.block,
+  going_start g.E.Engine.takes g.E.Engine.is_after g.E.Engine.fault g.E.Engine.settled c.args.engine.now g.S.Source c.args.records.now c.args.out.now.output c.requires.fresh c.requires.stands c.requires.nothing c.requires.block,
   reads_same g.S.Source.is_read (below c.args.records.now) (below c.args.records.now) refl,
 )
 
 pub returns-in_err-fill-clause-feeds : goal.returns-in_err-fill-clause-feeds
 returns-in_err-fill-clause-feeds g c =
-    passed_on (λ r. FeedsRecords (g.E.Engine.settled c.args.engine.now) g.S.Source.left g.S.Source.has_failed g.S.Source.end_told (λ past. g.E.Engine.is_after c.args.engine.now past c.loop-records.engine) c.args.records.now c.args.out.now.output r c.fill.new.self c.loop-records.out.output) c.from_residual.result c.in_err-fill.field-0.0 c.from_residual.ensures.1
-    (stops_reading g.E.Engine.takes g.E.Engine.is_after g.E.Engine.fault g.E.Engine.settled c.args.engine.now g.S.Source.left g.S.Source.has_failed g.S.Source.end_told c.args.records.now c.args.out.now.output c.requires.sorted c.requires.total c.requires.none_last c.requires.takes
+    passed_on (λ r. FeedsRecords (g.E.Engine.settled c.args.engine.now) g.S.Source (λ past. g.E.Engine.is_after c.args.engine.now past c.loop-records.engine) c.args.records.now c.args.out.now.output r c.fill.new.self c.loop-records.out.output) c.from_residual.result c.in_err-fill.field-0.0 c.from_residual.ensures.1
+    (stops_reading g.E.Engine.takes g.E.Engine.is_after g.E.Engine.fault g.E.Engine.settled c.args.engine.now g.S.Source c.args.records.now c.args.out.now.output c.requires.sorted c.requires.total c.requires.none_last c.requires.takes
     c.loop-records.records c.loop-records.engine c.loop-records.out.output c.loop-records.invariant.0 c.fill.new.self (fault_value c.in_err-fill.field-0.0)
-    (is_stopped g.S.Source.left g.S.Source.has_failed g.S.Source.end_told g.S.Source.is_read c.loop-records.records c.fill.new.self c.in_err-fill.field-0.0 c.in_err-fill.ensures))
+    (is_stopped g.S.Source c.loop-records.records c.fill.new.self c.in_err-fill.field-0.0 c.in_err-fill.ensures))
 
 pub returns-in_err-fill-clause-reads : goal.returns-in_err-fill-clause-reads
 returns-in_err-fill-clause-reads g c =
@@ -38,24 +38,24 @@ returns-in_err-fill-clause-own_failure g c =
 pub loop-records-preserved : goal.loop-records-preserved
 loop-records-preserved g c =
     let fills = rw c.if-branch.true at c.in_ok-fill.ensures in
-    let filled = going_fill g.E.Engine.takes g.E.Engine.is_after g.E.Engine.fault g.E.Engine.settled c.args.engine.now g.S.Source.left g.S.Source.has_failed g.S.Source.end_told c.args.records.now c.args.out.now.output c.requires.sorted c.requires.total c.requires.none_last c.requires.takes
-    c.loop-records.records c.loop-records.engine c.loop-records.out.output c.loop-records.invariant.0 c.fill.new.self (is_filled g.S.Source.left g.S.Source.has_failed g.S.Source.end_told g.S.Source.is_read c.loop-records.records c.fill.new.self fills) fills.order in
+    let filled = going_fill g.E.Engine.takes g.E.Engine.is_after g.E.Engine.fault g.E.Engine.settled c.args.engine.now g.S.Source c.args.records.now c.args.out.now.output c.requires.sorted c.requires.total c.requires.none_last c.requires.takes
+    c.loop-records.records c.loop-records.engine c.loop-records.out.output c.loop-records.invariant.0 c.fill.new.self (is_filled g.S.Source c.loop-records.records c.fill.new.self fills) fills.order in
     let takes = c.in_ok-feed_buffered.ensures in (
-      going_taken g.E.Engine.takes g.E.Engine.is_after g.E.Engine.fault g.E.Engine.settled c.args.engine.now g.S.Source.left g.S.Source.has_failed g.S.Source.end_told c.args.records.now c.args.out.now.output c.requires.sorted c.requires.total c.requires.none_last c.requires.takes
+      going_taken g.E.Engine.takes g.E.Engine.is_after g.E.Engine.fault g.E.Engine.settled c.args.engine.now g.S.Source c.args.records.now c.args.out.now.output c.requires.sorted c.requires.total c.requires.none_last c.requires.takes
           c.fill.new.self c.loop-records.engine c.loop-records.out.output filled g.E.Engine.quiet c.feed_buffered.new.records c.feed_buffered.new.engine c.feed_buffered.new.out.output takes,
       has_read_then g.S.Source.is_read (below c.args.records.now) (below c.loop-records.records) (below c.feed_buffered.new.records) c.loop-records.invariant.1
           (has_read_then g.S.Source.is_read (below c.loop-records.records) (below c.fill.new.self) (below c.feed_buffered.new.records) fills.own_failure
-          (taken_reads g.S.Source.is_read g.S.Source.left g.S.Source.has_failed g.S.Source.end_told (view_of c.fill.new.self) (buffered_in c.fill.new.self) (view_of c.feed_buffered.new.records) takes.takes)),
+          (taken_reads g.S.Source (view_of c.fill.new.self) (buffered_in c.fill.new.self) (view_of c.feed_buffered.new.records) takes.takes)),
     )
 
 pub returns-in_err-feed_buffered-clause-feeds : goal.returns-in_err-feed_buffered-clause-feeds
 returns-in_err-feed_buffered-clause-feeds g c =
     let fills = rw c.if-branch.true at c.in_ok-fill.ensures in
-    let filled = going_fill g.E.Engine.takes g.E.Engine.is_after g.E.Engine.fault g.E.Engine.settled c.args.engine.now g.S.Source.left g.S.Source.has_failed g.S.Source.end_told c.args.records.now c.args.out.now.output c.requires.sorted c.requires.total c.requires.none_last c.requires.takes
-    c.loop-records.records c.loop-records.engine c.loop-records.out.output c.loop-records.invariant.0 c.fill.new.self (is_filled g.S.Source.left g.S.Source.has_failed g.S.Source.end_told g.S.Source.is_read c.loop-records.records c.fill.new.self fills) fills.order in
+    let filled = going_fill g.E.Engine.takes g.E.Engine.is_after g.E.Engine.fault g.E.Engine.settled c.args.engine.now g.S.Source c.args.records.now c.args.out.now.output c.requires.sorted c.requires.total c.requires.none_last c.requires.takes
+    c.loop-records.records c.loop-records.engine c.loop-records.out.output c.loop-records.invariant.0 c.fill.new.self (is_filled g.S.Source c.loop-records.records c.fill.new.self fills) fills.order in
     let fails = failed_among c.in_err-feed_buffered.ensures c.args.engine.now _ filled.stands in
-    passed_on (λ r. FeedsRecords (g.E.Engine.settled c.args.engine.now) g.S.Source.left g.S.Source.has_failed g.S.Source.end_told (λ past. g.E.Engine.is_after c.args.engine.now past c.feed_buffered.new.engine) c.args.records.now c.args.out.now.output r c.feed_buffered.new.records c.feed_buffered.new.out.output) c.from_residual-in_err-feed_buffered.result c.in_err-feed_buffered.field-0.0 c.from_residual-in_err-feed_buffered.ensures.1
-    (stops_feeding g.E.Engine.takes g.E.Engine.is_after g.E.Engine.fault g.E.Engine.settled c.args.engine.now g.S.Source.left g.S.Source.has_failed g.S.Source.end_told c.args.records.now c.args.out.now.output c.requires.sorted c.requires.total c.requires.none_last c.requires.takes
+    passed_on (λ r. FeedsRecords (g.E.Engine.settled c.args.engine.now) g.S.Source (λ past. g.E.Engine.is_after c.args.engine.now past c.feed_buffered.new.engine) c.args.records.now c.args.out.now.output r c.feed_buffered.new.records c.feed_buffered.new.out.output) c.from_residual-in_err-feed_buffered.result c.in_err-feed_buffered.field-0.0 c.from_residual-in_err-feed_buffered.ensures.1
+    (stops_feeding g.E.Engine.takes g.E.Engine.is_after g.E.Engine.fault g.E.Engine.settled c.args.engine.now g.S.Source c.args.records.now c.args.out.now.output c.requires.sorted c.requires.total c.requires.none_last c.requires.takes
     c.fill.new.self c.loop-records.engine c.loop-records.out.output filled g.E.Engine.quiet c.in_err-feed_buffered.field-0.0 c.feed_buffered.new.records c.feed_buffered.new.engine c.feed_buffered.new.out.output fails)
 
 pub returns-in_err-feed_buffered-clause-reads : goal.returns-in_err-feed_buffered-clause-reads
@@ -64,13 +64,13 @@ returns-in_err-feed_buffered-clause-reads g c = λ never.
     let fails = failed_among c.in_err-feed_buffered.ensures c.args.engine.now _ c.loop-records.invariant.0.stands in
     has_read_then g.S.Source.is_read (below c.args.records.now) (below c.loop-records.records) (below c.feed_buffered.new.records) c.loop-records.invariant.1
     (has_read_then g.S.Source.is_read (below c.loop-records.records) (below c.fill.new.self) (below c.feed_buffered.new.records) fills.own_failure
-    (taken_reads g.S.Source.is_read g.S.Source.left g.S.Source.has_failed g.S.Source.end_told (view_of c.fill.new.self) (fails.records ++ fails.r ∷ []) (view_of c.feed_buffered.new.records) fails.takes))
+    (taken_reads g.S.Source (view_of c.fill.new.self) (fails.records ++ fails.r ∷ []) (view_of c.feed_buffered.new.records) fails.takes))
 
 pub returns-clause-feeds : goal.returns-clause-feeds
 returns-clause-feeds g c =
     let fills = rw c.if-branch.false at c.in_ok-fill.ensures in
-    feeds_all g.E.Engine.takes g.E.Engine.is_after g.E.Engine.fault g.E.Engine.settled c.args.engine.now g.S.Source.left g.S.Source.has_failed g.S.Source.end_told c.args.records.now c.args.out.now.output c.requires.sorted c.requires.total c.requires.none_last c.requires.takes
-    c.loop-records.records c.loop-records.engine c.loop-records.out.output c.loop-records.invariant.0 c.fill.new.self (is_over g.S.Source.left g.S.Source.has_failed g.S.Source.end_told g.S.Source.is_read c.loop-records.records c.fill.new.self fills)
+    feeds_all g.E.Engine.takes g.E.Engine.is_after g.E.Engine.fault g.E.Engine.settled c.args.engine.now g.S.Source c.args.records.now c.args.out.now.output c.requires.sorted c.requires.total c.requires.none_last c.requires.takes
+    c.loop-records.records c.loop-records.engine c.loop-records.out.output c.loop-records.invariant.0 c.fill.new.self (is_over g.S.Source c.loop-records.records c.fill.new.self fills)
 
 pub returns-clause-reads : goal.returns-clause-reads
 returns-clause-reads g c = λ never.

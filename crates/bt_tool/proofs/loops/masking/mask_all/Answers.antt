@@ -25,7 +25,7 @@ returns-in_err-fill_wanted-clause-finishes g c =
     let now = c.loop-lines.invariant in
     let run : MaskRun g.row.A.Denot g.row.B.Denot =
     record { how = c.args.mask.now.how; full = c.args.mask.now.full; lines = c.args.lines.now; records = view_of c.args.records.now; out = c.args.out.now.output; first = now.0; blocks = now.1 } in
-    passed_on (λ r. FinishesMask g.A.Source.left g.A.Source.has_failed g.A.Source.end_told g.B.Source.left g.B.Source.has_failed g.B.Source.end_told c.args.mask.now.how c.args.mask.now.full c.args.lines.now (view_of c.args.records.now) c.args.out.now.output r c.fill_wanted.new.lines (view_of c.fill_wanted.new.records) c.fill_wanted.new.out.output)
+    passed_on (λ r. FinishesMask g.A.Source g.B.Source c.args.mask.now.how c.args.mask.now.full c.args.lines.now (view_of c.args.records.now) c.args.out.now.output r c.fill_wanted.new.lines (view_of c.fill_wanted.new.records) c.fill_wanted.new.out.output)
     c.from_residual.result c.in_err-fill_wanted.field-0.0 c.from_residual.ensures.1 (c.in_err-fill_wanted.ensures.fills run now.2)
 
 pub returns-in_err-fill_wanted-clause-reads_first : goal.returns-in_err-fill_wanted-clause-reads_first
@@ -82,7 +82,7 @@ returns-in_err-give_buffered-clause-finishes g c =
     let run : MaskRun g.row.A.Denot g.row.B.Denot =
     record { how = c.args.mask.now.how; full = c.args.mask.now.full; lines = c.args.lines.now; records = view_of c.args.records.now; out = c.args.out.now.output; first = now.0; blocks = now.1 } in
     let filled = (rw c.if-branch.true at c.in_ok-fill_wanted.ensures.fills) run now.2 in
-    passed_on (λ r. FinishesMask g.A.Source.left g.A.Source.has_failed g.A.Source.end_told g.B.Source.left g.B.Source.has_failed g.B.Source.end_told c.args.mask.now.how c.args.mask.now.full c.args.lines.now (view_of c.args.records.now) c.args.out.now.output r c.give_buffered.new.lines (view_of c.give_buffered.new.records) c.give_buffered.new.out.output)
+    passed_on (λ r. FinishesMask g.A.Source g.B.Source c.args.mask.now.how c.args.mask.now.full c.args.lines.now (view_of c.args.records.now) c.args.out.now.output r c.give_buffered.new.lines (view_of c.give_buffered.new.records) c.give_buffered.new.out.output)
     c.from_residual-in_err-give_buffered.result c.in_err-give_buffered.field-0.0 c.from_residual-in_err-give_buffered.ensures.1 (c.in_err-give_buffered.ensures.gives run filled.0)
 
 pub returns-in_err-give_buffered-clause-reads_first : goal.returns-in_err-give_buffered-clause-reads_first
@@ -119,7 +119,7 @@ returns-clause-finishes g c =
     let run : MaskRun g.row.A.Denot g.row.B.Denot =
     record { how = c.args.mask.now.how; full = c.args.mask.now.full; lines = c.args.lines.now; records = view_of c.args.records.now; out = c.args.out.now.output; first = now.0; blocks = now.1 } in
     let filled = (rw c.if-branch.false at c.in_ok-fill_wanted.ensures.fills) run now.2 in
-    finishes g.A.Source.left g.A.Source.has_failed g.A.Source.end_told g.B.Source.left g.B.Source.has_failed g.B.Source.end_told run filled.0.0 c.fill_wanted.new.lines (view_of c.fill_wanted.new.records) c.fill_wanted.new.mask c.fill_wanted.new.out.output filled.0.1 filled.1
+    finishes g.A.Source g.B.Source run filled.0.0 c.fill_wanted.new.lines (view_of c.fill_wanted.new.records) c.fill_wanted.new.mask c.fill_wanted.new.out.output filled.0.1 filled.1
 
 pub returns-clause-reads_first : goal.returns-clause-reads_first
 returns-clause-reads_first g c = λ never.

@@ -10,7 +10,7 @@ use Rattle.bt_tool.proofs.loops.masking.mask_all.Given as goal
 abbrev pub invariant-loop-lines : goal.invariant-loop-lines
 invariant-loop-lines g l =
     (first : input_of l.initial.lines ≡ First) × (blocks : (view_of l.initial.records).format ≡ block_format)
-    × GoesOn g.A.Source.left g.A.Source.has_failed g.A.Source.end_told g.B.Source.left g.B.Source.has_failed g.B.Source.end_told
+    × GoesOn g.A.Source g.B.Source
     (record {
       how = l.initial.mask.how;
       full = l.initial.mask.full;

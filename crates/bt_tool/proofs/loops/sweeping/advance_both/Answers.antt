@@ -20,7 +20,7 @@ consume-requires-2 g c =
 
 pub returns-clause-advances : goal.returns-clause-advances
 returns-clause-advances g c =
-    advances_both g.A.Source.left g.A.Source.has_failed g.A.Source.end_told g.A.Source.is_read g.B.Source.left g.B.Source.has_failed g.B.Source.end_told g.B.Source.is_read
+    advances_both g.A.Source g.B.Source
     (order_of c.args.sweep.now) c.args.first.now c.consume.new.self c.args.second.now c.consume-2.new.self (state_of c.args.sweep.now) c.args.out.now.output
     c.buffered-firsts.result c.advance-swept.new.a c.buffered-firsts.ensures.lends c.buffered-firsts.ensures.comes c.consumed-first_consumed.result c.consumed-first_consumed.ensures c.consume.ensures
     c.buffered-seconds.result c.advance-swept.new.b c.buffered-seconds.ensures.lends c.buffered-seconds.ensures.comes c.consumed-second_consumed.result c.consumed-second_consumed.ensures c.consume-2.ensures

@@ -6,7 +6,7 @@ use Rattle.bt_tool.proofs.loops.sweeping.check_rest.Given as goal
 -- the records so far were consumed
 abbrev pub invariant-loop-second : goal.invariant-loop-second
 invariant-loop-second g l =
-    IsReadOn g.B.Source.left g.B.Source.has_failed g.B.Source.end_told (view_of l.initial.second) (view_of l.second)
+    IsReadOn g.B.Source (view_of l.initial.second) (view_of l.second)
     × HasRead g.B.Source.is_read (below l.initial.second) (below l.second)
 
 abbrev pub decreases-loop-second : goal.decreases-loop-second

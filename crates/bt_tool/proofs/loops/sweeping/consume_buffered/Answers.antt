@@ -25,4 +25,4 @@ consume-requires g c =
 pub returns-clause-takes : goal.returns-clause-takes
 returns-clause-takes g c =
     let so = c.loop-next.invariant in
-    all_taken c.args.second.now c.buffered-seconds.result c.buffered-seconds.ensures.lends c.next.new.self so.0 (subst (Passes c.buffered-seconds.result so.0) (sym c.in_default.ensures.unchanged) so.1) c.consumed-consumed.result c.consumed-consumed.ensures g.B.Source.left g.B.Source.has_failed g.B.Source.end_told c.buffered-seconds.ensures.comes c.consume.new.self c.consume.ensures (subst (λ (b : Batch). left b ≡ []) (sym c.in_default.ensures.unchanged) c.in_default.ensures.none)
+    all_taken c.args.second.now c.buffered-seconds.result c.buffered-seconds.ensures.lends c.next.new.self so.0 (subst (Passes c.buffered-seconds.result so.0) (sym c.in_default.ensures.unchanged) so.1) c.consumed-consumed.result c.consumed-consumed.ensures g.B.Source c.buffered-seconds.ensures.comes c.consume.new.self c.consume.ensures (subst (λ (b : Batch). left b ≡ []) (sym c.in_default.ensures.unchanged) c.in_default.ensures.none)

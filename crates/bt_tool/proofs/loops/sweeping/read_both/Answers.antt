@@ -3,16 +3,19 @@ use Rattle.bt_lines.specs.calls.Reader.{HasRead}
 use Rattle.bt_bed.proofs.lemmas.order.ResultLemmas.{passed_on}
 use Rattle.bt_bed.specs.calls.Records.{below}
 use Rattle.bt_sweep.specs.calls.SweepView.{state_of}
+use Rattle.bt_tool.specs.inside.pair.SweepLoop.{config_of}
 use Rattle.bt_tool.specs.calls.run.OwnReads.{AnswersNoRead}
 use Rattle.bt_tool.proofs.lemmas.running.whole.OwnFailureLemmas.{own_then}
+use Rattle.bt_tool.proofs.lemmas.running.sweep.SweepBegun.{at_of, begun_of}
 use Rattle.bt_tool.proofs.lemmas.running.sweep.SweptLemmas.{finishes_both}
 use Rattle.bt_tool.proofs.loops.sweeping.read_both.Goals as goal
 
 pub returns-clause-finishes : goal.returns-clause-finishes
 returns-clause-finishes g c =
     let swept = c.in_ok-sweep_all.ensures.sweeps in
-    finishes_both g.A.Source.left g.A.Source.has_failed g.A.Source.end_told g.A.Source.is_read g.B.Source.left g.B.Source.has_failed g.B.Source.end_told g.B.Source.is_read (state_of c.args.sweep.now).shape (state_of c.args.sweep.now).rule (state_of c.args.sweep.now).limit c.args.first.now c.args.second.now c.args.out.now.output
-    c.requires.total c.requires.second c.requires.sorted c.requires.sorted_second c.sweep_all.new.first c.sweep_all.new.second (state_of c.sweep_all.new.sweep) c.sweep_all.new.out.output swept.0 swept.1
+    let begun = begun_of (state_of c.args.sweep.now) c.args.first.now c.args.second.now c.args.out.now.output c.requires.total c.requires.second c.requires.sorted c.requires.sorted_second in
+    let at = at_of c.sweep_all.new.first c.sweep_all.new.second (state_of c.sweep_all.new.sweep) c.sweep_all.new.out.output in
+    finishes_both g.A.Source g.B.Source begun at swept.0 swept.1
     c.check_rest.result c.check_rest.new.second c.check_rest.ensures.reads
 
 pub returns-clause-own_failure_second : goal.returns-clause-own_failure_second

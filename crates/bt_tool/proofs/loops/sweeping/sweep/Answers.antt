@@ -11,7 +11,7 @@ use Rattle.bt_sweep.specs.calls.SweepView.{state_of}
 use Rattle.bt_sweep.specs.declared.hits.hit_rule.HitRule.{HitRule}
 use Rattle.bt_sweep.specs.declared.output.shape.Shape.{Shape}
 use Rattle.bt_tool.specs.model.report.SweepReport.{intersect_reaches, intersect_settles}
-use Rattle.bt_tool.specs.inside.pair.SweepLoop.{SweepEnds, records_pair, sweep_join}
+use Rattle.bt_tool.specs.inside.pair.SweepLoop.{config_of, records_pair, sweep_join}
 use Rattle.bt_tool.proofs.lemmas.running.pair.PairMet.{writes_both}
 use Rattle.bt_tool.proofs.lemmas.running.pair.PairNear.{near_both}
 use Rattle.bt_tool.proofs.lemmas.running.pair.StartLemmas.{begins_by, sweeps_start}
@@ -34,7 +34,7 @@ read_both-swept-requires-clause-starts g c =
     let reader_2 = c.new-2.ensures in
     let records_2 = c.new-seconds.ensures in
     let stands = c.new-sweep.ensures.stands in
-    sweeps_start g.A.Source.left g.A.Source.has_failed g.A.Source.end_told g.B.Source.left g.B.Source.has_failed g.B.Source.end_told (state_of c.new-sweep.result).shape (state_of c.new-sweep.result).rule (state_of c.new-sweep.result).limit c.new-firsts.result c.new-seconds.result c.args.out.now.output
+    sweeps_start g.A.Source g.B.Source (config_of (state_of c.new-sweep.result)) c.new-firsts.result c.new-seconds.result c.args.out.now.output
     (fresh_start _ _ c.new.result c.new-firsts.result records.below reader.none_given reader.none_taken.0 reader.none_fed (records.fault ∙ reader.going.0) records.none_buffered reader.sound) records.none_last
     (fresh_start _ _ c.new-2.result c.new-seconds.result records_2.below reader_2.none_given reader_2.none_taken.0 reader_2.none_fed (records_2.fault ∙ reader_2.going.0) records_2.none_buffered reader_2.sound) records_2.none_last
     c.requires.block (state_of c.new-sweep.result)
@@ -49,17 +49,17 @@ returns-in-Ok-clause-written g c =
     let order = g.O.ChromOrder.order c.args.order.now in
     let stands = c.new-sweep.ensures.stands in
     let ends = rw (records.order, stands.shape_is, stands.rule_is, stands.limit_is) at c.in-Ok.ensures.finishes in
-    let join = sweep_join order c.args.shape c.args.rule c.args.limit in
-    let pair = records_pair g.A.Source.left g.A.Source.has_failed g.A.Source.end_told g.B.Source.left g.B.Source.has_failed g.B.Source.end_told c.new-firsts.result c.new-seconds.result in
+    let join = sweep_join order c.args.config in
+    let pair = records_pair g.A.Source g.B.Source c.new-firsts.result c.new-seconds.result in
     let format = bed_format (sorting_of order) in
-    let begins = begins_by g.A.Source.left order First c.args.first c.new.result c.new-firsts.result records.below reader.source reader.input reader.none_taken.0 reader.none_fed reader.going.0 reader.lines records.good in
-    let begins_second = begins_by g.B.Source.left order Second c.args.second c.new-2.result c.new-seconds.result records_2.below reader_2.source reader_2.input reader_2.none_taken.0 reader_2.none_fed reader_2.going.0 reader_2.lines records_2.good in
+    let begins = begins_by g.A.Source.left order First c.args.sources.first c.new.result c.new-firsts.result records.below reader.source reader.input reader.none_taken.0 reader.none_fed reader.going.0 reader.lines records.good in
+    let begins_second = begins_by g.B.Source.left order Second c.args.sources.second c.new-2.result c.new-seconds.result records_2.below reader_2.source reader_2.input reader_2.none_taken.0 reader_2.none_fed reader_2.going.0 reader_2.lines records_2.good in
     let ended = sym (c.into_source-first.ensures ∙ ap source_of c.into_reader.ensures) in
     let ended_second = sym (c.into_source-second.ensures ∙ ap source_of c.into_reader-2.ensures) in
-    writes_both join pair c.args.out.now.output format format (λ two. placed_good Second order two c.requires.total) (sweep_limits order c.args.shape c.args.rule c.args.limit) c.args.first c.args.second begins begins_second
+    writes_both join pair c.args.out.now.output format format (λ two. placed_good Second order two c.requires.total) (sweep_limits order c.args.config) c.args.sources.first c.args.sources.second begins begins_second
     (view_of c.read_both-swept.new.first) (view_of c.read_both-swept.new.second) c.into_source-first.result c.into_source-second.result ended ended_second None c.read_both-swept.new.out.output ends
-    (intersect_settles order c.args.shape c.args.rule) (intersect_reaches order)
-    (near_both join pair c.args.out.now.output format format (λ two. placed_good Second order two c.requires.total) (sweep_needs order c.args.shape c.args.rule c.args.limit) c.args.first c.args.second begins begins_second
+    (intersect_settles order c.args.config.shape c.args.config.rule) (intersect_reaches order)
+    (near_both join pair c.args.out.now.output format format (λ two. placed_good Second order two c.requires.total) (sweep_needs order c.args.config) c.args.sources.first c.args.sources.second begins begins_second
     (view_of c.read_both-swept.new.first) (view_of c.read_both-swept.new.second) c.into_source-first.result c.into_source-second.result ended ended_second None c.read_both-swept.new.out.output ends)
 
 pub returns-clause-written : goal.returns-clause-written
@@ -72,17 +72,17 @@ returns-clause-written g c =
     let fault = Some (fault_value c.in-Err.fault) in
     let stands = c.new-sweep.ensures.stands in
     let ends = rw (records.order, stands.shape_is, stands.rule_is, stands.limit_is) at c.in-Err.ensures.finishes in
-    let join = sweep_join order c.args.shape c.args.rule c.args.limit in
-    let pair = records_pair g.A.Source.left g.A.Source.has_failed g.A.Source.end_told g.B.Source.left g.B.Source.has_failed g.B.Source.end_told c.new-firsts.result c.new-seconds.result in
+    let join = sweep_join order c.args.config in
+    let pair = records_pair g.A.Source g.B.Source c.new-firsts.result c.new-seconds.result in
     let format = bed_format (sorting_of order) in
-    let begins = begins_by g.A.Source.left order First c.args.first c.new.result c.new-firsts.result records.below reader.source reader.input reader.none_taken.0 reader.none_fed reader.going.0 reader.lines records.good in
-    let begins_second = begins_by g.B.Source.left order Second c.args.second c.new-2.result c.new-seconds.result records_2.below reader_2.source reader_2.input reader_2.none_taken.0 reader_2.none_fed reader_2.going.0 reader_2.lines records_2.good in
+    let begins = begins_by g.A.Source.left order First c.args.sources.first c.new.result c.new-firsts.result records.below reader.source reader.input reader.none_taken.0 reader.none_fed reader.going.0 reader.lines records.good in
+    let begins_second = begins_by g.B.Source.left order Second c.args.sources.second c.new-2.result c.new-seconds.result records_2.below reader_2.source reader_2.input reader_2.none_taken.0 reader_2.none_fed reader_2.going.0 reader_2.lines records_2.good in
     let ended = sym (c.into_source-first.ensures ∙ ap source_of c.into_reader.ensures) in
     let ended_second = sym (c.into_source-second.ensures ∙ ap source_of c.into_reader-2.ensures) in
-    writes_both join pair c.args.out.now.output format format (λ two. placed_good Second order two c.requires.total) (sweep_limits order c.args.shape c.args.rule c.args.limit) c.args.first c.args.second begins begins_second
+    writes_both join pair c.args.out.now.output format format (λ two. placed_good Second order two c.requires.total) (sweep_limits order c.args.config) c.args.sources.first c.args.sources.second begins begins_second
     (view_of c.read_both-swept.new.first) (view_of c.read_both-swept.new.second) c.into_source-first.result c.into_source-second.result ended ended_second fault c.read_both-swept.new.out.output ends
-    (intersect_settles order c.args.shape c.args.rule) (intersect_reaches order)
-    (near_both join pair c.args.out.now.output format format (λ two. placed_good Second order two c.requires.total) (sweep_needs order c.args.shape c.args.rule c.args.limit) c.args.first c.args.second begins begins_second
+    (intersect_settles order c.args.config.shape c.args.config.rule) (intersect_reaches order)
+    (near_both join pair c.args.out.now.output format format (λ two. placed_good Second order two c.requires.total) (sweep_needs order c.args.config) c.args.sources.first c.args.sources.second begins begins_second
     (view_of c.read_both-swept.new.first) (view_of c.read_both-swept.new.second) c.into_source-first.result c.into_source-second.result ended ended_second fault c.read_both-swept.new.out.output ends)
 
 pub returns-in-Ok-clause-own_failure : goal.returns-in-Ok-clause-own_failure
@@ -96,33 +96,31 @@ returns-clause-own_failure g c =
     let records_2 = c.new-seconds.ensures in
     let order = g.O.ChromOrder.order c.args.order.now in
     let fault = Some (fault_value c.in-Err.fault) in
-    let ends = subst (λ (l : Option ℕ). SweepEnds g.A.Source.left g.A.Source.has_failed g.A.Source.end_told g.B.Source.left g.B.Source.has_failed g.B.Source.end_told order c.args.shape c.args.rule l c.new-firsts.result c.new-seconds.result c.args.out.now.output fault c.read_both-swept.new.first c.read_both-swept.new.second c.read_both-swept.new.out.output) c.new-sweep.ensures.stands.limit_is
-    (subst (λ (r : HitRule). SweepEnds g.A.Source.left g.A.Source.has_failed g.A.Source.end_told g.B.Source.left g.B.Source.has_failed g.B.Source.end_told order c.args.shape r (state_of c.new-sweep.result).limit c.new-firsts.result c.new-seconds.result c.args.out.now.output fault c.read_both-swept.new.first c.read_both-swept.new.second c.read_both-swept.new.out.output) c.new-sweep.ensures.stands.rule_is
-    (subst (λ (s : Shape). SweepEnds g.A.Source.left g.A.Source.has_failed g.A.Source.end_told g.B.Source.left g.B.Source.has_failed g.B.Source.end_told order s (state_of c.new-sweep.result).rule (state_of c.new-sweep.result).limit c.new-firsts.result c.new-seconds.result c.args.out.now.output fault c.read_both-swept.new.first c.read_both-swept.new.second c.read_both-swept.new.out.output) c.new-sweep.ensures.stands.shape_is
-    (subst (λ (o : Order). SweepEnds g.A.Source.left g.A.Source.has_failed g.A.Source.end_told g.B.Source.left g.B.Source.has_failed g.B.Source.end_told o (state_of c.new-sweep.result).shape (state_of c.new-sweep.result).rule (state_of c.new-sweep.result).limit c.new-firsts.result c.new-seconds.result c.args.out.now.output fault c.read_both-swept.new.first c.read_both-swept.new.second c.read_both-swept.new.out.output) records.order c.in-Err.ensures.finishes))) in
-    let join = sweep_join order c.args.shape c.args.rule c.args.limit in
-    let pair = records_pair g.A.Source.left g.A.Source.has_failed g.A.Source.end_told g.B.Source.left g.B.Source.has_failed g.B.Source.end_told c.new-firsts.result c.new-seconds.result in
+    let stands = c.new-sweep.ensures.stands in
+    let ends = rw (records.order, stands.shape_is, stands.rule_is, stands.limit_is) at c.in-Err.ensures.finishes in
+    let join = sweep_join order c.args.config in
+    let pair = records_pair g.A.Source g.B.Source c.new-firsts.result c.new-seconds.result in
     let format = bed_format (sorting_of order) in
-    let begins = begins_by g.A.Source.left order First c.args.first c.new.result c.new-firsts.result records.below reader.source reader.input reader.none_taken.0 reader.none_fed reader.going.0 reader.lines records.good in
-    let begins_second = begins_by g.B.Source.left order Second c.args.second c.new-2.result c.new-seconds.result records_2.below reader_2.source reader_2.input reader_2.none_taken.0 reader_2.none_fed reader_2.going.0 reader_2.lines records_2.good in
+    let begins = begins_by g.A.Source.left order First c.args.sources.first c.new.result c.new-firsts.result records.below reader.source reader.input reader.none_taken.0 reader.none_fed reader.going.0 reader.lines records.good in
+    let begins_second = begins_by g.B.Source.left order Second c.args.sources.second c.new-2.result c.new-seconds.result records_2.below reader_2.source reader_2.input reader_2.none_taken.0 reader_2.none_fed reader_2.going.0 reader_2.lines records_2.good in
     let ended = sym (c.into_source-first.ensures ∙ ap source_of c.into_reader.ensures) in
     let ended_second = sym (c.into_source-second.ensures ∙ ap source_of c.into_reader-2.ensures) in
-    both_own join pair c.args.out.now.output g.A.Source.is_read g.B.Source.is_read format format c.args.first c.args.second begins begins_second
+    both_own join pair c.args.out.now.output format format c.args.sources.first c.args.sources.second begins begins_second
     (view_of c.read_both-swept.new.first) (view_of c.read_both-swept.new.second) c.into_source-first.result c.into_source-second.result ended ended_second fault c.read_both-swept.new.out.output ends
-    (bed_no_read order) (swept_no_read order c.args.limit) c.read_both-swept.ensures.own_failure c.read_both-swept.ensures.own_failure_second
+    (bed_no_read order) (swept_no_read order c.args.config.limit) c.read_both-swept.ensures.own_failure c.read_both-swept.ensures.own_failure_second
 
 pub returns-in-Ok-clause-reads : goal.returns-in-Ok-clause-reads
 returns-in-Ok-clause-reads g c = λ never. (
-  served_of g.A.Source.is_read c.args.first c.into_source-first.result (below c.new-firsts.result) (below c.read_both-swept.new.first) (ap source_of c.new-firsts.ensures.below ∙ c.new.ensures.source)
+  served_of g.A.Source.is_read c.args.sources.first c.into_source-first.result (below c.new-firsts.result) (below c.read_both-swept.new.first) (ap source_of c.new-firsts.ensures.below ∙ c.new.ensures.source)
       (sym (c.into_source-first.ensures ∙ ap source_of c.into_reader.ensures)) (c.in-Ok.ensures.reads_first tt),
-  served_of g.B.Source.is_read c.args.second c.into_source-second.result (below c.new-seconds.result) (below c.read_both-swept.new.second) (ap source_of c.new-seconds.ensures.below ∙ c.new-2.ensures.source)
+  served_of g.B.Source.is_read c.args.sources.second c.into_source-second.result (below c.new-seconds.result) (below c.read_both-swept.new.second) (ap source_of c.new-seconds.ensures.below ∙ c.new-2.ensures.source)
       (sym (c.into_source-second.ensures ∙ ap source_of c.into_reader-2.ensures)) (c.in-Ok.ensures.reads_second tt),
 )
 
 pub returns-clause-reads : goal.returns-clause-reads
 returns-clause-reads g c = λ never. (
-  served_of g.A.Source.is_read c.args.first c.into_source-first.result (below c.new-firsts.result) (below c.read_both-swept.new.first) (ap source_of c.new-firsts.ensures.below ∙ c.new.ensures.source)
+  served_of g.A.Source.is_read c.args.sources.first c.into_source-first.result (below c.new-firsts.result) (below c.read_both-swept.new.first) (ap source_of c.new-firsts.ensures.below ∙ c.new.ensures.source)
       (sym (c.into_source-first.ensures ∙ ap source_of c.into_reader.ensures)) (c.in-Err.ensures.reads_first never),
-  served_of g.B.Source.is_read c.args.second c.into_source-second.result (below c.new-seconds.result) (below c.read_both-swept.new.second) (ap source_of c.new-seconds.ensures.below ∙ c.new-2.ensures.source)
+  served_of g.B.Source.is_read c.args.sources.second c.into_source-second.result (below c.new-seconds.result) (below c.read_both-swept.new.second) (ap source_of c.new-seconds.ensures.below ∙ c.new-2.ensures.source)
       (sym (c.into_source-second.ensures ∙ ap source_of c.into_reader-2.ensures)) (c.in-Err.ensures.reads_second never),
 )

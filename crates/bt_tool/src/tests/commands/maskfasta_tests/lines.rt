@@ -1,7 +1,7 @@
 //! Lines of a masked sequence that stay as they are, and records on later lines.
 
 use super::MASKFASTA;
-use crate::tests::{Pair, check_pairs, expect, run_both, whole};
+use crate::tests::{Devices, Pair, check_pairs, expect, run_both, whole};
 use std::alloc::{AllocError, Global};
 use std::test::Fail;
 
@@ -257,12 +257,13 @@ fn a_record_behind_several_blocks(rt: HostRuntime) -> Result<(), Fail> {
         let record = on_first_base(rt.alloc(), index)?;
         let masked = long_sequence(rt.alloc(), index)?;
         let script = whole(8192);
-        let inputs = (
-            (text.as_slice(), script),
-            (record.as_str().as_bytes(), script),
-        );
-        let genome = (b"".as_slice(), whole(1));
-        let answer = run_both(rt.alloc(), MASKFASTA, genome, inputs.0, inputs.1, script)?;
+        let devices = Devices {
+            genome: (b"", whole(1)),
+            first: (text.as_slice(), script),
+            second: (record.as_str().as_bytes(), script),
+            out: script,
+        };
+        let answer = run_both(rt.alloc(), MASKFASTA, devices)?;
         expect(&rt, &answer, masked.as_slice(), b"", "a long sequence");
     }
     Ok(())

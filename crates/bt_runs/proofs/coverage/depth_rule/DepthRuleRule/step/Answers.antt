@@ -25,15 +25,15 @@ returns-in-Err-clause-does g c =
     let table = entries m.genome.now in
     let view : Covering = record { entries = table; zeros = m.zeros; strand = m.strand; current = seen m.current m.held; is_here = m.is_here; name = m.name.now; length = m.length } in
     let lies : IsOnChrom (with_chrom view on) r.chrom = subst (λ (v : Covering). IsOnChrom (with_chrom v on) r.chrom) (sym c.self.view_is) c.requires in
-    subst (λ (v : Covering). CountsDepths (with_chrom v on) r c.args.out.now.output (Err c.fault.result) view c.count_bounds-counted.new.out.output) c.self.view_is
-    (step_err table m.zeros m.strand m.is_here m.name.now m.length on c.if-not-on.false r bounds (sym c.start.ensures) (sym c.stop.ensures.is) c.is_counted.result (sym c.is_counted.ensures) c.args.out.now.output c.count_bounds-counted.new.out.output
-    m.current m.held c.self.invariant lies c.in-Err.failure c.fault.result view c.count_bounds-counted.new.held c.fault.ensures c.in-Err.ensures.counts c.in-Err.ensures.memory)
+    subst (λ (v : Covering). CountsDepths (with_chrom v on) r c.args.out.now.output (Err c.fault.result) view c.count_next-counted.new.out.output) c.self.view_is
+    (step_err table m.zeros m.strand m.is_here m.name.now m.length on c.if-not-on.false r bounds (sym c.start.ensures) (sym c.stop.ensures.is) c.is_counted.result (sym c.is_counted.ensures) c.args.out.now.output c.count_next-counted.new.out.output
+    m.current m.held c.self.invariant lies c.in-Err.failure c.fault.result view c.count_next-counted.new.held c.fault.ensures c.in-Err.ensures.counts c.in-Err.ensures.memory)
 
 pub returns-in-Err-clause-feeds : goal.returns-in-Err-clause-feeds
-returns-in-Err-clause-feeds g c = feeds_by (with_chrom c.args.self.now c.args.on.now) (g.R.Record.feature c.args.record.now) c.args.out.now.output (Err c.fault.result) _ c.count_bounds-counted.new.out.output (returns-in-Err-clause-does g c)
+returns-in-Err-clause-feeds g c = feeds_by (with_chrom c.args.self.now c.args.on.now) (g.R.Record.feature c.args.record.now) c.args.out.now.output (Err c.fault.result) _ c.count_next-counted.new.out.output (returns-in-Err-clause-does g c)
 
 pub returns-in-Err-clause-memory : goal.returns-in-Err-clause-memory
-returns-in-Err-clause-memory g c = memory_by (with_chrom c.args.self.now c.args.on.now) (g.R.Record.feature c.args.record.now) c.args.out.now.output (Err c.fault.result) c.args.self.now c.count_bounds-counted.new.out.output (returns-in-Err-clause-does g c)
+returns-in-Err-clause-memory g c = memory_by (with_chrom c.args.self.now c.args.on.now) (g.R.Record.feature c.args.record.now) c.args.out.now.output (Err c.fault.result) c.args.self.now c.count_next-counted.new.out.output (returns-in-Err-clause-does g c)
 
 pub returns-clause-does : goal.returns-clause-does
 returns-clause-does g c =
@@ -44,8 +44,8 @@ returns-clause-does g c =
     let table = entries m.genome.now in
     let view : Covering = record { entries = table; zeros = m.zeros; strand = m.strand; current = seen m.current m.held; is_here = m.is_here; name = m.name.now; length = m.length } in
     let lies : IsOnChrom (with_chrom view on) r.chrom = subst (λ (v : Covering). IsOnChrom (with_chrom v on) r.chrom) (sym c.self.view_is) c.requires in
-    rw (← c.self.view_is) (step_ok table m.zeros m.strand m.is_here m.name.now m.length on c.if-not-on.false r bounds (sym c.start.ensures) (sym c.stop.ensures.is) c.is_counted.result (sym c.is_counted.ensures) c.args.out.now.output c.count_bounds-counted.new.out.output
-    m.current m.held c.self.invariant lies c.in-Ok.begun c.count_bounds-counted.new.held c.in-Ok.ensures.counts).0
+    rw (← c.self.view_is) (step_ok table m.zeros m.strand m.is_here m.name.now m.length on c.if-not-on.false r bounds (sym c.start.ensures) (sym c.stop.ensures.is) c.is_counted.result (sym c.is_counted.ensures) c.args.out.now.output c.count_next-counted.new.out.output
+    m.current m.held c.self.invariant lies c.in-Ok.begun c.count_next-counted.new.held c.in-Ok.ensures.counts).0
 
 pub returns-clause-on : goal.returns-clause-on
 returns-clause-on g c =
@@ -56,8 +56,8 @@ returns-clause-on g c =
     let table = entries m.genome.now in
     let view : Covering = record { entries = table; zeros = m.zeros; strand = m.strand; current = seen m.current m.held; is_here = m.is_here; name = m.name.now; length = m.length } in
     let lies : IsOnChrom (with_chrom view on) r.chrom = subst (λ (v : Covering). IsOnChrom (with_chrom v on) r.chrom) (sym c.self.view_is) c.requires in
-    (step_ok table m.zeros m.strand m.is_here m.name.now m.length on c.if-not-on.false r bounds (sym c.start.ensures) (sym c.stop.ensures.is) c.is_counted.result (sym c.is_counted.ensures) c.args.out.now.output c.count_bounds-counted.new.out.output
-    m.current m.held c.self.invariant lies c.in-Ok.begun c.count_bounds-counted.new.held c.in-Ok.ensures.counts).1
+    (step_ok table m.zeros m.strand m.is_here m.name.now m.length on c.if-not-on.false r bounds (sym c.start.ensures) (sym c.stop.ensures.is) c.is_counted.result (sym c.is_counted.ensures) c.args.out.now.output c.count_next-counted.new.out.output
+    m.current m.held c.self.invariant lies c.in-Ok.begun c.count_next-counted.new.held c.in-Ok.ensures.counts).1
 
 pub returns-clause-feeds : goal.returns-clause-feeds
-returns-clause-feeds g c = feeds_by (with_chrom c.args.self.now c.args.on.now) (g.R.Record.feature c.args.record.now) c.args.out.now.output (Ok tt) _ c.count_bounds-counted.new.out.output (returns-clause-does g c)
+returns-clause-feeds g c = feeds_by (with_chrom c.args.self.now c.args.on.now) (g.R.Record.feature c.args.record.now) c.args.out.now.output (Ok tt) _ c.count_next-counted.new.out.output (returns-clause-does g c)
