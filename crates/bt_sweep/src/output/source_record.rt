@@ -9,7 +9,7 @@ ghost use Rattle.bt_bed.specs.model.feature.Record.{bed_text};
 use bt_bed::{BedRef, Record, put_bed};
 use bt_lines::{Fault, Out, Sink, put_line};
 
-// A record, with its source line if that is at hand and is what is written of the record.
+// A record, with its source line if that is available and is what is written of the record.
 #[derive(Clone, Copy)]
 pub(crate) struct SourceRecord<'a> {
     // The record.
@@ -20,7 +20,7 @@ pub(crate) struct SourceRecord<'a> {
 }
 
 impl<'a> SourceRecord<'a> {
-    // A record of which no line is at hand.
+    // A record without a line.
     #[inline(always)]
     pub(crate) fn of_bed(bed: BedRef<'a>) -> SourceRecord<'a>
         ensures { result.bed ≡ bed.entry }
@@ -63,7 +63,7 @@ mod tests {
     use bt_lines::{Input, LineReader, ScriptSink, ScriptSource};
     use std::test::Fail;
 
-    // Puts a record with its line at hand and without it.
+    // Puts a record with its line and without it.
     fn put_both_ways<R: Record, K: Sink>(record: &R, out: &mut Out<K>) -> Result<(), Fault> {
         put_record(&SourceRecord::of(record), b"\n", out)?;
         put_record(&SourceRecord::of_bed(record.bed()), b"\n", out)

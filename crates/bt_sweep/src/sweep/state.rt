@@ -203,7 +203,7 @@ impl<H: Held> State<H> {
         put
     }
 
-    // Takes a record of the second input, which stands on a line and leaves this one of the first undecided: it is held
+    // Takes a record of the second input, which is on a line and leaves this one of the first undecided: it is held
     // where it can hit that or a later one. Whether there is room for it is asked before it is copied.
     #[inline(always)]
     pub(crate) fn take<A: Record, B: Record>(

@@ -1,5 +1,5 @@
 -- Lemmas on records of both inputs that are joined.
-use Rattle.std.proofs.Common.{◌≡◌, ◌<◌, ◌≤◌, inl, inr, ℕ, true, false, List, [], ◌∷◌, ◌++◌, Option, Some, None, Ok, Err, Result, option_map, refl, sym, ap, ◌∙◌, subst, append-nil, append_assoc, option_to_list, bytes_eq, length, ltb}
+use Rattle.std.proofs.Common.{◌≡◌, ◌⊎◌, ◌<◌, ◌≤◌, inl, inr, ℕ, true, false, List, [], ◌∷◌, ◌++◌, Option, Some, None, Ok, Err, Result, option_map, refl, sym, ap, ◌∙◌, subst, append-nil, append_assoc, option_to_list, bytes_eq, length, ltb}
 use Rattle.std.specs.Prelude.{All, IfSome}
 use Rattle.std.specs.List.{list_all}
 use Rattle.std.proofs.lemmas.Bool.{and_from, and_parts, ltb-true, or_left, or_right}
@@ -16,7 +16,7 @@ use Rattle.bt_sweep.specs.model.Deciding.{decided, decides}
 use Rattle.bt_sweep.specs.calls.Held.{CanHit}
 use Rattle.bt_sweep.specs.model.IntersectLines.{intersect}
 use Rattle.bt_sweep.specs.calls.Joining.{AreDecided, CannotBeHeld, GivesKnown, LeavesLast, TakenEach, TakenFor}
-use Rattle.bt_sweep.specs.inside.Joining.{AreDecidedOn, Behind, Breaks, Cuts, CutsOff, EndUpTo, GoesTo, GrownWith, Joins, JoinsSo, Keeps, LeavesOn, LieOn, WaitsOn, Writes, WritesSo}
+use Rattle.bt_sweep.specs.inside.Joining.{AreDecidedOn, Behind, Breaks, Cuts, CutsLines, CutsOff, EndUpTo, GoesTo, GrownWith, Joins, JoinsSo, Keeps, LacksRoom, LeavesOn, LieOn, WaitsOn, Writes, WritesSo}
 use Rattle.bt_sweep.specs.calls.Standing.{held_for, is_held, last_given}
 use Rattle.bt_sweep.specs.inside.StateSteps.{CannotHold, has_room_in, holding}
 use Rattle.bt_sweep.specs.calls.Steps.{has_room}
@@ -165,69 +165,64 @@ module _ {A B : Type 0} (a_gives : A → List Feature → A → Type 0) (a_ended
   abbrev BreaksSo : FaultValue → A → B → List ℕ → Output → Type 0
   BreaksSo = Breaks a_gives a_ended b_gives b_ended b_line IsTotal Decided old first from_a from_b pending out
 
+  -- of the same records, for another cause
+  breaks_by : (fault failed : FaultValue) (to_a : A) (to_b : B) (left rest : List ℕ) (grown now : Output) (b : BreaksSo fault to_a to_b left grown)
+      → (CutsLines a_gives a_ended b_gives b_ended b_line IsTotal Decided old first from_a from_b pending out b.firsts b.seconds b.newly b.waiting to_b failed rest now
+      ⊎ LacksRoom a_gives a_ended b_gives b_ended b_line IsTotal Decided old first from_a from_b pending out b.firsts b.seconds b.newly b.waiting to_b failed rest now) → BreaksSo failed to_a to_b rest now
+  breaks_by fault failed to_a to_b left rest grown now b cause = record {
+    firsts = b.firsts;
+    seconds = b.seconds;
+    newly = b.newly;
+    waiting = b.waiting;
+    gives_firsts = b.gives_firsts;
+    gives_seconds = b.gives_seconds;
+    are = b.are;
+    next = b.next;
+    comes = b.comes;
+    settles = b.settles;
+    each = b.each;
+    cause = cause;
+  }
+
   -- ---- the lines that are left pending are put at last
 
   module _ (to_a : A) (to_b : B) (left : List ℕ) (grown now : Output) where
     -- it had failed before
     breaks_rest : (fault : FaultValue) → BreaksSo fault to_a to_b left grown → Grown grown left now → BreaksSo fault to_a to_b [] now
-    breaks_rest fault b puts = record {
-      firsts = b.firsts;
-      seconds = b.seconds;
-      newly = b.newly;
-      waiting = b.waiting;
-      gives_firsts = b.gives_firsts;
-      gives_seconds = b.gives_seconds;
-      are = b.are;
-      next = b.next;
-      comes = b.comes;
-      settles = b.settles;
-      each = b.each;
-      cause = elim b.cause [
-        | inl cut ↦ inl (record {
-          cuts = λ order shape rule limit before taken total kept pg pt.
-              fails_again {T = Unit {0}} grown now (pending ++ intersect shape rule b.newly (taken ++ b.seconds)) left fault out (Ok tt) (cut.cuts order shape rule limit before taken total kept pg pt) puts;
-        })
-        | inr lack ↦ inr (record {
-          last = lack.last;
-          waits = lack.waits;
-          b = lack.b;
-          after = lack.after;
-          gives = lack.gives;
-          chrom = lack.chrom;
-          starts = lack.starts;
-          ends = lack.ends;
-          writes = λ order shape rule limit before taken total kept pg pt.
-              with_rest pending (intersect shape rule b.newly (taken ++ b.seconds)) left out grown (lack.writes order shape rule limit before taken total kept pg pt) now puts;
-          lacks = lack.lacks;
-        })
-      ];
-    }
+    breaks_rest fault b puts =
+        breaks_by fault fault to_a to_b left [] grown now b (elim b.cause [
+          | inl cut ↦ inl (record {
+            cuts = λ order shape rule limit before taken total kept pg pt.
+                fails_again {T = Unit {0}} grown now (pending ++ intersect shape rule b.newly (taken ++ b.seconds)) left fault out (Ok tt) (cut.cuts order shape rule limit before taken total kept pg pt) puts;
+          })
+          | inr lack ↦ inr (record {
+            last = lack.last;
+            waits = lack.waits;
+            b = lack.b;
+            after = lack.after;
+            gives = lack.gives;
+            chrom = lack.chrom;
+            starts = lack.starts;
+            ends = lack.ends;
+            writes = λ order shape rule limit before taken total kept pg pt.
+                with_rest pending (intersect shape rule b.newly (taken ++ b.seconds)) left out grown (lack.writes order shape rule limit before taken total kept pg pt) now puts;
+            lacks = lack.lacks;
+          })
+        ])
 
     breaks_cut : (fault : FaultValue) (failed : Fault) → BreaksSo fault to_a to_b left grown → FailsToAdd grown left (fault_value failed) now → BreaksSo (fault_value failed) to_a to_b [] now
-    breaks_cut fault failed b fails = record {
-      firsts = b.firsts;
-      seconds = b.seconds;
-      newly = b.newly;
-      waiting = b.waiting;
-      gives_firsts = b.gives_firsts;
-      gives_seconds = b.gives_seconds;
-      are = b.are;
-      next = b.next;
-      comes = b.comes;
-      settles = b.settles;
-      each = b.each;
-      cause = inl (record {
-        cuts = λ order shape rule limit before taken total kept pg pt.
-            elim b.cause [
-              | inl cut ↦
-                  let here = cut.cuts order shape rule limit before taken total kept pg pt in
-                  let again = fails_again {T = Unit {0}} grown now (pending ++ intersect shape rule b.newly (taken ++ b.seconds)) left fault out (Err failed) here fails in
-                  subst (λ (f : FaultValue). FailsToAdd out (pending ++ intersect shape rule b.newly (taken ++ b.seconds)) f now) (again.puts.is ∙ sym fails.puts.is) again
-              | inr lack ↦
-                  with_rest_cut pending (intersect shape rule b.newly (taken ++ b.seconds)) left out grown (lack.writes order shape rule limit before taken total kept pg pt) (fault_value failed) now fails
-            ];
-      });
-    }
+    breaks_cut fault failed b fails =
+        breaks_by fault (fault_value failed) to_a to_b left [] grown now b (inl (record {
+          cuts = λ order shape rule limit before taken total kept pg pt.
+              elim b.cause [
+                | inl cut ↦
+                    let here = cut.cuts order shape rule limit before taken total kept pg pt in
+                    let again = fails_again {T = Unit {0}} grown now (pending ++ intersect shape rule b.newly (taken ++ b.seconds)) left fault out (Err failed) here fails in
+                    subst (λ (f : FaultValue). FailsToAdd out (pending ++ intersect shape rule b.newly (taken ++ b.seconds)) f now) (again.puts.is ∙ sym fails.puts.is) again
+                | inr lack ↦
+                    with_rest_cut pending (intersect shape rule b.newly (taken ++ b.seconds)) left out grown (lack.writes order shape rule limit before taken total kept pg pt) (fault_value failed) now fails
+              ];
+        }))
 
     -- it hadn't
     stops_cut : (waiting : Option Feature) (s : Sweeping) (fault : FaultValue) → So waiting s to_a to_b left grown → FailsToAdd grown left fault now → BreaksSo fault to_a to_b [] now

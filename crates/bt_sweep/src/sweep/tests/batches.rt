@@ -95,7 +95,7 @@ fn sweep_sources<A: Source + Drop, B: Source + Drop, K: Sink>(
 // What was put before, and the texts of both inputs.
 type Texts<'a> = (&'a [u8], &'a [u8], &'a [u8]);
 
-// What a sink takes that fails after so many bytes, and the fault, once a text was put and two texts were swept.
+// What a sink takes that fails after `good` bytes, and the fault, once a text was put and two texts were swept.
 fn sweep_texts(
     rt: &HostRuntime,
     how: (Shape, Option<u64>, Option<usize>),
@@ -188,8 +188,8 @@ fn buffered_records_in_each_shape(rt: HostRuntime) -> Result<(), Fail> {
     Ok(())
 }
 
-// What is written of a last line without a line feed, which is a batch of its own. It gets one, and it is copied through but
-// for the last shape.
+// What is written of a last line without a line feed, which is a batch of its own. It gets one, and is copied through,
+// except in the last shape.
 const LAST: [(Shape, &[u8]); 4] = [
     (Shape::Missing, b"chr1\t80\t90\n"),
     (Shape::Pieces, b"chr1\t80\t90\n"),
