@@ -310,7 +310,9 @@ fn settle<K: Sink>(
     ensures known { IfOk result (λ next. known_seen next held.new ≡ settled_known chrom.now.zeros chrom.now.length (known_seen begun held.old) start) }
 {
     if chrom.length < start {
-        put_rest(chrom, begun, held, out)?;
+        // A copy, so that the caller's isn't kept in memory for a call that is rarely made.
+        let rest = *chrom;
+        put_rest(&rest, begun, held, out)?;
         return Ok(None);
     }
     go_on(chrom, begun, held, start, out)

@@ -11,8 +11,6 @@ use Rattle.bt_bed.specs.model.feature.Stretches.{IsCovered, AreApartFrom, AreStr
 use Rattle.bt_runs.specs.model.Merged.{Bridged, runs_of}
 use Rattle.bt_runs.specs.inside.plain.PlainRuns.{span_in, spans_in, with_next_after, with_next}
 use Rattle.bt_runs.proofs.lemmas.merge.Bridging.{Decides-le, only_runs}
-use Rattle.bt_runs.specs.model.Gaps.{gaps_of}
-use Rattle.bt_runs.proofs.lemmas.complement.OneGap.{only_gaps}
 
 -- the program's test of a covered position
 pub covers-Decides : (spans : List PlainSpan) (p : ℕ) → Decides (list_any (λ s. nat_le s.start p && nat_lt p s.stop) spans) (IsCovered (spans_in spans) p)

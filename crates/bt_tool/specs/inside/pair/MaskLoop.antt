@@ -1,5 +1,5 @@
 -- How far masking the lines of a reader by the records of another has come, and how it ends.
-use Rattle.std.specs.Prelude.{◌≡◌, ℕ, ◌⊎◌, ⊤, Bool, true, not, List, [], Option, Some, None}
+use Rattle.std.specs.Prelude.{◌≡◌, ◌⊎◌, ⊤, Bool, true, not, List, [], Option, Some, None}
 use Rattle.std.specs.Prelude.{IsTrue, is_some, Result, Ok, Err}
 use Rattle.std.specs.List.{list_any}
 use Rattle.bt_lines.specs.declared.device.Source.{Ghosts as Source}

@@ -1,5 +1,5 @@
 -- How far a sweep over two readers has come, and how it ends.
-use Rattle.std.specs.Prelude.{◌≡◌, ◌⊎◌, ℕ, ◌≤◌, ◌<◌, All, Bool, true, List, ◌++◌, Option, Some, None, Result, Ok, Err}
+use Rattle.std.specs.Prelude.{◌≡◌, ◌⊎◌, ℕ, ◌≤◌, ◌<◌, All, true, List, ◌++◌, Option, Some, None, Result, Ok, Err}
 use Rattle.std.specs.Prelude.{⊤, [], IsTrue, option_to_list}
 use Rattle.std.specs.List.{list_all}
 use Rattle.bt_lines.specs.declared.device.Source.{Ghosts as Source}

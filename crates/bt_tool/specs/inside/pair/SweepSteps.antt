@@ -1,6 +1,6 @@
 -- What one round of a sweep over two readers does: a record is buffered of the input that is wanted, or
 -- its end is given, and then what both have buffered is given.
-use Rattle.std.specs.Prelude.{◌≡◌, ◌⊎◌, ◌<◌, ℕ, Bool, true, false, List, ◌∷◌, [], ◌++◌, Option, Some, Result, Ok, Err}
+use Rattle.std.specs.Prelude.{◌≡◌, ◌⊎◌, ◌<◌, Bool, true, false, List, [], ◌++◌, Option, Some, Result, Ok, Err}
 use Rattle.std.specs.Prelude.{None, ⊤, is_some, option_to_list}
 use Rattle.bt_lines.specs.declared.device.Source.{Ghosts as Source}
 use Rattle.bt_lines.specs.model.Fault.{FaultValue, no_memory}

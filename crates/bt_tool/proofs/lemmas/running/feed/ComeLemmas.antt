@@ -1,5 +1,5 @@
 -- Lemmas on what was taken of a reader's members and lines, and on what is still to come of them.
-use Rattle.std.proofs.Common.{◌≡◌, ℕ, suc, ◌+◌, ◌-◌, ◌^◌, ◌<◌, ◌≤◌, false, List, [], ◌∷◌, ◌++◌, length, take, drop, Option, None, Some, refl, sym, ap, ◌∙◌, subst, append-nil, append_assoc, arith}
+use Rattle.std.proofs.Common.{◌≡◌, ℕ, suc, ◌+◌, ◌-◌, ◌^◌, ◌<◌, ◌≤◌, false, List, [], ◌++◌, length, take, drop, Option, None, Some, refl, sym, ap, ◌∙◌, subst, append-nil, arith}
 use Rattle.std.specs.Prelude.{All, IfSome, option_map}
 use Rattle.std.proofs.lemmas.List.{drop-drop}
 use Rattle.std.proofs.Math.Seq.{take-append-add}
@@ -10,7 +10,6 @@ use Rattle.bt_lines.specs.calls.Reader.{CutsOff, Hands, bytes_taken, end_told, l
 use Rattle.bt_lines.specs.declared.reader.line_reader.LineReader.{LineReader}
 use Rattle.bt_lines.proofs.lemmas.reader.lines.ReaderLemmas.{hands_both}
 use Rattle.bt_lines.proofs.lemmas.reader.lines.TextLemmas.{line_feeds-append, lines_are_numbered}
-use Rattle.bt_lines.specs.calls.Names.{fault_value}
 use Rattle.bt_bed.specs.model.input.Good.{Good, Member, ends_with}
 use Rattle.bt_bed.specs.model.input.GoodLines.{IsBeyond}
 use Rattle.bt_tool.specs.inside.feed.Passed.{ComeFirst}

@@ -10,7 +10,7 @@ use Rattle.bt_lines.proofs.lemmas.reader.block.ReadsLemmas.{some_is}
 use Rattle.bt_lines.specs.model.Fault.{FaultValue, read_failed}
 use Rattle.bt_lines.specs.model.Lines.{TextLine, text_lines}
 use Rattle.bt_lines.specs.calls.Output.{Output, HoldsBlock}
-use Rattle.bt_lines.specs.calls.Putting.{Grown, WorksAsBefore}
+use Rattle.bt_lines.specs.calls.Putting.{Grown}
 use Rattle.bt_lines.specs.calls.Reader.{GivesEnd, GivesFault, GivesLine, IsKept, IsSound, source_of, input_of, bytes_taken, fault_kept, feeds_taken, lines_given, lines_left}
 use Rattle.bt_lines.specs.declared.fault.Input.{Input}
 use Rattle.bt_lines.specs.declared.fault.Input.TheVariants.{First}

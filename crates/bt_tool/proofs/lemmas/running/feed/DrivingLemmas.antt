@@ -1,6 +1,6 @@
 -- Lemmas on driving an engine, from the records that it takes to the report on what its input hands over.
 use Rattle.std.proofs.Common.{◌≡◌, ℕ, suc, ◌-◌, Bool, true, List, [], ◌++◌, take, Option, None, Some, Ok, Err, refl, sym, ap, ◌∙◌, subst, append-nil, append_assoc, arith, inl, inr}
-use Rattle.std.specs.Prelude.{◌⊎◌, ◌≢◌, ⊤, IfSome, option_map}
+use Rattle.std.specs.Prelude.{◌⊎◌, ◌≢◌, ⊤, IfSome}
 use Rattle.std.proofs.lemmas.List.{map-append}
 use Rattle.std.specs.Io.KnownBytes.{Appends, Consumes}
 use Rattle.bt_lines.specs.declared.device.Source.{Ghosts as Source}

@@ -1,6 +1,6 @@
 -- What was taken of a reader's members and written of them so far, whatever they are, and what is so when the reading stops. By it, feeding an engine with the records of a reader.
-use Rattle.std.proofs.Common.{◌≡◌, ℕ, suc, ◌+◌, ◌<◌, ◌≤◌, Bool, true, List, [], ◌∷◌, ◌++◌, length, Option, None, Some, Ok, Err, refl, sym, ap, ◌∙◌, subst, append-nil, append_assoc, length-append, arith, inl, inr}
-use Rattle.std.specs.Prelude.{◌⊎◌, ◌≢◌, IfSome}
+use Rattle.std.proofs.Common.{◌≡◌, ℕ, suc, ◌+◌, ◌<◌, ◌≤◌, true, List, [], ◌∷◌, ◌++◌, length, Option, None, Some, Err, refl, sym, ap, ◌∙◌, subst, append-nil, append_assoc, length-append, arith, inl, inr}
+use Rattle.std.specs.Prelude.{◌⊎◌, IfSome}
 use Rattle.std.proofs.lemmas.List.{map-append}
 use Rattle.std.proofs.lemmas.List.Elements.{All-cons, All-head, All-nil, All-tail}
 use Rattle.std.specs.Io.KnownBytes.{Appends}
@@ -10,7 +10,7 @@ use Rattle.bt_lines.proofs.lemmas.writer.OutputLemmas.{grows_both}
 use Rattle.bt_lines.specs.model.Fault.{FaultValue, write_failed, no_memory}
 use Rattle.bt_lines.specs.model.Lines.{TextLine}
 use Rattle.bt_lines.specs.calls.Output.{Output, HoldsBlock, IsPrefixOf, Grows, block_size}
-use Rattle.bt_lines.specs.calls.Putting.{WorksAsBefore, PutsRest, CutsRest}
+use Rattle.bt_lines.specs.calls.Putting.{WorksAsBefore}
 use Rattle.bt_lines.specs.calls.Reader.{Hands, fault_kept as line_fault, lines_given}
 use Rattle.bt_lines.specs.declared.fault.Kind.{Kind}
 use Rattle.bt_lines.specs.declared.fault.Fault.{Fault}
@@ -29,11 +29,11 @@ use Rattle.bt_bed.specs.calls.Reading.{AreSaid, MemberReader, good_coming, membe
 use Rattle.bt_bed.specs.calls.Records.{below, buffered_in, last_locus, order_in, view_of}
 use Rattle.bt_bed.specs.declared.order.ChromOrder.{Ghosts}
 use Rattle.bt_bed.specs.declared.read.records.Records.{Records}
-use Rattle.bt_runs.specs.calls.Engine.{Feeds as EngineFeeds, NotTaken, TakesEach}
+use Rattle.bt_runs.specs.calls.Engine.{NotTaken, TakesEach}
 use Rattle.bt_tool.specs.calls.run.FaultSource.{IsPutTo}
 use Rattle.bt_tool.specs.inside.feed.Feeding.{AreInOrder, GoesOn, IsFresh, PutsLines, Took, TookButBlock, FeedsAll, FeedsUpTo}
 use Rattle.bt_tool.specs.inside.feed.FeedsBuffered.{FailsAmong, FeedsBuffered, TakesBuffered}
-use Rattle.bt_tool.specs.inside.feed.Passed.{HasTaken, IsFilled, IsOver, IsReadFor, IsStopped, Passes, member_items}
+use Rattle.bt_tool.specs.inside.feed.Passed.{IsFilled, IsOver, IsReadFor, IsStopped, Passes, member_items}
 use Rattle.bt_tool.proofs.lemmas.running.feed.ComeLemmas.{begins_with}
 use Rattle.bt_tool.proofs.lemmas.running.members.MemberLemmas.{bytes_more, items_take, passes_all, passes_end, passes_fill, passes_start, passes_stop, passes_take, read_alone, read_at_stop, read_before, read_here}
 use Rattle.bt_tool.proofs.lemmas.running.members.PassedLemmas.{line_going, said_in_order}

@@ -1,5 +1,5 @@
 -- Lemmas on a reader of records in blocks as one of members, and on a reader of lines at its end.
-use Rattle.std.proofs.Common.{◌≡◌, ℕ, suc, Bool, true, false, List, ◌++◌, [], take, Option, None, Ok, Err, refl, ap, ◌∙◌, subst, arith}
+use Rattle.std.proofs.Common.{◌≡◌, ℕ, suc, Bool, true, false, List, ◌++◌, [], take, None, Ok, Err, refl, ap, ◌∙◌, subst, arith}
 use Rattle.std.specs.Prelude.{IfSome, option_map}
 use Rattle.std.proofs.lemmas.Bool.{false≢true}
 use Rattle.bt_lines.specs.declared.device.Source.{Ghosts as Source}

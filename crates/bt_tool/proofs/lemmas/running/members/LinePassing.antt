@@ -8,7 +8,7 @@ use Rattle.bt_lines.proofs.lemmas.reader.lines.ReaderLemmas.{given_drops, hands_
 use Rattle.bt_lines.specs.calls.LentLine.{GivesFirst}
 use Rattle.bt_lines.specs.model.Lines.{TextLine, bytes_in}
 use Rattle.bt_lines.specs.calls.Output.{block_size}
-use Rattle.bt_lines.specs.calls.Reader.{GivesLine, IsKept, fault_kept as line_fault, input_of, lines_given, lines_left, source_of}
+use Rattle.bt_lines.specs.calls.Reader.{GivesLine, IsKept, input_of, lines_given, lines_left, source_of}
 use Rattle.bt_lines.specs.declared.fault.Input.{Input}
 use Rattle.bt_lines.specs.declared.reader.line_reader.LineReader.{LineReader}
 use Rattle.bt_bed.proofs.lemmas.read.good.CameLemmas.{LineCame}

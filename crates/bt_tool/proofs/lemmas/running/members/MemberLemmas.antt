@@ -1,15 +1,15 @@
 -- Lemmas on what a reader of members has consumed.
-use Rattle.std.proofs.Common.{◌≡◌, ℕ, suc, ◌+◌, ◌-◌, ◌≤◌, ◌<◌, Bool, true, false, List, [], ◌∷◌, ◌++◌, length, take, drop, Option, None, Some, Err, refl, sym, ap, ◌∙◌, subst, append_assoc, append-nil, arith, inl, inr}
+use Rattle.std.proofs.Common.{◌≡◌, ℕ, suc, ◌+◌, ◌-◌, ◌≤◌, ◌<◌, Bool, true, false, List, [], ◌∷◌, ◌++◌, length, take, drop, Option, None, Some, Err, refl, sym, ap, ◌∙◌, subst, append_assoc, arith, inl, inr}
 use Rattle.std.specs.Prelude.{◌⊎◌, All, IfSome, IsSome, option_map}
 use Rattle.std.proofs.lemmas.List.{drop-drop, length-append, length-drop, map-append, take-append-drop}
-use Rattle.std.proofs.lemmas.List.Elements.{All-append, All-cons, All-head, All-nil, All-tail}
+use Rattle.std.proofs.lemmas.List.Elements.{All-append, All-cons, All-nil}
 use Rattle.bt_lines.specs.declared.device.Source.{Ghosts as Source}
 use Rattle.bt_lines.proofs.lemmas.reader.block.ReadsLemmas.{memory_no_read}
-use Rattle.bt_lines.specs.model.Fault.{FaultValue, no_memory, read_failed}
+use Rattle.bt_lines.specs.model.Fault.{FaultValue, read_failed}
 use Rattle.std.proofs.lemmas.Bool.{false≢true}
 use Rattle.std.specs.Io.KnownBytes.{Consumes}
-use Rattle.bt_lines.specs.calls.Reader.{Hands, IsKept, IsSound, bytes_left, end_told, fault_kept as line_fault, has_ended, held, left_at, source_of, input_of, lines_given, lines_left}
-use Rattle.bt_lines.specs.model.Lines.{AreNumbered, TextLine, bytes_in, lines_from}
+use Rattle.bt_lines.specs.calls.Reader.{Hands, IsKept, bytes_left, end_told, fault_kept as line_fault, has_ended, held, left_at, source_of, input_of, lines_given, lines_left}
+use Rattle.bt_lines.specs.model.Lines.{TextLine, bytes_in, lines_from}
 use Rattle.bt_lines.specs.calls.Output.{block_size}
 use Rattle.bt_lines.specs.declared.fault.Input.{Input}
 use Rattle.bt_lines.specs.declared.fault.Kind.{Kind}
@@ -21,15 +21,15 @@ use Rattle.bt_lines.specs.inside.ReaderState.{ended_at, lends_at, open_at, told_
 use Rattle.bt_lines.specs.inside.Shape.{held_at}
 use Rattle.bt_lines.proofs.lemmas.reader.lines.ReaderLemmas.{hands_none, hands_both, sound_near}
 use Rattle.bt_lines.proofs.lemmas.reader.lines.TextLemmas.{bytes_in-append}
-use Rattle.bt_bed.specs.model.input.Good.{Format, Good, Member, ends_with, good_from}
+use Rattle.bt_bed.specs.model.input.Good.{Format, Good, Member, ends_with}
 use Rattle.bt_bed.specs.model.input.GoodLines.{IsBeyond}
 use Rattle.bt_bed.specs.model.feature.LineKind.{fault_at_line}
-use Rattle.bt_bed.specs.calls.Reading.{AnswersFault, AreSaid, Cause, IsSaidBehind, MemberReader, Remains, ahead_in, first_from, good_behind, good_coming, members_from, state_behind, with_members}
+use Rattle.bt_bed.specs.calls.Reading.{AnswersFault, AreSaid, Cause, MemberReader, Remains, ahead_in, first_from, good_coming, members_from, state_behind, with_members}
 use Rattle.bt_tool.specs.inside.feed.Feeding.{IsFresh}
-use Rattle.bt_tool.specs.inside.feed.Passed.{ComeFirst, member_items, AreAll, HasTaken, IsFilled, IsOver, IsReadFor, IsReadTo, IsStopped, IsUnreadBehind, IsWrongBehind, LacksMemory, Passes, StopsAfter}
+use Rattle.bt_tool.specs.inside.feed.Passed.{ComeFirst, member_items, AreAll, HasTaken, IsFilled, IsOver, IsReadFor, IsStopped, IsUnreadBehind, IsWrongBehind, LacksMemory, Passes, StopsAfter}
 use Rattle.bt_tool.proofs.lemmas.running.feed.FaultLemmas.{line_no_read}
 use Rattle.bt_tool.proofs.lemmas.running.feed.ComeLemmas.{begins_beyond, begins_with, come_none, cuts_both, lines_on, near_from_start, none_passed, up_to, whole_with}
-use Rattle.bt_tool.proofs.lemmas.running.pair.StopLemmas.{StopsBehind, beyond_less, beyond_now, stops_faulty}
+use Rattle.bt_tool.proofs.lemmas.running.pair.StopLemmas.{beyond_less, beyond_now, stops_faulty}
 
 pub nothing_ahead : {S A State : Type 0} (reader : MemberReader S A State) (m : Member A) → reader.buffered ≡ [] → ahead_in reader ≡ Some m → ⊥
 nothing_ahead reader m none is = let apart : None ≡ Some m = sym (ap (first_from (suc (lines_given reader.below))) none) ∙ is in cc

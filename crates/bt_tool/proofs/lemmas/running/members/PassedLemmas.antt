@@ -1,6 +1,6 @@
 -- Lemmas on what a reader of records has consumed, in an order of the chromosomes.
-use Rattle.std.proofs.Common.{◌≡◌, ℕ, suc, ◌+◌, ◌<◌, Bool, true, false, List, [], ◌∷◌, ◌++◌, length, take, drop, Option, None, Some, Result, Ok, Err, refl, sym, ap, ◌∙◌, subst, append_assoc, append-nil, arith}
-use Rattle.std.specs.Prelude.{IfSome, IsTrue, map, option_map}
+use Rattle.std.proofs.Common.{◌≡◌, ℕ, suc, ◌+◌, ◌<◌, true, false, List, [], ◌∷◌, ◌++◌, length, take, Option, None, Some, Ok, Err, refl, sym, ap, ◌∙◌, subst, append_assoc, append-nil, arith}
+use Rattle.std.specs.Prelude.{IfSome, IsTrue, option_map}
 use Rattle.std.specs.Option.{ForSome}
 use Rattle.std.proofs.lemmas.List.{map-append}
 use Rattle.std.proofs.lemmas.List.Elements.{All-push}
@@ -14,18 +14,18 @@ use Rattle.bt_bed.specs.model.feature.Feature.{Feature, interval_of, intervals_o
 use Rattle.bt_bed.specs.calls.SortedReader.{view_with}
 use Rattle.bt_bed.specs.model.input.Good.{Good, Member, or_else}
 use Rattle.bt_bed.specs.model.input.GoodBed.{bed_format, locus_at}
-use Rattle.bt_bed.specs.model.feature.Interval.{AreNonEmpty, Interval, last_of}
-use Rattle.bt_bed.specs.model.order.Locus.{ArePlaced, IsUpTo, Locus, locus_of}
+use Rattle.bt_bed.specs.model.feature.Interval.{Interval, last_of}
+use Rattle.bt_bed.specs.model.order.Locus.{IsUpTo, Locus, locus_of}
 use Rattle.bt_bed.specs.model.order.Order.{IsTotal, Order}
-use Rattle.bt_bed.specs.calls.Reading.{AreSaid, BeginsComing, MemberReader, Takes, ahead_in, first_from, good_coming, members_from, with_members}
-use Rattle.bt_bed.specs.calls.Records.{FillsRecords, TakesRecords, below, buffered_in, fault_kept, order_in, view_of}
+use Rattle.bt_bed.specs.calls.Reading.{AreSaid, BeginsComing, MemberReader, Takes, first_from, good_coming, members_from, with_members}
+use Rattle.bt_bed.specs.calls.Records.{FillsRecords, TakesRecords, below, buffered_in, fault_kept, view_of}
 use Rattle.bt_bed.specs.model.order.Sorting.{sorting_of}
 use Rattle.bt_bed.specs.declared.order.ChromOrder.{Ghosts}
 use Rattle.bt_bed.specs.declared.read.records.Records.{Records}
-use Rattle.bt_bed.proofs.lemmas.read.batch.RecordsLemmas.{BehindLast, said_behind}
+use Rattle.bt_bed.proofs.lemmas.read.batch.RecordsLemmas.{said_behind}
 use Rattle.bt_bed.proofs.lemmas.order.TogetherLemmas.{last_of-push, grows_placed}
 use Rattle.bt_tool.specs.inside.feed.Feeding.{AreInOrder}
-use Rattle.bt_tool.specs.inside.feed.Passed.{AheadComes, HasTaken, IsFilled, IsOver, IsStopped, member_items}
+use Rattle.bt_tool.specs.inside.feed.Passed.{HasTaken, IsFilled, IsOver, IsStopped}
 
 pub or_none : (a b : Option FaultValue) → or_else a b ≡ None → b ≡ None
 or_none None b e = e

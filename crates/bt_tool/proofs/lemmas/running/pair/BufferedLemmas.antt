@@ -1,12 +1,10 @@
 -- Lemmas on feeding an engine with the records that a reader has buffered.
-use Rattle.std.proofs.Common.{◌≡◌, ℕ, Bool, true, List, [], ◌∷◌, ◌++◌, take, Option, None, Some, Result, Ok, Err, refl, sym, ap, ◌∙◌, subst, append-nil, inl, inr}
-use Rattle.std.specs.Prelude.{◌⊎◌}
+use Rattle.std.proofs.Common.{◌≡◌, ℕ, List, [], ◌∷◌, ◌++◌, Option, Result, Ok, Err, sym, ap, ◌∙◌, subst, append-nil, inl, inr}
 use Rattle.bt_lines.specs.declared.device.Source.{Ghosts as Source}
 use Rattle.bt_lines.specs.model.Fault.{FaultValue}
-use Rattle.bt_lines.specs.calls.Names.{fault_value}
 use Rattle.bt_lines.specs.calls.Output.{Output}
 use Rattle.bt_lines.specs.declared.fault.Fault.{Fault}
-use Rattle.bt_bed.specs.calls.Batch.{HasEnded, IsWhere, Passes, left as left_in}
+use Rattle.bt_bed.specs.calls.Batch.{HasEnded, IsWhere, Passes}
 use Rattle.bt_bed.specs.calls.CursorLaws.{batch_gives_more, batch_gives_none}
 use Rattle.bt_bed.specs.model.feature.Feature.{Feature}
 use Rattle.bt_bed.specs.calls.Reading.{BeginsComing}
@@ -18,7 +16,7 @@ use Rattle.bt_bed.specs.declared.order.ChromOrder.{Ghosts}
 use Rattle.bt_bed.specs.declared.read.records.Records.{Records}
 use Rattle.bt_bed.proofs.lemmas.read.good.TokenLemmas.{taken_are, token_is}
 use Rattle.bt_runs.specs.calls.Engine.{FeedsBatch, TakesEach}
-use Rattle.bt_tool.specs.inside.feed.FeedsBuffered.{FailsAmong, FeedsBuffered}
+use Rattle.bt_tool.specs.inside.feed.FeedsBuffered.{FeedsBuffered}
 use Rattle.bt_tool.specs.inside.feed.Passed.{HasTaken}
 use Rattle.bt_tool.proofs.lemmas.running.members.PassedLemmas.{has_taken}
 

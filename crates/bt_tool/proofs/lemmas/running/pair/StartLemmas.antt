@@ -1,5 +1,5 @@
 -- Lemmas on the beginning of a sweep over two readers.
-use Rattle.std.proofs.Common.{◌≡◌, ℕ, Bool, List, [], Option, None, ap, ◌∙◌, refl}
+use Rattle.std.proofs.Common.{◌≡◌, ℕ, List, [], Option, None, ap, ◌∙◌, refl}
 use Rattle.std.specs.Prelude.{option_map}
 use Rattle.bt_lines.specs.declared.device.Source.{Ghosts as Source}
 use Rattle.bt_lines.specs.model.Lines.{text_lines}

@@ -9,10 +9,8 @@ use Rattle.bt_lines.specs.calls.Output.{Output}
 use Rattle.bt_lines.specs.calls.Reader.{HasRead}
 use Rattle.bt_lines.specs.declared.fault.Fault.{Fault}
 use Rattle.bt_bed.specs.model.feature.Feature.{Feature}
-use Rattle.bt_bed.specs.model.input.GoodBed.{bed_format}
-use Rattle.bt_bed.specs.model.order.Order.{Order, IsTotal}
+use Rattle.bt_bed.specs.model.order.Order.{Order}
 use Rattle.bt_bed.specs.calls.Records.{FillsRecords, below, fault_kept, order_in, room, view_of}
-use Rattle.bt_bed.specs.model.order.Sorting.{sorting_of}
 use Rattle.bt_bed.specs.declared.order.ChromOrder.{Ghosts}
 use Rattle.bt_bed.specs.declared.read.records.Records.{Records}
 use Rattle.bt_sweep.specs.calls.SweepState.{Sweeping, is_over as is_done, want_in, want_of}

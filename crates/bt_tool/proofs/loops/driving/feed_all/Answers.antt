@@ -1,4 +1,4 @@
-use Rattle.std.proofs.Common.{◌++◌, ◌∷◌, ◌∙◌, [], refl, arith, inl, inr}
+use Rattle.std.proofs.Common.{◌++◌, ◌∷◌, [], refl}
 use Rattle.bt_lines.proofs.lemmas.reader.block.ReadsLemmas.{has_read_then, reads_same}
 use Rattle.bt_lines.specs.calls.Names.{fault_value}
 use Rattle.bt_lines.specs.calls.Reader.{HasRead}
@@ -7,7 +7,7 @@ use Rattle.bt_bed.proofs.lemmas.order.ResultLemmas.{passed_on}
 use Rattle.bt_tool.specs.inside.feed.Feeding.{FeedsRecords}
 use Rattle.bt_tool.specs.calls.run.OwnReads.{AnswersNoRead}
 use Rattle.bt_tool.proofs.lemmas.running.feed.FeedLemmas.{failed_among, feeds_all, going_fill, going_start, going_taken, stops_feeding, stops_reading}
-use Rattle.bt_tool.proofs.lemmas.running.whole.OwnFailureLemmas.{none_kept, own_then, told_kept}
+use Rattle.bt_tool.proofs.lemmas.running.whole.OwnFailureLemmas.{own_then, told_kept}
 use Rattle.bt_tool.proofs.lemmas.running.members.PassedLemmas.{is_filled, is_over, is_stopped, taken_reads}
 use Rattle.bt_tool.proofs.loops.driving.feed_all.Goals as goal
 

@@ -3,7 +3,6 @@ use Rattle.bt_lines.specs.calls.Reader.{HasRead}
 use Rattle.bt_bed.proofs.lemmas.order.ResultLemmas.{passed_on}
 use Rattle.bt_bed.specs.calls.Records.{below}
 use Rattle.bt_sweep.specs.calls.SweepView.{state_of}
-use Rattle.bt_tool.specs.inside.pair.SweepLoop.{config_of}
 use Rattle.bt_tool.specs.calls.run.OwnReads.{AnswersNoRead}
 use Rattle.bt_tool.proofs.lemmas.running.whole.OwnFailureLemmas.{own_then}
 use Rattle.bt_tool.proofs.lemmas.running.sweep.SweepBegun.{at_of, begun_of}

@@ -1,15 +1,12 @@
-use Rattle.std.proofs.Common.{ℕ, Option, refl, sym, ◌∙◌, subst, ap, None, Some}
+use Rattle.std.proofs.Common.{refl, sym, ◌∙◌, ap, None, Some}
 use Rattle.bt_lines.specs.calls.Names.{fault_value}
 use Rattle.bt_lines.specs.calls.Reader.{source_of}
 use Rattle.bt_lines.specs.declared.fault.Input.TheVariants.{First, Second}
 use Rattle.bt_bed.specs.model.input.GoodBed.{bed_format}
-use Rattle.bt_bed.specs.model.order.Order.{Order}
 use Rattle.bt_bed.specs.calls.Records.{below, view_of}
 use Rattle.bt_bed.specs.model.order.Sorting.{sorting_of}
 use Rattle.bt_bed.proofs.lemmas.laws.GoodBedLemmas.{placed_good}
 use Rattle.bt_sweep.specs.calls.SweepView.{state_of}
-use Rattle.bt_sweep.specs.declared.hits.hit_rule.HitRule.{HitRule}
-use Rattle.bt_sweep.specs.declared.output.shape.Shape.{Shape}
 use Rattle.bt_tool.specs.model.report.SweepReport.{intersect_reaches, intersect_settles}
 use Rattle.bt_tool.specs.inside.pair.SweepLoop.{config_of, records_pair, sweep_join}
 use Rattle.bt_tool.proofs.lemmas.running.pair.PairMet.{writes_both}
