@@ -1,5 +1,5 @@
 use Rattle.bt_laws.proofs.lemmas.parts.report.PartSuffice.{complement_suffice, genomecov_suffice, intersect_suffice, merge_suffice, subtract_suffice}
-use Rattle.bt_laws.proofs.split_laws.runs_without_a_fault_suffice.Goals as goal
+use Rattle.bt_laws.proofs.parts.shards.runs_without_a_fault_suffice.Goals as goal
 
 pub returns-clause-merge : goal.returns-clause-merge
 returns-clause-merge c = merge_suffice

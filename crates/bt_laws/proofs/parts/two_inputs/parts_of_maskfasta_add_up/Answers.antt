@@ -1,5 +1,5 @@
 use Rattle.bt_laws.proofs.lemmas.parts.report.PartMaskLaws.{mask_divides, repeated_divide}
-use Rattle.bt_laws.proofs.split_laws.parts_of_maskfasta_add_up.Goals as goal
+use Rattle.bt_laws.proofs.parts.two_inputs.parts_of_maskfasta_add_up.Goals as goal
 
 pub returns-clause-names : goal.returns-clause-names
 returns-clause-names c = mask_divides
