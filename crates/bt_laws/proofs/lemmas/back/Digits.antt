@@ -5,10 +5,11 @@ use Rattle.std.specs.List.{AllByRecursion}
 use Rattle.std.specs.Io.BufRead.{ends_with_byte, strip_last}
 use Rattle.std.proofs.lemmas.Bool.{lt-ltb}
 use Rattle.std.proofs.lemmas.Bool.Decides.{nat_tests}
-use Rattle.std.proofs.lemmas.List.Elements.{All-cons, All-nil}
+use Rattle.std.proofs.lemmas.List.Elements.{All-cons, All-nil, All-from_recursion}
 use Rattle.bt_lines.specs.calls.LentLine.{NoLineFeed}
 use Rattle.bt_lines.proofs.lemmas.reader.lines.LinesLemmas.{strip_last-other, strip_last-push}
 use Rattle.bt_laws.proofs.lemmas.parts.text.PartLists.{all_back}
+use Rattle.bt_lines.proofs.lemmas.reader.lines.ColumnLemmas.{IsColumn, IsInside}
 
 abbrev pub IsDigit : ℕ → Type 0
 IsDigit c = (48 ≤ c) × (c ≤ 57)
@@ -46,7 +47,7 @@ digits_none : (ds : List ℕ) → AllByRecursion IsDigit ds → AllByRecursion (
 digits_none [] h = tt
 digits_none (c ∷ cs) h = (no_return c h.0, digits_none cs h.1)
 
-pub strip_none_by : (ds : List ℕ) (b : Bool) → ends_with_byte 13 ds ≡ b → AllByRecursion (λ b. eqb b 13 ≡ false) ds → strip_last 13 ds ≡ ds
+strip_none_by : (ds : List ℕ) (b : Bool) → ends_with_byte 13 ds ≡ b → AllByRecursion (λ b. eqb b 13 ≡ false) ds → strip_last 13 ds ≡ ds
 strip_none_by ds true e h =
     let end = all_back (λ b. eqb b 13 ≡ false) (strip_last 13 ds) (13 ∷ []) (subst (AllByRecursion (λ b. eqb b 13 ≡ false)) (sym (strip_last-push 13 ds e)) h) in
     absurd (let apart : true ≡ false = end.0 in cc)
@@ -55,3 +56,17 @@ strip_none_by ds false e h = strip_last-other 13 ds e
 -- no carriage return ends it, with a tab before it
 pub strip_number : (n : ℕ) → strip_last 13 (9 ∷ decimal n) ≡ 9 ∷ decimal n
 strip_number n = strip_none_by (9 ∷ decimal n) (ends_with_byte 13 (9 ∷ decimal n)) refl (refl, digits_none (decimal n) (decimal_digits n))
+
+pub strip_decimal : (n : ℕ) → strip_last 13 (decimal n) ≡ decimal n
+strip_decimal n = strip_none_by (decimal n) (ends_with_byte 13 (decimal n)) refl (digits_none (decimal n) (decimal_digits n))
+
+-- a number is a column
+digit_inside : (c : ℕ) → IsDigit c → IsInside c
+digit_inside c h = grind (arith, nat_tests)
+
+digits_inside : (ds : List ℕ) → AllByRecursion IsDigit ds → AllByRecursion IsInside ds
+digits_inside [] h = tt
+digits_inside (c ∷ cs) h = (digit_inside c h.0, digits_inside cs h.1)
+
+pub number_column : (n : ℕ) → IsColumn (decimal n)
+number_column n = All-from_recursion IsInside (decimal n) (digits_inside (decimal n) (decimal_digits n))

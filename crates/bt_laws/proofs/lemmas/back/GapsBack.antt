@@ -1,12 +1,9 @@
 -- What complement and genomecov write is an input of the next command.
-use Rattle.std.proofs.Common.{◌≡◌, ℕ, ◌-◌, ◌<◌, ◌≤◌, Bool, false, List, [], ◌∷◌, ◌++◌, map, filter, Option, refl, sym, ap, ap₂, ◌∙◌, subst, inl, inr, arith, eqb, append_assoc, decimal}
+use Rattle.std.proofs.Common.{◌≡◌, ℕ, ◌-◌, ◌<◌, ◌≤◌, Bool, List, [], ◌∷◌, ◌++◌, map, filter, Option, refl, sym, ap, ap₂, ◌∙◌, subst, inl, inr, arith, eqb, append_assoc, decimal}
 use Rattle.std.specs.Prelude.{IsTrue, flat_map, codes}
 use Rattle.std.specs.List.{AllByRecursion}
-use Rattle.std.proofs.lemmas.Bool.Decides.{nat_tests}
 use Rattle.std.proofs.lemmas.List.Splits.{slice_split_none}
-use Rattle.std.proofs.lemmas.List.Elements.{All-cons, All-nil}
 use Rattle.bt_lines.specs.model.Lines.{pieces}
-use Rattle.bt_lines.proofs.lemmas.reader.lines.ColumnLemmas.{IsColumn, IsInside}
 use Rattle.bt_bed.specs.model.feature.Feature.{Feature, intervals_of}
 use Rattle.bt_bed.specs.model.order.Genome.{Entry, genome_names}
 use Rattle.bt_bed.specs.model.feature.Interval.{Interval, Span, spans_on}
@@ -26,12 +23,13 @@ use Rattle.bt_runs.proofs.lemmas.coverage.LevelLemmas.{are_levels}
 use Rattle.bt_laws.specs.pipes.Taken.{AreSeparate, AreDisjoint, IsInput, four_columns, is_no_header, three_columns}
 use Rattle.bt_laws.proofs.lemmas.pipes.Pairs.{EachPair}
 use Rattle.bt_laws.proofs.lemmas.back.Clear.{clear_tab}
-use Rattle.bt_laws.proofs.lemmas.back.Digits.{IsDigit, clear_number, decimal_digits, strip_number}
-use Rattle.bt_laws.proofs.lemmas.back.LinesBack.{Columns, IsColumns, lines_back, record_back, text_of_columns}
-use Rattle.bt_laws.proofs.lemmas.parts.text.PartLists.{all_any, all_filter, all_flat_map, all_map, all_so}
-use Rattle.bt_laws.proofs.lemmas.pipes.Placing.{Earlier, all_unmap, apart_pairs, known_names, names_pairs, on_name, pairs_filter, pairs_from_map, pairs_map, pairs_so, parts_pairs, parts_placed, spans_apart, spans_placed}
+use Rattle.bt_laws.proofs.lemmas.back.Digits.{clear_number, strip_number, number_column}
+use Rattle.bt_laws.proofs.lemmas.back.LinesBack.{Columns, IsColumns, record_back, text_of_columns, written_back}
+use Rattle.bt_laws.proofs.lemmas.parts.text.PartLists.{all_any, all_filter, all_flat_map, all_map, all_so, all_unmap, map_map}
+use Rattle.bt_laws.proofs.lemmas.pipes.Placing.{Earlier, apart_pairs, known_names, names_pairs, on_name, pairs_filter, pairs_from_map, pairs_map, pairs_so, parts_pairs, parts_placed, spans_apart, spans_placed}
 use Rattle.bt_laws.proofs.lemmas.back.RunsBack.{IsWritten, intervals_back, on_written, scanned}
 use Rattle.bt_laws.proofs.lemmas.back.SaidWell.{IsChrom}
+use Rattle.std.proofs.lemmas.List.{map-append}
 
 gaps_apart : (size : ℕ) (spans : List Span) → AreApartFrom 0 (gaps_of size spans) × AllByRecursion (λ (s : Span). (s.start < s.stop) × (s.stop ≤ size)) (gaps_of size spans)
 unfolding gaps_of
@@ -92,39 +90,18 @@ depth_columns r is = record { named = is.named; clear = is.clear; below = is.bel
 depth_as : (r : DepthInterval) → depth_line r ≡ text_of_columns (with_depth r) ++ 10 ∷ []
 depth_as r = simp append_assoc
 
-depths_as : (rs : List DepthInterval) → depth_lines rs ≡ flat_map (λ line. text_of_columns line ++ 10 ∷ []) (map with_depth rs)
-depths_as [] = refl
-depths_as (r ∷ rs) = ap₂ (λ a b. a ++ b) (depth_as r) (depths_as rs)
-
-no_tab : (c : ℕ) → IsDigit c → eqb c 9 ≡ false
-no_tab c h = grind (arith, nat_tests)
-
-digits_inside : (ds : List ℕ) → AllByRecursion IsDigit ds → IsColumn ds
-digits_inside [] h = All-nil IsInside
-digits_inside (c ∷ cs) h = All-cons IsInside c cs (no_tab c h.0) (digits_inside cs h.1)
-
 one_column : (n : ℕ) → pieces 9 (decimal n) ≡ decimal n ∷ []
-one_column n = slice_split_none (λ b. eqb b 9) (decimal n) (digits_inside (decimal n) (decimal_digits n))
+one_column n = slice_split_none (λ b. eqb b 9) (decimal n) (number_column n)
 
 depth_back : (r : DepthInterval) → record_back (with_depth r) ≡ four_columns r
 depth_back r =
     ap (λ tail. record { chrom = r.chrom; start = r.start; stop = r.stop; strand = strand_of (columns_in tail); rest = tail }) (strip_number r.depth)
     ∙ ap (λ columns. record { chrom = r.chrom; start = r.start; stop = r.stop; strand = strand_of columns; rest = codes "\t" ++ decimal r.depth }) (one_column r.depth)
 
-depths_back : (rs : List DepthInterval) → map record_back (map with_depth rs) ≡ map four_columns rs
-depths_back [] = refl
-depths_back (r ∷ rs) = ap₂ (λ a b. a ∷ b) (depth_back r) (depths_back rs)
-
-depths_at : (rs : List DepthInterval) → map (λ line. line.at) (map with_depth rs) ≡ map interval_at rs
-depths_at [] = refl
-depths_at (r ∷ rs) = ap (λ l. interval_at r ∷ l) (depths_at rs)
-
 module _ (order : Order) (total : IsTotal order) where
   depth_lines_back : (rs : List DepthInterval) → AllByRecursion (λ r. IsWritten (interval_at r)) rs → ArePlaced order (map interval_at rs) → IsInput order (depth_lines rs) (filter is_no_header (map four_columns rs))
   depth_lines_back rs are placed =
-      subst (λ text. IsInput order text (filter is_no_header (map four_columns rs))) (sym (depths_as rs))
-      (subst (λ back. IsInput order (flat_map (λ line. text_of_columns line ++ 10 ∷ []) (map with_depth rs)) (filter is_no_header back)) (depths_back rs)
-      (lines_back order total (map with_depth rs) (all_map IsColumns with_depth rs (all_so (λ r. IsWritten (interval_at r)) (λ r. IsColumns (with_depth r)) rs depth_columns are)) (subst (ArePlaced order) (sym (depths_at rs)) placed)))
+      written_back order total depth_line with_depth four_columns rs depth_as (all_any _ rs depth_back) (all_so (λ r. IsWritten (interval_at r)) (λ r. IsColumns (with_depth r)) rs depth_columns are) placed
 
 -- ---- levels
 
@@ -164,19 +141,11 @@ module _ (entries : List Entry) (chroms : AllByRecursion IsChrom entries) (disti
   level_part : Entry → List Interval
   level_part e = map (level_place e.name) (levels_for e)
 
-  places_same : (name : List ℕ) (ls : List Level) → map interval_at (map (depth_on name) ls) ≡ map (level_place name) ls
-  places_same name [] = refl
-  places_same name (l ∷ ls) = ap (λ rs. level_place name l ∷ rs) (places_same name ls)
-
-  map_both : (xs ys : List DepthInterval) → map interval_at (xs ++ ys) ≡ map interval_at xs ++ map interval_at ys
-  map_both [] ys = refl
-  map_both (x ∷ xs) ys = ap (λ l. interval_at x ∷ l) (map_both xs ys)
-
   places_of_all : (es : List Entry) → map interval_at (flat_map (depths_on zeros strand records) es) ≡ flat_map level_part es
   unfolding level_part
   places_of_all [] = refl
   places_of_all (e ∷ es) =
-      map_both (depths_on zeros strand records e) (flat_map (depths_on zeros strand records) es) ∙ ap₂ (λ a b. a ++ b) (places_same e.name (levels_for e)) (places_of_all es)
+      map-append interval_at (depths_on zeros strand records e) (flat_map (depths_on zeros strand records) es) ∙ ap₂ (λ a b. a ++ b) (map_map (depth_on e.name) interval_at (level_place e.name) (levels_for e) (all_any _ (levels_for e) (λ l. refl))) (places_of_all es)
 
   levels_are_so : (e : Entry) → AreLevelsOf (depth_of zeros (counted_on strand e.name records)) e.length (levels_for e)
   levels_are_so e = are_levels (depth_of zeros (counted_on strand e.name records)) e.length
@@ -185,17 +154,11 @@ module _ (entries : List Entry) (chroms : AllByRecursion IsChrom entries) (disti
   unfolding level_part
   on_level e = all_map (λ (r : Interval). r.chrom ≡ e.name) (level_place e.name) (levels_for e) (all_any (λ l. e.name ≡ e.name) (levels_for e) (λ l. refl))
 
-  all_known : AllByRecursion (λ (e : Entry). IsTrue (names_order.knows e.name)) entries
-  all_known = all_unmap (λ name. IsTrue (names_order.knows name)) (λ (e : Entry). e.name) entries (known_names (genome_names entries))
-
-  all_earlier : EachPair (λ (d e : Entry). Earlier names_order d.name e.name) entries
-  all_earlier = pairs_from_map (Earlier names_order) (λ (e : Entry). e.name) entries (names_pairs (genome_names entries) distinct)
-
   pub depths_placed : ArePlaced names_order (map interval_at (coverage zeros strand entries records))
   unfolding coverage level_part
   depths_placed = subst (ArePlaced names_order) (sym (places_of_all entries))
-      (parts_placed names_order (ranks_total (genome_names entries)) (λ (e : Entry). e.name) level_part on_level entries all_earlier
-      (all_so (λ (e : Entry). IsTrue (names_order.knows e.name)) (λ e. ArePlaced names_order (level_part e)) entries (λ e known. levels_placed names_order e.name known 0 (levels_for e) (levels_are_so e).disjoint) all_known))
+      (parts_placed names_order (ranks_total (genome_names entries)) (λ (e : Entry). e.name) level_part on_level entries (entries_earlier entries chroms distinct)
+      (all_so (λ (e : Entry). IsTrue (names_order.knows e.name)) (λ e. ArePlaced names_order (level_part e)) entries (λ e known. levels_placed names_order e.name known 0 (levels_for e) (levels_are_so e).disjoint) (entries_known entries chroms distinct)))
 
   level_disjoint : (e : Entry) → EachPair AreDisjoint (level_part e)
   unfolding level_part
@@ -205,7 +168,7 @@ module _ (entries : List Entry) (chroms : AllByRecursion IsChrom entries) (disti
   pub depths_disjoint : EachPair AreDisjoint (map interval_at (coverage zeros strand entries records))
   unfolding coverage level_part
   depths_disjoint = subst (EachPair AreDisjoint) (sym (places_of_all entries))
-      (parts_pairs names_order (ranks_total (genome_names entries)) (λ (e : Entry). e.name) level_part on_level AreDisjoint (λ r s other same. absurd (other same)) entries all_known all_earlier (all_any (λ e. EachPair AreDisjoint (level_part e)) entries level_disjoint))
+      (parts_pairs names_order (ranks_total (genome_names entries)) (λ (e : Entry). e.name) level_part on_level AreDisjoint (λ r s other same. absurd (other same)) entries (entries_known entries chroms distinct) (entries_earlier entries chroms distinct) (all_any (λ e. EachPair AreDisjoint (level_part e)) entries level_disjoint))
 
   level_written : (e : Entry) → IsChrom e → AllByRecursion IsWritten (level_part e)
   unfolding level_part

@@ -3,7 +3,6 @@ use Rattle.std.proofs.Common.{◌≡◌, ℕ, suc, ◌≤◌, false, cond, List,
 use Rattle.std.specs.Prelude.{IsTrue, flat_map}
 use Rattle.std.specs.List.{AllByRecursion}
 use Rattle.std.specs.Io.BufRead.{strip_last}
-use Rattle.std.specs.Ordering.{ordering_reverse}
 use Rattle.std.specs.declared.cmp.Ordering.{Ordering}
 use Rattle.std.specs.declared.cmp.Ordering.TheVariants.{Less, Equal, Greater}
 use Rattle.std.proofs.lemmas.Bool.Decides.{nat_tests}
@@ -20,6 +19,7 @@ use Rattle.bt_bed.specs.model.order.Order.{Order, IsTotal}
 use Rattle.bt_bed.specs.model.feature.Record.{record_of}
 use Rattle.bt_bed.specs.model.order.Sorting.{falls_in, sorting_of}
 use Rattle.bt_bed.proofs.lemmas.order.SortingLemmas.{places_sorted}
+use Rattle.bt_laws.proofs.lemmas.parts.text.PartBed.{below_no, reversed_less}
 
 -- the record that is said, if there is one
 abbrev pub some_said : Option Feature → List Feature
@@ -31,14 +31,6 @@ module _ (order : Order) (total : IsTotal order) where
   abbrev pub Follow : Option Locus → List Feature → Type 0
   Follow last [] = Unit {0}
   Follow last (r ∷ rs) = IsTrue (order.knows r.chrom) × (falls_in (sorting_of order) last (locus_at r) ≡ false) × Follow (Some (locus_at r)) rs
-
-  below_no : (o : Ordering) (start other : ℕ) → o ≡ Greater → is_below_at o start other ≡ false
-  below_no Less start other e = cc
-  below_no Equal start other e = cc
-  below_no Greater start other e = refl
-
-  reversed_less : (o p : Ordering) → o ≡ Less → p ≡ ordering_reverse o → p ≡ Greater
-  reversed_less o p e is = cc
 
   below_same : (o : Ordering) (start other : ℕ) → o ≡ Equal → other ≤ start → is_below_at o start other ≡ false
   below_same Less start other e up = cc

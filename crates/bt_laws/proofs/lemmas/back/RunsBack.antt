@@ -1,6 +1,6 @@
 -- What merge, complement and genomecov write is an input of the next command.
-use Rattle.std.proofs.Common.{◌≡◌, ℕ, ◌+◌, ◌-◌, ◌<◌, ◌≤◌, Bool, true, false, cond, not, List, [], ◌∷◌, ◌++◌, map, filter, refl, sym, ap, ap₂, ◌∙◌, subst, inl, inr, arith, eqb, append-nil, decimal}
-use Rattle.std.specs.Prelude.{IsTrue, flat_map, codes, if◌then◌else◌, bytes_eq}
+use Rattle.std.proofs.Common.{◌≡◌, ℕ, ◌+◌, ◌-◌, ◌<◌, ◌≤◌, Bool, true, false, cond, not, List, [], ◌∷◌, ◌++◌, map, filter, refl, sym, ap, ◌∙◌, subst, inl, inr, arith, eqb, append-nil, decimal}
+use Rattle.std.specs.Prelude.{IsTrue, codes, if◌then◌else◌, bytes_eq}
 use Rattle.std.specs.List.{AllByRecursion}
 use Rattle.std.specs.Ordering.{is_lt}
 use Rattle.std.proofs.lemmas.List.Elements.{All-nil}
@@ -18,7 +18,7 @@ use Rattle.bt_runs.specs.model.Counted.{counted, is_counted}
 use Rattle.bt_runs.specs.model.Merged.{chromosomes, end_of, merged, runs_of, runs_on}
 use Rattle.bt_runs.specs.model.MergedRuns.{merged_runs}
 use Rattle.bt_runs.specs.model.RunOrder.{in_order, ordered_runs, put_in_order}
-use Rattle.bt_runs.specs.model.StrandRuns.{StrandRun, begun_by, listed_behind, places_of, runs_of_strand, strand_runs}
+use Rattle.bt_runs.specs.model.StrandRuns.{StrandRun, places_of, runs_of_strand, strand_runs}
 use Rattle.bt_runs.specs.declared.merge.merge_strand.MergeStrand.{MergeStrand}
 use Rattle.bt_runs.specs.declared.merge.merge_strand.MergeStrand.TheVariants.{One}
 use Rattle.bt_bed.specs.declared.record.strand.Strand.{Strand}
@@ -27,10 +27,13 @@ use Rattle.bt_runs.proofs.lemmas.order.NameOrder.{names_in_order}
 use Rattle.bt_runs.proofs.lemmas.order.OwnOrder.{distinct_chromosomes}
 use Rattle.bt_laws.specs.pipes.Taken.{AreSeparate, IsInput, is_no_header, three_columns}
 use Rattle.bt_laws.proofs.lemmas.pipes.Pairs.{EachPair}
-use Rattle.bt_laws.proofs.lemmas.back.LinesBack.{Columns, IsColumns, lines_back, record_back, text_of_columns}
-use Rattle.bt_laws.proofs.lemmas.parts.text.PartLists.{all_any, all_both, all_filter, all_flat_map, all_map, all_so, filter_all}
-use Rattle.bt_laws.proofs.lemmas.pipes.Placing.{Earlier, all_zip, apart_pairs, ascending_pairs, on_name, parts_pairs, parts_placed, spans_apart, spans_placed}
+use Rattle.bt_laws.proofs.lemmas.back.LinesBack.{Columns, IsColumns, text_of_columns, placed_known, written_back}
+use Rattle.bt_laws.proofs.lemmas.parts.text.PartLists.{all_any, all_filter, all_flat_map, all_map, all_so, filter_all, all_zip}
+use Rattle.bt_laws.proofs.lemmas.pipes.Placing.{Earlier, apart_pairs, ascending_pairs, on_name, parts_pairs, parts_placed, spans_apart, spans_placed}
 use Rattle.bt_laws.proofs.lemmas.back.SaidWell.{IsSaid}
+use Rattle.bt_laws.proofs.lemmas.parts.report.PartMerge.{named_all}
+use Rattle.bt_laws.proofs.lemmas.parts.report.PartStrands.{listed_all}
+use Rattle.std.proofs.lemmas.List.{map-id}
 
 -- ---- lines of three columns
 
@@ -50,24 +53,10 @@ alone_columns r is = record { named = is.named; clear = is.clear; below = is.bel
 alone_line : (r : Interval) → interval_line r ≡ text_of_columns (alone r) ++ 10 ∷ []
 alone_line r = ap (λ l. l ++ 10 ∷ []) (sym (append-nil (r.chrom ++ codes "\t" ++ decimal r.start ++ codes "\t" ++ decimal r.stop)))
 
-alone_lines : (rs : List Interval) → interval_lines rs ≡ flat_map (λ line. text_of_columns line ++ 10 ∷ []) (map alone rs)
-alone_lines [] = refl
-alone_lines (r ∷ rs) = ap₂ (λ a b. a ++ b) (alone_line r) (alone_lines rs)
-
-alone_back : (rs : List Interval) → map record_back (map alone rs) ≡ map three_columns rs
-alone_back [] = refl
-alone_back (r ∷ rs) = ap (λ l. three_columns r ∷ l) (alone_back rs)
-
-alone_at : (rs : List Interval) → map (λ line. line.at) (map alone rs) ≡ rs
-alone_at [] = refl
-alone_at (r ∷ rs) = ap (λ l. r ∷ l) (alone_at rs)
-
 module _ (order : Order) (total : IsTotal order) where
   pub intervals_back : (rs : List Interval) → AllByRecursion IsWritten rs → ArePlaced order rs → IsInput order (interval_lines rs) (filter is_no_header (map three_columns rs))
   intervals_back rs are placed =
-      subst (λ text. IsInput order text (filter is_no_header (map three_columns rs))) (sym (alone_lines rs))
-      (subst (λ back. IsInput order (flat_map (λ line. text_of_columns line ++ 10 ∷ []) (map alone rs)) (filter is_no_header back)) (alone_back rs)
-      (lines_back order total (map alone rs) (all_map IsColumns alone rs (all_so IsWritten (λ r. IsColumns (alone r)) rs alone_columns are)) (subst (ArePlaced order) (sym (alone_at rs)) placed)))
+      written_back order total interval_line alone three_columns rs alone_line (all_any _ rs (λ r. refl)) (all_so IsWritten (λ r. IsColumns (alone r)) rs alone_columns are) (subst (ArePlaced order) (sym (map-id rs)) placed)
 
 -- ---- spans within a length
 
@@ -118,10 +107,6 @@ ordered_all : (P : List ℕ → Type 0) (order : Order) (names : List (List ℕ)
 ordered_all P order [] all = tt
 ordered_all P order (n ∷ ns) all = put_all P order n (in_order order ns) all.0 (ordered_all P order ns all.1)
 
-chromosomes_all : (P : List ℕ → Type 0) (rs : List Interval) → AllByRecursion (λ (r : Interval). P r.chrom) rs → AllByRecursion P (chromosomes rs)
-chromosomes_all P [] h = tt
-chromosomes_all P (r ∷ rs) h = (h.0, all_filter P (λ other. not (bytes_eq other r.chrom)) (chromosomes rs) (chromosomes_all P rs h.1))
-
 -- a run, whose name is no header word
 pub record IsRun (r : Interval) : Type 0 where
   pub written : IsWritten r
@@ -150,10 +135,6 @@ counted_stops strand records said =
     all_map (λ (r : Interval). r.stop ≤ 999999999999) interval_of (filter (λ r. is_counted strand r.strand) records)
     (all_filter (λ r. r.stop ≤ 999999999999) (λ r. is_counted strand r.strand) records (all_so IsSaid (λ r. r.stop ≤ 999999999999) records (λ r is. is.feature.in_range) said))
 
-placed_known : (order : Order) (rs : List Interval) → ArePlaced order rs → AllByRecursion (λ (r : Interval). IsTrue (order.knows r.chrom)) rs
-placed_known order [] placed = tt
-placed_known order (r ∷ rs) placed = (placed.0, placed_known order rs placed.2)
-
 no_headers : (rs : List Interval) → AllByRecursion IsRun rs → filter is_no_header (map three_columns rs) ≡ map three_columns rs
 no_headers rs runs = filter_all is_no_header (map three_columns rs) (all_map (λ r. is_no_header r ≡ true) three_columns rs (all_so IsRun (λ r. not (is_header r.chrom) ≡ true) rs (λ r is. ap not is.no_header) runs))
 
@@ -166,7 +147,7 @@ module _ (order : Order) (total : IsTotal order) where
     names = in_order order (chromosomes (counted strand records))
 
     names_known : AllByRecursion (λ name. IsTrue (order.knows name)) (chromosomes (counted strand records))
-    names_known = chromosomes_all (λ name. IsTrue (order.knows name)) (counted strand records) (placed_known order (counted strand records) (some_placed order total (λ r. is_counted strand r.strand) records placed))
+    names_known = named_all (λ name. IsTrue (order.knows name)) (counted strand records) (placed_known order (counted strand records) (some_placed order total (λ r. is_counted strand r.strand) records placed))
 
     known_in_order : AllByRecursion (λ name. IsTrue (order.knows name)) names
     unfolding names
@@ -192,7 +173,7 @@ module _ (order : Order) (total : IsTotal order) where
     pub merge_runs : AllByRecursion IsRun (ordered_runs order gap strand records)
     unfolding ordered_runs
     merge_runs = merged_written (in_order order (chromosomes (counted strand records))) gap (counted strand records)
-        (ordered_all IsSaidName order (chromosomes (counted strand records)) (chromosomes_all IsSaidName (counted strand records) (counted_names strand records said))) (counted_stops strand records said)
+        (ordered_all IsSaidName order (chromosomes (counted strand records)) (named_all IsSaidName (counted strand records) (counted_names strand records said))) (counted_stops strand records said)
 
     -- what merge writes
     pub merge_back : IsInput order (interval_lines (ordered_runs order gap strand records)) (map three_columns (ordered_runs order gap strand records))
@@ -203,12 +184,8 @@ module _ (order : Order) (total : IsTotal order) where
   strand_written gap records said strand =
       all_map (λ (item : StrandRun). IsRun item.run) _ (merged_runs gap (One strand) records)
       (merged_written (chromosomes (counted (One strand) records)) gap (counted (One strand) records)
-      (chromosomes_all IsSaidName (counted (One strand) records) (counted_names (One strand) records said)) (counted_stops (One strand) records said))
-
-  listed_written : (P : StrandRun → Type 0) (runs : Strand → List StrandRun) → ((strand : Strand) → AllByRecursion P (runs strand)) → (before records : List Feature) → AllByRecursion P (listed_behind runs before records)
-  listed_written P runs h before [] = tt
-  listed_written P runs h before (r ∷ rs) = all_both P (begun_by (runs r.strand) before r) (listed_behind runs (before ++ r ∷ []) rs) (all_filter P _ (runs r.strand) (h r.strand)) (listed_written P runs h (before ++ r ∷ []) rs)
+      (named_all IsSaidName (counted (One strand) records) (counted_names (One strand) records said)) (counted_stops (One strand) records said))
 
   pub strands_written : (gap : ℕ) (records : List Feature) → AllByRecursion IsSaid records → AllByRecursion IsRun (places_of (strand_runs gap records))
   unfolding strand_runs
-  strands_written gap records said = all_map IsRun (λ (item : StrandRun). item.run) (strand_runs gap records) (listed_written (λ (item : StrandRun). IsRun item.run) (runs_of_strand gap records) (strand_written gap records said) [] records)
+  strands_written gap records said = all_map IsRun (λ (item : StrandRun). item.run) (strand_runs gap records) (listed_all (λ (item : StrandRun). IsRun item.run) (runs_of_strand gap records) [] records (strand_written gap records said))

@@ -44,9 +44,10 @@ use Rattle.bt_laws.proofs.lemmas.pipes.DepthParts.{shown}
 use Rattle.bt_laws.proofs.lemmas.back.GapsBack.{coverage_back}
 use Rattle.bt_laws.proofs.lemmas.same.GapsHit.{hidden_other}
 use Rattle.bt_laws.proofs.lemmas.parts.text.PartLists.{all_any, filter_all}
-use Rattle.bt_laws.proofs.lemmas.pipes.PipeLaws.{chroms_of, genomecov_whole, merge_whole, order_total}
+use Rattle.bt_laws.proofs.lemmas.pipes.PipeLaws.{chroms_of, genomecov_whole, merge_whole}
 use Rattle.bt_laws.proofs.lemmas.same.RunsAgain.{fault_as, here_all, merge_on, none_there, told_same, writes_is}
 use Rattle.bt_laws.proofs.lemmas.back.SaidWell.{IsSaid, good_are_said}
+use Rattle.bt_laws.proofs.lemmas.parts.text.PartTexts.{order_total}
 
 -- ---- where levels lie
 

@@ -36,10 +36,10 @@ use Rattle.bt_laws.specs.pipes.Taken.{IsInput, is_no_header, three_columns}
 use Rattle.bt_laws.proofs.lemmas.pipes.Covers.{runs_cover}
 use Rattle.bt_laws.proofs.lemmas.back.GapsBack.{gaps_back}
 use Rattle.bt_laws.proofs.lemmas.same.GapsHit.{complement_spans, unhidden}
-use Rattle.bt_laws.proofs.lemmas.parts.text.PartLists.{all_any, filter_all, flat_map_same}
-use Rattle.bt_laws.proofs.lemmas.pipes.PipeLaws.{chroms_of, complement_whole, merge_whole, order_total}
-use Rattle.bt_laws.proofs.lemmas.pipes.Placing.{all_zip}
+use Rattle.bt_laws.proofs.lemmas.parts.text.PartLists.{all_any, filter_all, flat_map_same, all_zip}
+use Rattle.bt_laws.proofs.lemmas.pipes.PipeLaws.{chroms_of, complement_whole, merge_whole}
 use Rattle.bt_laws.proofs.lemmas.same.RunsAgain.{complement_on, fault_as, told_same, writes_is}
+use Rattle.bt_laws.proofs.lemmas.parts.text.PartTexts.{order_total}
 
 -- ---- on one chromosome
 

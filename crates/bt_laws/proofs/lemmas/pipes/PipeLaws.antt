@@ -1,5 +1,5 @@
 -- The reports whose outputs go on as inputs.
-use Rattle.std.proofs.Common.{append-nil, append_assoc, ◌≡◌, ℕ, Bool, true, false, List, [], ◌∷◌, ◌++◌, map, filter, Option, Some, None, Result, Ok, Err, refl, sym, ap, ◌∙◌, subst}
+use Rattle.std.proofs.Common.{append-nil, append_assoc, ◌≡◌, ℕ, Bool, true, false, List, [], ◌∷◌, ◌++◌, map, filter, Option, Some, None, Ok, refl, sym, ap, ◌∙◌, subst}
 use Rattle.std.specs.Prelude.{◌≢◌, flat_map, if◌then◌else◌}
 use Rattle.std.specs.List.{AllByRecursion, AllPairs, list_all}
 use Rattle.std.specs.Option.{option_or}
@@ -19,7 +19,6 @@ use Rattle.bt_lines.specs.declared.fault.Kind.TheVariants.{TooManyHeld}
 use Rattle.bt_bed.specs.model.input.TwoInputReport.{Met, join_report, written}
 use Rattle.bt_bed.specs.model.order.Order.{Order, IsTotal}
 use Rattle.bt_bed.specs.model.order.Rank.{AreDistinct}
-use Rattle.bt_bed.specs.inside.RankTotal.{ranks_total}
 use Rattle.bt_bed.specs.declared.record.strand.Strand.{Strand}
 use Rattle.bt_bed.proofs.lemmas.laws.GoodBedLemmas.{non_empty_good, placed_good}
 use Rattle.bt_runs.specs.calls.CoveredLevels.{interval_at}
@@ -41,7 +40,7 @@ use Rattle.bt_sweep.proofs.lemmas.laws.SweepsLemmas.{faultless_all}
 use Rattle.bt_tool.specs.model.report.Behaviour.{behaviour_of, entries_in, order_of}
 use Rattle.bt_tool.specs.model.report.Inputs.{Inputs, or_empty}
 use Rattle.bt_tool.specs.model.report.RecordReport.{Report, report_by}
-use Rattle.bt_tool.specs.model.report.Report.{chromosomes_of, of_file, report_of, report_on}
+use Rattle.bt_tool.specs.model.report.Report.{chromosomes_of, report_of, report_on}
 use Rattle.bt_tool.specs.model.report.SweepReport.{met_within}
 use Rattle.bt_tool.specs.model.report.Written.{Written, complement_written, coverage_written, merge_written}
 use Rattle.bt_tool.specs.declared.planning.plan_type.Command.{Command}
@@ -52,25 +51,14 @@ use Rattle.bt_laws.specs.pipes.SweepLines.{begins_with_a, records_written}
 use Rattle.bt_laws.specs.pipes.Taken.{AreSeparate, AreDisjoint, IsInput, four_columns, is_no_header, three_columns}
 use Rattle.bt_laws.proofs.lemmas.pipes.Pairs.{EachPair, pairs_all, pairs_each}
 use Rattle.bt_laws.proofs.lemmas.back.GapsBack.{coverage_back, depths_disjoint, gaps_back, gaps_pairs}
-use Rattle.bt_laws.proofs.lemmas.parts.report.PartShards.{distinct_in}
+use Rattle.bt_laws.proofs.lemmas.parts.report.PartShards.{distinct_in, file_is}
 use Rattle.bt_laws.proofs.lemmas.back.RunsBack.{intervals_back, merge_apart, merge_back, runs_back, strands_written}
 use Rattle.bt_laws.proofs.lemmas.back.SaidWell.{IsChrom, IsSaid, genome_chroms, good_are_said}
 use Rattle.bt_laws.proofs.lemmas.back.SweepBack.{cut_back, kept_back, pieces_back}
 use Rattle.bt_laws.proofs.lemmas.back.SweepRead.{all_read, places_stay, records_stay, strands_stay}
+use Rattle.bt_laws.proofs.lemmas.parts.text.PartTexts.{order_total}
 
 -- ---- the order in use
-
-pub order_total : (chromosomes : Option (List Entry)) → IsTotal (order_of chromosomes)
-order_total None = bytes_total
-order_total (Some entries) = ranks_total (genome_names entries)
-
-file_is : (answer : Result (List Entry) FaultValue) (entries : List Entry) → of_file answer ≡ Ok (Some entries) → answer ≡ Ok entries
-file_is (Ok found) entries e = cc
-file_is (Err fault) entries e = cc
-
-no_file : (answer : Result (List Entry) FaultValue) → of_file answer ≡ Ok None → ⊥
-no_file (Ok found) e = cc
-no_file (Err fault) e = cc
 
 pub chroms_of : (genome : Option Handed) (entries : List Entry) → chromosomes_of genome ≡ Ok (Some entries) → AllByRecursion IsChrom entries × AreDistinct (genome_names entries)
 chroms_of None entries e = cc

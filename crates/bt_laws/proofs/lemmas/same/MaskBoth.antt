@@ -1,7 +1,7 @@
 -- What maskfasta sees of a BED.
-use Rattle.std.proofs.Common.{◌≡◌, ◌||◌, ℕ, ◌+◌, ◌<◌, ◌≤◌, length, arith, suc, Bool, true, false, List, [], ◌∷◌, ◌++◌, map, None, refl, sym, ap, ap₂, ◌∙◌}
+use Rattle.std.proofs.Common.{◌≡◌, ◌||◌, ℕ, ◌+◌, ◌<◌, ◌≤◌, length, arith, suc, Bool, true, false, List, [], ◌∷◌, ◌++◌, None, refl, sym, ap, ap₂, ◌∙◌}
 use Rattle.std.specs.Prelude.{flat_map, if◌then◌else◌}
-use Rattle.std.specs.List.{AllByRecursion, list_any}
+use Rattle.std.specs.List.{list_any}
 use Rattle.std.specs.Option.{option_or}
 use Rattle.bt_lines.specs.model.Fault.{FaultValue}
 use Rattle.bt_bed.specs.model.input.TwoInputReport.{Met}
@@ -26,6 +26,8 @@ use Rattle.bt_laws.specs.Runs.{piped}
 use Rattle.bt_laws.proofs.lemmas.pipes.MaskPipes.{with_text}
 use Rattle.bt_laws.proofs.lemmas.same.MaskTwice.{header_from, masked_again, met_all, names_same, nones, output_there, read_items, read_none, second_none}
 use Rattle.bt_laws.proofs.lemmas.same.RunsAgain.{report_there, writes_is}
+use Rattle.bt_laws.proofs.lemmas.parts.text.PartLists.{flat_map_same, all_so}
+use Rattle.std.proofs.lemmas.List.Folds.{flat_map-map}
 
 -- ---- the same positions
 
@@ -39,7 +41,7 @@ module _ (how : MaskHow) where
   same_by true rs ss position text e = refl
   same_by false rs ss position text e = same_from rs ss position text e
 
-  same_line : (rs ss : List Feature) (line : SequenceLine) → ((p : ℕ) → line.before ≤ p → p < bases_up_to line → list_any (covers p) (own_records line.names rs) ≡ list_any (covers p) (own_records line.names ss)) → masked_line how rs line ≡ masked_line how ss line
+  pub same_line : (rs ss : List Feature) (line : SequenceLine) → ((p : ℕ) → line.before ≤ p → p < bases_up_to line → list_any (covers p) (own_records line.names rs) ≡ list_any (covers p) (own_records line.names ss)) → masked_line how rs line ≡ masked_line how ss line
   same_line rs ss line e = ap (λ t. t ++ end_bytes line.ending) (same_by (is_header line.text) (own_records line.names rs) (own_records line.names ss) line.before line.text e)
 
   -- one mask and then another
@@ -69,24 +71,13 @@ module _ (how : MaskHow) where
       → masked_line how ss (with_text line (masked_text how rs line)) ≡ masked_line how ts line
   both_line keeps rs ss ts line e = ap (λ t. t ++ end_bytes line.ending) (both_by keeps (is_header line.text) rs ss ts line refl e)
 
-  both_lines : (keeps : KeepsLines how) (rs ss ts : List Feature) (lines : List SequenceLine)
-      → AllByRecursion (λ line. (p : ℕ) → line.before ≤ p → p < bases_up_to line → list_any (covers p) (own_records line.names ts) ≡ (list_any (covers p) (own_records line.names rs) || list_any (covers p) (own_records line.names ss))) lines
-      → flat_map (masked_line how ss) (map (λ line. with_text line (masked_text how rs line)) lines) ≡ flat_map (masked_line how ts) lines
-  both_lines keeps rs ss ts [] h = refl
-  both_lines keeps rs ss ts (line ∷ lines) h = ap₂ (λ a b. a ++ b) (both_line keeps rs ss ts line h.0) (both_lines keeps rs ss ts lines h.1)
-
 abbrev pub bed_of : Inputs → Good Feature
 bed_of inputs = block_good Second (or_empty inputs.second)
-
-pub same_lines : (how : MaskHow) (rs ss : List Feature) (lines : List SequenceLine) → AllByRecursion (λ (line : SequenceLine). (p : ℕ) → line.before ≤ p → p < bases_up_to line → list_any (covers p) (own_records line.names rs) ≡ list_any (covers p) (own_records line.names ss)) lines
-    → flat_map (masked_line how rs) lines ≡ flat_map (masked_line how ss) lines
-same_lines how rs ss [] h = refl
-same_lines how rs ss (line ∷ lines) h = ap₂ (λ a b. a ++ b) (same_line how rs ss line h.0) (same_lines how rs ss lines h.1)
 
 pub by_positions : masked_by_positions
 by_positions how full inputs other chromosomes one two same =
     output_there how full inputs chromosomes one
-    ∙ same_lines how (items_in (bed_of inputs)) (items_in (bed_of other)) (sequence_lines full inputs) same
+    ∙ flat_map_same _ _ (sequence_lines full inputs) (all_so _ _ (sequence_lines full inputs) (same_line how (items_in (bed_of inputs)) (items_in (bed_of other))) same)
     ∙ sym (output_there how full (with_bed inputs other) chromosomes two)
 
 pub by_both : masked_by_both
@@ -99,7 +90,7 @@ by_both how full inputs other both chromosomes keeps one two three same =
     let met : mask_met how read (bed_of other) ≡ record { lines = result; fault = None } =
     met_all how (names_of (items_in read)) (bed_of other) (items_in read) read.fault (second_none how full (with_bed inputs other) chromosomes two)
     ∙ ap₂ (λ is fault. record { lines = flat_map (masked_line how (items_in (bed_of other))) is; fault = option_or fault (mask_rule how (names_of is) (bed_of other)).last }) (read_items how full inputs chromosomes one keeps) (read_none how full inputs chromosomes one keeps)
-    ∙ ap₂ (λ l fault. record { lines = l; fault = fault }) (both_lines how keeps mask (items_in (bed_of other)) (items_in (bed_of both)) lines same)
+    ∙ ap₂ (λ l fault. record { lines = l; fault = fault }) (flat_map-map _ _ lines ∙ flat_map_same _ _ lines (all_so _ _ lines (both_line how keeps mask (items_in (bed_of other)) (items_in (bed_of both))) same))
     (ap (λ ns. (mask_rule how ns (bed_of other)).last) (names_same (masked_text how mask) lines) ∙ (nones how full (with_bed inputs other) chromosomes two).1) in
     writes_is (MaskFasta how full) (with_bed (piped (MaskFasta how full) inputs) other) (report_of (MaskFasta how full) (with_bed inputs both)).output
     (report_there (MaskFasta how full) (with_bed (piped (MaskFasta how full) inputs) other) chromosomes one.genome

@@ -29,7 +29,7 @@ use Rattle.bt_runs.specs.model.RunOrder.{ordered_runs}
 use Rattle.bt_runs.specs.declared.merge.merge_strand.MergeStrand.TheVariants.{All}
 use Rattle.bt_seq.specs.model.Masked.{covers, mask_rule, names_of, no_sequence}
 use Rattle.bt_seq.specs.model.Owners.{own_records}
-use Rattle.bt_seq.specs.model.Sequences.{SequenceLine, sequence_good}
+use Rattle.bt_seq.specs.model.Sequences.{sequence_good}
 use Rattle.bt_seq.proofs.lemmas.laws.LeftLemmas.{leave}
 use Rattle.bt_tool.specs.model.report.Behaviour.{order_of}
 use Rattle.bt_tool.specs.model.report.Inputs.{Inputs, or_empty}
@@ -44,14 +44,15 @@ use Rattle.bt_laws.specs.same.MaskLaws.{masked_by_merged, with_merged_bed}
 use Rattle.bt_laws.proofs.lemmas.back.RunsBack.{merge_back, merge_placed}
 use Rattle.bt_laws.proofs.lemmas.back.SaidWell.{IsSaid, good_are_said}
 use Rattle.bt_laws.proofs.lemmas.parts.report.PartMasked.{none_owned, owned_none}
-use Rattle.bt_laws.proofs.lemmas.parts.text.PartLists.{all_any, all_so, filter_all}
+use Rattle.bt_laws.proofs.lemmas.parts.text.PartLists.{all_any, all_so, filter_all, flat_map_same}
 use Rattle.bt_laws.proofs.lemmas.pipes.Covers.{SameCover, runs_cover, same_sym}
-use Rattle.bt_laws.proofs.lemmas.pipes.PipeLaws.{merge_whole, order_total, well_there}
+use Rattle.bt_laws.proofs.lemmas.pipes.PipeLaws.{merge_whole, well_there}
 use Rattle.bt_laws.proofs.lemmas.same.Blocks.{leave_alike, own_alike}
-use Rattle.bt_laws.proofs.lemmas.same.MaskBoth.{bed_of, same_lines}
+use Rattle.bt_laws.proofs.lemmas.same.MaskBoth.{bed_of, same_line}
 use Rattle.bt_laws.proofs.lemmas.same.MaskTwice.{met_all, nones, output_there}
 use Rattle.bt_laws.proofs.lemmas.same.RunsAgain.{back, report_there, run_names, run_spans, writes_is}
 use Rattle.bt_laws.proofs.lemmas.same.SameSweeps.{cut_none, uncut}
+use Rattle.bt_laws.proofs.lemmas.parts.text.PartTexts.{order_total}
 
 -- ---- records in an order, read in blocks
 
@@ -186,7 +187,7 @@ by_merged how full inputs chromosomes genome merging well merged =
     let sound = nones how full inputs chromosomes well in
     let owned : is_some (leave (Some names) None (items_in new)) ≡ true = ap is_some (leaves inputs genome merging merged names) ∙ none_owned names old.members (or_last (no_sequence names old.members) old.fault sound.1) in
     let last : (mask_rule how names new).last ≡ None = ap₂ (λ one other. or_else one other) (owned_none names new.members owned) new_none in
-    let same = same_lines how (items_in old) (items_in new) lines (all_any _ lines (λ (line : SequenceLine). λ p from to. own_covers inputs genome merging merged line.names p)) in
+    let same = flat_map_same _ _ lines (all_any _ lines (λ line. same_line how (items_in old) (items_in new) line (λ p from to. own_covers inputs genome merging merged line.names p))) in
     writes_is (MaskFasta how full) (with_merged_bed genome inputs) (report_of (MaskFasta how full) inputs).output
     (report_there (MaskFasta how full) (with_merged_bed genome inputs) chromosomes well.genome
     ∙ ap met_report (met_all how names new lines first.fault new_none ∙ ap₂ (λ l fault. record { lines = l; fault = fault }) (sym same) (ap₂ (λ one other. option_or one other) sound.0 last))

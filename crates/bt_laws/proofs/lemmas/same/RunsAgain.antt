@@ -27,7 +27,7 @@ use Rattle.bt_runs.specs.declared.merge.merge_strand.MergeStrand.{MergeStrand}
 use Rattle.bt_runs.specs.declared.merge.merge_strand.MergeStrand.TheVariants.{All, Each, One}
 use Rattle.bt_runs.proofs.lemmas.merge.Bridging.{are_runs, bridged_here}
 use Rattle.bt_runs.proofs.lemmas.order.ChromosomeLemmas.{among_chromosomes, spans_on-append, spans_on-here, spans_on-elsewhere, spans_on-none, without-here}
-use Rattle.bt_runs.proofs.lemmas.order.FileOrder.{runs_of-nil, some_placed, without_absent}
+use Rattle.bt_runs.proofs.lemmas.order.FileOrder.{runs_of-nil, without_absent}
 use Rattle.bt_runs.proofs.lemmas.order.OwnOrder.{distinct_chromosomes}
 use Rattle.bt_runs.proofs.lemmas.order.RunOrder.{ordered_come}
 use Rattle.bt_tool.specs.model.report.Behaviour.{behaviour_of, entries_in, order_of}
@@ -43,9 +43,10 @@ use Rattle.bt_laws.specs.pipes.Taken.{IsInput, three_columns}
 use Rattle.bt_laws.proofs.lemmas.same.AlikeRecords.{gaps_by}
 use Rattle.bt_laws.proofs.lemmas.pipes.Covers.{SameCover, runs_again, runs_cover}
 use Rattle.bt_laws.proofs.lemmas.parts.text.PartLists.{all_any, all_filter, all_map, all_so, filter_all, flat_map_same}
-use Rattle.bt_laws.proofs.lemmas.pipes.PipeLaws.{complement_whole, merge_whole, order_total}
+use Rattle.bt_laws.proofs.lemmas.pipes.PipeLaws.{complement_whole, merge_whole}
 use Rattle.bt_laws.proofs.lemmas.back.RunsBack.{merge_back, merge_placed}
 use Rattle.bt_laws.proofs.lemmas.back.SaidWell.{IsSaid, good_are_said}
+use Rattle.bt_laws.proofs.lemmas.parts.text.PartTexts.{order_total}
 
 kept_one : {A : Type 0} (t : A → Bool) (x : A) (xs : List A) (b : Bool) → t x ≡ b → AllByRecursion (λ y. t y ≡ true) xs → AllByRecursion (λ y. t y ≡ true) (cond b (x ∷ xs) xs)
 kept_one t x xs true e h = (e, h)
@@ -167,9 +168,6 @@ module _ (order : Order) (total : IsTotal order) (gap : ℕ) (strand : MergeStra
 
   abbrev runs : List ℕ → List Span
   runs name = runs_of gap (spans_on name used)
-
-  used_placed : ArePlaced order used
-  used_placed = some_placed order total (λ r. is_counted strand r.strand) records placed
 
   pub runs_are_by : ordered_runs order gap strand records ≡ flat_map (placed_by runs) names
   unfolding merged

@@ -51,11 +51,13 @@ use Rattle.bt_laws.specs.same.SameSweeps.{merged_second_missing, merged_second_o
 use Rattle.bt_laws.specs.pipes.Taken.{IsInput, three_columns}
 use Rattle.bt_laws.proofs.lemmas.pipes.Covers.{SameCover, runs_cover, same_sym}
 use Rattle.bt_laws.proofs.lemmas.parts.text.PartLists.{all_any, all_so, filter_all, flat_map_same}
-use Rattle.bt_laws.proofs.lemmas.pipes.PipeLaws.{intersect_whole, limit_whole, order_total, subtract_whole, well_there}
+use Rattle.bt_laws.proofs.lemmas.pipes.PipeLaws.{intersect_whole, limit_whole, subtract_whole, well_there}
 use Rattle.bt_laws.proofs.lemmas.same.RunsAgain.{back, report_there, run_spans}
 use Rattle.bt_laws.proofs.lemmas.back.RunsBack.{merge_back}
 use Rattle.bt_laws.proofs.lemmas.back.SaidWell.{IsSaid, good_are_said}
 use Rattle.bt_laws.proofs.lemmas.back.SweepBack.{Hit, all_hits, cut_bounds, same_name}
+use Rattle.bt_laws.proofs.lemmas.parts.text.PartTexts.{order_total}
+use Rattle.bt_laws.proofs.lemmas.parts.report.PartSweep.{all_true}
 
 -- ---- a common base is a hit
 
@@ -199,10 +201,6 @@ both_by true lines other None (Some f) e = cc
 both_by true lines other (Some g) fault e = cc
 both_by false lines other one fault e = e
 
-all_pass : (as_read : List Feature) → list_all (λ (a : Feature). true) as_read ≡ true
-all_pass [] = refl
-all_pass (a ∷ more) = all_pass more
-
 alone_none : (b : Bool) (lines other : List ℕ) (one : Option FaultValue) → b ≡ true → (met_of b lines other one None).fault ≡ None → one ≡ None
 alone_none true lines other None e f = refl
 alone_none true lines other (Some g) e f = cc
@@ -211,7 +209,7 @@ alone_none false lines other one e f = cc
 first_none : (order : Order) (shape : Shape) (rule : HitRule) (first : Good Feature) (second : List Feature) (fault : Option FaultValue) → fault ≡ None → (join_report (sweep_rule order shape rule second fault) (items_in first) first.fault).fault ≡ None → first.fault ≡ None
 first_none order shape rule first second None none e =
     let r = sweep_rule order shape rule second None in
-    alone_none (list_all r.decided (items_in first)) (flat_map r.lines (items_in first)) (written r (items_in first)) first.fault (all_pass (items_in first)) e
+    alone_none (list_all r.decided (items_in first)) (flat_map r.lines (items_in first)) (written r (items_in first)) first.fault (all_true (λ (a : Feature). true) (items_in first) (all_any _ (items_in first) (λ a. refl))) e
 first_none order shape rule first second (Some fault) none e = cc
 
 pub met_none : (order : Order) (shape : Shape) (rule : HitRule) (first second : Good Feature) → first.fault ≡ None → second.fault ≡ None → (met_within order shape rule None first second).fault ≡ None

@@ -2,7 +2,6 @@
 use Rattle.std.proofs.Common.{◌≡◌, ℕ, Bool, true, false, List, [], ◌∷◌, ◌++◌, filter, append-nil, Option, Some, None, refl, sym, ap, ap₂, ◌∙◌}
 use Rattle.std.specs.Prelude.{IsTrue, bytes_eq, flat_map}
 use Rattle.std.specs.List.{AllByRecursion}
-use Rattle.std.specs.Ordering.{ordering_reverse}
 use Rattle.std.specs.declared.cmp.Ordering.{Ordering}
 use Rattle.std.specs.declared.cmp.Ordering.TheVariants.{Less, Equal, Greater}
 use Rattle.std.proofs.lemmas.Bool.{or_left, or_right}
@@ -24,6 +23,7 @@ use Rattle.bt_laws.proofs.lemmas.parts.text.PartLists.{all_flat_map, all_so, fil
 use Rattle.bt_laws.proofs.lemmas.parts.order.PartRanks.{among_append, no_first}
 use Rattle.bt_laws.proofs.lemmas.parts.text.PartRecords.{last_behind, last_is, none_has}
 use Rattle.bt_laws.proofs.lemmas.parts.report.PartReports.{Splits}
+use Rattle.bt_laws.proofs.lemmas.parts.text.PartBed.{reversed_less}
 
 -- each entry's name is among those of its list
 own_names : (es : List Entry) (all : List (List ℕ)) → ((n : List ℕ) → is_among (genome_names es) n ≡ true → is_among all n ≡ true) → AllByRecursion (λ e. is_among all e.name ≡ true) es
@@ -42,9 +42,6 @@ over_greater : (o : Ordering) (b : Bool) → o ≡ Greater → is_over_at o b �
 over_greater Less b e = cc
 over_greater Equal b e = cc
 over_greater Greater b e = refl
-
-reverse_less : (o p : Ordering) → o ≡ Less → p ≡ ordering_reverse o → p ≡ Greater
-reverse_less o p e is = cc
 
 module _ {T : Type 0} (chrom : T → List ℕ) (ends : Interval → T → Bool) (line : T → List ℕ) (F : List Feature → Entry → List T) where
   -- what is written of a genome file's chromosomes
@@ -87,7 +84,7 @@ module _ {T : Type 0} (chrom : T → List ℕ) (ends : Interval → T → Bool) 
     less a b one two = entry_less e_one e_two distinct a b one two
 
     greater : (a b : List ℕ) → is_among Two a ≡ true → is_among One b ≡ true → (rank_order Both).compare a b ≡ Greater
-    greater a b two one = reverse_less ((rank_order Both).compare b a) ((rank_order Both).compare a b) (less b a one two) ((ranks_total Both).swapped b a (one_in b one) (two_in a two))
+    greater a b two one = reversed_less ((rank_order Both).compare b a) ((rank_order Both).compare a b) (less b a one two) ((ranks_total Both).swapped b a (one_in b one) (two_in a two))
 
     apart : (a b : List ℕ) → is_among One a ≡ true → is_among Two b ≡ true → bytes_eq b a ≡ false
     apart a b one two = name_ne b a (λ same.

@@ -60,12 +60,6 @@ meet_same t u lines told last xs fault h =
 
 -- ---- names of a part in the middle
 
--- the names of a part, and those before and behind it
-record IsMiddle (whole own : List (List ℕ)) : Type 0 where
-  before : List (List ℕ)
-  behind : List (List ℕ)
-  is : whole ≡ before ++ (own ++ behind)
-
 module _ (before own behind : List (List ℕ)) where
   abbrev All-names : List (List ℕ)
   All-names = before ++ (own ++ behind)

@@ -18,6 +18,8 @@ use Rattle.bt_laws.proofs.lemmas.parts.report.PartReports.{nothing, parts_add, s
 use Rattle.bt_laws.proofs.lemmas.parts.text.PartSam.{lines_less}
 use Rattle.bt_laws.proofs.lemmas.parts.report.PartSweep.{unless_none}
 use Rattle.bt_laws.proofs.lemmas.parts.text.PartTexts.{join_one}
+use Rattle.bt_laws.proofs.lemmas.parts.text.PartLists.{all_unmap}
+use Rattle.std.proofs.lemmas.List.Folds.{flat_map-map}
 
 module _ (how : MaskHow) (full : Bool) where
   abbrev T : Texts → Report
@@ -151,14 +153,6 @@ mask_divides how full parts lines headers own =
 pub repeated_divide : repeated_names_divide
 repeated_divide how full parts lines headers none all =
     let fit : CutFit how full parts = record { fit = record { lines = lines; headers = headers }; none = none } in
-    let sound = all_mapped parts (rw (on_is how full parts) at all) in
+    let sound = all_unmap _ (texts_report how full) parts (rw (on_is how full parts) at all) in
     let whole = suffice_all how full parts fit sound in
-    rw (on_is how full parts, mask_is how full (joined_texts parts)) (whole.0, whole.1 ∙ sym (flat_mapped parts))
-  where
-    all_mapped : (ts : List Texts) → AllByRecursion (λ (part : Report). part.fault ≡ None) (map (texts_report how full) ts) → AllByRecursion (λ part. (texts_report how full part).fault ≡ None) ts
-    all_mapped [] h = tt
-    all_mapped (t ∷ ts) h = (h.0, all_mapped ts h.1)
-
-    flat_mapped : (ts : List Texts) → flat_map (λ (part : Report). part.output) (map (texts_report how full) ts) ≡ flat_map (λ part. (texts_report how full part).output) ts
-    flat_mapped [] = refl
-    flat_mapped (t ∷ ts) = ap (λ l. (texts_report how full t).output ++ l) (flat_mapped ts)
+    rw (on_is how full parts, mask_is how full (joined_texts parts)) (whole.0, whole.1 ∙ sym (flat_map-map (λ (part : Report). part.output) (texts_report how full) parts))

@@ -247,7 +247,7 @@ cut_none None result entries e = e
 cut_none (Some fault) (Ok more) entries e = cc
 cut_none (Some fault) (Err first) entries e = cc
 
-file_is : (result : Result (List Entry) FaultValue) (entries : List Entry) → of_file result ≡ Ok (Some entries) → result ≡ Ok entries
+pub file_is : (result : Result (List Entry) FaultValue) (entries : List Entry) → of_file result ≡ Ok (Some entries) → result ≡ Ok entries
 file_is (Ok more) entries e = cc
 file_is (Err fault) entries e = cc
 

@@ -1,5 +1,5 @@
 -- Merged runs of each strand, of records of two parts.
-use Rattle.std.proofs.Common.{◌≡◌, ℕ, Bool, true, false, ◌&&◌, not, ◌||◌, cond, List, [], ◌∷◌, ◌++◌, map, filter, append-nil, append_assoc, refl, sym, ap, ap₂, ◌∙◌}
+use Rattle.std.proofs.Common.{◌≡◌, ℕ, Bool, true, false, ◌&&◌, not, cond, List, [], ◌∷◌, ◌++◌, map, filter, append-nil, append_assoc, refl, sym, ap, ap₂, ◌∙◌}
 use Rattle.std.specs.Prelude.{bytes_eq, nat_le}
 use Rattle.std.specs.List.{AllByRecursion, list_any, take_while}
 use Rattle.std.proofs.lemmas.Grind.{flat_map-append}
@@ -23,10 +23,11 @@ use Rattle.bt_runs.proofs.lemmas.laws.Passing.{passed_elsewhere}
 use Rattle.bt_runs.proofs.lemmas.merge.StrandListing.{listed_append}
 use Rattle.bt_runs.proofs.lemmas.merge.StrandSettling.{divide}
 use Rattle.bt_tool.specs.model.report.Written.{strands_written}
-use Rattle.bt_laws.proofs.lemmas.parts.text.PartLists.{all_any, all_both, all_filter, all_flat_map, all_map, all_so, filter_none, filter_same}
-use Rattle.bt_laws.proofs.lemmas.parts.report.PartMerge.{named_all, runs_both, unmapped}
+use Rattle.bt_laws.proofs.lemmas.parts.text.PartLists.{all_any, all_both, all_filter, all_flat_map, all_map, all_so, filter_none, filter_same, all_unmap}
+use Rattle.bt_laws.proofs.lemmas.parts.report.PartMerge.{named_all, runs_both}
 use Rattle.bt_laws.proofs.lemmas.parts.text.PartRecords.{Away, has_none, last_behind, last_is}
 use Rattle.bt_laws.proofs.lemmas.parts.report.PartReports.{Splits}
+use Rattle.bt_laws.proofs.lemmas.parts.report.PartSweep.{any_behind}
 
 -- the run lies on another chromosome
 abbrev Elsewhere : List ℕ → StrandRun → Type 0
@@ -39,9 +40,10 @@ in_no false b c e = refl
 not_in : (item : StrandRun) (r : Feature) → Elsewhere r.chrom item → is_in item r ≡ false
 not_in item r e = in_no (is_strand item.strand r.strand) (bytes_eq item.run.chrom r.chrom) (nat_le item.run.start r.start && nat_le r.stop item.run.stop) e
 
-none_in : (item : StrandRun) (rs more : List Feature) → AllByRecursion (λ r. is_in item r ≡ false) rs → list_any (is_in item) (rs ++ more) ≡ list_any (is_in item) more
-none_in item [] more h = refl
-none_in item (r ∷ rs) more h = ap (λ b. b || list_any (is_in item) (rs ++ more)) h.0 ∙ none_in item rs more h.1
+-- what is listed is among the runs of the strands
+pub listed_all : (P : StrandRun → Type 0) (runs : Strand → List StrandRun) (before rs : List Feature) → ((strand : Strand) → AllByRecursion P (runs strand)) → AllByRecursion P (listed_behind runs before rs)
+listed_all P runs before [] h = tt
+listed_all P runs before (r ∷ rs) h = all_both P (begun_by (runs r.strand) before r) (listed_behind runs (before ++ r ∷ []) rs) (all_filter P _ (runs r.strand) (h r.strand)) (listed_all P runs (before ++ r ∷ []) rs h)
 
 module _ (gap : ℕ) where
   runs_elsewhere : (name : List ℕ) (names : List (List ℕ)) (rs : List Interval) → AllByRecursion (λ n. bytes_eq n name ≡ false) names → AllByRecursion (λ run. bytes_eq run.chrom name ≡ false) (merged names gap rs)
@@ -57,7 +59,7 @@ module _ (gap : ℕ) where
       (runs_elsewhere name (chromosomes (counted (One strand) rs)) (counted (One strand) rs)
       (named_all (λ n. bytes_eq n name ≡ false) (counted (One strand) rs)
       (all_map (λ r. bytes_eq r.chrom name ≡ false) interval_of (filter (λ r. is_counted (One strand) r.strand) rs)
-      (all_filter (λ r. bytes_eq r.chrom name ≡ false) (λ r. is_counted (One strand) r.strand) rs (unmapped (λ r. bytes_eq r.chrom name ≡ false) rs (has_none name (intervals_of rs) e))))))
+      (all_filter (λ r. bytes_eq r.chrom name ≡ false) (λ r. is_counted (One strand) r.strand) rs (all_unmap (λ r. bytes_eq r.chrom name ≡ false) interval_of rs (has_none name (intervals_of rs) e))))))
 
   module _ (ones twos : List Feature) (away : Away (intervals_of ones) (intervals_of twos)) where
     all_strand : (strand : Strand) → runs_of_strand gap (ones ++ twos) strand ≡ runs_of_strand gap ones strand ++ runs_of_strand gap twos strand
@@ -80,7 +82,7 @@ module _ (gap : ℕ) where
 
     -- no record of the first part lies in a run of the second
     none_first : (strand : Strand) → AllByRecursion (λ item. AllByRecursion (λ r. is_in item r ≡ false) ones) (runs_of_strand gap twos strand)
-    none_first strand = swapped ones (unmapped _ ones away.first)
+    none_first strand = swapped ones (all_unmap _ interval_of ones away.first)
       where
         swapped : (rs : List Feature) → AllByRecursion (λ r. has_records r.chrom (intervals_of twos) ≡ false) rs → AllByRecursion (λ item. AllByRecursion (λ r. is_in item r ≡ false) rs) (runs_of_strand gap twos strand)
         swapped [] h = all_any _ (runs_of_strand gap twos strand) (λ item. tt)
@@ -100,7 +102,7 @@ module _ (gap : ℕ) where
         (filter_none test (runs_of_strand gap ones r.strand)
         (all_so (Elsewhere r.chrom) (λ item. test item ≡ false) (runs_of_strand gap ones r.strand) (λ item out. and_left (is_in item r) (not (list_any (is_in item) (ones ++ before))) (not_in item r out)) (items_elsewhere r.chrom ones r.strand e)))
         (filter_same test here (runs_of_strand gap twos r.strand)
-        (all_so (λ item. AllByRecursion (λ r. is_in item r ≡ false) ones) (λ item. test item ≡ here item) (runs_of_strand gap twos r.strand) (λ item none. ap (λ b. is_in item r && not b) (none_in item ones before none)) (none_first r.strand)))
+        (all_so (λ item. AllByRecursion (λ r. is_in item r ≡ false) ones) (λ item. test item ≡ here item) (runs_of_strand gap twos r.strand) (λ item none. ap (λ b. is_in item r && not b) (any_behind (is_in item) ones before none)) (none_first r.strand)))
 
     listed_second : (before rs : List Feature) → AllByRecursion (λ r. has_records r.chrom (intervals_of ones) ≡ false) rs → listed_behind (runs_of_strand gap (ones ++ twos)) (ones ++ before) rs ≡ listed_behind (runs_of_strand gap twos) before rs
     listed_second before [] h = refl
@@ -112,13 +114,8 @@ module _ (gap : ℕ) where
     unfolding strand_runs
     strand_runs_both =
         listed_append (runs_of_strand gap (ones ++ twos)) [] ones twos
-        ∙ ap₂ (λ a b. a ++ b) (listed_first [] ones (unmapped _ ones away.first))
-        (ap (λ b. listed_behind (runs_of_strand gap (ones ++ twos)) b twos) (sym (append-nil ones)) ∙ listed_second [] twos (unmapped _ twos away.second))
-
-  -- what is listed is among the runs of the strands
-  listed_all : (P : StrandRun → Type 0) (runs : Strand → List StrandRun) (before rs : List Feature) → ((strand : Strand) → AllByRecursion P (runs strand)) → AllByRecursion P (listed_behind runs before rs)
-  listed_all P runs before [] h = tt
-  listed_all P runs before (r ∷ rs) h = all_both P (begun_by (runs r.strand) before r) (listed_behind runs (before ++ r ∷ []) rs) (all_filter P _ (runs r.strand) (h r.strand)) (listed_all P runs (before ++ r ∷ []) rs h)
+        ∙ ap₂ (λ a b. a ++ b) (listed_first [] ones (all_unmap _ interval_of ones away.first))
+        (ap (λ b. listed_behind (runs_of_strand gap (ones ++ twos)) b twos) (sym (append-nil ones)) ∙ listed_second [] twos (all_unmap _ interval_of twos away.second))
 
   strand_runs_elsewhere : (name : List ℕ) (rs : List Feature) → has_records name (intervals_of rs) ≡ false → AllByRecursion (Elsewhere name) (strand_runs gap rs)
   unfolding strand_runs

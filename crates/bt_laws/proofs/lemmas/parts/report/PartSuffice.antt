@@ -1,5 +1,5 @@
 -- Runs without a fault on parts of which each has its own part of the genome file.
-use Rattle.std.proofs.Common.{◌≡◌, ℕ, Bool, true, false, cond, List, [], ◌∷◌, ◌++◌, map, Option, Some, None, Result, Ok, Err, refl, sym, ap, ◌∙◌}
+use Rattle.std.proofs.Common.{◌≡◌, ℕ, Bool, true, false, cond, List, [], ◌∷◌, ◌++◌, Option, Some, None, Result, Ok, Err, refl, sym, ap, ◌∙◌}
 use Rattle.std.specs.Prelude.{IsTrue}
 use Rattle.std.specs.List.{AllByRecursion}
 use Rattle.bt_lines.specs.model.Fault.{FaultValue}
@@ -34,7 +34,7 @@ use Rattle.bt_tool.specs.declared.planning.plan_type.Command.{Command}
 use Rattle.bt_tool.specs.declared.planning.plan_type.Command.TheVariants.{Complement, Coverage, Intersect, Merge, Subtract}
 use Rattle.bt_tool.proofs.lemmas.running.members.CameMembers.{good_whole}
 use Rattle.bt_laws.proofs.lemmas.parts.text.PartBed.{records_on}
-use Rattle.bt_laws.proofs.lemmas.parts.text.PartLists.{all_both, all_so}
+use Rattle.bt_laws.proofs.lemmas.parts.text.PartLists.{all_both, all_so, all_unmap, all_zip}
 use Rattle.bt_laws.proofs.lemmas.parts.order.PartOwnGenomes.{intersect_genome_parts, subtract_genome_parts}
 use Rattle.bt_laws.proofs.lemmas.parts.report.PartShards.{complement_parts, genomecov_parts, merge_genome_parts}
 use Rattle.bt_laws.proofs.lemmas.parts.report.PartSweep.{report_none}
@@ -68,14 +68,6 @@ lies : (own whole : List Entry) (input : Input) (text : List ℕ) → (good (bed
 lies own whole input text e =
     all_so _ _ (said_records text) (λ r known here. sym (among_ranked (genome_names own) r.chrom) ∙ known) (known_from (rank_order (genome_names own)) input None (text_lines text) e)
 
-all_unmapped : {A B : Type 0} (P : B → Type 0) (f : A → B) (xs : List A) → AllByRecursion P (map f xs) → AllByRecursion (λ x. P (f x)) xs
-all_unmapped P f [] h = tt
-all_unmapped P f (x ∷ xs) h = (h.0, all_unmapped P f xs h.1)
-
-all_with : {A : Type 0} (P Q S : A → Type 0) (xs : List A) → ((x : A) → P x → Q x → S x) → AllByRecursion P xs → AllByRecursion Q xs → AllByRecursion S xs
-all_with P Q S [] f h k = tt
-all_with P Q S (x ∷ xs) f h k = (f x h.0 k.0, all_with P Q S xs f h.1 k.1)
-
 add_suffices : (parts : List Report) (whole : Report) → AddUp parts whole → Suffice parts whole
 add_suffices parts whole add all = let none = add.faultless.1 all in (none, add.output none)
 
@@ -99,7 +91,7 @@ module _ (W : List Entry → Written Feature) (command : Command)
 
   shards_suffice : ShardsSuffice command
   shards_suffice genome shards are all =
-      let within = all_with _ _ _ shards (λ shard has e. shard_lies (all_entries shards) shard has e) are.parts (all_unmapped _ _ shards all) in
+      let within = all_zip _ _ _ shards (λ shard has e. shard_lies (all_entries shards) shard has e) are.parts (all_unmap _ _ shards all) in
       let both = add genome shards (record { whole = are.whole; parts = are.parts; lines = are.lines; within = within }) in
       add_suffices _ _ both.0 all
 
@@ -134,7 +126,7 @@ module _ (command : Command) (shape : Shape) (rule : HitRule)
 
   pairs_suffice : PairShardsSuffice command
   pairs_suffice genome shards are all =
-      let within : PairsLieWithin shards = all_with _ _ _ shards (λ shard has e. pair_lies (pair_entries shards) shard has e) are.parts (all_unmapped _ _ shards all) in
+      let within : PairsLieWithin shards = all_zip _ _ _ shards (λ shard has e. pair_lies (pair_entries shards) shard has e) are.parts (all_unmap _ _ shards all) in
       add_suffices _ _ (add genome shards are within).0 all
 
 pub intersect_suffice : intersect_shards_suffice

@@ -33,18 +33,18 @@ alike_records [] (m ∷ ms) h = absurd h
 alike_records (l ∷ ls) [] h = absurd h
 alike_records (l ∷ ls) (m ∷ ms) h = ap (λ t. said_record (record_of t) ++ records_on ls) h.0 ∙ ap (λ rs. said_record (record_of m.text) ++ rs) (alike_records ls ms h.2)
 
+pub below_no : (o : Ordering) (start other : ℕ) → o ≡ Greater → is_below_at o start other ≡ false
+below_no Less start other e = cc
+below_no Equal start other e = cc
+below_no Greater start other e = refl
+
+pub reversed_less : (o p : Ordering) → o ≡ Less → p ≡ ordering_reverse o → p ≡ Greater
+reversed_less o p e is = cc
+
 module _ (order : Order) (total : IsTotal order) where
   -- the name, where it is known, comes before the chromosomes of the records
   abbrev pub Leading : List ℕ → List Feature → Type 0
   Leading name records = AllByRecursion (λ s. IsTrue (order.knows name) → IsTrue (order.knows s.chrom) → order.compare name s.chrom ≡ Less) records
-
-  below_no : (o : Ordering) (start other : ℕ) → o ≡ Greater → is_below_at o start other ≡ false
-  below_no Less start other e = cc
-  below_no Equal start other e = cc
-  below_no Greater start other e = refl
-
-  reversed_less : (o p : Ordering) → o ≡ Less → p ≡ ordering_reverse o → p ≡ Greater
-  reversed_less o p e is = cc
 
   -- what lies on a later chromosome doesn't fall
   later_stays : (last place : Locus) → IsTrue (order.knows last.chrom) → IsTrue (order.knows place.chrom) → order.compare last.chrom place.chrom ≡ Less → falls_in (sorting_of order) (Some last) place ≡ false

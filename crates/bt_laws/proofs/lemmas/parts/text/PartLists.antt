@@ -2,6 +2,7 @@
 use Rattle.std.proofs.Common.{◌≡◌, Bool, true, false, cond, List, [], ◌∷◌, ◌++◌, map, filter, refl, ap, ap₂, ◌∙◌}
 use Rattle.std.specs.Prelude.{flat_map}
 use Rattle.std.specs.List.{AllByRecursion}
+use Rattle.std.proofs.lemmas.List.{map-append}
 
 module _ {A : Type 0} where
   pub all_front : (P : A → Type 0) (xs ys : List A) → AllByRecursion P (xs ++ ys) → AllByRecursion P xs
@@ -64,3 +65,22 @@ all_flat_map P f (x ∷ xs) h = all_both P (f x) (flat_map f xs) h.0 (all_flat_m
 pub all_swapped : {A B : Type 0} (P : A → B → Type 0) (xs : List A) (ys : List B) → AllByRecursion (λ x. AllByRecursion (P x) ys) xs → AllByRecursion (λ y. AllByRecursion (λ x. P x y) xs) ys
 all_swapped P xs [] h = tt
 all_swapped P xs (y ∷ ys) h = (all_so (λ x. AllByRecursion (P x) (y ∷ ys)) (λ x. P x y) xs (λ x k. k.0) h, all_swapped P xs ys (all_so (λ x. AllByRecursion (P x) (y ∷ ys)) (λ x. AllByRecursion (P x) ys) xs (λ x k. k.1) h))
+
+-- ---- lists of mapped elements
+
+module _ {A B : Type 0} where
+  pub all_unmap : (P : B → Type 0) (f : A → B) (xs : List A) → AllByRecursion P (map f xs) → AllByRecursion (λ x. P (f x)) xs
+  all_unmap P f [] h = tt
+  all_unmap P f (x ∷ xs) h = (h.0, all_unmap P f xs h.1)
+
+  pub map_map : {C : Type 0} (f : A → B) (g : B → C) (h : A → C) (xs : List A) → AllByRecursion (λ x. g (f x) ≡ h x) xs → map g (map f xs) ≡ map h xs
+  map_map f g h [] is = refl
+  map_map f g h (x ∷ xs) is = ap₂ (λ a b. a ∷ b) is.0 (map_map f g h xs is.1)
+
+  pub map_flat : {C : Type 0} (h : B → C) (f : A → List B) (g : A → List C) (xs : List A) → ((x : A) → map h (f x) ≡ g x) → map h (flat_map f xs) ≡ flat_map g xs
+  map_flat h f g [] e = refl
+  map_flat h f g (x ∷ xs) e = map-append h (f x) (flat_map f xs) ∙ ap₂ (λ a b. a ++ b) (e x) (map_flat h f g xs e)
+
+pub all_zip : {A : Type 0} (P Q R : A → Type 0) (xs : List A) → ((x : A) → P x → Q x → R x) → AllByRecursion P xs → AllByRecursion Q xs → AllByRecursion R xs
+all_zip P Q R [] f h k = tt
+all_zip P Q R (x ∷ xs) f h k = (f x h.0 k.0, all_zip P Q R xs f h.1 k.1)

@@ -1,9 +1,8 @@
 -- Alignments divided at any line.
 use Rattle.std.proofs.Common.{◌≡◌, ℕ, Bool, List, [], ◌∷◌, ◌++◌, append-nil, Option, Some, None, refl, sym, ap, ◌∙◌}
-use Rattle.std.specs.List.{AllByRecursion}
 use Rattle.std.proofs.lemmas.Grind.{flat_map-append}
 use Rattle.bt_lines.specs.model.Fault.{FaultValue}
-use Rattle.bt_lines.specs.model.Lines.{TextLine, lines_from, text_lines}
+use Rattle.bt_lines.specs.model.Lines.{lines_from, text_lines}
 use Rattle.bt_lines.specs.declared.fault.Input.TheVariants.{First}
 use Rattle.bt_bed.specs.model.input.Good.{Good, good, good_from, items_in}
 use Rattle.bt_seq.specs.model.Alignment.{Alignment, alignment_of}
@@ -17,8 +16,9 @@ use Rattle.bt_laws.specs.parts.SplitLaws.{bamtobed_divides, on_text}
 use Rattle.bt_tool.specs.model.report.Written.{Written}
 use Rattle.bt_tool.specs.declared.planning.plan_type.Command.TheVariants.{BamToBed}
 use Rattle.bt_tool.proofs.lemmas.running.members.CameMembers.{good_whole}
-use Rattle.bt_laws.proofs.lemmas.parts.order.PartGood.{IsJoint, LeadsOn, good_joint}
+use Rattle.bt_laws.proofs.lemmas.parts.order.PartGood.{IsJoint, good_joint}
 use Rattle.bt_laws.proofs.lemmas.parts.report.PartReports.{Adds, Splits, Stops, good_adds, good_stops, parts_both}
+use Rattle.bt_laws.proofs.lemmas.parts.text.PartLists.{all_any}
 
 module _ (split cigar : Bool) where
   -- each alignment's lines are settled by itself
@@ -45,12 +45,8 @@ module _ (split cigar : Bool) where
       let both = flat_map-append (bed_lines split cigar) ones twos in
       record { all = both; first = refl; begin = ([], sym (append-nil (alignment_lines split cigar (ones ++ twos)) ∙ both)) }
 
-  all_lead : (ls : List TextLine) → AllByRecursion (LeadsOn sam_format (λ state. Unit {0})) ls
-  all_lead [] = tt
-  all_lead (l ∷ ls) = ((λ state item leads e. tt), all_lead ls)
-
   sam_joint : (one two : List ℕ) → StandsBefore one two → IsJoint (good sam_format First (text_lines one)) (good sam_format First (text_lines two)) (good sam_format First (text_lines (one ++ two)))
-  sam_joint one two ends = good_joint sam_format First (λ state. Unit {0}) one two ends (λ state l m e d. ap alignment_of e) tt (λ n now leads. refl) (all_lead (text_lines one))
+  sam_joint one two ends = good_joint sam_format First (λ state. Unit {0}) one two ends (λ state l m e d. ap alignment_of e) tt (λ n now leads. refl) (all_any _ (text_lines one) (λ l state item leads e. tt))
 
   sam_adds : (one two : List ℕ) → StandsBefore one two → Adds (on_sam one) (on_sam two) (on_sam (one ++ two))
   unfolding on_sam
