@@ -26,11 +26,11 @@ use Rattle.bt_sweep.specs.model.SweepMeeting.{sweep_rule}
 use Rattle.bt_sweep.specs.declared.hits.hit_rule.HitRule.{HitRule}
 use Rattle.bt_sweep.specs.declared.output.shape.Shape.{Shape}
 use Rattle.bt_laws.specs.parts.GenomeSplitLaws.{LiesWithin}
-use Rattle.bt_laws.specs.parts.OwnGenomeLaws.{PairShard, intersect_genomes_divide, pair_entries, pair_texts, subtract_genomes_divide}
+use Rattle.bt_laws.specs.parts.OwnGenomeLaws.{PairShard, intersect_genomes_divide, pair_entries, pair_texts, subtract_genomes_divide, PairShardsAddUp}
 use Rattle.bt_laws.specs.parts.Parts.{AddUp, AreOfLines, ComeBefore, StopWithin, joined, said_records}
 use Rattle.bt_tool.specs.model.report.RecordReport.{Report}
 use Rattle.bt_tool.specs.model.report.Report.{chromosomes_of}
-use Rattle.bt_laws.specs.parts.SplitLaws.{ArePairs, PairsAscend, Texts, joined_texts, on_texts, records_of}
+use Rattle.bt_laws.specs.parts.SplitLaws.{ArePairs, PairsAscend, Texts, joined_texts, on_texts, records_of, PairsAddUp}
 use Rattle.bt_tool.specs.model.report.SweepReport.{met_report}
 use Rattle.bt_tool.specs.declared.planning.plan_type.Command.TheVariants.{Intersect, Subtract}
 use Rattle.bt_laws.proofs.lemmas.parts.text.PartBed.{items_all}
@@ -40,7 +40,9 @@ use Rattle.bt_laws.proofs.lemmas.parts.order.PartRanks.{Agree, Within, among_app
 use Rattle.bt_laws.proofs.lemmas.parts.text.PartSam.{lines_less}
 use Rattle.bt_laws.proofs.lemmas.parts.report.PartShards.{distinct_in}
 use Rattle.bt_laws.proofs.lemmas.parts.report.PartSweep.{sweep_report, take_same}
-use Rattle.bt_laws.proofs.lemmas.parts.text.PartTexts.{intersect_is, intersect_parts, pair_report, subtract_is, subtract_parts}
+use Rattle.bt_laws.proofs.lemmas.parts.text.PartTexts.{intersect_is, intersect_parts, pair_report, subtract_is, subtract_parts, order_total}
+use Rattle.bt_tool.specs.declared.planning.plan_type.Command.{Command}
+use Rattle.bt_tool.specs.model.report.Behaviour.{order_of}
 
 -- ---- two rules that agree
 
@@ -200,18 +202,19 @@ module _ (whole : List Entry) (distinct : AreDistinct (genome_names whole)) wher
         (all_reports (before ++ genome_names t.entries) ts
         (is ∙ ap (λ ns. before ++ ns) (names_both t.entries (pair_entries ts)) ∙ sym (append_assoc before (genome_names t.entries) (genome_names (pair_entries ts)))) has.1 h.1)
 
-pub intersect_genome_parts : intersect_genomes_divide
-intersect_genome_parts shape rule genome shards are lies =
+-- a command that writes such a report, of parts with their own genome files
+own_parts : (command : Command) (shape : Shape) (rule : HitRule)
+    → ((genome : Option Handed) (chromosomes : Option (List Entry)) → chromosomes_of genome ≡ Ok chromosomes → (texts : Texts) → on_texts command genome texts ≡ pair_report (order_of chromosomes) (order_total chromosomes) shape rule texts.first texts.second)
+    → ((genome : Option Handed) (chromosomes : Option (List Entry)) (parts : List Texts) → chromosomes_of genome ≡ Ok chromosomes → ArePairs parts → PairsAscend (order_of chromosomes) parts → PairsAddUp command genome parts)
+    → PairShardsAddUp command
+own_parts command shape rule is divides genome shards are lies =
     let distinct = distinct_in genome (pair_entries shards) are.whole in
-    let both = intersect_parts shape rule (Some genome) (Some (pair_entries shards)) (pair_texts shards) are.whole are.lines (ascend_from (pair_entries shards) distinct [] shards refl are.lines lies) in
-    subst (λ (parts : List Report). AddUp parts (on_texts (Intersect shape rule None) (Some genome) (joined_texts (pair_texts shards))) × StopWithin parts (on_texts (Intersect shape rule None) (Some genome) (joined_texts (pair_texts shards))))
-    (all_reports (pair_entries shards) distinct (on_texts (Intersect shape rule None)) genome shape rule (intersect_is (Some genome) (Some (pair_entries shards)) are.whole shape rule) (λ own entries has texts. intersect_is (Some own) (Some entries) has shape rule texts) [] shards refl are.parts lies)
-    both
+    subst (λ (parts : List Report). AddUp parts (on_texts command (Some genome) (joined_texts (pair_texts shards))) × StopWithin parts (on_texts command (Some genome) (joined_texts (pair_texts shards))))
+    (all_reports (pair_entries shards) distinct (on_texts command) genome shape rule (is (Some genome) (Some (pair_entries shards)) are.whole) (λ own entries has. is (Some own) (Some entries) has) [] shards refl are.parts lies)
+    (divides (Some genome) (Some (pair_entries shards)) (pair_texts shards) are.whole are.lines (ascend_from (pair_entries shards) distinct [] shards refl are.lines lies))
+
+pub intersect_genome_parts : intersect_genomes_divide
+intersect_genome_parts shape rule = own_parts (Intersect shape rule None) shape rule (λ genome chromosomes has. intersect_is genome chromosomes has shape rule) (intersect_parts shape rule)
 
 pub subtract_genome_parts : subtract_genomes_divide
-subtract_genome_parts whole rule genome shards are lies =
-    let distinct = distinct_in genome (pair_entries shards) are.whole in
-    let both = subtract_parts whole rule (Some genome) (Some (pair_entries shards)) (pair_texts shards) are.whole are.lines (ascend_from (pair_entries shards) distinct [] shards refl are.lines lies) in
-    subst (λ (parts : List Report). AddUp parts (on_texts (Subtract whole rule None) (Some genome) (joined_texts (pair_texts shards))) × StopWithin parts (on_texts (Subtract whole rule None) (Some genome) (joined_texts (pair_texts shards))))
-    (all_reports (pair_entries shards) distinct (on_texts (Subtract whole rule None)) genome (subtract_shape whole) rule (subtract_is (Some genome) (Some (pair_entries shards)) are.whole whole rule) (λ own entries has texts. subtract_is (Some own) (Some entries) has whole rule texts) [] shards refl are.parts lies)
-    both
+subtract_genome_parts whole rule = own_parts (Subtract whole rule None) (subtract_shape whole) rule (λ genome chromosomes has. subtract_is genome chromosomes has whole rule) (subtract_parts whole rule)

@@ -72,7 +72,7 @@ module _ (how : MaskHow) (full : Bool) where
   own_less t ts own = record { fit = fit_less t ts own.fit; own = own.own.2 }
 
   own_add : (parts : List Texts) → OwnFit parts → AddUp (map T parts) (T (joined_texts parts))
-  own_add = parts_add joined_texts T OwnFit (ap (λ (r : Report). r.fault) empty) (ap (λ (r : Report). r.output) empty) alone own_less
+  own_add = parts_add joined_texts T OwnFit empty alone own_less
       (λ t u ts own. mask_adds how full t (joined_texts (u ∷ ts)) (are_two t u ts own.fit) own.own.0 own.own.1)
 
   -- what the whole writes begins what the parts write, or goes on behind it

@@ -55,7 +55,7 @@ use Rattle.bt_laws.proofs.lemmas.parts.text.PartLists.{all_any, all_both, all_ma
 use Rattle.bt_laws.proofs.lemmas.parts.report.PartMerge.{fewer, pooled_split}
 use Rattle.bt_laws.proofs.lemmas.parts.order.PartRanks.{among_append}
 use Rattle.bt_laws.proofs.lemmas.parts.text.PartRecords.{has_append, records_away, spans_first, spans_second}
-use Rattle.bt_laws.proofs.lemmas.parts.report.PartReports.{Adds, Splits, Stops, good_adds, good_stops, nothing, parts_both, splits_as}
+use Rattle.bt_laws.proofs.lemmas.parts.report.PartReports.{Splits, nothing, parts_both, splits_as, Joins, good_joins}
 use Rattle.bt_laws.proofs.lemmas.parts.text.PartSam.{lines_less}
 use Rattle.bt_laws.proofs.lemmas.parts.report.PartStrands.{strands_split}
 
@@ -315,11 +315,8 @@ module _ (W : List Entry → Written Feature) (command : Command)
           (good_earlier order_of_both total_of_both one two (within_before e_one e_two distinct (said_records one) (said_records two) within_one within_two) First First));
     }
 
-    both_reports : Adds (report_in e_one one) (report_in e_two two) (report_in (e_one ++ e_two) (one ++ two)) × Stops (report_in e_one one) (report_in e_two two) (report_in (e_one ++ e_two) (one ++ two))
-    both_reports = (
-      good_adds (W e_one) (W e_two) (W (e_one ++ e_two)) (good_of e_one one) (good_of e_two two) (good_of (e_one ++ e_two) (one ++ two)) joint (splits e_one e_two (items_in (good_of e_one one)) (items_in (good_of e_two two)) own),
-      good_stops (W e_one) (W e_two) (W (e_one ++ e_two)) (good_of e_one one) (good_of e_two two) (good_of (e_one ++ e_two) (one ++ two)) joint (splits e_one e_two (items_in (good_of e_one one)) (items_in (good_of e_two two)) own),
-    )
+    both_reports : Joins (report_in e_one one) (report_in e_two two) (report_in (e_one ++ e_two) (one ++ two))
+    both_reports = good_joins (W e_one) (W e_two) (W (e_one ++ e_two)) (good_of e_one one) (good_of e_two two) (good_of (e_one ++ e_two) (one ++ two)) joint (splits e_one e_two (items_in (good_of e_one one)) (items_in (good_of e_two two)) own)
 
   join : List Shard → Shard
   join shards = record { genome = whole_text []; entries = all_entries shards; text = joined (shard_texts shards) }
@@ -377,7 +374,7 @@ module _ (W : List Entry → Written Feature) (command : Command)
   unfolding on_shard join
   alone t = ap₂ report_in (append-nil t.entries) (append-nil t.text)
 
-  next : (t u : Shard) (ts : List Shard) → Fit (t ∷ u ∷ ts) → Adds (on_shard t) (on_shard (join (u ∷ ts))) (on_shard (join (t ∷ u ∷ ts))) × Stops (on_shard t) (on_shard (join (u ∷ ts))) (on_shard (join (t ∷ u ∷ ts)))
+  next : (t u : Shard) (ts : List Shard) → Fit (t ∷ u ∷ ts) → Joins (on_shard t) (on_shard (join (u ∷ ts))) (on_shard (join (t ∷ u ∷ ts)))
   unfolding on_shard join
   next t u ts fit =
       both_reports t.entries (all_entries (u ∷ ts)) t.text (joined (shard_texts (u ∷ ts))) fit.distinct fit.lines.0 fit.within.0

@@ -28,7 +28,7 @@ use Rattle.bt_tool.specs.model.report.RecordReport.{Report}
 use Rattle.bt_tool.specs.model.report.SweepReport.{met_report}
 use Rattle.bt_laws.proofs.lemmas.parts.text.PartBed.{Earlier, reversed_less}
 use Rattle.bt_laws.proofs.lemmas.parts.text.PartLists.{all_any, all_so, all_swapped, filter_none, flat_map_same}
-use Rattle.bt_laws.proofs.lemmas.parts.report.PartReports.{Adds, Stops, Contiguous, together_all, together_both, together_parts}
+use Rattle.bt_laws.proofs.lemmas.parts.report.PartReports.{Adds, Stops, Contiguous, together_all, together_both, together_parts, Joins}
 
 -- ---- lists up to the first that fails a test
 
@@ -330,3 +330,7 @@ module _ (order : Order) (total : IsTotal order) (shape : Shape) (rule : HitRule
       → Stops (sweep_report order shape rule aones fa1 bones fb1) (sweep_report order shape rule atwos fa2 btwos fb2) (sweep_report order shape rule all fa bs fb)
   sweep_stops fa1 fa2 fa None fb2 fb all bs ja jb = stops_by fa1 fa2 fa fb2 fb all bs ja jb fa1 refl
   sweep_stops fa1 fa2 fa (Some f) fb2 fb all bs ja jb = stops_second f fa1 fa2 fa fb2 fb all bs ja jb
+
+  pub sweep_joins : (fa1 fa2 fa fb1 fb2 fb : Option FaultValue) (all bs : List Feature) → Contiguous fa1 fa2 fa aones atwos all → Contiguous fb1 fb2 fb bones btwos bs
+      → Joins (sweep_report order shape rule aones fa1 bones fb1) (sweep_report order shape rule atwos fa2 btwos fb2) (sweep_report order shape rule all fa bs fb)
+  sweep_joins fa1 fa2 fa fb1 fb2 fb all bs ja jb = (sweep_adds fa1 fa2 fa fb1 fb2 fb all bs ja jb, sweep_stops fa1 fa2 fa fb1 fb2 fb all bs ja jb)

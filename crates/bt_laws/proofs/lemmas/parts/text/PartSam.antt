@@ -17,7 +17,7 @@ use Rattle.bt_tool.specs.model.report.Written.{Written}
 use Rattle.bt_tool.specs.declared.planning.plan_type.Command.TheVariants.{BamToBed}
 use Rattle.bt_tool.proofs.lemmas.running.members.CameMembers.{good_whole}
 use Rattle.bt_laws.proofs.lemmas.parts.order.PartGood.{IsJoint, good_joint}
-use Rattle.bt_laws.proofs.lemmas.parts.report.PartReports.{Adds, Splits, Stops, good_adds, good_stops, parts_both}
+use Rattle.bt_laws.proofs.lemmas.parts.report.PartReports.{Splits, parts_both, Joins, good_joins}
 use Rattle.bt_laws.proofs.lemmas.parts.text.PartLists.{all_any}
 
 module _ (split cigar : Bool) where
@@ -48,21 +48,13 @@ module _ (split cigar : Bool) where
   sam_joint : (one two : List ℕ) → StandsBefore one two → IsJoint (good sam_format First (text_lines one)) (good sam_format First (text_lines two)) (good sam_format First (text_lines (one ++ two)))
   sam_joint one two ends = good_joint sam_format First (λ state. Unit {0}) one two ends (λ state l m e d. ap alignment_of e) tt (λ n now leads. refl) (all_any _ (text_lines one) (λ l state item leads e. tt))
 
-  sam_adds : (one two : List ℕ) → StandsBefore one two → Adds (on_sam one) (on_sam two) (on_sam (one ++ two))
+  sam_joins : (one two : List ℕ) → StandsBefore one two → Joins (on_sam one) (on_sam two) (on_sam (one ++ two))
   unfolding on_sam
-  sam_adds one two ends =
-      good_adds lines_written lines_written lines_written (good sam_format First (text_lines one)) (good sam_format First (text_lines two)) (good sam_format First (text_lines (one ++ two))) (sam_joint one two ends) (lines_split _ _)
+  sam_joins one two ends =
+      good_joins lines_written lines_written lines_written (good sam_format First (text_lines one)) (good sam_format First (text_lines two)) (good sam_format First (text_lines (one ++ two))) (sam_joint one two ends) (lines_split _ _)
 
-  sam_stops : (one two : List ℕ) → StandsBefore one two → Stops (on_sam one) (on_sam two) (on_sam (one ++ two))
-  unfolding on_sam
-  sam_stops one two ends =
-      good_stops lines_written lines_written lines_written (good sam_format First (text_lines one)) (good sam_format First (text_lines two)) (good sam_format First (text_lines (one ++ two))) (sam_joint one two ends) (lines_split _ _)
-
-  text_adds : (one two : List ℕ) → StandsBefore one two → Adds (on_text (BamToBed split cigar) None one) (on_text (BamToBed split cigar) None two) (on_text (BamToBed split cigar) None (one ++ two))
-  text_adds one two ends = rw (sam_is one, sam_is two, sam_is (one ++ two)) (sam_adds one two ends)
-
-  text_stops : (one two : List ℕ) → StandsBefore one two → Stops (on_text (BamToBed split cigar) None one) (on_text (BamToBed split cigar) None two) (on_text (BamToBed split cigar) None (one ++ two))
-  text_stops one two ends = rw (sam_is one, sam_is two, sam_is (one ++ two)) (sam_stops one two ends)
+  text_joins : (one two : List ℕ) → StandsBefore one two → Joins (on_text (BamToBed split cigar) None one) (on_text (BamToBed split cigar) None two) (on_text (BamToBed split cigar) None (one ++ two))
+  text_joins one two ends = rw (sam_is one, sam_is two, sam_is (one ++ two)) (sam_joins one two ends)
 
 pub lines_less : (text : List ℕ) (texts : List (List ℕ)) → AreOfLines (text ∷ texts) → AreOfLines texts
 lines_less text texts lines = lines.1
@@ -71,4 +63,4 @@ pub sam_divides : bamtobed_divides
 unfolding report_of lines_from good_from
 sam_divides split cigar texts lines =
     parts_both joined (on_text (BamToBed split cigar) None) AreOfLines refl (λ t. ap (on_text (BamToBed split cigar) None) (append-nil t)) lines_less
-    (λ t u ts fits. (text_adds split cigar t (joined (u ∷ ts)) fits.0, text_stops split cigar t (joined (u ∷ ts)) fits.0)) texts lines
+    (λ t u ts fits. text_joins split cigar t (joined (u ∷ ts)) fits.0) texts lines

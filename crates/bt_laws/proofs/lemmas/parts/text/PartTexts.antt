@@ -28,7 +28,7 @@ use Rattle.bt_tool.specs.model.report.Behaviour.{order_of}
 use Rattle.bt_laws.specs.parts.Parts.{AreOfLines, ComeBefore, StandsBefore, joined, said_records}
 use Rattle.bt_tool.specs.model.report.RecordReport.{Report, good_report}
 use Rattle.bt_tool.specs.model.report.Report.{chromosomes_of, report_of, report_on}
-use Rattle.bt_laws.specs.parts.SplitLaws.{ArePairs, PairsAscend, Texts, TextsAscend, intersect_divides, joined_texts, merge_divides, on_text, on_texts, subtract_divides}
+use Rattle.bt_laws.specs.parts.SplitLaws.{ArePairs, PairsAscend, Texts, TextsAscend, intersect_divides, joined_texts, merge_divides, on_text, on_texts, subtract_divides, PairsAddUp}
 use Rattle.bt_tool.specs.model.report.Written.{merge_written}
 use Rattle.bt_tool.specs.declared.planning.plan_type.Command.TheVariants.{Intersect, Merge, Subtract}
 use Rattle.bt_tool.proofs.lemmas.running.members.CameMembers.{good_whole}
@@ -36,10 +36,11 @@ use Rattle.bt_laws.proofs.lemmas.parts.text.PartBed.{Earlier, bed_joint, good_ea
 use Rattle.bt_laws.proofs.lemmas.parts.text.PartLists.{all_any, all_back, all_front, all_so}
 use Rattle.bt_laws.proofs.lemmas.parts.report.PartMerge.{pooled_split}
 use Rattle.bt_laws.proofs.lemmas.parts.text.PartRecords.{names_apart, names_behind, records_away}
-use Rattle.bt_laws.proofs.lemmas.parts.report.PartReports.{Adds, Splits, Stops, good_adds, good_stops, nothing, parts_both, together}
+use Rattle.bt_laws.proofs.lemmas.parts.report.PartReports.{Splits, nothing, parts_both, together, Joins, good_joins}
 use Rattle.bt_laws.proofs.lemmas.parts.text.PartSam.{lines_less}
 use Rattle.bt_laws.proofs.lemmas.parts.report.PartStrands.{strands_split}
-use Rattle.bt_laws.proofs.lemmas.parts.report.PartSweep.{AreSplit, sweep_adds, sweep_report, sweep_stops}
+use Rattle.bt_laws.proofs.lemmas.parts.report.PartSweep.{AreSplit, sweep_report, sweep_joins}
+use Rattle.bt_tool.specs.declared.planning.plan_type.Command.{Command}
 
 pub order_total : (chromosomes : Option (List Entry)) → IsTotal (order_of chromosomes)
 order_total None = bytes_total
@@ -68,12 +69,8 @@ module _ (order : Order) (total : IsTotal order) where
   merge_report d strand text = good_report (merge_written order d strand) (bed_text_good First text)
 
   module _ (d : ℕ) (strand : MergeStrand) (one two : List ℕ) (ends : StandsBefore one two) (before : ComeBefore order (said_records one) (said_records two)) where
-    pub merge_adds : Adds (merge_report d strand one) (merge_report d strand two) (merge_report d strand (one ++ two))
-    merge_adds = good_adds (merge_written order d strand) (merge_written order d strand) (merge_written order d strand) (bed_text_good First one) (bed_text_good First two) (bed_text_good First (one ++ two))
-        (bed_joint order total one two before First ends) (merge_split d strand one two (good_earlier order total one two before First First))
-
-    pub merge_stops : Stops (merge_report d strand one) (merge_report d strand two) (merge_report d strand (one ++ two))
-    merge_stops = good_stops (merge_written order d strand) (merge_written order d strand) (merge_written order d strand) (bed_text_good First one) (bed_text_good First two) (bed_text_good First (one ++ two))
+    pub merge_joins : Joins (merge_report d strand one) (merge_report d strand two) (merge_report d strand (one ++ two))
+    merge_joins = good_joins (merge_written order d strand) (merge_written order d strand) (merge_written order d strand) (bed_text_good First one) (bed_text_good First two) (bed_text_good First (one ++ two))
         (bed_joint order total one two before First ends) (merge_split d strand one two (good_earlier order total one two before First First))
 
   -- ---- intersect
@@ -114,13 +111,8 @@ module _ (order : Order) (total : IsTotal order) where
           apart_second = names_behind order total (text_records Second b_one) (text_records First a_two) (known_all Second b_one) late;
         }
 
-    pub pair_adds : Adds (pair_report shape rule a_one b_one) (pair_report shape rule a_two b_two) (pair_report shape rule (a_one ++ a_two) (b_one ++ b_two))
-    pair_adds = sweep_adds order total shape rule (text_records First a_one) (text_records First a_two) (text_records Second b_one) (text_records Second b_two) split _ _ _ _ _ _ _ _
-        (together _ (bed_text_good First a_one) (bed_text_good First a_two) (bed_text_good First (a_one ++ a_two)) (bed_joint order total a_one a_two parts.0 First a_ends))
-        (together _ (bed_text_good Second b_one) (bed_text_good Second b_two) (bed_text_good Second (b_one ++ b_two)) (bed_joint order total b_one b_two parts.3 Second b_ends))
-
-    pub pair_stops : Stops (pair_report shape rule a_one b_one) (pair_report shape rule a_two b_two) (pair_report shape rule (a_one ++ a_two) (b_one ++ b_two))
-    pair_stops = sweep_stops order total shape rule (text_records First a_one) (text_records First a_two) (text_records Second b_one) (text_records Second b_two) split _ _ _ _ _ _ _ _
+    pub pair_joins : Joins (pair_report shape rule a_one b_one) (pair_report shape rule a_two b_two) (pair_report shape rule (a_one ++ a_two) (b_one ++ b_two))
+    pair_joins = sweep_joins order total shape rule (text_records First a_one) (text_records First a_two) (text_records Second b_one) (text_records Second b_two) split _ _ _ _ _ _ _ _
         (together _ (bed_text_good First a_one) (bed_text_good First a_two) (bed_text_good First (a_one ++ a_two)) (bed_joint order total a_one a_two parts.0 First a_ends))
         (together _ (bed_text_good Second b_one) (bed_text_good Second b_two) (bed_text_good Second (b_one ++ b_two)) (bed_joint order total b_one b_two parts.3 Second b_ends))
 
@@ -187,34 +179,23 @@ merge_parts d strand genome chromosomes texts has lines ascend =
     parts_both joined (on_text (Merge d strand) genome) (AreFit order) (is [] ∙ merge_empty order total d strand) (λ t. ap (on_text (Merge d strand) genome) (append-nil t)) (fit_less order)
     (λ t u ts f.
     let more = joined (u ∷ ts) in
-    rw (is t, is more, is (t ++ more)) (merge_adds order total d strand t more f.lines.0 f.ascend.0, merge_stops order total d strand t more f.lines.0 f.ascend.0))
+    rw (is t, is more, is (t ++ more)) (merge_joins order total d strand t more f.lines.0 f.ascend.0))
     texts (record { lines = lines; ascend = ascend })
 
-pub intersect_parts : intersect_divides
-intersect_parts shape rule genome chromosomes parts has lines ascend =
-    let order = order_of chromosomes in
-    let total = order_total chromosomes in
-    let is : (texts : Texts) → on_texts (Intersect shape rule None) genome texts ≡ pair_report order total shape rule texts.first texts.second = intersect_is genome chromosomes has shape rule in
-    parts_both joined_texts (on_texts (Intersect shape rule None) genome) (ArePairsFit order) (is (joined_texts []) ∙ pair_empty order total shape rule) (λ t. ap (on_texts (Intersect shape rule None) genome) (join_one t)) (pairs_less order)
+-- a command that writes such a report
+sweep_parts : (command : Command) (shape : Shape) (rule : HitRule) (genome : Option Handed) (order : Order) (total : IsTotal order) → ((texts : Texts) → on_texts command genome texts ≡ pair_report order total shape rule texts.first texts.second)
+    → (parts : List Texts) → ArePairs parts → PairsAscend order parts → PairsAddUp command genome parts
+sweep_parts command shape rule genome order total is parts lines ascend =
+    parts_both joined_texts (on_texts command genome) (ArePairsFit order) (is (joined_texts []) ∙ pair_empty order total shape rule) (λ t. ap (on_texts command genome) (join_one t)) (pairs_less order)
     (λ t u ts f.
     let more = joined_texts (u ∷ ts) in
-    rw (is t, is more, is (joined_texts (t ∷ u ∷ ts))) (
-      pair_adds order total shape rule t.first t.second more.first more.second f.lines.0.0 f.lines.1.0 f.ascend.0,
-      pair_stops order total shape rule t.first t.second more.first more.second f.lines.0.0 f.lines.1.0 f.ascend.0,
-    ))
+    rw (is t, is more, is (joined_texts (t ∷ u ∷ ts))) (pair_joins order total shape rule t.first t.second more.first more.second f.lines.0.0 f.lines.1.0 f.ascend.0))
     parts (record { lines = lines; ascend = ascend })
 
+pub intersect_parts : intersect_divides
+intersect_parts shape rule genome chromosomes parts has =
+    sweep_parts (Intersect shape rule None) shape rule genome (order_of chromosomes) (order_total chromosomes) (intersect_is genome chromosomes has shape rule) parts
+
 pub subtract_parts : subtract_divides
-subtract_parts whole rule genome chromosomes parts has lines ascend =
-    let order = order_of chromosomes in
-    let total = order_total chromosomes in
-    let shape = subtract_shape whole in
-    let is : (texts : Texts) → on_texts (Subtract whole rule None) genome texts ≡ pair_report order total shape rule texts.first texts.second = subtract_is genome chromosomes has whole rule in
-    parts_both joined_texts (on_texts (Subtract whole rule None) genome) (ArePairsFit order) (is (joined_texts []) ∙ pair_empty order total shape rule) (λ t. ap (on_texts (Subtract whole rule None) genome) (join_one t)) (pairs_less order)
-    (λ t u ts f.
-    let more = joined_texts (u ∷ ts) in
-    rw (is t, is more, is (joined_texts (t ∷ u ∷ ts))) (
-      pair_adds order total shape rule t.first t.second more.first more.second f.lines.0.0 f.lines.1.0 f.ascend.0,
-      pair_stops order total shape rule t.first t.second more.first more.second f.lines.0.0 f.lines.1.0 f.ascend.0,
-    ))
-    parts (record { lines = lines; ascend = ascend })
+subtract_parts whole rule genome chromosomes parts has =
+    sweep_parts (Subtract whole rule None) (subtract_shape whole) rule genome (order_of chromosomes) (order_total chromosomes) (subtract_is genome chromosomes has whole rule) parts
