@@ -2,8 +2,8 @@
 pub mod AlikeRecords
 pub mod Blocks
 pub mod GapsHit
-pub mod MaskBoth
-pub mod MaskMerged
+pub mod LengthLaws
+pub mod MaskBeds
 pub mod MaskSorted
 pub mod MaskTwice
 pub mod RunsAgain

@@ -21,11 +21,9 @@ use Rattle.bt_runs.specs.model.Gaps.{complement, gaps_of, gaps_on, is_asked}
 use Rattle.bt_runs.specs.model.Levels.{AreDisjointFrom, AreLevelsOf, HasValue, Level, levels_of}
 use Rattle.bt_runs.proofs.lemmas.coverage.LevelLemmas.{are_levels}
 use Rattle.bt_laws.specs.pipes.Taken.{AreSeparate, AreDisjoint, IsInput, four_columns, is_no_header, three_columns}
-use Rattle.bt_laws.proofs.lemmas.pipes.Pairs.{EachPair}
-use Rattle.bt_laws.proofs.lemmas.back.Clear.{clear_tab}
-use Rattle.bt_laws.proofs.lemmas.back.Digits.{clear_number, strip_number, number_column}
+use Rattle.bt_laws.proofs.lemmas.Lists.{EachPair, all_any, all_filter, all_flat_map, all_map, all_so, all_unmap, map_map}
+use Rattle.bt_laws.proofs.lemmas.back.Clear.{clear_tab, clear_number, strip_number, number_column}
 use Rattle.bt_laws.proofs.lemmas.back.LinesBack.{Columns, IsColumns, record_back, text_of_columns, written_back}
-use Rattle.bt_laws.proofs.lemmas.parts.text.PartLists.{all_any, all_filter, all_flat_map, all_map, all_so, all_unmap, map_map}
 use Rattle.bt_laws.proofs.lemmas.pipes.Placing.{Earlier, apart_pairs, known_names, names_pairs, on_name, pairs_filter, pairs_from_map, pairs_map, pairs_so, parts_pairs, parts_placed, spans_apart, spans_placed}
 use Rattle.bt_laws.proofs.lemmas.back.RunsBack.{IsWritten, intervals_back, on_written, scanned}
 use Rattle.bt_laws.proofs.lemmas.back.SaidWell.{IsChrom}

@@ -26,9 +26,8 @@ use Rattle.bt_runs.proofs.lemmas.order.FileOrder.{some_placed}
 use Rattle.bt_runs.proofs.lemmas.order.NameOrder.{names_in_order}
 use Rattle.bt_runs.proofs.lemmas.order.OwnOrder.{distinct_chromosomes}
 use Rattle.bt_laws.specs.pipes.Taken.{AreSeparate, IsInput, is_no_header, three_columns}
-use Rattle.bt_laws.proofs.lemmas.pipes.Pairs.{EachPair}
+use Rattle.bt_laws.proofs.lemmas.Lists.{EachPair, all_any, all_filter, all_flat_map, all_map, all_so, filter_all, all_zip}
 use Rattle.bt_laws.proofs.lemmas.back.LinesBack.{Columns, IsColumns, text_of_columns, placed_known, written_back}
-use Rattle.bt_laws.proofs.lemmas.parts.text.PartLists.{all_any, all_filter, all_flat_map, all_map, all_so, filter_all, all_zip}
 use Rattle.bt_laws.proofs.lemmas.pipes.Placing.{Earlier, apart_pairs, ascending_pairs, on_name, parts_pairs, parts_placed, spans_apart, spans_placed}
 use Rattle.bt_laws.proofs.lemmas.back.SaidWell.{IsSaid}
 use Rattle.bt_laws.proofs.lemmas.parts.report.PartMerge.{named_all}
@@ -179,7 +178,7 @@ module _ (order : Order) (total : IsTotal order) where
     pub merge_back : IsInput order (interval_lines (ordered_runs order gap strand records)) (map three_columns (ordered_runs order gap strand records))
     merge_back = runs_back (ordered_runs order gap strand records) merge_runs merge_placed
 
-  -- with each strand by itself
+  -- each strand separately
   strand_written : (gap : ℕ) (records : List Feature) → AllByRecursion IsSaid records → (strand : Strand) → AllByRecursion (λ (item : StrandRun). IsRun item.run) (runs_of_strand gap records strand)
   strand_written gap records said strand =
       all_map (λ (item : StrandRun). IsRun item.run) _ (merged_runs gap (One strand) records)

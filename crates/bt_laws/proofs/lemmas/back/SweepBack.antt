@@ -24,11 +24,9 @@ use Rattle.bt_sweep.proofs.lemmas.laws.PieceLemmas.{are_pieces}
 use Rattle.bt_sweep.proofs.lemmas.laws.RuleLemmas.{hit_overlaps, overlap_parts}
 use Rattle.bt_laws.specs.pipes.SweepLines.{begins_with_a, line_count}
 use Rattle.bt_laws.specs.pipes.Taken.{AreDisjoint, IsInput, is_no_header}
-use Rattle.bt_laws.proofs.lemmas.pipes.Pairs.{EachPair}
-use Rattle.bt_laws.proofs.lemmas.back.Clear.{clear_both, clear_tab}
-use Rattle.bt_laws.proofs.lemmas.back.Digits.{clear_number}
+use Rattle.bt_laws.proofs.lemmas.Lists.{EachPair, all_any, all_both, all_flat_map, all_map, all_so, filter_all, all_zip, map_flat, map_map, all_unmap}
+use Rattle.bt_laws.proofs.lemmas.back.Clear.{clear_both, clear_tab, clear_number}
 use Rattle.bt_laws.proofs.lemmas.back.LinesBack.{Columns, IsColumns, lines_back, record_back, text_of_columns, placed_known}
-use Rattle.bt_laws.proofs.lemmas.parts.text.PartLists.{all_any, all_both, all_flat_map, all_map, all_so, filter_all, all_zip, map_flat, map_map, all_unmap}
 use Rattle.bt_laws.proofs.lemmas.pipes.Placing.{apart_pairs, pairs_both, pairs_filter, pairs_from_map, pairs_map, pairs_so}
 use Rattle.bt_laws.proofs.lemmas.back.SaidWell.{IsSaid}
 use Rattle.bt_laws.proofs.lemmas.back.TailSays.{tail_clear}

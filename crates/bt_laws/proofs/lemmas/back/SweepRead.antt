@@ -21,12 +21,12 @@ use Rattle.bt_sweep.specs.declared.hits.hit_rule.HitRule.{HitRule}
 use Rattle.bt_sweep.specs.declared.output.shape.Shape.{Shape}
 use Rattle.bt_sweep.specs.declared.output.shape.Shape.TheVariants.{Count, Cut, CutAndB, Missing, Once, OrigA, OrigBoth, Overlap, Pieces, Whole}
 use Rattle.bt_laws.specs.pipes.SweepLines.{EndsPlain, TakesNoStrand, begins_with_a, copies_written, is_a_alone, line_count, read_alone, read_before, records_for, records_written}
-use Rattle.bt_laws.proofs.lemmas.back.Digits.{IsDigit, decimal_digits, strip_number, number_column}
+use Rattle.bt_laws.proofs.lemmas.back.Clear.{IsDigit, decimal_digits, strip_number, number_column}
 use Rattle.bt_laws.proofs.lemmas.back.LinesBack.{record_back}
 use Rattle.bt_laws.proofs.lemmas.back.SaidWell.{IsSaid}
 use Rattle.bt_laws.proofs.lemmas.back.SweepBack.{Hit, all_columns, all_hits, columns_at, columns_for, hit_columns, kept_more, part, piece_columns, same_name}
 use Rattle.bt_laws.proofs.lemmas.back.TailSays.{columns_text, kept_by, name_first, record_with, strip_both, strip_columns}
-use Rattle.bt_laws.proofs.lemmas.parts.text.PartLists.{all_any, all_so, flat_map_same, all_zip, map_map, map_flat}
+use Rattle.bt_laws.proofs.lemmas.Lists.{all_any, all_so, flat_map_same, all_zip, map_map, map_flat}
 
 -- ---- the columns of a line, read again
 
@@ -171,7 +171,7 @@ two_alike : (a b c d : List ℕ) (more : List (List ℕ)) → strand_of (a ∷ b
 two_alike a b c d [] = refl
 two_alike a b c d (x ∷ more) = refl
 
--- more columns don't change the strand, where the one that becomes the sixth names none
+-- more columns don't change the strand, if the one that becomes the sixth names none
 more_strand : (xs more : List (List ℕ)) → strand_of more ≡ Dot → strand_of ([] ∷ more) ≡ Dot → (length xs ≡ 2 → strand_of ([] ∷ [] ∷ more) ≡ Dot) → strand_of (xs ++ more) ≡ strand_of xs
 more_strand [] more none one two = none
 more_strand (a ∷ []) more none one two = first_alike a [] more ∙ one

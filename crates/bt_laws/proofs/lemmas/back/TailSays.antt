@@ -13,8 +13,7 @@ use Rattle.bt_bed.specs.model.feature.Record.{IsName, columns_in, is_kept, recor
 use Rattle.bt_bed.proofs.lemmas.parse.FeatureLemmas.{header_says}
 use Rattle.bt_bed.proofs.lemmas.parse.HeaderLemmas.{of_word}
 use Rattle.bt_bed.proofs.lemmas.write.RoundTrip.{written_feature}
-use Rattle.bt_laws.proofs.lemmas.back.Clear.{clear_both, clear_tab}
-use Rattle.bt_laws.proofs.lemmas.back.Digits.{clear_number, strip_decimal}
+use Rattle.bt_laws.proofs.lemmas.back.Clear.{clear_both, clear_tab, clear_number, strip_decimal}
 
 -- ---- a byte at the end
 

@@ -24,7 +24,7 @@ use Rattle.bt_laws.proofs.lemmas.pipes.PipeLaws.{cut_intersect_input, subtract_i
 use Rattle.bt_laws.proofs.lemmas.same.RunsAgain.{here_all, none_there, report_there}
 use Rattle.bt_laws.proofs.lemmas.same.SameLines.{other_shape}
 use Rattle.bt_laws.proofs.lemmas.same.SameSweeps.{hit_back, hit_to}
-use Rattle.bt_laws.proofs.lemmas.parts.text.PartLists.{map_flat, map_map, all_any}
+use Rattle.bt_laws.proofs.lemmas.Lists.{map_flat, map_map, all_any}
 
 -- ---- spans of each record, on its chromosome
 

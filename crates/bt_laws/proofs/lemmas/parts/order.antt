@@ -4,4 +4,3 @@ pub mod PartGenomes
 pub mod PartGood
 pub mod PartOwnGenomes
 pub mod PartOwners
-pub mod PartRanks

@@ -7,5 +7,4 @@ pub mod PartMerge
 pub mod PartReports
 pub mod PartShards
 pub mod PartStrands
-pub mod PartSuffice
 pub mod PartSweep

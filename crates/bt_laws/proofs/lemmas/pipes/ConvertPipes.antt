@@ -30,11 +30,10 @@ use Rattle.bt_tool.specs.model.report.Report.{chromosomes_of, report_of, report_
 use Rattle.bt_tool.specs.declared.planning.plan_type.Command.TheVariants.{BamToBed}
 use Rattle.bt_laws.specs.pipes.ConvertPipes.{aligned_at, aligned_record, alignments_of, bamtobed_is_input}
 use Rattle.bt_laws.specs.pipes.Taken.{IsInput, is_no_header}
-use Rattle.bt_laws.proofs.lemmas.back.Clear.{AreClear, clear_back, clear_both, clear_front, clear_tab}
-use Rattle.bt_laws.proofs.lemmas.back.Digits.{clear_number, number_column}
+use Rattle.bt_laws.proofs.lemmas.back.Clear.{AreClear, clear_back, clear_both, clear_front, clear_tab, clear_number, number_column}
 use Rattle.bt_laws.proofs.lemmas.back.LinesBack.{Columns, IsColumns, record_back, text_of_columns, written_back}
 use Rattle.bt_laws.proofs.lemmas.back.TailSays.{ends_both, record_with, strip_both}
-use Rattle.bt_laws.proofs.lemmas.parts.text.PartLists.{all_so}
+use Rattle.bt_laws.proofs.lemmas.Lists.{all_so}
 use Rattle.bt_laws.proofs.lemmas.back.SaidWell.{clear_handed}
 
 small_by : (n : ℕ) → ltb 999999999999 n ≡ false → n ≤ 999999999999

@@ -23,12 +23,12 @@ use Rattle.bt_laws.proofs.lemmas.back.TailSays.{ends_both, strip_both}
 abbrev pub with_text : SequenceLine → List ℕ → SequenceLine
 with_text line text = record { names = line.names; before = line.before; text = text; ending = line.ending }
 
--- a text that may stand in place of another
+-- a text that may replace another
 pub record Stands (old new : List ℕ) : Type 0 where
   pub clear : NoLineFeed new
   pub size : length new ≡ length old
   pub header : is_header new ≡ is_header old
-  -- no carriage return ends it, where none ended the other
+  -- no carriage return ends it, if none ended the other
   pub last : ends_with_byte 13 old ≡ false → ends_with_byte 13 new ≡ false
   -- a header stays
   pub same : is_header old ≡ true → new ≡ old

@@ -14,8 +14,7 @@ use Rattle.bt_runs.specs.model.RunOrder.{AreAscending, AreKnown}
 use Rattle.bt_runs.proofs.lemmas.laws.Standing.{cmp_less, less_cmp}
 use Rattle.bt_runs.proofs.lemmas.order.FileOrder.{rank_of-here, rank_of-later}
 use Rattle.bt_laws.specs.pipes.Taken.{AreSeparate, AreDisjoint}
-use Rattle.bt_laws.proofs.lemmas.pipes.Pairs.{EachPair}
-use Rattle.bt_laws.proofs.lemmas.parts.text.PartLists.{all_any, all_both, all_filter, all_flat_map, all_map, all_so, all_unmap, all_zip}
+use Rattle.bt_laws.proofs.lemmas.Lists.{EachPair, all_any, all_both, all_filter, all_flat_map, all_map, all_so, all_unmap, all_zip}
 
 -- ---- pairs
 

@@ -27,7 +27,7 @@ use Rattle.bt_tool.specs.declared.planning.plan_type.Command.TheVariants.{Comple
 use Rattle.bt_laws.specs.Runs.{RunsWithoutFault, first_records}
 use Rattle.bt_laws.specs.same.SameRuns.{AreExchanged, IsRepeated, exchanged_complement, exchanged_genomecov, exchanged_merge, repeated_complement, repeated_merge}
 use Rattle.bt_laws.proofs.lemmas.pipes.Covers.{SameCover, depth_both, same_by_depth, same_gaps, same_levels, same_runs}
-use Rattle.bt_laws.proofs.lemmas.parts.text.PartLists.{all_any, filter_all, filter_same, flat_map_same}
+use Rattle.bt_laws.proofs.lemmas.Lists.{all_any, filter_all, filter_same, flat_map_same}
 use Rattle.bt_laws.proofs.lemmas.pipes.PipeLaws.{complement_whole, genomecov_whole, merge_whole}
 
 -- ---- of the records that are kept

@@ -35,7 +35,7 @@ use Rattle.bt_laws.proofs.lemmas.pipes.PipeLaws.{report_is, well_there}
 use Rattle.bt_laws.proofs.lemmas.same.RunsAgain.{report_there, writes_is}
 use Rattle.bt_laws.proofs.lemmas.back.TailSays.{ends_both}
 use Rattle.bt_laws.proofs.lemmas.parts.report.PartSweep.{all_true}
-use Rattle.bt_laws.proofs.lemmas.parts.text.PartLists.{all_any}
+use Rattle.bt_laws.proofs.lemmas.Lists.{all_any}
 use Rattle.bt_laws.proofs.lemmas.same.SameSweeps.{cut_none}
 use Rattle.bt_tool.proofs.lemmas.running.members.CameMembers.{or_else_none}
 

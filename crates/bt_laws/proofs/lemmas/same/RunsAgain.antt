@@ -42,7 +42,7 @@ use Rattle.bt_laws.specs.same.SameRuns.{complement_of_merge, merge_of_merge}
 use Rattle.bt_laws.specs.pipes.Taken.{IsInput, three_columns}
 use Rattle.bt_laws.proofs.lemmas.same.AlikeRecords.{gaps_by}
 use Rattle.bt_laws.proofs.lemmas.pipes.Covers.{SameCover, runs_again, runs_cover}
-use Rattle.bt_laws.proofs.lemmas.parts.text.PartLists.{all_any, all_filter, all_map, all_so, filter_all, flat_map_same}
+use Rattle.bt_laws.proofs.lemmas.Lists.{all_any, all_filter, all_map, all_so, filter_all, flat_map_same}
 use Rattle.bt_laws.proofs.lemmas.pipes.PipeLaws.{complement_whole, merge_whole}
 use Rattle.bt_laws.proofs.lemmas.back.RunsBack.{merge_back, merge_placed}
 use Rattle.bt_laws.proofs.lemmas.back.SaidWell.{IsSaid, good_are_said}
@@ -114,7 +114,7 @@ module _ (f : List ℕ → List Span) where
     | inr off ↦ spans_absent name names off ∙ sym (none off)
   ]
 
-  -- the names that come are all names, where each has some
+  -- the names that come are all names, if each has some
   ones_first : (n : List ℕ) (ss : List Span) (rest : List Interval) → without n (chromosomes (map (placed_on n) ss ++ rest)) ≡ without n (chromosomes rest)
   ones_first n [] rest = refl
   ones_first n (s ∷ ss) rest = without-here n n (without n (chromosomes (map (placed_on n) ss ++ rest))) refl ∙ again n (chromosomes (map (placed_on n) ss ++ rest)) ∙ ones_first n ss rest

@@ -28,7 +28,7 @@ use Rattle.bt_tool.specs.model.report.SweepReport.{met_report, met_within}
 use Rattle.bt_tool.specs.declared.planning.plan_type.Command.TheVariants.{Intersect, Subtract}
 use Rattle.bt_laws.specs.Runs.{RunsWithoutFault, first_records, second_records, RunWrites}
 use Rattle.bt_laws.specs.same.SameLines.{Counted, counts_say_all, missing_is_whole, own_line}
-use Rattle.bt_laws.proofs.lemmas.parts.text.PartLists.{all_any, flat_map_same}
+use Rattle.bt_laws.proofs.lemmas.Lists.{all_any, flat_map_same}
 use Rattle.bt_laws.proofs.lemmas.parts.report.PartSweep.{written_same}
 use Rattle.bt_laws.proofs.lemmas.pipes.PipeLaws.{intersect_whole}
 

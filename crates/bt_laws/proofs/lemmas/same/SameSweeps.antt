@@ -1,4 +1,4 @@
--- What intersect and subtract see of the second input, where any common base is a hit.
+-- What intersect and subtract see of the second input, if any common base is a hit.
 use Rattle.std.proofs.Common.{◌≡◌, ◌&&◌, ◌++◌, ℕ, suc, ◌-◌, ◌<◌, ◌≤◌, Bool, true, false, cond, List, [], ◌∷◌, map, length, max, min, Option, Some, None, Result, Ok, Err, refl, sym, ap, ap₂, ◌∙◌, subst, inl, inr, arith, ltb}
 use Rattle.std.specs.Prelude.{bytes_eq, flat_map, if◌then◌else◌}
 use Rattle.std.specs.List.{AllByRecursion, list_all}
@@ -50,7 +50,7 @@ use Rattle.bt_laws.specs.Runs.{RunsWithoutFault, first_records, second_records, 
 use Rattle.bt_laws.specs.same.SameSweeps.{merged_second_missing, merged_second_once, merged_second_subtract, one_base}
 use Rattle.bt_laws.specs.pipes.Taken.{IsInput, three_columns}
 use Rattle.bt_laws.proofs.lemmas.pipes.Covers.{SameCover, runs_cover, same_sym}
-use Rattle.bt_laws.proofs.lemmas.parts.text.PartLists.{all_any, all_so, filter_all, flat_map_same}
+use Rattle.bt_laws.proofs.lemmas.Lists.{all_any, all_so, filter_all, flat_map_same}
 use Rattle.bt_laws.proofs.lemmas.pipes.PipeLaws.{intersect_whole, limit_whole, subtract_whole, well_there}
 use Rattle.bt_laws.proofs.lemmas.same.RunsAgain.{back, report_there, run_spans}
 use Rattle.bt_laws.proofs.lemmas.back.RunsBack.{merge_back}

@@ -18,9 +18,8 @@ use Rattle.bt_bed.proofs.lemmas.parse.NameLemmas.{name_eq, name_ne}
 use Rattle.bt_bed.proofs.lemmas.order.RankLemmas.{among_ranked}
 use Rattle.bt_runs.specs.model.Gaps.{is_over_at}
 use Rattle.bt_tool.specs.model.report.Written.{Written}
-use Rattle.bt_laws.proofs.lemmas.parts.order.PartGenomes.{agree_first, agree_second, apart_both, entry_less, names_both}
-use Rattle.bt_laws.proofs.lemmas.parts.text.PartLists.{all_flat_map, all_so, filter_all, filter_none, filter_same, flat_map_same}
-use Rattle.bt_laws.proofs.lemmas.parts.order.PartRanks.{among_append, no_first}
+use Rattle.bt_laws.proofs.lemmas.parts.order.PartGenomes.{agree_first, agree_second, apart_both, entry_less, names_both, among_append, no_first}
+use Rattle.bt_laws.proofs.lemmas.Lists.{all_flat_map, all_so, filter_all, filter_none, filter_same, flat_map_same}
 use Rattle.bt_laws.proofs.lemmas.parts.text.PartRecords.{last_behind, last_is, none_has}
 use Rattle.bt_laws.proofs.lemmas.parts.report.PartReports.{Splits}
 use Rattle.bt_laws.proofs.lemmas.parts.text.PartBed.{reversed_less}

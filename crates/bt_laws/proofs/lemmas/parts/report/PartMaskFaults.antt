@@ -8,7 +8,7 @@ use Rattle.std.proofs.lemmas.Grind.{flat_map-append}
 use Rattle.bt_laws.proofs.lemmas.parts.order.PartGood.{none_like}
 use Rattle.bt_seq.proofs.lemmas.mask.steps.LineStepLemmas.{some_list}
 use Rattle.bt_lines.specs.model.Fault.{FaultValue}
-use Rattle.bt_lines.specs.model.Lines.{text_lines}
+use Rattle.bt_lines.specs.model.Lines.{text_lines, end_bytes}
 use Rattle.bt_lines.specs.declared.fault.Input.TheVariants.{First, Second}
 use Rattle.bt_lines.specs.declared.fault.Kind.TheVariants.{NoSequence}
 use Rattle.bt_bed.specs.model.feature.Feature.{Feature}
@@ -22,13 +22,12 @@ use Rattle.bt_seq.specs.model.Masked.{decided, is_unnamed, mask_rule, masked_fro
 use Rattle.bt_seq.specs.model.Owners.{block_decides, own_records, owned}
 use Rattle.bt_seq.specs.model.Sequences.{SequenceLine, bases_up_to, is_header, sequence_format}
 use Rattle.bt_seq.specs.declared.mask.mask_how.MaskHow.{MaskHow}
-use Rattle.bt_lines.specs.model.Lines.{end_bytes}
 use Rattle.bt_laws.specs.parts.MaskSplitLaws.{MasksNone, sequence_names}
 use Rattle.bt_laws.specs.parts.Parts.{said_records}
 use Rattle.bt_tool.specs.model.report.RecordReport.{Report}
 use Rattle.bt_laws.specs.parts.SplitLaws.{Texts}
 use Rattle.bt_laws.proofs.lemmas.parts.text.PartBlocks.{BeginsElsewhere, among_from, faulty_same, first_front, fresh_joint}
-use Rattle.bt_laws.proofs.lemmas.parts.text.PartLists.{all_so, flat_map_same, all_map}
+use Rattle.bt_laws.proofs.lemmas.Lists.{all_so, flat_map_same, all_map}
 use Rattle.bt_laws.proofs.lemmas.parts.report.PartMasked.{line_second, lines_both, lines_first, report_sound, sound_output, sound_report, told_lost}
 use Rattle.bt_laws.proofs.lemmas.parts.report.PartMaskSound.{AreTwo, block_records, blocks_of, fasta_names, fasta_of, joined_two, lines_of_both, names_of_both, texts_report}
 use Rattle.bt_laws.proofs.lemmas.parts.order.PartOwners.{AreOff, IsLost, any_behind, any_first, any_lost, any_second, apart_next, later_leave, lost_behind, lost_fewer, lost_more, lost_off, none_behind, or_true}
@@ -93,7 +92,7 @@ module _ (how : MaskHow) (full : Bool) where
   lacks_output : (texts : Texts) → Lacks texts → (report_on texts).output ≡ flat_map (masked_line how (R texts.second)) (items_in (F texts.first))
   lacks_output texts lacks = met_lines (rule_on texts) (items_in (F texts.first)) (F texts.first).fault ∙ sym (all_written (rule_on texts) (items_in (F texts.first)) (lacks_decided texts lacks))
 
-  -- and this is told
+  -- and this is reported
   pub lacks_kind : (texts : Texts) → Lacks texts → option_map (λ fault. fault.kind) (report_on texts).fault ≡ Some NoSequence
   lacks_kind texts lacks =
       ap (option_map (λ (fault : FaultValue). fault.kind))
@@ -146,7 +145,7 @@ module _ (how : MaskHow) (full : Bool) where
                 ∙ sym (lacks_output one lacks)),
           )
 
-    -- ---- text stands before its first header
+    -- ---- text before its first header
 
     module _ (fault : FaultValue) (e : (F one.first).fault ≡ Some fault) where
       same_lines : F (one.first ++ two.first) ≡ F one.first
@@ -260,7 +259,7 @@ module _ (how : MaskHow) (full : Bool) where
         whole_written : (report_on both).output ≡ written W (items_in (F one.first) ++ map (line_after (N one.first)) (items_in (F two.first)))
         whole_written = met_lines W (items_in (F (one.first ++ two.first))) (F (one.first ++ two.first)).fault ∙ ap (written W) (lines_of_both how full one two are lines).0
 
-        -- behind the first of the later records
+        -- after the first of the later records
         past_first : (r : Feature) (rs : List Feature) → R two.second ≡ r ∷ rs → (report_on both).output ≡ (report_on one).output ++ (report_on two).output
         past_first r rs is =
             whole_written

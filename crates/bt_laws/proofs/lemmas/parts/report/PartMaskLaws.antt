@@ -15,10 +15,9 @@ use Rattle.bt_laws.proofs.lemmas.parts.report.PartMasked.{mask_is}
 use Rattle.bt_laws.proofs.lemmas.parts.report.PartMaskFaults.{Lacks, faulty_first, lacks_kind, sound_goes, sound_stops}
 use Rattle.bt_laws.proofs.lemmas.parts.report.PartMaskSound.{AreTwo, mask_adds, texts_report, two_suffice}
 use Rattle.bt_laws.proofs.lemmas.parts.report.PartReports.{nothing, parts_add, stop_more, stop_none, stop_one}
-use Rattle.bt_laws.proofs.lemmas.parts.text.PartSam.{lines_less}
+use Rattle.bt_laws.proofs.lemmas.parts.text.PartTexts.{lines_less, join_one}
 use Rattle.bt_laws.proofs.lemmas.parts.report.PartSweep.{unless_none}
-use Rattle.bt_laws.proofs.lemmas.parts.text.PartTexts.{join_one}
-use Rattle.bt_laws.proofs.lemmas.parts.text.PartLists.{all_unmap}
+use Rattle.bt_laws.proofs.lemmas.Lists.{all_unmap}
 use Rattle.std.proofs.lemmas.List.Folds.{flat_map-map}
 
 module _ (how : MaskHow) (full : Bool) where
@@ -36,7 +35,7 @@ module _ (how : MaskHow) (full : Bool) where
   alone : (t : Texts) → T (joined_texts (t ∷ [])) ≡ T t
   alone t = ap T (join_one t)
 
-  -- parts of whole lines, divided at headers
+  -- parts of complete lines, divided at headers
   record AreFit (parts : List Texts) : Type 0 where
     lines : ArePairs parts
     headers : AreAtHeaders parts
@@ -75,7 +74,7 @@ module _ (how : MaskHow) (full : Bool) where
   own_add = parts_add joined_texts T OwnFit empty alone own_less
       (λ t u ts own. mask_adds how full t (joined_texts (u ∷ ts)) (are_two t u ts own.fit) own.own.0 own.own.1)
 
-  -- what the whole writes begins what the parts write, or goes on behind it
+  -- what the single run writes begins what the parts write, or begins with it
   abbrev Ends : List Texts → Type 0
   Ends parts = StopWithin (map T parts) (T (joined_texts parts))
       ⊎ (Lacks how full (joined_texts parts) × ((more : List ℕ) × ((T (joined_texts parts)).output ≡ outputs_to_fault (map T parts) ++ more)))

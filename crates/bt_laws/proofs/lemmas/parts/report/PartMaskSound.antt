@@ -58,7 +58,7 @@ module _ (how : MaskHow) (full : Bool) where
     sound_lines None is e = subst (λ f. AreBothBy full First f (fasta_of one.first) (fasta_of two.first) (fasta_of (one.first ++ two.first))) is (fasta_both full First one.first two.first are.first are.begins)
     sound_lines (Some f) is e = cc
 
-    -- the lines of both, where the first part has no fault
+    -- the lines of both, if the first part has no fault
     pub lines_of_both : (fasta_of one.first).fault ≡ None
         → (items_in (fasta_of (one.first ++ two.first)) ≡ items_in (fasta_of one.first) ++ map (line_after (fasta_names one.first)) (items_in (fasta_of two.first))) × ((fasta_of (one.first ++ two.first)).fault ≡ None)
     lines_of_both e = sound_lines (fasta_of one.first).fault refl e
@@ -136,7 +136,7 @@ module _ (how : MaskHow) (full : Bool) where
       lost_sound : IsSound (fasta_of one.first) (blocks_of one.second) → IsSound (fasta_of two.first) (blocks_of two.second) → IsLost (fasta_names one.first) (block_records one.second) (block_records two.second)
       lost_sound first second = lost_names first.lines (block_records two.second) (subst (AreOff (sequence_names full one.first)) (sym (sound_from Second None (text_lines two.second) second.records)) off_one)
 
-      -- where both are sound, each part is
+      -- if both are sound, so is each part
       module _ (whole : IsSound (fasta_of (one.first ++ two.first)) (blocks_of (one.second ++ two.second))) where
         lines_one : (fasta_of one.first).fault ≡ None
         lines_one = first_lines_sound (fasta_of one.first).fault refl whole.lines

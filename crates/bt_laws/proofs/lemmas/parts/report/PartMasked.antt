@@ -26,11 +26,11 @@ use Rattle.bt_laws.specs.parts.SplitLaws.{Texts, on_texts}
 use Rattle.bt_tool.specs.model.report.SweepReport.{met_report}
 use Rattle.bt_tool.specs.declared.planning.plan_type.Command.TheVariants.{MaskFasta}
 use Rattle.bt_tool.proofs.lemmas.running.members.CameMembers.{good_whole}
-use Rattle.bt_laws.proofs.lemmas.parts.text.PartLists.{all_so, flat_map_same}
+use Rattle.bt_laws.proofs.lemmas.Lists.{all_so, flat_map_same}
 use Rattle.bt_laws.proofs.lemmas.parts.order.PartOwners.{IsLost, lost_fewer, own_first, own_second}
 use Rattle.bt_laws.proofs.lemmas.parts.text.PartSequences.{line_after}
 
--- ---- which fault is told
+-- ---- which fault is reported
 
 module _ (how : MaskHow) where
   -- the report on lines of sequences, and on the records of the second input
@@ -101,7 +101,7 @@ find_lost names past (m ∷ ms) kept lost = by_here (leave (Some names) None (it
         let same : (past ++ m ∷ []) ++ ms ≡ past ++ m ∷ ms = append_assoc past (m ∷ []) ms in
         subst (FirstLost names) same (next (ap is_some e) (ap (λ l. leave (Some names) None (items l)) same ∙ lost))
 
--- it is told that there is no sequence for it
+-- it is reported that there is no sequence for it
 pub told_lost : (names : List (List ℕ)) (ms : List (Member Feature)) → leave (Some names) None (items ms) ≡ None → (line : ℕ) × (no_sequence names ms ≡ Some (fault_at_line Second line NoSequence))
 told_lost names ms lost =
     let f = find_lost names [] ms refl lost in (

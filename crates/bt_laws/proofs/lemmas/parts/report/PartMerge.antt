@@ -23,7 +23,7 @@ use Rattle.bt_runs.proofs.lemmas.laws.Passing.{placed_elsewhere, counted-append}
 use Rattle.bt_runs.proofs.lemmas.order.RunOrder.{ordered_come}
 use Rattle.bt_runs.proofs.lemmas.merge.SettledRuns.{runs_begin}
 use Rattle.bt_laws.proofs.lemmas.parts.text.PartBed.{Earlier}
-use Rattle.bt_laws.proofs.lemmas.parts.text.PartLists.{all_filter, all_map, all_so, flat_map_same, all_unmap}
+use Rattle.bt_laws.proofs.lemmas.Lists.{all_filter, all_map, all_so, flat_map_same, all_unmap}
 use Rattle.bt_laws.proofs.lemmas.parts.text.PartRecords.{Away, has_none, last_behind, last_is, none_has, placed_both, records_away, spans_first, spans_second}
 use Rattle.bt_laws.proofs.lemmas.parts.report.PartReports.{Splits}
 use Rattle.bt_tool.specs.model.report.Written.{pooled_written}
@@ -32,7 +32,7 @@ use Rattle.bt_tool.specs.model.report.Written.{pooled_written}
 pub fewer : (t : Feature → Bool) (name : List ℕ) (rs : List Feature) → has_records name (intervals_of rs) ≡ false → has_records name (intervals_of (filter t rs)) ≡ false
 fewer t name rs e = none_has name (intervals_of (filter t rs)) (all_map _ interval_of (filter t rs) (all_filter _ t rs (all_unmap (λ r. bytes_eq r.chrom name ≡ false) interval_of rs (has_none name (intervals_of rs) e))))
 
--- the records of a strand are away where all are
+-- the records of a strand are on other chromosomes, if all records are
 pub away_some : (t : Feature → Bool) (ones twos : List Feature) → Away (intervals_of ones) (intervals_of twos) → Away (intervals_of (filter t ones)) (intervals_of (filter t twos))
 away_some t ones twos away = record {
   first = all_map _ interval_of (filter t ones) (all_so _ _ (filter t ones) (λ r e. fewer t r.chrom twos e) (all_filter _ t ones (all_unmap _ interval_of ones away.first)));

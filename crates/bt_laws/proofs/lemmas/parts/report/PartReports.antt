@@ -60,7 +60,7 @@ stop_by (Some fault) first whole output outputs left more stops = stops
 pub stop_more : (part : Report) (parts : List Report) (rest whole : Report) → StopWithin parts rest → Stops part rest whole → StopWithin (part ∷ parts) whole
 stop_more part parts rest whole more stops = stop_by part.fault part.output whole.output rest.output (outputs_to_fault parts) more.0 more.1 stops
 
--- what a command of one input writes of the members of two parts, where each command may have its own genome file
+-- what a command of one input writes of the members of two parts; each command may have its own genome file
 pub record Splits {A : Type 0} (one two whole : Written A) (ones twos : List A) : Type 0 where
   pub all : whole.whole (ones ++ twos) ≡ one.whole ones ++ two.whole twos
   pub first : whole.settled ones ≡ one.settled ones
@@ -70,7 +70,7 @@ abbrev pub Contiguous : {A : Type 0} → Option FaultValue → Option FaultValue
 Contiguous None g h ones twos all = (all ≡ ones ++ twos) × (is_none h ≡ is_none g)
 Contiguous (Some f) g h ones twos all = (all ≡ ones) × (is_none h ≡ false)
 
--- without a fault in the whole there is none in the parts, and the other way round
+-- the whole is without a fault exactly if the parts are
 pub together_parts : {A : Type 0} (f g h : Option FaultValue) (ones twos all : List A) → Contiguous f g h ones twos all → h ≡ None → (f ≡ None) × (g ≡ None)
 together_parts None None h ones twos all is e = (refl, refl)
 together_parts None (Some g) None ones twos all is e = let apart : true ≡ false = is.1 in absurd (cc)

@@ -16,14 +16,13 @@ use Rattle.bt_bed.specs.declared.record.strand.Strand.{Strand}
 use Rattle.bt_runs.specs.model.Counted.{counted, is_counted}
 use Rattle.bt_runs.specs.model.Merged.{chromosomes, merged, runs_of, runs_on}
 use Rattle.bt_runs.specs.model.MergedRuns.{is_closed, merged_runs}
-use Rattle.bt_runs.specs.model.StrandRuns.{StrandRun, begun_by, is_in, listed_behind, passed_front, places_of, runs_of_strand, settled_strand_runs, strand_runs}
-use Rattle.bt_runs.specs.model.StrandRuns.{kept_strand_runs}
+use Rattle.bt_runs.specs.model.StrandRuns.{StrandRun, begun_by, is_in, listed_behind, passed_front, places_of, runs_of_strand, settled_strand_runs, strand_runs, kept_strand_runs}
 use Rattle.bt_runs.specs.declared.merge.merge_strand.MergeStrand.TheVariants.{One}
 use Rattle.bt_runs.proofs.lemmas.laws.Passing.{passed_elsewhere}
 use Rattle.bt_runs.proofs.lemmas.merge.StrandListing.{listed_append}
 use Rattle.bt_runs.proofs.lemmas.merge.StrandSettling.{divide}
 use Rattle.bt_tool.specs.model.report.Written.{strands_written}
-use Rattle.bt_laws.proofs.lemmas.parts.text.PartLists.{all_any, all_both, all_filter, all_flat_map, all_map, all_so, filter_none, filter_same, all_unmap}
+use Rattle.bt_laws.proofs.lemmas.Lists.{all_any, all_both, all_filter, all_flat_map, all_map, all_so, filter_none, filter_same, all_unmap}
 use Rattle.bt_laws.proofs.lemmas.parts.report.PartMerge.{named_all, runs_both}
 use Rattle.bt_laws.proofs.lemmas.parts.text.PartRecords.{Away, has_none, last_behind, last_is}
 use Rattle.bt_laws.proofs.lemmas.parts.report.PartReports.{Splits}

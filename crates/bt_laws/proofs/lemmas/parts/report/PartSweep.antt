@@ -27,7 +27,7 @@ use Rattle.bt_laws.specs.parts.Parts.{unless_fault}
 use Rattle.bt_tool.specs.model.report.RecordReport.{Report}
 use Rattle.bt_tool.specs.model.report.SweepReport.{met_report}
 use Rattle.bt_laws.proofs.lemmas.parts.text.PartBed.{Earlier, reversed_less}
-use Rattle.bt_laws.proofs.lemmas.parts.text.PartLists.{all_any, all_so, all_swapped, filter_none, flat_map_same}
+use Rattle.bt_laws.proofs.lemmas.Lists.{all_any, all_so, all_swapped, filter_none, flat_map_same}
 use Rattle.bt_laws.proofs.lemmas.parts.report.PartReports.{Adds, Stops, Contiguous, together_all, together_both, together_parts, Joins}
 
 -- ---- lists up to the first that fails a test
@@ -236,7 +236,7 @@ module _ (order : Order) (total : IsTotal order) (shape : Shape) (rule : HitRule
           ∙ ap₂ (λ x y. x ++ y) (sym (output_none order shape rule aones fa1 bones fb1 one.1)) (sym (output_none order shape rule atwos fa2 btwos fb2 two.1));
     }
 
-  -- where the second input of the first part is at fault, nothing behind it is written
+  -- if the second input of the first part is at fault, nothing after it is written
   module _ (f : FaultValue) (fa1 fa2 fa fb2 fb : Option FaultValue) (all bs : List Feature) (ja : Contiguous fa1 fa2 fa aones atwos all) (jb : Contiguous (Some f) fb2 fb bones btwos bs) where
     same_rule : (xs : List Feature) → written (sweep_rule order shape rule bs fb) xs ≡ written (sweep_rule order shape rule bones (Some f)) xs
     same_rule xs = written_same (sweep_rule order shape rule bs fb) (sweep_rule order shape rule bones (Some f)) xs

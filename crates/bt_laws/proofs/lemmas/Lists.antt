@@ -1,8 +1,10 @@
--- Lists of which all elements have a property, by recursion.
-use Rattle.std.proofs.Common.{◌≡◌, Bool, true, false, cond, List, [], ◌∷◌, ◌++◌, map, filter, refl, ap, ap₂, ◌∙◌}
+-- What holds of all elements of a list, or of all pairs, by recursion.
+use Rattle.std.proofs.Common.{◌≡◌, Bool, true, false, cond, List, [], ◌∷◌, ◌++◌, map, filter, refl, ap, ap₂, ◌∙◌, suc, arith}
 use Rattle.std.specs.Prelude.{flat_map}
-use Rattle.std.specs.List.{AllByRecursion}
+use Rattle.std.specs.List.{AllByRecursion, AllPairs}
 use Rattle.std.proofs.lemmas.List.{map-append}
+use Rattle.std.proofs.lemmas.List.Elements.{All-from_recursion, recursion_from_All}
+use Rattle.std.proofs.lemmas.List.Kept.{AllPairs-cons}
 
 module _ {A : Type 0} where
   pub all_front : (P : A → Type 0) (xs ys : List A) → AllByRecursion P (xs ++ ys) → AllByRecursion P xs
@@ -61,7 +63,7 @@ pub all_flat_map : {A B : Type 0} (P : B → Type 0) (f : A → List B) (xs : Li
 all_flat_map P f [] h = tt
 all_flat_map P f (x ∷ xs) h = all_both P (f x) (flat_map f xs) h.0 (all_flat_map P f xs h.1)
 
--- all pairs, the other way round
+-- all pairs, with their sides exchanged
 pub all_swapped : {A B : Type 0} (P : A → B → Type 0) (xs : List A) (ys : List B) → AllByRecursion (λ x. AllByRecursion (P x) ys) xs → AllByRecursion (λ y. AllByRecursion (λ x. P x y) xs) ys
 all_swapped P xs [] h = tt
 all_swapped P xs (y ∷ ys) h = (all_so (λ x. AllByRecursion (P x) (y ∷ ys)) (λ x. P x y) xs (λ x k. k.0) h, all_swapped P xs ys (all_so (λ x. AllByRecursion (P x) (y ∷ ys)) (λ x. AllByRecursion (P x) ys) xs (λ x k. k.1) h))
@@ -84,3 +86,20 @@ module _ {A B : Type 0} where
 pub all_zip : {A : Type 0} (P Q R : A → Type 0) (xs : List A) → ((x : A) → P x → Q x → R x) → AllByRecursion P xs → AllByRecursion Q xs → AllByRecursion R xs
 all_zip P Q R [] f h k = tt
 all_zip P Q R (x ∷ xs) f h k = (f x h.0 k.0, all_zip P Q R xs f h.1 k.1)
+
+-- ---- each element and each later one
+
+abbrev pub EachPair : {A : Type 0} → (A → A → Type 0) → List A → Type 0
+EachPair R [] = Unit {0}
+EachPair R (x ∷ xs) = AllByRecursion (R x) xs × EachPair R xs
+
+pub pairs_all : {A : Type 0} (R : A → A → Type 0) (xs : List A) → EachPair R xs → AllPairs R xs
+pairs_all R [] h = λ i j d below within. absurd (omega (arith, within))
+pairs_all R (x ∷ xs) h = AllPairs-cons R x xs (All-from_recursion (R x) xs h.0) (pairs_all R xs h.1)
+
+pub pairs_each : {A : Type 0} (R : A → A → Type 0) (xs : List A) → AllPairs R xs → EachPair R xs
+pairs_each R [] h = tt
+pairs_each R (x ∷ xs) h = (
+  recursion_from_All (R x) xs (λ k d within. h 0 (suc k) d (omega arith) (omega (arith, within))),
+  pairs_each R xs (λ i j d below within. h (suc i) (suc j) d (omega (arith, below)) (omega (arith, within))),
+)
