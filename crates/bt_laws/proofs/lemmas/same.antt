@@ -7,5 +7,4 @@ pub mod MaskBeds
 pub mod MaskSorted
 pub mod MaskTwice
 pub mod RunsAgain
-pub mod SameLines
 pub mod SameSweeps

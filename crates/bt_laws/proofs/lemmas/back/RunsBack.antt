@@ -30,8 +30,7 @@ use Rattle.bt_laws.proofs.lemmas.Lists.{EachPair, all_any, all_filter, all_flat_
 use Rattle.bt_laws.proofs.lemmas.back.LinesBack.{Columns, IsColumns, text_of_columns, placed_known, written_back}
 use Rattle.bt_laws.proofs.lemmas.pipes.Placing.{Earlier, apart_pairs, ascending_pairs, on_name, parts_pairs, parts_placed, spans_apart, spans_placed}
 use Rattle.bt_laws.proofs.lemmas.back.SaidWell.{IsSaid}
-use Rattle.bt_laws.proofs.lemmas.parts.report.PartMerge.{named_all}
-use Rattle.bt_laws.proofs.lemmas.parts.report.PartStrands.{listed_all}
+use Rattle.bt_laws.proofs.lemmas.parts.report.PartMerge.{named_all, listed_all}
 use Rattle.std.proofs.lemmas.List.{map-id}
 
 -- ---- lines of three columns

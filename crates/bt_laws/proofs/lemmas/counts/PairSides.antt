@@ -28,8 +28,7 @@ use Rattle.bt_tool.specs.declared.planning.plan_type.Command.TheVariants.{Inters
 use Rattle.bt_laws.specs.counts.PairSides.{IsMutual, HitPair, exchanged, pair_line, pairs_have_two_sides, pairs_of, with_sides_exchanged}
 use Rattle.bt_laws.specs.Runs.{first_records, second_records, RunWrites}
 use Rattle.bt_laws.proofs.lemmas.pipes.PipeLaws.{intersect_whole, well_there}
-use Rattle.bt_laws.proofs.lemmas.same.SameLines.{writes_lines}
-use Rattle.bt_laws.proofs.lemmas.same.SameSweeps.{cut_none, like_from, met_faultless, met_none, other_input, sweeps_from, uncut}
+use Rattle.bt_laws.proofs.lemmas.same.SameSweeps.{writes_lines, cut_none, like_from, met_faultless, met_none, other_input, sweeps_from, uncut}
 use Rattle.std.proofs.lemmas.List.Folds.{flat_map-map}
 
 -- ---- a rule that asks the same of both
@@ -42,14 +41,9 @@ and_swap false false = refl
 
 strand_swap : (s t : Strand) → is_strand s t ≡ is_strand t s
 strand_swap Plus Plus = refl
-strand_swap Plus Minus = refl
-strand_swap Plus Dot = refl
-strand_swap Minus Plus = refl
 strand_swap Minus Minus = refl
-strand_swap Minus Dot = refl
-strand_swap Dot Plus = refl
-strand_swap Dot Minus = refl
 strand_swap Dot Dot = refl
+strand_swap s t = refl
 
 min_swap : (a b : ℕ) → min a b ≡ min b a
 min_swap a b = omega arith

@@ -22,8 +22,7 @@ use Rattle.bt_laws.specs.pipes.SweepLines.{read_alone, records_for, records_writ
 use Rattle.bt_laws.proofs.lemmas.same.GapsHit.{covered_cut, cut_covered, cut_span}
 use Rattle.bt_laws.proofs.lemmas.pipes.PipeLaws.{cut_intersect_input, subtract_input}
 use Rattle.bt_laws.proofs.lemmas.same.RunsAgain.{here_all, none_there, report_there}
-use Rattle.bt_laws.proofs.lemmas.same.SameLines.{other_shape}
-use Rattle.bt_laws.proofs.lemmas.same.SameSweeps.{hit_back, hit_to}
+use Rattle.bt_laws.proofs.lemmas.same.SameSweeps.{other_shape, hit_back, hit_to}
 use Rattle.bt_laws.proofs.lemmas.Lists.{map_flat, map_map, all_any}
 
 -- ---- spans of each record, on its chromosome

@@ -199,10 +199,10 @@ pub limit_whole : (order : Order) (limit : Option ℕ) (first : List Feature) (s
 limit_whole order None first second e = refl
 limit_whole order (Some most) first second e = cut_whole (are_too_many order most first) [] second.members second.fault e
 
-abbrev either_met : Bool → List ℕ → List ℕ → Option FaultValue → Option FaultValue → Met ℕ FaultValue
+abbrev pub either_met : Bool → List ℕ → List ℕ → Option FaultValue → Option FaultValue → Met ℕ FaultValue
 either_met b lines other one fault = if b then record { lines = lines; fault = option_or one fault } else record { lines = other; fault = fault }
 
-either_fault : (b : Bool) (lines other : List ℕ) (one : Option FaultValue) (fault : Option FaultValue) → (either_met b lines other one fault).fault ≡ None → fault ≡ None
+pub either_fault : (b : Bool) (lines other : List ℕ) (one : Option FaultValue) (fault : Option FaultValue) → (either_met b lines other one fault).fault ≡ None → fault ≡ None
 either_fault true lines other None None e = refl
 either_fault true lines other None (Some f) e = cc
 either_fault true lines other (Some g) fault e = cc

@@ -128,8 +128,8 @@ alike_runs order gap strand rs ss is =
     ap (λ names. merged (in_order order names) gap (counted strand rs)) (is.names keep)
     ∙ alike_merged (in_order order (chromosomes (counted strand ss))) gap (counted strand rs) (counted strand ss) (is.cover keep)
 
-all_kept : (rs : List Feature) → kept (λ r. true) rs ≡ intervals_of rs
-all_kept rs = ap intervals_of (filter_all (λ r. true) rs (all_any _ rs (λ r. refl)))
+pub all_counted : (rs : List Feature) → counted All rs ≡ intervals_of rs
+all_counted rs = ap intervals_of (filter_all (λ r. true) rs (all_any _ rs (λ r. refl)))
 
 pub gaps_by : (limit : Bool) (entries : List Entry) (rs ss : List Feature) → ((name : List ℕ) → has_records name (intervals_of rs) ≡ has_records name (intervals_of ss))
     → ((name : List ℕ) → SameCover (spans_on name (intervals_of rs)) (spans_on name (intervals_of ss))) → complement limit entries rs ≡ complement limit entries ss
@@ -143,8 +143,8 @@ alike_gaps : (limit : Bool) (entries : List Entry) (rs ss : List Feature) → Is
 alike_gaps limit entries rs ss is =
     let every : Feature → Bool = λ r. true in
     gaps_by limit entries rs ss
-    (λ name. sym (among_chromosomes name (intervals_of rs)) ∙ ap (λ l. is_among (chromosomes l) name) (sym (all_kept rs)) ∙ ap (λ ns. is_among ns name) (is.names every) ∙ ap (λ l. is_among (chromosomes l) name) (all_kept ss) ∙ among_chromosomes name (intervals_of ss))
-    (λ name. subst (λ l. SameCover (spans_on name l) (spans_on name (intervals_of ss))) (all_kept rs) (subst (λ l. SameCover (spans_on name (kept every rs)) (spans_on name l)) (all_kept ss) (is.cover every name)))
+    (λ name. sym (among_chromosomes name (intervals_of rs)) ∙ ap (λ l. is_among (chromosomes l) name) (sym (all_counted rs)) ∙ ap (λ ns. is_among ns name) (is.names every) ∙ ap (λ l. is_among (chromosomes l) name) (all_counted ss) ∙ among_chromosomes name (intervals_of ss))
+    (λ name. subst (λ l. SameCover (spans_on name l) (spans_on name (intervals_of ss))) (all_counted rs) (subst (λ l. SameCover (spans_on name (kept every rs)) (spans_on name l)) (all_counted ss) (is.cover every name)))
 
 exchanged_depths : (zeros : Bool) (strand : Option Strand) (entries : List Entry) (rs ss : List Feature) → AreExchanged rs ss → coverage zeros strand entries rs ≡ coverage zeros strand entries ss
 unfolding coverage depth_of

@@ -18,7 +18,6 @@ use Rattle.bt_bed.specs.model.order.Rank.{AreDistinct, is_among, rank_order}
 use Rattle.bt_bed.specs.model.feature.Stretches.{AreApartFrom, IsCovered}
 use Rattle.bt_bed.proofs.lemmas.laws.GoodBedLemmas.{placed_good}
 use Rattle.bt_bed.proofs.lemmas.parse.NameLemmas.{name_eq, name_ne-sym, cases_name}
-use Rattle.bt_runs.specs.model.Counted.{counted}
 use Rattle.bt_runs.specs.model.Gaps.{complement, gaps_of, gaps_on, is_asked, length_in}
 use Rattle.bt_runs.specs.model.Merged.{is_covered, merged, runs_of, runs_on}
 use Rattle.bt_runs.specs.model.RunOrder.{ordered_runs}
@@ -48,7 +47,7 @@ use Rattle.bt_runs.specs.model.Levels.{HasValue, Level, begun_after, ended_after
 use Rattle.bt_runs.proofs.lemmas.order.ChromosomeLemmas.{spans_on-append, spans_on-elsewhere}
 use Rattle.bt_runs.proofs.lemmas.coverage.LevelLemmas.{are_levels}
 use Rattle.bt_laws.specs.same.SameSweeps.{LieWithinLengths}
-use Rattle.bt_laws.proofs.lemmas.same.AlikeRecords.{alike_merged}
+use Rattle.bt_laws.proofs.lemmas.same.AlikeRecords.{alike_merged, all_counted}
 use Rattle.bt_laws.proofs.lemmas.pipes.DepthParts.{shown}
 use Rattle.bt_laws.proofs.lemmas.back.SaidWell.{IsSaid, good_are_said}
 
@@ -159,12 +158,9 @@ module _ (entries : List Entry) (distinct : AreDistinct (genome_names entries)) 
   abbrev gap_records : List Feature
   gap_records = filter is_no_header (map three_columns gaps)
 
-  all_records : counted All records ≡ intervals_of records
-  all_records = ap intervals_of (filter_all (λ (r : Feature). true) records (all_any _ records (λ r. refl)))
-
   by_entries : ordered_runs order 0 All records ≡ flat_map (λ name. runs_on name 0 (intervals_of records)) (genome_names entries)
   unfolding merged
-  by_entries = sym (file_ordered (genome_names entries) 0 All records distinct placed) ∙ ap (merged (genome_names entries) 0) all_records
+  by_entries = sym (file_ordered (genome_names entries) 0 All records distinct placed) ∙ ap (merged (genome_names entries) 0) (all_counted records)
 
   gap_twice : (e : Entry) → is_header e.name ≡ false → length_in entries e.name ≡ e.length → gaps_on (intervals_of gap_records) e ≡ map (placed_on e.name) (cut_spans e.length (runs_of 0 (spans_on e.name (intervals_of records))))
   gap_twice e plain size =
@@ -327,14 +323,11 @@ module _ (entries : List Entry) (distinct : AreDistinct (genome_names entries)) 
   abbrev lengths_order : Order
   lengths_order = rank_order (genome_names entries)
 
-  all_of : (rs : List Feature) → counted All rs ≡ intervals_of rs
-  all_of rs = ap intervals_of (filter_all (λ (r : Feature). true) rs (all_any _ rs (λ r. refl)))
-
   pub same_merge : (d : ℕ) → ArePlaced lengths_order (intervals_of records) → ArePlaced lengths_order (intervals_of read) → ordered_runs lengths_order d All read ≡ ordered_runs lengths_order d All records
   same_merge d placed read_placed =
-      sym (file_ordered (genome_names entries) d All read distinct read_placed) ∙ ap (merged (genome_names entries) d) (all_of read)
+      sym (file_ordered (genome_names entries) d All read distinct read_placed) ∙ ap (merged (genome_names entries) d) (all_counted read)
       ∙ alike_merged (genome_names entries) d (intervals_of read) (intervals_of records) same_bases
-      ∙ sym (ap (merged (genome_names entries) d) (all_of records)) ∙ file_ordered (genome_names entries) d All records distinct placed
+      ∙ sym (ap (merged (genome_names entries) d) (all_counted records)) ∙ file_ordered (genome_names entries) d All records distinct placed
 
 pub genomecov_merged : merge_of_genomecov
 genomecov_merged d inputs entries well within =

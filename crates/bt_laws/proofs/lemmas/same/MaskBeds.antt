@@ -26,7 +26,7 @@ use Rattle.bt_laws.specs.Runs.{piped, RunsWithoutFault, second_alone}
 use Rattle.bt_laws.proofs.lemmas.pipes.MaskPipes.{with_text}
 use Rattle.bt_laws.proofs.lemmas.same.MaskTwice.{header_from, masked_again, met_all, names_same, nones, output_there, read_items, read_none, second_none}
 use Rattle.bt_laws.proofs.lemmas.same.RunsAgain.{report_there, writes_is, back, run_names, run_spans}
-use Rattle.bt_laws.proofs.lemmas.Lists.{flat_map_same, all_so, all_any, filter_all}
+use Rattle.bt_laws.proofs.lemmas.Lists.{flat_map_same, all_so, all_any}
 use Rattle.std.proofs.lemmas.List.Folds.{flat_map-map}
 use Rattle.bt_lines.specs.declared.fault.Input.{Input}
 use Rattle.bt_lines.specs.declared.fault.Kind.{Kind}
@@ -57,6 +57,7 @@ use Rattle.bt_laws.proofs.lemmas.pipes.PipeLaws.{merge_whole, well_there}
 use Rattle.bt_laws.proofs.lemmas.same.Blocks.{leave_alike, own_alike}
 use Rattle.bt_laws.proofs.lemmas.same.SameSweeps.{cut_none, uncut}
 use Rattle.bt_laws.proofs.lemmas.parts.text.PartTexts.{order_total}
+use Rattle.bt_laws.proofs.lemmas.same.AlikeRecords.{all_counted}
 
 -- ---- the same positions
 
@@ -242,7 +243,7 @@ module _ (inputs : Inputs) (genome : Option Handed) (merging : Option (List Entr
   full = all_so IsSaid (λ (r : Feature). r.start < r.stop) as_read (λ r is. is.feature.non_empty) said
 
   all : counted All as_read ≡ intervals_of as_read
-  all = ap intervals_of (filter_all (λ (r : Feature). true) as_read (all_any _ as_read (λ r. refl)))
+  all = all_counted as_read
 
   bed_together : AreContiguous (intervals_of as_read)
   bed_together = placed_together order (intervals_of as_read) total placed

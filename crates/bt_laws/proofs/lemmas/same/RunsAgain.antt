@@ -40,7 +40,7 @@ use Rattle.bt_tool.specs.declared.planning.plan_type.Command.TheVariants.{Comple
 use Rattle.bt_laws.specs.Runs.{RunsWithoutFault, first_records, RunWrites, piped}
 use Rattle.bt_laws.specs.same.SameRuns.{complement_of_merge, merge_of_merge}
 use Rattle.bt_laws.specs.pipes.Taken.{IsInput, three_columns}
-use Rattle.bt_laws.proofs.lemmas.same.AlikeRecords.{gaps_by}
+use Rattle.bt_laws.proofs.lemmas.same.AlikeRecords.{gaps_by, all_counted}
 use Rattle.bt_laws.proofs.lemmas.pipes.Covers.{SameCover, runs_again, runs_cover}
 use Rattle.bt_laws.proofs.lemmas.Lists.{all_any, all_filter, all_map, all_so, filter_all, flat_map_same}
 use Rattle.bt_laws.proofs.lemmas.pipes.PipeLaws.{complement_whole, merge_whole}
@@ -157,7 +157,7 @@ counted_full : (strand : MergeStrand) (records : List Feature) → AllByRecursio
 counted_full strand records h = all_map (λ (r : Interval). r.start < r.stop) interval_of (filter (λ r. is_counted strand r.strand) records) (all_filter (λ (r : Feature). r.start < r.stop) (λ r. is_counted strand r.strand) records h)
 
 all_of_them : (rs : List Interval) → counted All (map three_columns rs) ≡ rs
-all_of_them rs = ap intervals_of (filter_all (λ (r : Feature). true) (map three_columns rs) (all_any _ (map three_columns rs) (λ r. refl))) ∙ back rs
+all_of_them rs = all_counted (map three_columns rs) ∙ back rs
 
 module _ (order : Order) (total : IsTotal order) (gap : ℕ) (strand : MergeStrand) (records : List Feature) (placed : ArePlaced order (intervals_of records)) (full : AllByRecursion (λ (r : Feature). r.start < r.stop) records) where
   abbrev used : List Interval
@@ -284,7 +284,7 @@ gaps_again : (limit : Bool) (entries : List Entry) (order : Order) (total : IsTo
     → complement limit entries (map three_columns (ordered_runs order 0 All records)) ≡ complement limit entries records
 gaps_again limit entries order total records placed full =
     let result = ordered_runs order 0 All records in
-    let all : counted All records ≡ intervals_of records = ap intervals_of (filter_all (λ (r : Feature). true) records (all_any _ records (λ r. refl))) in
+    let all : counted All records ≡ intervals_of records = all_counted records in
     gaps_by limit entries (map three_columns result) records
     (λ name. ap (has_records name) (back result) ∙ run_has order total 0 All records placed full name ∙ ap (has_records name) all)
     (λ name. subst (λ l. SameCover l (spans_on name (intervals_of records))) (sym (ap (spans_on name) (back result) ∙ run_spans order total 0 All records placed full name ∙ ap (λ l. runs_of 0 (spans_on name l)) all)) (runs_cover (spans_on name (intervals_of records))))

@@ -226,9 +226,6 @@ pub names_both : (ones twos : List Entry) → genome_names (ones ++ twos) ≡ ge
 names_both ones twos = map-append (λ entry. entry.name) ones twos
 
 module _ (e_one e_two : List Entry) where
-  abbrev Names : List (List ℕ)
-  Names = genome_names (e_one ++ e_two)
-
   pub agree_first : Agree (rank_order (genome_names (e_one ++ e_two))) (rank_order (genome_names e_one)) (Within (genome_names e_one) (genome_names (e_one ++ e_two)))
   agree_first = subst (λ ns. Agree (rank_order ns) (rank_order (genome_names e_one)) (Within (genome_names e_one) ns)) (sym (names_both e_one e_two)) (first_agree (genome_names e_one) (genome_names e_two))
 

@@ -52,11 +52,10 @@ use Rattle.bt_laws.proofs.lemmas.parts.order.PartChromosomes.{chromosomes_split,
 use Rattle.bt_laws.proofs.lemmas.parts.order.PartGenomes.{agree_first, agree_good, agree_second, names_both, records_both, within_before, among_append}
 use Rattle.bt_laws.proofs.lemmas.parts.order.PartGood.{IsJoint}
 use Rattle.bt_laws.proofs.lemmas.Lists.{all_any, all_both, all_map, all_so, map_same}
-use Rattle.bt_laws.proofs.lemmas.parts.report.PartMerge.{fewer, pooled_split}
+use Rattle.bt_laws.proofs.lemmas.parts.report.PartMerge.{fewer, pooled_split, strands_split}
 use Rattle.bt_laws.proofs.lemmas.parts.text.PartRecords.{has_append, records_away, spans_first, spans_second}
 use Rattle.bt_laws.proofs.lemmas.parts.report.PartReports.{Splits, nothing, parts_both, splits_as, Joins, good_joins}
 use Rattle.bt_laws.proofs.lemmas.parts.text.PartTexts.{lines_less}
-use Rattle.bt_laws.proofs.lemmas.parts.report.PartStrands.{strands_split}
 
 -- ---- gaps
 

@@ -42,9 +42,8 @@ use Rattle.bt_sweep.specs.declared.hits.hit_rule.HitRule.{HitRule}
 use Rattle.bt_sweep.specs.declared.output.shape.Shape.{Shape}
 use Rattle.bt_tool.specs.model.report.Behaviour.{order_of}
 use Rattle.bt_laws.proofs.lemmas.parts.text.PartBed.{Earlier, bed_joint, good_earlier, items_all}
-use Rattle.bt_laws.proofs.lemmas.parts.report.PartMerge.{pooled_split}
+use Rattle.bt_laws.proofs.lemmas.parts.report.PartMerge.{pooled_split, strands_split}
 use Rattle.bt_laws.proofs.lemmas.parts.text.PartRecords.{names_apart, names_behind, records_away}
-use Rattle.bt_laws.proofs.lemmas.parts.report.PartStrands.{strands_split}
 use Rattle.bt_laws.proofs.lemmas.parts.report.PartSweep.{AreSplit, sweep_report, sweep_joins}
 use Rattle.bt_tool.specs.declared.planning.plan_type.Command.{Command}
 
