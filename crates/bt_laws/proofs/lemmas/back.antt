@@ -1,6 +1,5 @@
 -- Lemmas on back.
 pub mod Clear
-pub mod GapsBack
 pub mod LinesBack
 pub mod RunsBack
 pub mod SaidWell

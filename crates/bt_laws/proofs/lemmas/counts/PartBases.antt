@@ -21,7 +21,7 @@ use Rattle.bt_laws.specs.counts.PartBases.{PartBases, intersect_and_subtract_par
 use Rattle.bt_laws.specs.pipes.SweepLines.{read_alone, records_for, records_written}
 use Rattle.bt_laws.proofs.lemmas.same.GapsHit.{covered_cut, cut_covered, cut_span}
 use Rattle.bt_laws.proofs.lemmas.pipes.PipeLaws.{cut_intersect_input, subtract_input}
-use Rattle.bt_laws.proofs.lemmas.same.RunsAgain.{here_all, none_there, report_there}
+use Rattle.bt_laws.proofs.lemmas.same.SameRuns.{here_all, none_there, report_there}
 use Rattle.bt_laws.proofs.lemmas.same.SameSweeps.{other_shape, hit_back, hit_to}
 use Rattle.bt_laws.proofs.lemmas.Lists.{map_flat, map_map, all_any}
 

@@ -1,5 +1,4 @@
 -- Lemmas on parts, order.
-pub mod PartChromosomes
 pub mod PartGenomes
 pub mod PartGood
 pub mod PartOwnGenomes

@@ -50,9 +50,8 @@ use Rattle.bt_laws.specs.pipes.Pipes.{complement_is_input, cut_intersect_is_inpu
 use Rattle.bt_laws.specs.pipes.SweepLines.{begins_with_a, records_written}
 use Rattle.bt_laws.specs.pipes.Taken.{AreSeparate, AreDisjoint, IsInput, four_columns, is_no_header, three_columns}
 use Rattle.bt_laws.proofs.lemmas.Lists.{EachPair, pairs_all, pairs_each}
-use Rattle.bt_laws.proofs.lemmas.back.GapsBack.{coverage_back, depths_disjoint, gaps_back, gaps_pairs}
+use Rattle.bt_laws.proofs.lemmas.back.RunsBack.{coverage_back, depths_disjoint, gaps_back, gaps_pairs, intervals_back, merge_apart, merge_back, runs_back, strands_written}
 use Rattle.bt_laws.proofs.lemmas.parts.report.PartShards.{distinct_in, file_is}
-use Rattle.bt_laws.proofs.lemmas.back.RunsBack.{intervals_back, merge_apart, merge_back, runs_back, strands_written}
 use Rattle.bt_laws.proofs.lemmas.back.SaidWell.{IsChrom, IsSaid, genome_chroms, good_are_said}
 use Rattle.bt_laws.proofs.lemmas.back.SweepBack.{cut_back, kept_back, pieces_back}
 use Rattle.bt_laws.proofs.lemmas.back.SweepRead.{all_read, places_stay, records_stay, strands_stay}

@@ -19,7 +19,7 @@ use Rattle.bt_seq.proofs.lemmas.laws.LeftLemmas.{leave, leave_all}
 use Rattle.bt_laws.proofs.lemmas.Lists.{all_so}
 use Rattle.bt_laws.proofs.lemmas.pipes.Covers.{SameCover}
 use Rattle.bt_laws.proofs.lemmas.pipes.Placing.{others}
-use Rattle.bt_laws.proofs.lemmas.same.RunsAgain.{kept_pass}
+use Rattle.bt_laws.proofs.lemmas.same.SameRuns.{kept_pass}
 
 -- ---- the records of a chromosome
 

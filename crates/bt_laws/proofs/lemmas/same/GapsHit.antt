@@ -34,10 +34,10 @@ use Rattle.bt_laws.specs.Runs.{first_records, second_records, RunWrites, of_seco
 use Rattle.bt_laws.specs.same.SameSweeps.{LieWithinLengths, subtract_by_complement}
 use Rattle.bt_laws.specs.pipes.Taken.{AreSeparate, IsInput, is_no_header, three_columns}
 use Rattle.bt_laws.proofs.lemmas.Lists.{EachPair, all_any, all_map, all_so, filter_all, flat_map_same, all_zip}
-use Rattle.bt_laws.proofs.lemmas.back.GapsBack.{gaps_back, gaps_pairs}
+use Rattle.bt_laws.proofs.lemmas.back.RunsBack.{gaps_back, gaps_pairs}
 use Rattle.bt_laws.proofs.lemmas.pipes.PipeLaws.{chroms_of, intersect_whole, subtract_whole, well_there}
 use Rattle.bt_laws.proofs.lemmas.pipes.Placing.{pairs_filter, pairs_map, pairs_so}
-use Rattle.bt_laws.proofs.lemmas.same.RunsAgain.{here_all, none_there, report_there}
+use Rattle.bt_laws.proofs.lemmas.same.SameRuns.{here_all, none_there, report_there}
 use Rattle.bt_laws.proofs.lemmas.back.SaidWell.{IsChrom, IsSaid, good_are_said}
 use Rattle.bt_laws.proofs.lemmas.same.SameSweeps.{hit_back, hit_to, met_none, nones, other_input, output_by, sweeps_from}
 use Rattle.bt_laws.proofs.lemmas.back.SweepBack.{Hit, all_hits, cut_bounds, same_name as hit_name}

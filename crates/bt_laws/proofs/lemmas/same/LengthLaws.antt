@@ -33,11 +33,11 @@ use Rattle.bt_laws.specs.same.LengthLaws.{complement_of_complement, cut_at_lengt
 use Rattle.bt_laws.specs.Runs.{first_records, piped}
 use Rattle.bt_laws.specs.pipes.Taken.{IsInput, is_no_header, three_columns, four_columns}
 use Rattle.bt_laws.proofs.lemmas.pipes.Covers.{runs_cover, SameCover, covered_some, some_covered}
-use Rattle.bt_laws.proofs.lemmas.back.GapsBack.{gaps_back, coverage_back}
+use Rattle.bt_laws.proofs.lemmas.back.RunsBack.{gaps_back, coverage_back}
 use Rattle.bt_laws.proofs.lemmas.same.GapsHit.{complement_spans, unhidden, hidden_other}
 use Rattle.bt_laws.proofs.lemmas.Lists.{all_any, filter_all, flat_map_same, all_zip}
 use Rattle.bt_laws.proofs.lemmas.pipes.PipeLaws.{chroms_of, complement_whole, merge_whole, genomecov_whole}
-use Rattle.bt_laws.proofs.lemmas.same.RunsAgain.{complement_on, fault_as, told_same, writes_is, here_all, merge_on, none_there}
+use Rattle.bt_laws.proofs.lemmas.same.SameRuns.{complement_on, fault_as, told_same, writes_is, here_all, merge_on, none_there, alike_merged, all_counted}
 use Rattle.bt_laws.proofs.lemmas.parts.text.PartTexts.{order_total}
 use Rattle.std.proofs.lemmas.List.{map-append}
 use Rattle.bt_lines.specs.model.Handed.{whole_text}
@@ -47,7 +47,6 @@ use Rattle.bt_runs.specs.model.Levels.{HasValue, Level, begun_after, ended_after
 use Rattle.bt_runs.proofs.lemmas.order.ChromosomeLemmas.{spans_on-append, spans_on-elsewhere}
 use Rattle.bt_runs.proofs.lemmas.coverage.LevelLemmas.{are_levels}
 use Rattle.bt_laws.specs.same.SameSweeps.{LieWithinLengths}
-use Rattle.bt_laws.proofs.lemmas.same.AlikeRecords.{alike_merged, all_counted}
 use Rattle.bt_laws.proofs.lemmas.pipes.DepthParts.{shown}
 use Rattle.bt_laws.proofs.lemmas.back.SaidWell.{IsSaid, good_are_said}
 

@@ -25,7 +25,7 @@ use Rattle.bt_laws.specs.same.MaskLaws.{KeepsLines, sequence_lines, masked_by_bo
 use Rattle.bt_laws.specs.Runs.{piped, RunsWithoutFault, second_alone}
 use Rattle.bt_laws.proofs.lemmas.pipes.MaskPipes.{with_text}
 use Rattle.bt_laws.proofs.lemmas.same.MaskTwice.{header_from, masked_again, met_all, names_same, nones, output_there, read_items, read_none, second_none}
-use Rattle.bt_laws.proofs.lemmas.same.RunsAgain.{report_there, writes_is, back, run_names, run_spans}
+use Rattle.bt_laws.proofs.lemmas.same.SameRuns.{report_there, writes_is, back, run_names, run_spans, all_counted}
 use Rattle.bt_laws.proofs.lemmas.Lists.{flat_map_same, all_so, all_any}
 use Rattle.std.proofs.lemmas.List.Folds.{flat_map-map}
 use Rattle.bt_lines.specs.declared.fault.Input.{Input}
@@ -57,7 +57,6 @@ use Rattle.bt_laws.proofs.lemmas.pipes.PipeLaws.{merge_whole, well_there}
 use Rattle.bt_laws.proofs.lemmas.same.Blocks.{leave_alike, own_alike}
 use Rattle.bt_laws.proofs.lemmas.same.SameSweeps.{cut_none, uncut}
 use Rattle.bt_laws.proofs.lemmas.parts.text.PartTexts.{order_total}
-use Rattle.bt_laws.proofs.lemmas.same.AlikeRecords.{all_counted}
 
 -- ---- the same positions
 

@@ -32,7 +32,7 @@ use Rattle.bt_laws.specs.same.MaskLaws.{KeepsLines, layout_of, masked_keep_layou
 use Rattle.bt_laws.specs.Runs.{RunsWithoutFault, RunWrites, piped}
 use Rattle.bt_laws.proofs.lemmas.pipes.MaskPipes.{IsAgain, Stands, again_lines, with_text}
 use Rattle.bt_laws.proofs.lemmas.pipes.PipeLaws.{report_is, well_there}
-use Rattle.bt_laws.proofs.lemmas.same.RunsAgain.{report_there, writes_is}
+use Rattle.bt_laws.proofs.lemmas.same.SameRuns.{report_there, writes_is}
 use Rattle.bt_laws.proofs.lemmas.back.TailSays.{ends_both}
 use Rattle.bt_laws.proofs.lemmas.parts.report.PartSweep.{all_true}
 use Rattle.bt_laws.proofs.lemmas.Lists.{all_any}

@@ -56,12 +56,11 @@ use Rattle.bt_tool.specs.declared.planning.plan_type.Command.{Command}
 use Rattle.bt_laws.specs.same.SameSweeps.{merged_second_missing, merged_second_once, merged_second_subtract, one_base}
 use Rattle.bt_laws.specs.pipes.Taken.{IsInput, three_columns}
 use Rattle.bt_laws.proofs.lemmas.pipes.Covers.{SameCover, runs_cover, same_sym}
-use Rattle.bt_laws.proofs.lemmas.same.RunsAgain.{back, report_there, run_spans}
+use Rattle.bt_laws.proofs.lemmas.same.SameRuns.{back, report_there, run_spans, all_counted}
 use Rattle.bt_laws.proofs.lemmas.back.RunsBack.{merge_back}
 use Rattle.bt_laws.proofs.lemmas.back.SaidWell.{IsSaid, good_are_said}
 use Rattle.bt_laws.proofs.lemmas.back.SweepBack.{Hit, all_hits, cut_bounds, same_name}
 use Rattle.bt_laws.proofs.lemmas.parts.text.PartTexts.{order_total}
-use Rattle.bt_laws.proofs.lemmas.same.AlikeRecords.{all_counted}
 
 -- ---- two shapes that write the same lines of each record
 
