@@ -1,5 +1,5 @@
 -- Lemmas on parts, report.
-pub mod PartMaskFaults
+pub mod PartMaskReports
 pub mod PartMaskLaws
 pub mod PartMasked
 pub mod PartMerge

@@ -12,7 +12,7 @@ use Rattle.bt_tool.specs.model.report.RecordReport.{Report}
 use Rattle.bt_laws.specs.parts.SplitLaws.{ArePairs, Texts, joined_texts, on_texts}
 use Rattle.bt_tool.specs.declared.planning.plan_type.Command.TheVariants.{MaskFasta}
 use Rattle.bt_laws.proofs.lemmas.parts.report.PartMasked.{mask_is}
-use Rattle.bt_laws.proofs.lemmas.parts.report.PartMaskFaults.{Lacks, faulty_first, lacks_kind, sound_goes, sound_stops, AreTwo, mask_adds, texts_report, two_suffice}
+use Rattle.bt_laws.proofs.lemmas.parts.report.PartMaskReports.{Lacks, faulty_first, lacks_kind, sound_goes, sound_stops, AreTwo, mask_adds, texts_report, two_suffice}
 use Rattle.bt_laws.proofs.lemmas.parts.report.PartReports.{nothing, parts_add, stop_more, stop_none, stop_one}
 use Rattle.bt_laws.proofs.lemmas.parts.text.PartTexts.{lines_less, join_one}
 use Rattle.bt_laws.proofs.lemmas.parts.report.PartSweep.{unless_none}

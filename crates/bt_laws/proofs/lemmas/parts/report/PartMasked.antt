@@ -29,6 +29,7 @@ use Rattle.bt_tool.proofs.lemmas.running.members.CameMembers.{good_whole}
 use Rattle.bt_laws.proofs.lemmas.Lists.{all_so, flat_map_same}
 use Rattle.bt_laws.proofs.lemmas.parts.order.PartOwners.{IsLost, lost_fewer, own_first, own_second}
 use Rattle.bt_laws.proofs.lemmas.parts.text.PartSequences.{line_after}
+use Rattle.std.proofs.lemmas.List.Folds.{flat_map-map}
 
 -- ---- which fault is reported
 
@@ -167,10 +168,6 @@ module _ (how : MaskHow) where
           ∙ ap (line_by line) (own_second names rest ones kept n ns twos lost)
           ∙ sym (ap (λ own. line_by line (own_records own twos)) e)
 
-  pub flat_moved : (f : SequenceLine → List ℕ) (names : List (List ℕ)) (ls : List SequenceLine) → flat_map f (map (line_after names) ls) ≡ flat_map (λ l. f (line_after names l)) ls
-  flat_moved f names [] = refl
-  flat_moved f names (l ∷ ls) = ap (λ bytes. f (line_after names l) ++ bytes) (flat_moved f names ls)
-
   -- the lines of the first part
   pub lines_first : (names : List (List ℕ)) (ones twos : List Feature) (ls : List SequenceLine) → IsLost names ones twos → AllByRecursion (λ line. (more : List (List ℕ)) × (names ≡ line.names ++ more)) ls
       → flat_map (masked_line how (ones ++ twos)) ls ≡ flat_map (masked_line how ones) ls
@@ -183,4 +180,4 @@ module _ (how : MaskHow) where
   lines_both names rest ones twos ls ms kept lost begins named =
       flat_map-append (masked_line how (ones ++ twos)) ls (map (line_after names) ms)
       ∙ ap₂ (λ a b. a ++ b) (lines_first names ones twos ls lost begins)
-      (flat_moved (masked_line how (ones ++ twos)) names ms ∙ flat_map_same _ _ ms (all_so _ _ ms (λ line n. line_second names rest ones twos kept lost line n) named))
+      (flat_map-map (masked_line how (ones ++ twos)) (line_after names) ms ∙ flat_map_same _ _ ms (all_so _ _ ms (λ line n. line_second names rest ones twos kept lost line n) named))
