@@ -1,6 +1,6 @@
 -- Lemmas on parts, report.
-pub mod PartMaskReports
 pub mod PartMaskLaws
+pub mod PartMaskReports
 pub mod PartMasked
 pub mod PartMerge
 pub mod PartReports
