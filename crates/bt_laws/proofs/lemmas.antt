@@ -1,7 +1,7 @@
 -- Lemmas by theme.
+pub mod Lists
 pub mod back
 pub mod counts
-pub mod length
 pub mod parts
 pub mod pipes
 pub mod same

@@ -5,6 +5,6 @@
 #![tactic(auto)]
 
 pub mod counts;
+pub mod parts;
 pub mod pipes;
 pub mod same;
-pub mod split_laws;

@@ -1,9 +1,6 @@
 -- Lemmas on back.
 pub mod Clear
-pub mod Digits
-pub mod GapsBack
 pub mod LinesBack
-pub mod ReadBack
 pub mod RunsBack
 pub mod SaidWell
 pub mod SweepBack

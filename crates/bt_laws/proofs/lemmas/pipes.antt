@@ -3,7 +3,5 @@ pub mod ConvertPipes
 pub mod Covers
 pub mod DepthParts
 pub mod MaskPipes
-pub mod Pairs
 pub mod PipeLaws
-pub mod PipesApart
 pub mod Placing

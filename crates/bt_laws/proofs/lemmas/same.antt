@@ -1,11 +1,9 @@
 -- Lemmas on same.
-pub mod AlikeRecords
 pub mod Blocks
 pub mod GapsHit
-pub mod MaskBoth
-pub mod MaskMerged
+pub mod LengthLaws
+pub mod MaskBeds
 pub mod MaskSorted
 pub mod MaskTwice
-pub mod RunsAgain
-pub mod SameLines
+pub mod SameRuns
 pub mod SameSweeps

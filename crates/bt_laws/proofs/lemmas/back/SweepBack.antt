@@ -5,7 +5,6 @@ use Rattle.std.specs.List.{AllByRecursion}
 use Rattle.std.specs.Cmp.Lexicographic.{bytes_decides}
 use Rattle.std.specs.declared.cmp.Ordering.TheVariants.{Less, Equal}
 use Rattle.std.proofs.lemmas.Grind.{flat_map-append}
-use Rattle.std.proofs.lemmas.List.{map-append}
 use Rattle.bt_lines.specs.calls.LentLine.{NoLineFeed}
 use Rattle.bt_bed.specs.model.feature.Feature.{Feature, interval_of, intervals_of}
 use Rattle.bt_bed.specs.model.feature.Header.{is_header}
@@ -25,12 +24,10 @@ use Rattle.bt_sweep.proofs.lemmas.laws.PieceLemmas.{are_pieces}
 use Rattle.bt_sweep.proofs.lemmas.laws.RuleLemmas.{hit_overlaps, overlap_parts}
 use Rattle.bt_laws.specs.pipes.SweepLines.{begins_with_a, line_count}
 use Rattle.bt_laws.specs.pipes.Taken.{AreDisjoint, IsInput, is_no_header}
-use Rattle.bt_laws.proofs.lemmas.pipes.Pairs.{EachPair}
-use Rattle.bt_laws.proofs.lemmas.back.Clear.{clear_both, clear_tab}
-use Rattle.bt_laws.proofs.lemmas.back.Digits.{clear_number}
-use Rattle.bt_laws.proofs.lemmas.back.LinesBack.{Columns, IsColumns, lines_back, record_back, text_of_columns}
-use Rattle.bt_laws.proofs.lemmas.parts.text.PartLists.{all_any, all_both, all_flat_map, all_map, all_so, filter_all}
-use Rattle.bt_laws.proofs.lemmas.pipes.Placing.{all_zip, apart_pairs, pairs_both, pairs_filter, pairs_from_map, pairs_map, pairs_so}
+use Rattle.bt_laws.proofs.lemmas.Lists.{EachPair, all_any, all_both, all_flat_map, all_map, all_so, filter_all, all_zip, map_flat, map_map, all_unmap}
+use Rattle.bt_laws.proofs.lemmas.back.Clear.{clear_both, clear_tab, clear_number}
+use Rattle.bt_laws.proofs.lemmas.back.LinesBack.{Columns, IsColumns, lines_back, record_back, text_of_columns, placed_known}
+use Rattle.bt_laws.proofs.lemmas.pipes.Placing.{apart_pairs, pairs_both, pairs_filter, pairs_from_map, pairs_map, pairs_so}
 use Rattle.bt_laws.proofs.lemmas.back.SaidWell.{IsSaid}
 use Rattle.bt_laws.proofs.lemmas.back.TailSays.{tail_clear}
 
@@ -275,20 +272,8 @@ repeated_pairs : {A : Type 0} (R : A → A → Type 0) (n : ℕ) (x : A) → R x
 repeated_pairs R zero x p = tt
 repeated_pairs R (suc n) x p = (repeated (R x) n x p, repeated_pairs R n x p)
 
-pub map_flat : {A B C : Type 0} (h : B → C) (f : A → List B) (g : A → List C) (xs : List A) → ((x : A) → map h (f x) ≡ g x) → map h (flat_map f xs) ≡ flat_map g xs
-map_flat h f g [] e = refl
-map_flat h f g (x ∷ xs) e = map-append h (f x) (flat_map f xs) ∙ ap₂ (λ a b. a ++ b) (e x) (map_flat h f g xs e)
-
 no_headers : (lines : List Columns) → AllByRecursion (λ (line : Columns). is_header line.at.chrom ≡ false) lines → filter is_no_header (map record_back lines) ≡ map record_back lines
 no_headers lines h = filter_all is_no_header (map record_back lines) (all_map (λ r. is_no_header r ≡ true) record_back lines (all_so (λ (line : Columns). is_header line.at.chrom ≡ false) (λ line. not (is_header line.at.chrom) ≡ true) lines (λ line e. ap not e) h))
-
-back_at : (lines : List Columns) → intervals_of (map record_back lines) ≡ map (λ line. line.at) lines
-back_at [] = refl
-back_at (line ∷ lines) = ap (λ rs. line.at ∷ rs) (back_at lines)
-
-all_known : (order : Order) (as_read : List Feature) → ArePlaced order (intervals_of as_read) → AllByRecursion (λ (a : Feature). IsTrue (order.knows a.chrom)) as_read
-all_known order [] placed = tt
-all_known order (a ∷ more) placed = (placed.0, all_known order more placed.2)
 
 pub pairs_of_places : (order : Order) (total : IsTotal order) (as_read : List Feature) → EachPair (UpTo order total) (intervals_of as_read) → EachPair (λ (a b : Feature). UpTo order total (interval_of a) (interval_of b)) as_read
 pairs_of_places order total as_read h = pairs_from_map (UpTo order total) interval_of as_read h
@@ -331,7 +316,7 @@ module _ (order : Order) (total : IsTotal order) (shape : Shape) (rule : HitRule
       (subst (IsInput order (flat_map line_text lines)) (no_headers lines all_named) (lines_back order total lines all_are at))
 
   known_all : AllByRecursion (λ (a : Feature). IsTrue (order.knows a.chrom)) first
-  known_all = all_known order first placed
+  known_all = all_unmap _ interval_of first (placed_known order (intervals_of first) placed)
 
   -- lines that begin with records of the first input
   module _ (begins : begins_with_a shape ≡ true) where
@@ -457,7 +442,7 @@ module _ (order : Order) (total : IsTotal order) where
     cut_pairs : EachPair LineUpTo cut_lines
     unfolding cut_lines
     cut_pairs = pairs_flat LineUpTo cut_part first
-        (all_so (λ (a : Feature). IsTrue (order.knows a.chrom)) (λ a. EachPair LineUpTo (cut_part a)) first (λ a known. part_rises shape a (hits_among rule a second) cuts (hits_rise rule a second known said_second placed_second)) (all_known order first placed))
+        (all_so (λ (a : Feature). IsTrue (order.knows a.chrom)) (λ a. EachPair LineUpTo (cut_part a)) first (λ a known. part_rises shape a (hits_among rule a second) cuts (hits_rise rule a second known said_second placed_second)) (all_unmap _ interval_of first (placed_known order (intervals_of first) placed)))
         (cross_all LineUpTo cross_up)
 
     cut_placed : ArePlaced order (map (λ (line : Columns). line.at) cut_lines)
@@ -465,7 +450,7 @@ module _ (order : Order) (total : IsTotal order) where
     cut_placed = pairs_placed order total (map (λ (line : Columns). line.at) cut_lines)
         (all_map (λ (r : Interval). IsTrue (order.knows r.chrom)) (λ (line : Columns). line.at) cut_lines
         (all_flat_map (λ (line : Columns). IsTrue (order.knows line.at.chrom)) cut_part first (all_zip (λ a. AllByRecursion (IsWithin a) (cut_part a)) (λ (a : Feature). IsTrue (order.knows a.chrom)) (λ a. AllByRecursion (λ (line : Columns). IsTrue (order.knows line.at.chrom)) (cut_part a)) first
-        (λ a within known. all_so (IsWithin a) (λ (line : Columns). IsTrue (order.knows line.at.chrom)) (cut_part a) (λ line w. subst (λ name. IsTrue (order.knows name)) (sym w.same) known) within) all_within (all_known order first placed))))
+        (λ a within known. all_so (IsWithin a) (λ (line : Columns). IsTrue (order.knows line.at.chrom)) (cut_part a) (λ line w. subst (λ name. IsTrue (order.knows name)) (sym w.same) known) within) all_within (all_unmap _ interval_of first (placed_known order (intervals_of first) placed)))))
         (pairs_map (UpTo order total) (λ (line : Columns). line.at) cut_lines cut_pairs)
 
   pub cut_back : (shape : Shape) (rule : HitRule) (first second : List Feature) (said : AllByRecursion IsSaid first) (said_second : AllByRecursion IsSaid second) (placed : ArePlaced order (intervals_of first)) (placed_second : ArePlaced order (intervals_of second))
@@ -480,7 +465,7 @@ module _ (order : Order) (total : IsTotal order) where
   unfolding cut_lines lines all_columns part columns_for piece_columns
   pieces_back rule first second said said_second placed placed_second apart =
       let cut = cut_lines Pieces rule first second said said_second placed placed_second apart refl in
-      subst (EachPair AreDisjoint) (sym (back_at cut))
+      subst (EachPair AreDisjoint) (sym (map_map record_back interval_of (λ line. line.at) cut (all_any _ cut (λ line. refl))))
       (pairs_map AreDisjoint (λ (line : Columns). line.at) cut
       (pairs_flat (λ k l. AreDisjoint k.at l.at) (λ a. map (piece_columns a) (pieces a (hits_among rule a second))) first
       (all_any _ first (λ a. pairs_map (λ k l. AreDisjoint k.at l.at) (piece_columns a) (pieces a (hits_among rule a second))

@@ -3,12 +3,10 @@ use Rattle.std.proofs.Common.{◌≡◌, ℕ, ◌<◌, Bool, true, false, List, 
 use Rattle.std.specs.Prelude.{IsTrue, bytes_eq, flat_map, replicate, if◌then◌else◌}
 use Rattle.std.specs.List.{AllByRecursion}
 use Rattle.std.specs.Io.BufRead.{ends_with_byte, strip_last}
-use Rattle.std.proofs.lemmas.Bool.Decides.{nat_tests}
 use Rattle.std.proofs.lemmas.List.{map-append}
-use Rattle.std.proofs.lemmas.List.Elements.{All-from_recursion}
 use Rattle.std.proofs.lemmas.List.Splits.{slice_split_at}
 use Rattle.bt_lines.specs.model.Lines.{pieces as columns_of}
-use Rattle.bt_lines.proofs.lemmas.reader.lines.ColumnLemmas.{IsColumn, IsInside}
+use Rattle.bt_lines.proofs.lemmas.reader.lines.ColumnLemmas.{IsColumn}
 use Rattle.bt_lines.proofs.lemmas.reader.lines.LinesLemmas.{strip_last-other}
 use Rattle.bt_bed.specs.model.feature.Feature.{Feature, interval_of, intervals_of}
 use Rattle.bt_bed.specs.model.feature.Record.{IsName, bed_text, columns_in, cut_to, is_kept, kept_columns, strand_named, strand_of}
@@ -23,35 +21,31 @@ use Rattle.bt_sweep.specs.declared.hits.hit_rule.HitRule.{HitRule}
 use Rattle.bt_sweep.specs.declared.output.shape.Shape.{Shape}
 use Rattle.bt_sweep.specs.declared.output.shape.Shape.TheVariants.{Count, Cut, CutAndB, Missing, Once, OrigA, OrigBoth, Overlap, Pieces, Whole}
 use Rattle.bt_laws.specs.pipes.SweepLines.{EndsPlain, TakesNoStrand, begins_with_a, copies_written, is_a_alone, line_count, read_alone, read_before, records_for, records_written}
-use Rattle.bt_laws.proofs.lemmas.back.Digits.{IsDigit, decimal_digits, strip_number}
-use Rattle.bt_laws.proofs.lemmas.back.LinesBack.{Columns, record_back}
+use Rattle.bt_laws.proofs.lemmas.back.Clear.{IsDigit, decimal_digits, strip_number, number_column}
+use Rattle.bt_laws.proofs.lemmas.back.LinesBack.{record_back}
 use Rattle.bt_laws.proofs.lemmas.back.SaidWell.{IsSaid}
-use Rattle.bt_laws.proofs.lemmas.back.SweepBack.{Hit, all_columns, all_hits, columns_at, columns_for, hit_columns, kept_more, map_flat, part, piece_columns, same_name}
+use Rattle.bt_laws.proofs.lemmas.back.SweepBack.{Hit, all_columns, all_hits, columns_at, columns_for, hit_columns, kept_more, part, piece_columns, same_name}
 use Rattle.bt_laws.proofs.lemmas.back.TailSays.{columns_text, kept_by, name_first, record_with, strip_both, strip_columns}
-use Rattle.bt_laws.proofs.lemmas.parts.text.PartLists.{all_any, all_so}
+use Rattle.bt_laws.proofs.lemmas.Lists.{all_any, all_so, flat_map_same, all_zip, map_map, map_flat}
 
 -- ---- the columns of a line, read again
 
 before_tail : (a : Feature) (text : List ℕ) → record_back (columns_at a (a.rest ++ 9 ∷ text)) ≡ read_before text a
 before_tail a text = ap (record_with a.chrom a.start a.stop) (strip_both 13 a.rest (9 ∷ text) (omega arith))
 
-map_read : {B : Type 0} (f : B → Feature) (g : B → Columns) (bs : List B) → ((b : B) → record_back (g b) ≡ f b) → map record_back (map g bs) ≡ map f bs
-map_read f g [] e = refl
-map_read f g (b ∷ bs) e = ap₂ (λ x y. x ∷ y) (e b) (map_read f g bs e)
-
 read_as : (shape : Shape) (a : Feature) (found : List Feature) → map record_back (columns_for shape a found) ≡ records_for shape a found
 unfolding columns_for hit_columns piece_columns
-read_as Cut a found = map_read (λ b. read_alone (cut a b)) (hit_columns Cut a) found (λ b. refl)
-read_as OrigA a found = map_read (λ b. read_alone a) (hit_columns OrigA a) found (λ b. refl)
-read_as CutAndB a found = map_read (λ b. read_before (bed_text b) (cut a b)) (hit_columns CutAndB a) found (λ b. before_tail (cut a b) (bed_text b))
-read_as OrigBoth a found = map_read (λ b. read_before (bed_text b) a) (hit_columns OrigBoth a) found (λ b. before_tail a (bed_text b))
-read_as Overlap a found = map_read (λ b. read_before (bed_text b ++ 9 ∷ decimal (shared_bases a b)) a) (hit_columns Overlap a) found (λ b. before_tail a (bed_text b ++ 9 ∷ decimal (shared_bases a b)))
+read_as Cut a found = map_map (hit_columns Cut a) record_back (λ b. read_alone (cut a b)) found (all_any _ found (λ b. refl))
+read_as OrigA a found = map_map (hit_columns OrigA a) record_back (λ b. read_alone a) found (all_any _ found (λ b. refl))
+read_as CutAndB a found = map_map (hit_columns CutAndB a) record_back (λ b. read_before (bed_text b) (cut a b)) found (all_any _ found (λ b. before_tail (cut a b) (bed_text b)))
+read_as OrigBoth a found = map_map (hit_columns OrigBoth a) record_back (λ b. read_before (bed_text b) a) found (all_any _ found (λ b. before_tail a (bed_text b)))
+read_as Overlap a found = map_map (hit_columns Overlap a) record_back (λ b. read_before (bed_text b ++ 9 ∷ decimal (shared_bases a b)) a) found (all_any _ found (λ b. before_tail a (bed_text b ++ 9 ∷ decimal (shared_bases a b))))
 read_as Once a [] = refl
 read_as Once a (b ∷ more) = refl
 read_as Missing a [] = refl
 read_as Missing a (b ∷ more) = refl
 read_as Count a found = ap (λ r. r ∷ []) (before_tail a (decimal (length found)))
-read_as Pieces a found = map_read (λ p. read_alone (cut_to p.start p.stop a)) (piece_columns a) (pieces a found) (λ p. refl)
+read_as Pieces a found = map_map (piece_columns a) record_back (λ p. read_alone (cut_to p.start p.stop a)) (pieces a found) (all_any _ (pieces a found) (λ p. refl))
 read_as Whole a [] = refl
 read_as Whole a (b ∷ more) = refl
 
@@ -73,10 +67,6 @@ same_all f a (b ∷ found) e = ap₂ (λ x y. x ∷ y) (e b) (same_all f a found
 map_flat_same : {X : Type 0} (h : Feature → X) (f g : Feature → List Feature) (first : List Feature) → AllByRecursion (λ a. map h (f a) ≡ map h (g a)) first → map h (flat_map f first) ≡ map h (flat_map g first)
 map_flat_same h f g [] e = refl
 map_flat_same h f g (a ∷ first) e = map-append h (f a) (flat_map f first) ∙ ap₂ (λ x y. x ++ y) e.0 (map_flat_same h f g first e.1) ∙ sym (map-append h (g a) (flat_map g first))
-
-flat_same : (f g : Feature → List Feature) (first : List Feature) → AllByRecursion (λ a. f a ≡ g a) first → flat_map f first ≡ flat_map g first
-flat_same f g [] e = refl
-flat_same f g (a ∷ first) e = ap₂ (λ x y. x ++ y) e.0 (flat_same f g first e.1)
 
 -- ---- places
 
@@ -122,27 +112,13 @@ alone_for Pieces a found e same = cc
 alone_for Whole a [] e same = ap (λ r. r ∷ []) same
 alone_for Whole a (b ∷ more) e same = refl
 
-both_so : (P Q R : Feature → Type 0) (xs : List Feature) → ((x : Feature) → P x → Q x → R x) → AllByRecursion P xs → AllByRecursion Q xs → AllByRecursion R xs
-both_so P Q R [] f h k = tt
-both_so P Q R (x ∷ xs) f h k = (f x h.0 k.0, both_so P Q R xs f h.1 k.1)
-
 pub records_stay : (shape : Shape) (rule : HitRule) (first second : List Feature) → is_a_alone shape ≡ true → AllByRecursion IsSaid first → AllByRecursion EndsPlain first → records_written shape rule first second ≡ copies_written shape rule first second
 records_stay shape rule first second e said plain =
-    flat_same (λ a. records_for shape a (hits_among rule a second)) (λ a. replicate (line_count shape (length (hits_among rule a second))) a) first
-    (both_so IsSaid EndsPlain (λ a. records_for shape a (hits_among rule a second) ≡ replicate (line_count shape (length (hits_among rule a second))) a) first
+    flat_map_same (λ a. records_for shape a (hits_among rule a second)) (λ a. replicate (line_count shape (length (hits_among rule a second))) a) first
+    (all_zip IsSaid EndsPlain (λ a. records_for shape a (hits_among rule a second) ≡ replicate (line_count shape (length (hits_among rule a second))) a) first
     (λ a is ends. alone_for shape a (hits_among rule a second) e (alone_same a is ends)) said plain)
 
 -- ---- a number is a column, and names no strand
-
-digit_inside : (c : ℕ) → IsDigit c → IsInside c
-digit_inside c h = grind (arith, nat_tests)
-
-digits_inside : (ds : List ℕ) → AllByRecursion IsDigit ds → AllByRecursion IsInside ds
-digits_inside [] h = tt
-digits_inside (c ∷ cs) h = (digit_inside c h.0, digits_inside cs h.1)
-
-pub number_column : (n : ℕ) → IsColumn (decimal n)
-number_column n = All-from_recursion IsInside (decimal n) (digits_inside (decimal n) (decimal_digits n))
 
 no_sign : (c : ℕ) (cs : List ℕ) (byte : ℕ) → IsDigit c → byte < 48 → bytes_eq (c ∷ cs) (byte ∷ []) ≡ false
 no_sign c cs byte h low = name_ne (c ∷ cs) (byte ∷ []) (λ e. let same : c ≡ byte = cc in absurd (omega (arith, same, h.0, low)))
@@ -195,7 +171,7 @@ two_alike : (a b c d : List ℕ) (more : List (List ℕ)) → strand_of (a ∷ b
 two_alike a b c d [] = refl
 two_alike a b c d (x ∷ more) = refl
 
--- more columns don't change the strand, where the one that becomes the sixth names none
+-- more columns don't change the strand, if the one that becomes the sixth names none
 more_strand : (xs more : List (List ℕ)) → strand_of more ≡ Dot → strand_of ([] ∷ more) ≡ Dot → (length xs ≡ 2 → strand_of ([] ∷ [] ∷ more) ≡ Dot) → strand_of (xs ++ more) ≡ strand_of xs
 more_strand [] more none one two = none
 more_strand (a ∷ []) more none one two = first_alike a [] more ∙ one
@@ -257,5 +233,5 @@ pub strands_stay : (shape : Shape) (rule : HitRule) (first second : List Feature
     → map (λ (r : Feature). r.strand) (records_written shape rule first second) ≡ map (λ (r : Feature). r.strand) (copies_written shape rule first second)
 strands_stay shape rule first second e alone said said_second unsigned =
     map_flat_same (λ (r : Feature). r.strand) (λ a. records_for shape a (hits_among rule a second)) (λ a. replicate (line_count shape (length (hits_among rule a second))) a) first
-    (both_so IsSaid (TakesNoStrand shape) (λ a. map (λ (r : Feature). r.strand) (records_for shape a (hits_among rule a second)) ≡ map (λ (r : Feature). r.strand) (replicate (line_count shape (length (hits_among rule a second))) a)) first
+    (all_zip IsSaid (TakesNoStrand shape) (λ a. map (λ (r : Feature). r.strand) (records_for shape a (hits_among rule a second)) ≡ map (λ (r : Feature). r.strand) (replicate (line_count shape (length (hits_among rule a second))) a)) first
     (λ a is takes. strands_for a is rule shape (hits_among rule a second) e alone takes (all_hits rule a second said_second)) said unsigned)

@@ -1,16 +1,10 @@
 -- What a line says that begins with a name and two numbers.
-use Rattle.std.proofs.Common.{◌≡◌, ℕ, ◌+◌, ◌-◌, ◌<◌, ◌≤◌, Bool, true, false, cond, ◌||◌, List, [], ◌∷◌, ◌++◌, length, Option, Some, None, Ok, refl, sym, ap, ◌∙◌, subst, append_assoc, append-nil, eqb, arith, decimal}
+use Rattle.std.proofs.Common.{◌≡◌, ℕ, ◌+◌, ◌-◌, ◌<◌, ◌≤◌, Bool, true, false, cond, ◌||◌, List, [], ◌∷◌, ◌++◌, length, Option, Some, None, Ok, refl, sym, ap, ◌∙◌, subst, append_assoc, append-nil, arith, decimal}
 use Rattle.std.specs.Prelude.{IsTrue, ◌==◌, codes, nat_lt}
-use Rattle.std.specs.Int.{IsInRange}
-use Rattle.std.specs.List.{AllByRecursion}
 use Rattle.std.specs.Io.BufRead.{ends_with_byte, strip_last}
-use Rattle.std.specs.Str.Parse.{AllDigits}
 use Rattle.std.proofs.lemmas.Bool.{lt-ltb}
-use Rattle.std.proofs.lemmas.Bool.Decides.{nat_tests}
 use Rattle.std.proofs.lemmas.Fmt.{decimal_is_IsNumeral}
 use Rattle.std.proofs.lemmas.List.{append_cancel_right, get_or-append-add, length-append}
-use Rattle.std.proofs.lemmas.List.Elements.{All-cons, All-nil}
-use Rattle.std.proofs.lemmas.Str.Parse.{digit_from_value}
 use Rattle.bt_lines.specs.calls.LentLine.{NoLineFeed}
 use Rattle.bt_lines.proofs.lemmas.reader.lines.LinesLemmas.{strip_last-other, strip_last-push}
 use Rattle.bt_bed.specs.model.feature.Feature.{Feature}
@@ -19,8 +13,7 @@ use Rattle.bt_bed.specs.model.feature.Record.{IsName, columns_in, is_kept, recor
 use Rattle.bt_bed.proofs.lemmas.parse.FeatureLemmas.{header_says}
 use Rattle.bt_bed.proofs.lemmas.parse.HeaderLemmas.{of_word}
 use Rattle.bt_bed.proofs.lemmas.write.RoundTrip.{written_feature}
-use Rattle.bt_laws.proofs.lemmas.back.Clear.{clear_both, clear_tab}
-use Rattle.bt_laws.proofs.lemmas.parts.text.PartLists.{all_back}
+use Rattle.bt_laws.proofs.lemmas.back.Clear.{clear_both, clear_tab, clear_number, strip_decimal}
 
 -- ---- a byte at the end
 
@@ -43,32 +36,6 @@ pub strip_both : (byte : ℕ) (front back : List ℕ) → 0 < length back → st
 strip_both byte front back some = strip_both_by byte front back (ends_with_byte byte back) some refl
 
 -- ---- digits
-
-clear_digit : (c : ℕ) → IsInRange 48 57 c → eqb c 10 ≡ false
-clear_digit c h = grind (arith, nat_tests)
-
-no_return : (c : ℕ) → IsInRange 48 57 c → eqb c 13 ≡ false
-no_return c h = grind (arith, nat_tests)
-
-clear_digits : (ds : List ℕ) → AllDigits 10 ds → NoLineFeed ds
-clear_digits [] h = All-nil (λ b. eqb b 10 ≡ false)
-clear_digits (c ∷ cs) h = All-cons (λ b. eqb b 10 ≡ false) c cs (clear_digit c (digit_from_value c h.0)) (clear_digits cs h.1)
-
-digits_none : (ds : List ℕ) → AllDigits 10 ds → AllByRecursion (λ b. eqb b 13 ≡ false) ds
-digits_none [] h = tt
-digits_none (c ∷ cs) h = (no_return c (digit_from_value c h.0), digits_none cs h.1)
-
-strip_none_by : (ds : List ℕ) (b : Bool) → ends_with_byte 13 ds ≡ b → AllByRecursion (λ b. eqb b 13 ≡ false) ds → strip_last 13 ds ≡ ds
-strip_none_by ds true e h =
-    let end = all_back (λ b. eqb b 13 ≡ false) (strip_last 13 ds) (13 ∷ []) (subst (AllByRecursion (λ b. eqb b 13 ≡ false)) (sym (strip_last-push 13 ds e)) h) in
-    absurd (let apart : true ≡ false = end.0 in cc)
-strip_none_by ds false e h = strip_last-other 13 ds e
-
-pub clear_decimal : (n : ℕ) → n ≤ 999999999999 → NoLineFeed (decimal n)
-clear_decimal n small = clear_digits (decimal n) (decimal_is_IsNumeral n (omega arith)).0.1
-
-pub strip_decimal : (n : ℕ) → n ≤ 999999999999 → strip_last 13 (decimal n) ≡ decimal n
-strip_decimal n small = strip_none_by (decimal n) (ends_with_byte 13 (decimal n)) refl (digits_none (decimal n) (decimal_is_IsNumeral n (omega arith)).0.1)
 
 pub some_digits : (n : ℕ) → n ≤ 999999999999 → 0 < length (decimal n)
 some_digits n small = (decimal_is_IsNumeral n (omega arith)).0.0
@@ -116,7 +83,7 @@ module _ (chrom : List ℕ) (start stop : ℕ) (named : IsName chrom) (below : s
       let front = chrom ++ codes "\t" ++ decimal start ++ codes "\t" in
       let is : (tail : List ℕ) → columns_text chrom start stop tail ≡ front ++ (decimal stop ++ tail) = λ tail. simp append_assoc in
       ap (strip_last 13) (is []) ∙ strip_both 13 front (decimal stop ++ []) (omega (arith, length-append (decimal stop) [], some_digits stop small))
-      ∙ ap (λ l. front ++ strip_last 13 l) (append-nil (decimal stop)) ∙ ap (λ l. front ++ l) (strip_decimal stop small ∙ sym (append-nil (decimal stop))) ∙ sym (is [])
+      ∙ ap (λ l. front ++ strip_last 13 l) (append-nil (decimal stop)) ∙ ap (λ l. front ++ l) (strip_decimal stop ∙ sym (append-nil (decimal stop))) ∙ sym (is [])
   strip_columns (byte ∷ bytes) =
       let front = chrom ++ codes "\t" ++ decimal start ++ codes "\t" ++ decimal stop in
       let is : (tail : List ℕ) → columns_text chrom start stop tail ≡ front ++ tail = λ tail. simp append_assoc in
@@ -140,5 +107,5 @@ module _ (chrom : List ℕ) (start stop : ℕ) (named : IsName chrom) (below : s
       subst NoLineFeed (sym (name_first tail))
       (clear_both chrom (9 ∷ (decimal start ++ 9 ∷ (decimal stop ++ tail))) clear
       (clear_tab (decimal start ++ 9 ∷ (decimal stop ++ tail))
-      (clear_both (decimal start) (9 ∷ (decimal stop ++ tail)) (clear_decimal start (omega (arith, below, small)))
-      (clear_tab (decimal stop ++ tail) (clear_both (decimal stop) tail (clear_decimal stop small) behind)))))
+      (clear_both (decimal start) (9 ∷ (decimal stop ++ tail)) (clear_number start)
+      (clear_tab (decimal stop ++ tail) (clear_both (decimal stop) tail (clear_number stop) behind)))))

@@ -18,7 +18,7 @@ use Rattle.bt_bed.specs.declared.record.strand.Strand.{Strand}
 use Rattle.bt_bed.specs.declared.record.strand.Strand.TheVariants.{Dot, Minus, Plus}
 use Rattle.bt_bed.proofs.lemmas.parse.NameLemmas.{name_eq-sym}
 use Rattle.bt_sweep.specs.model.Hits.{has_fraction, hits, hits_among, is_enough, shared_bases, strands_agree}
-use Rattle.bt_sweep.specs.model.IntersectLines.{hit_line, intersect, lines_for}
+use Rattle.bt_sweep.specs.model.IntersectLines.{intersect, lines_for}
 use Rattle.bt_sweep.specs.declared.hits.hit_rule.HitRule.{HitRule}
 use Rattle.bt_sweep.specs.declared.output.shape.Shape.TheVariants.{OrigBoth}
 use Rattle.bt_sweep.proofs.lemmas.laws.RuleLemmas.{enough_of_nothing}
@@ -28,8 +28,8 @@ use Rattle.bt_tool.specs.declared.planning.plan_type.Command.TheVariants.{Inters
 use Rattle.bt_laws.specs.counts.PairSides.{IsMutual, HitPair, exchanged, pair_line, pairs_have_two_sides, pairs_of, with_sides_exchanged}
 use Rattle.bt_laws.specs.Runs.{first_records, second_records, RunWrites}
 use Rattle.bt_laws.proofs.lemmas.pipes.PipeLaws.{intersect_whole, well_there}
-use Rattle.bt_laws.proofs.lemmas.same.SameLines.{writes_lines}
-use Rattle.bt_laws.proofs.lemmas.same.SameSweeps.{cut_none, like_from, met_faultless, met_none, other_input, sweeps_from, uncut}
+use Rattle.bt_laws.proofs.lemmas.same.SameSweeps.{writes_lines, cut_none, like_from, met_faultless, met_none, other_input, sweeps_from, uncut}
+use Rattle.std.proofs.lemmas.List.Folds.{flat_map-map}
 
 -- ---- a rule that asks the same of both
 
@@ -41,14 +41,9 @@ and_swap false false = refl
 
 strand_swap : (s t : Strand) → is_strand s t ≡ is_strand t s
 strand_swap Plus Plus = refl
-strand_swap Plus Minus = refl
-strand_swap Plus Dot = refl
-strand_swap Minus Plus = refl
 strand_swap Minus Minus = refl
-strand_swap Minus Dot = refl
-strand_swap Dot Plus = refl
-strand_swap Dot Minus = refl
 strand_swap Dot Dot = refl
+strand_swap s t = refl
 
 min_swap : (a b : ℕ) → min a b ≡ min b a
 min_swap a b = omega arith
@@ -139,15 +134,11 @@ module _ (rule : HitRule) (even : IsMutual rule) where
 
 -- ---- the lines
 
-lines_each : (a : Feature) (found : List Feature) → flat_map (hit_line OrigBoth a) found ≡ flat_map pair_line (map (λ (b : Feature). record { left = a; right = b }) found)
-lines_each a [] = refl
-lines_each a (b ∷ found) = ap (λ l. hit_line OrigBoth a b ++ l) (lines_each a found)
-
 pair_lines : (rule : HitRule) (first second : List Feature) → intersect OrigBoth rule first second ≡ flat_map pair_line (pairs_of rule first second)
 unfolding lines_for
 pair_lines rule [] second = refl
 pair_lines rule (a ∷ first) second =
-    ap₂ (λ x y. x ++ y) (lines_each a (hits_among rule a second)) (pair_lines rule first second)
+    ap₂ (λ x y. x ++ y) (sym (flat_map-map pair_line (λ (b : Feature). record { left = a; right = b }) (hits_among rule a second))) (pair_lines rule first second)
     ∙ sym (flat_map-append pair_line (map (λ (b : Feature). record { left = a; right = b }) (hits_among rule a second)) (pairs_of rule first second))
 
 -- what is good of the first input is good of it as a second one

@@ -21,10 +21,9 @@ use Rattle.bt_laws.specs.counts.PartBases.{PartBases, intersect_and_subtract_par
 use Rattle.bt_laws.specs.pipes.SweepLines.{read_alone, records_for, records_written}
 use Rattle.bt_laws.proofs.lemmas.same.GapsHit.{covered_cut, cut_covered, cut_span}
 use Rattle.bt_laws.proofs.lemmas.pipes.PipeLaws.{cut_intersect_input, subtract_input}
-use Rattle.bt_laws.proofs.lemmas.same.RunsAgain.{here_all, none_there, report_there}
-use Rattle.bt_laws.proofs.lemmas.same.SameLines.{other_shape}
-use Rattle.bt_laws.proofs.lemmas.same.SameSweeps.{hit_back, hit_to}
-use Rattle.bt_laws.proofs.lemmas.back.SweepBack.{map_flat}
+use Rattle.bt_laws.proofs.lemmas.same.SameRuns.{here_all, none_there, report_there}
+use Rattle.bt_laws.proofs.lemmas.same.SameSweeps.{other_shape, hit_back, hit_to}
+use Rattle.bt_laws.proofs.lemmas.Lists.{map_flat, map_map, all_any}
 
 -- ---- spans of each record, on its chromosome
 
@@ -126,15 +125,11 @@ cut_each : (a : Feature) (found : List Feature) → intervals_of (records_for Cu
 cut_each a [] = refl
 cut_each a (b ∷ found) = ap (λ l. placed_on a.chrom (cut_span a b) ∷ l) (cut_each a found)
 
-left_spans : (a : Feature) (ps : List Span) → intervals_of (map (λ (p : Span). read_alone (cut_to p.start p.stop a)) ps) ≡ map (placed_on a.chrom) ps
-left_spans a [] = refl
-left_spans a (p ∷ ps) = ap (λ l. placed_on a.chrom p ∷ l) (left_spans a ps)
-
 cut_places : (bs as_read : List Feature) → intervals_of (records_written Cut any_overlap as_read bs) ≡ places (cuts bs) as_read
 cut_places bs as_read = map_flat interval_of (λ a. records_for Cut a (hits_among any_overlap a bs)) (λ a. map (placed_on a.chrom) (cuts bs a)) as_read (λ a. cut_each a (hits_among any_overlap a bs))
 
 left_places : (bs as_read : List Feature) → intervals_of (records_written Pieces any_overlap as_read bs) ≡ places (lefts bs) as_read
-left_places bs as_read = map_flat interval_of (λ a. records_for Pieces a (hits_among any_overlap a bs)) (λ a. map (placed_on a.chrom) (lefts bs a)) as_read (λ a. left_spans a (lefts bs a))
+left_places bs as_read = map_flat interval_of (λ a. records_for Pieces a (hits_among any_overlap a bs)) (λ a. map (placed_on a.chrom) (lefts bs a)) as_read (λ a. map_map (λ (p : Span). read_alone (cut_to p.start p.stop a)) interval_of (placed_on a.chrom) (lefts bs a) (all_any _ (lefts bs a) (λ p. refl)))
 
 -- ---- the runs
 

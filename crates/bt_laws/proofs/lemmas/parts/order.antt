@@ -1,7 +1,5 @@
 -- Lemmas on parts, order.
-pub mod PartChromosomes
 pub mod PartGenomes
 pub mod PartGood
 pub mod PartOwnGenomes
 pub mod PartOwners
-pub mod PartRanks

@@ -1,11 +1,8 @@
 -- Lemmas on parts, report.
-pub mod PartMaskFaults
 pub mod PartMaskLaws
-pub mod PartMaskSound
+pub mod PartMaskReports
 pub mod PartMasked
 pub mod PartMerge
 pub mod PartReports
 pub mod PartShards
-pub mod PartStrands
-pub mod PartSuffice
 pub mod PartSweep

@@ -2,8 +2,6 @@
 pub mod PartBed
 pub mod PartBlocks
 pub mod PartLines
-pub mod PartLists
 pub mod PartRecords
-pub mod PartSam
 pub mod PartSequences
 pub mod PartTexts

@@ -1,6 +1,6 @@
 -- The lines of alignments that are sorted are an input.
-use Rattle.std.proofs.Common.{◌≡◌, ◌||◌, ℕ, ◌+◌, ◌-◌, ◌<◌, ◌≤◌, Bool, true, false, cond, List, [], ◌∷◌, ◌++◌, append-nil, append_assoc, map, filter, length, Option, Some, None, Result, Ok, Err, inl, inr, refl, sym, ap, ap₂, ◌∙◌, subst, arith, eqb, leb, ltb, decimal}
-use Rattle.std.specs.Prelude.{codes, flat_map, if◌then◌else◌, option_map}
+use Rattle.std.proofs.Common.{◌≡◌, ◌||◌, ℕ, ◌+◌, ◌-◌, ◌<◌, ◌≤◌, Bool, true, false, cond, List, [], ◌∷◌, ◌++◌, append-nil, append_assoc, map, filter, length, Option, Some, None, Result, Ok, Err, inl, inr, refl, sym, ap, ◌∙◌, subst, arith, eqb, leb, ltb, decimal}
+use Rattle.std.specs.Prelude.{codes, if◌then◌else◌, option_map}
 use Rattle.std.specs.List.{AllByRecursion, join_with_byte}
 use Rattle.std.specs.Io.BufRead.{ends_with_byte, strip_last}
 use Rattle.std.proofs.lemmas.Bool.{cases_lt, false≢true, lt-ltb}
@@ -16,7 +16,6 @@ use Rattle.bt_lines.specs.declared.fault.Kind.TheVariants.{StopTooLarge}
 use Rattle.bt_lines.proofs.lemmas.reader.lines.ColumnLemmas.{IsColumn, IsInside}
 use Rattle.bt_lines.proofs.lemmas.reader.lines.LinesLemmas.{strip_last-other, strip_last-push}
 use Rattle.bt_bed.specs.model.input.Good.{Good, good_from, good_with, items_in}
-use Rattle.bt_bed.specs.model.order.Locus.{ArePlaced}
 use Rattle.bt_bed.specs.model.feature.Record.{IsName, columns_in, kept_columns, strand_named, strand_of}
 use Rattle.bt_bed.specs.declared.record.strand.Strand.TheVariants.{Plus, Minus}
 use Rattle.bt_bed.proofs.lemmas.parse.Kept.{kept_is_cut, pieces_are_columns}
@@ -31,12 +30,10 @@ use Rattle.bt_tool.specs.model.report.Report.{chromosomes_of, report_of, report_
 use Rattle.bt_tool.specs.declared.planning.plan_type.Command.TheVariants.{BamToBed}
 use Rattle.bt_laws.specs.pipes.ConvertPipes.{aligned_at, aligned_record, alignments_of, bamtobed_is_input}
 use Rattle.bt_laws.specs.pipes.Taken.{IsInput, is_no_header}
-use Rattle.bt_laws.proofs.lemmas.back.Clear.{AreClear, clear_back, clear_both, clear_front, clear_tab}
-use Rattle.bt_laws.proofs.lemmas.back.Digits.{clear_number}
-use Rattle.bt_laws.proofs.lemmas.back.LinesBack.{Columns, IsColumns, lines_back, record_back, text_of_columns}
-use Rattle.bt_laws.proofs.lemmas.back.SweepRead.{number_column}
+use Rattle.bt_laws.proofs.lemmas.back.Clear.{AreClear, clear_back, clear_both, clear_front, clear_tab, clear_number, number_column}
+use Rattle.bt_laws.proofs.lemmas.back.LinesBack.{Columns, IsColumns, record_back, text_of_columns, written_back}
 use Rattle.bt_laws.proofs.lemmas.back.TailSays.{ends_both, record_with, strip_both}
-use Rattle.bt_laws.proofs.lemmas.parts.text.PartLists.{all_map, all_so}
+use Rattle.bt_laws.proofs.lemmas.Lists.{all_so}
 use Rattle.bt_laws.proofs.lemmas.back.SaidWell.{clear_handed}
 
 small_by : (n : ℕ) → ltb 999999999999 n ≡ false → n ≤ 999999999999
@@ -217,10 +214,6 @@ unfolding cigar_tail
 line_as true a = simp (append_assoc, append-nil)
 line_as false a = simp (append_assoc, append-nil)
 
-lines_as : (cigar : Bool) (all : List Alignment) → alignment_lines false cigar all ≡ flat_map (λ line. text_of_columns line ++ 10 ∷ []) (map (aligned_columns cigar) all)
-lines_as cigar [] = refl
-lines_as cigar (a ∷ all) = ap₂ (λ x y. x ++ y) (line_as cigar a) (lines_as cigar all)
-
 clear_if : (b : Bool) (text : List ℕ) → NoLineFeed text → NoLineFeed (if b then text else [])
 clear_if true text h = h
 clear_if false text h = All-nil (λ c. eqb c 10 ≡ false)
@@ -253,10 +246,6 @@ columns_aligned cigar a is = record {
       (clear_both (decimal a.quality) (9 ∷ (strand_sign a.reverse ++ cigar_tail cigar a)) (clear_number a.quality)
       (clear_tab (strand_sign a.reverse ++ cigar_tail cigar a) (clear_both (strand_sign a.reverse) (cigar_tail cigar a) (clear_sign a.reverse) (clear_cigar_tail cigar a is.clear_cigar))))));
 }
-
-places_are : (cigar : Bool) (all : List Alignment) → map (λ (line : Columns). line.at) (map (aligned_columns cigar) all) ≡ map aligned_at all
-places_are cigar [] = refl
-places_are cigar (a ∷ all) = ap (λ l. aligned_at a ∷ l) (places_are cigar all)
 
 -- ---- the record that is read of it
 
@@ -319,10 +308,6 @@ record_is cigar a is =
     ap (record_with a.chrom a.start a.stop) (tail_plain cigar a is ∙ tail_kept cigar a)
     ∙ ap (λ s. record { chrom = a.chrom; start = a.start; stop = a.stop; strand = s; rest = kept_columns (read_name a ∷ columns_after cigar a) }) (strand_is cigar a is)
 
-records_are : (cigar : Bool) (all : List Alignment) → AllByRecursion IsAligned all → map record_back (map (aligned_columns cigar) all) ≡ map (aligned_record cigar) all
-records_are cigar [] are = refl
-records_are cigar (a ∷ all) are = ap₂ (λ r rs. r ∷ rs) (record_is cigar a are.0) (records_are cigar all are.1)
-
 output_is : (inputs : Inputs) (cigar : Bool) → inputs.genome ≡ None → (report_of (BamToBed false cigar) inputs).output ≡ alignment_lines false cigar (alignments_of inputs)
 unfolding report_of
 output_is inputs cigar none = ap (λ g. (report_on (BamToBed false cigar) (chromosomes_of g) inputs.first inputs.second).output) none
@@ -332,8 +317,5 @@ unfolding report_of
 bamtobed_input cigar inputs order total none placed =
     let all = alignments_of inputs in
     let aligned = aligned_lines First (lines_handed inputs.first) (clear_handed inputs.first) in
-    let lines = map (aligned_columns cigar) all in
-    let are = all_map IsColumns (aligned_columns cigar) all (all_so IsAligned (λ a. IsColumns (aligned_columns cigar a)) all (columns_aligned cigar) aligned) in
-    subst (λ text. IsInput order text (filter is_no_header (map (aligned_record cigar) all))) (sym (output_is inputs cigar none ∙ lines_as cigar all))
-    (subst (λ rs. IsInput order (flat_map (λ line. text_of_columns line ++ 10 ∷ []) lines) (filter is_no_header rs)) (records_are cigar all aligned)
-    (lines_back order total lines are (subst (ArePlaced order) (sym (places_are cigar all)) placed)))
+    subst (λ text. IsInput order text (filter is_no_header (map (aligned_record cigar) all))) (sym (output_is inputs cigar none))
+    (written_back order total (bed_lines false cigar) (aligned_columns cigar) (aligned_record cigar) all (line_as cigar) (all_so _ _ all (record_is cigar) aligned) (all_so _ _ all (columns_aligned cigar) aligned) placed)

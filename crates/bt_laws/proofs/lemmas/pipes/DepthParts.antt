@@ -22,7 +22,7 @@ use Rattle.bt_tool.specs.declared.planning.plan_type.Command.TheVariants.{Comple
 use Rattle.bt_laws.specs.Runs.{first_records}
 use Rattle.bt_laws.specs.same.SameRuns.{bg_is_bga_above_0, depth_0_is_complement, without_depth}
 use Rattle.bt_laws.proofs.lemmas.pipes.PipeLaws.{complement_whole, genomecov_whole}
-use Rattle.bt_laws.proofs.lemmas.same.RunsAgain.{fault_as, told_same}
+use Rattle.bt_laws.proofs.lemmas.same.SameRuns.{fault_as, told_same}
 
 -- ---- some of the levels
 

@@ -23,12 +23,12 @@ use Rattle.bt_laws.proofs.lemmas.back.TailSays.{ends_both, strip_both}
 abbrev pub with_text : SequenceLine → List ℕ → SequenceLine
 with_text line text = record { names = line.names; before = line.before; text = text; ending = line.ending }
 
--- a text that may stand in place of another
+-- a text that may replace another
 pub record Stands (old new : List ℕ) : Type 0 where
   pub clear : NoLineFeed new
   pub size : length new ≡ length old
   pub header : is_header new ≡ is_header old
-  -- no carriage return ends it, where none ended the other
+  -- no carriage return ends it, if none ended the other
   pub last : ends_with_byte 13 old ≡ false → ends_with_byte 13 new ≡ false
   -- a header stays
   pub same : is_header old ≡ true → new ≡ old
@@ -149,6 +149,13 @@ module _ (full : Bool) (input : Input) (f : SequenceLine → List ℕ) (safe : (
     pub items : items_in again ≡ map again_line lines
     pub faultless : again.fault ≡ None
 
+  -- these lines, written and read again
+  abbrev pub ReadAgain : ℕ → Reached → List TextLine → Type 0
+  ReadAgain m reached lines = IsAgain (items_in (goods reached lines)) (goods reached (lines_from m (flat_map written_line (items_in (goods reached lines)))))
+
+  abbrev pub ReadsAgain : List TextLine → Type 0
+  ReadsAgain lines = (m : ℕ) (reached : Reached) → (goods reached lines).fault ≡ None → ReadAgain m reached lines
+
   -- one line, and then the others
   again_with : (reached : Reached) (n m : ℕ) (line : TextLine) (said : Result (Option SequenceLine) Kind) (rest : List TextLine) (new_rest : List SequenceLine → List TextLine)
       → line_says full reached line ≡ said → NoLineFeed line.text
@@ -183,7 +190,7 @@ module _ (full : Bool) (input : Input) (f : SequenceLine → List ℕ) (safe : (
   single_by reached n line (Ok (Some x)) item more e = cc
 
   one_again : (n m : ℕ) (byte : ℕ) (bytes : List ℕ) (reached : Reached) → NoLineFeed (byte ∷ bytes) → (goods reached (last_line n (byte ∷ bytes))).fault ≡ None
-      → IsAgain (items_in (goods reached (last_line n (byte ∷ bytes)))) (goods reached (lines_from m (flat_map written_line (items_in (goods reached (last_line n (byte ∷ bytes)))))))
+      → ReadAgain m reached (last_line n (byte ∷ bytes))
   unfolding good_from
   one_again n m byte bytes reached clear none =
       let piece = byte ∷ bytes in
@@ -199,16 +206,12 @@ module _ (full : Bool) (input : Input) (f : SequenceLine → List ℕ) (safe : (
       ∙ last_by m (f item) b stands.clear (λ off. stands.last (subst (λ t. ends_with_byte 13 t ≡ false) (sym (strip_last-other 13 piece off)) off)) (λ off. subst (λ k. 0 < k) (sym (stands.size ∙ ap length (strip_last-other 13 piece off))) (omega arith))
       ∙ ap (λ l. line_at m (f item) (cond b Cr Absent) ∷ l) (sym (ap (λ l. lines_from (suc m) (flat_map written_line l)) none_more ∙ lines_from-nil (suc m))))
 
-  piece_again : (n : ℕ) (piece : List ℕ) → NoLineFeed piece → (m : ℕ) (reached : Reached) → (goods reached (last_line n piece)).fault ≡ None
-      → IsAgain (items_in (goods reached (last_line n piece))) (goods reached (lines_from m (flat_map written_line (items_in (goods reached (last_line n piece))))))
+  piece_again : (n : ℕ) (piece : List ℕ) → NoLineFeed piece → ReadsAgain (last_line n piece)
   unfolding good_from
   piece_again n [] clear m reached none = none_again m reached
   piece_again n (byte ∷ bytes) clear m reached none = one_again n m byte bytes reached clear none
 
-  next_again : (n : ℕ) (piece rest : List ℕ) → NoLineFeed piece
-      → ((m : ℕ) (reached : Reached) → (goods reached (lines_from (suc n) rest)).fault ≡ None → IsAgain (items_in (goods reached (lines_from (suc n) rest))) (goods reached (lines_from m (flat_map written_line (items_in (goods reached (lines_from (suc n) rest)))))))
-      → (m : ℕ) (reached : Reached) → (goods reached (fed_line n piece ∷ lines_from (suc n) rest)).fault ≡ None
-      → IsAgain (items_in (goods reached (fed_line n piece ∷ lines_from (suc n) rest))) (goods reached (lines_from m (flat_map written_line (items_in (goods reached (fed_line n piece ∷ lines_from (suc n) rest))))))
+  next_again : (n : ℕ) (piece rest : List ℕ) → NoLineFeed piece → ReadsAgain (lines_from (suc n) rest) → ReadsAgain (fed_line n piece ∷ lines_from (suc n) rest)
   unfolding good_from
   next_again n piece rest clear h m reached none =
       let b = ends_with_byte 13 piece in
@@ -221,22 +224,15 @@ module _ (full : Bool) (input : Input) (f : SequenceLine → List ℕ) (safe : (
       ap (λ l. lines_from m (flat_map written_line l)) is ∙ ap (λ e. lines_from m ((f item ++ end_bytes e) ++ flat_map written_line more)) ending
       ∙ fed_by m (f item) (flat_map written_line more) b stands.clear (λ off. stands.last (subst (λ t. ends_with_byte 13 t ≡ false) (sym (strip_last-other 13 piece off)) off)))
 
-  last_again : (n : ℕ) (piece : List ℕ) → NoLineFeed piece → (m : ℕ) (reached : Reached) → (goods reached (lines_from n piece)).fault ≡ None
-      → IsAgain (items_in (goods reached (lines_from n piece))) (goods reached (lines_from m (flat_map written_line (items_in (goods reached (lines_from n piece))))))
+  last_again : (n : ℕ) (piece : List ℕ) → NoLineFeed piece → ReadsAgain (lines_from n piece)
   last_again n piece clear m reached none =
-      subst (λ ls. IsAgain (items_in (goods reached ls)) (goods reached (lines_from m (flat_map written_line (items_in (goods reached ls)))))) (sym (lines_from-last n piece clear))
+      subst (λ ls. ReadAgain m reached ls) (sym (lines_from-last n piece clear))
       (piece_again n piece clear m reached (subst (λ ls. (goods reached ls).fault ≡ None) (lines_from-last n piece clear) none))
 
-  fed_again : (n : ℕ) (piece rest : List ℕ) → NoLineFeed piece
-      → ((m : ℕ) (reached : Reached) → (goods reached (lines_from (suc n) rest)).fault ≡ None → IsAgain (items_in (goods reached (lines_from (suc n) rest))) (goods reached (lines_from m (flat_map written_line (items_in (goods reached (lines_from (suc n) rest)))))))
-      → (m : ℕ) (reached : Reached) → (goods reached (lines_from n (piece ++ 10 ∷ rest))).fault ≡ None
-      → IsAgain (items_in (goods reached (lines_from n (piece ++ 10 ∷ rest)))) (goods reached (lines_from m (flat_map written_line (items_in (goods reached (lines_from n (piece ++ 10 ∷ rest)))))))
+  fed_again : (n : ℕ) (piece rest : List ℕ) → NoLineFeed piece → ReadsAgain (lines_from (suc n) rest) → ReadsAgain (lines_from n (piece ++ 10 ∷ rest))
   fed_again n piece rest clear h m reached none =
-      subst (λ ls. IsAgain (items_in (goods reached ls)) (goods reached (lines_from m (flat_map written_line (items_in (goods reached ls)))))) (sym (lines_from-fed n piece rest clear))
+      subst (λ ls. ReadAgain m reached ls) (sym (lines_from-fed n piece rest clear))
       (next_again n piece rest clear h m reached (subst (λ ls. (goods reached ls).fault ≡ None) (lines_from-fed n piece rest clear) none))
 
-  pub again_lines : (n : ℕ) (bytes : List ℕ) → (m : ℕ) (reached : Reached) → (goods reached (lines_from n bytes)).fault ≡ None
-      → IsAgain (items_in (goods reached (lines_from n bytes))) (goods reached (lines_from m (flat_map written_line (items_in (goods reached (lines_from n bytes))))))
-  again_lines n bytes = by_lines
-      (λ n bytes. (m : ℕ) (reached : Reached) → (goods reached (lines_from n bytes)).fault ≡ None → IsAgain (items_in (goods reached (lines_from n bytes))) (goods reached (lines_from m (flat_map written_line (items_in (goods reached (lines_from n bytes)))))))
-      last_again fed_again n bytes
+  pub again_lines : (n : ℕ) (bytes : List ℕ) → ReadsAgain (lines_from n bytes)
+  again_lines n bytes = by_lines (λ n bytes. ReadsAgain (lines_from n bytes)) last_again fed_again n bytes

@@ -1,5 +1,5 @@
 -- The reports whose outputs go on as inputs.
-use Rattle.std.proofs.Common.{append-nil, append_assoc, ◌≡◌, ℕ, Bool, true, false, List, [], ◌∷◌, ◌++◌, map, filter, Option, Some, None, Result, Ok, Err, refl, sym, ap, ◌∙◌, subst}
+use Rattle.std.proofs.Common.{append-nil, append_assoc, ◌≡◌, ℕ, Bool, true, false, List, [], ◌∷◌, ◌++◌, map, filter, Option, Some, None, Ok, refl, sym, ap, ◌∙◌, subst}
 use Rattle.std.specs.Prelude.{◌≢◌, flat_map, if◌then◌else◌}
 use Rattle.std.specs.List.{AllByRecursion, AllPairs, list_all}
 use Rattle.std.specs.Option.{option_or}
@@ -7,7 +7,7 @@ use Rattle.bt_lines.specs.model.Fault.{FaultValue}
 use Rattle.bt_lines.specs.model.Handed.{Handed}
 use Rattle.bt_lines.specs.declared.fault.Input.TheVariants.{First, Genome, Second}
 use Rattle.bt_bed.specs.model.order.ByteOrder.{byte_order, bytes_total}
-use Rattle.bt_bed.specs.model.feature.Feature.{Feature, intervals_of}
+use Rattle.bt_bed.specs.model.feature.Feature.{Feature, intervals_of, interval_of}
 use Rattle.bt_bed.specs.model.order.Genome.{Entry, genome_handed, genome_names}
 use Rattle.bt_bed.specs.model.input.Good.{Good, Member, items_in}
 use Rattle.bt_bed.specs.model.input.GoodBed.{bed_good}
@@ -19,11 +19,10 @@ use Rattle.bt_lines.specs.declared.fault.Kind.TheVariants.{TooManyHeld}
 use Rattle.bt_bed.specs.model.input.TwoInputReport.{Met, join_report, written}
 use Rattle.bt_bed.specs.model.order.Order.{Order, IsTotal}
 use Rattle.bt_bed.specs.model.order.Rank.{AreDistinct}
-use Rattle.bt_bed.specs.inside.RankTotal.{ranks_total}
 use Rattle.bt_bed.specs.declared.record.strand.Strand.{Strand}
 use Rattle.bt_bed.proofs.lemmas.laws.GoodBedLemmas.{non_empty_good, placed_good}
 use Rattle.bt_runs.specs.calls.CoveredLevels.{interval_at}
-use Rattle.bt_runs.specs.model.Depth.{coverage, depth_lines}
+use Rattle.bt_runs.specs.model.Depth.{coverage, depth_lines, DepthInterval}
 use Rattle.bt_runs.specs.model.Gaps.{complement}
 use Rattle.bt_runs.specs.model.RunOrder.{ordered_runs}
 use Rattle.bt_runs.specs.model.StrandRuns.{places_of, strand_runs}
@@ -41,7 +40,7 @@ use Rattle.bt_sweep.proofs.lemmas.laws.SweepsLemmas.{faultless_all}
 use Rattle.bt_tool.specs.model.report.Behaviour.{behaviour_of, entries_in, order_of}
 use Rattle.bt_tool.specs.model.report.Inputs.{Inputs, or_empty}
 use Rattle.bt_tool.specs.model.report.RecordReport.{Report, report_by}
-use Rattle.bt_tool.specs.model.report.Report.{chromosomes_of, of_file, report_of, report_on}
+use Rattle.bt_tool.specs.model.report.Report.{chromosomes_of, report_of, report_on}
 use Rattle.bt_tool.specs.model.report.SweepReport.{met_within}
 use Rattle.bt_tool.specs.model.report.Written.{Written, complement_written, coverage_written, merge_written}
 use Rattle.bt_tool.specs.declared.planning.plan_type.Command.{Command}
@@ -50,27 +49,17 @@ use Rattle.bt_laws.specs.Runs.{RunsWithoutFault, first_records, second_records}
 use Rattle.bt_laws.specs.pipes.Pipes.{complement_is_input, cut_intersect_is_input, genomecov_is_input, intersect_is_input, kept_places_stay, kept_records_stay, kept_strands_stay, merge_is_input, subtract_is_input, whole_subtract_is_input}
 use Rattle.bt_laws.specs.pipes.SweepLines.{begins_with_a, records_written}
 use Rattle.bt_laws.specs.pipes.Taken.{AreSeparate, AreDisjoint, IsInput, four_columns, is_no_header, three_columns}
-use Rattle.bt_laws.proofs.lemmas.pipes.Pairs.{EachPair, pairs_all, pairs_each}
-use Rattle.bt_laws.proofs.lemmas.back.GapsBack.{coverage_back, depths_disjoint, gaps_back, gaps_pairs}
-use Rattle.bt_laws.proofs.lemmas.parts.report.PartShards.{distinct_in}
-use Rattle.bt_laws.proofs.lemmas.back.RunsBack.{intervals_back, merge_apart, merge_back, runs_back, strands_written}
+use Rattle.bt_laws.proofs.lemmas.Lists.{EachPair, pairs_all, pairs_each}
+use Rattle.bt_laws.proofs.lemmas.back.RunsBack.{coverage_back, depths_disjoint, gaps_back, gaps_pairs, intervals_back, merge_apart, merge_back, runs_back, strands_written}
+use Rattle.bt_laws.proofs.lemmas.parts.report.PartShards.{distinct_in, file_is}
 use Rattle.bt_laws.proofs.lemmas.back.SaidWell.{IsChrom, IsSaid, genome_chroms, good_are_said}
 use Rattle.bt_laws.proofs.lemmas.back.SweepBack.{cut_back, kept_back, pieces_back}
 use Rattle.bt_laws.proofs.lemmas.back.SweepRead.{all_read, places_stay, records_stay, strands_stay}
+use Rattle.bt_laws.proofs.lemmas.parts.text.PartTexts.{order_total}
+use Rattle.bt_laws.specs.pipes.PipesApart.{complement_writes_disjoint, genomecov_writes_disjoint, merge_writes_disjoint}
+use Rattle.bt_laws.proofs.lemmas.pipes.Placing.{apart_disjoint, pairs_filter, pairs_from_map, pairs_map}
 
 -- ---- the order in use
-
-pub order_total : (chromosomes : Option (List Entry)) → IsTotal (order_of chromosomes)
-order_total None = bytes_total
-order_total (Some entries) = ranks_total (genome_names entries)
-
-file_is : (answer : Result (List Entry) FaultValue) (entries : List Entry) → of_file answer ≡ Ok (Some entries) → answer ≡ Ok entries
-file_is (Ok found) entries e = cc
-file_is (Err fault) entries e = cc
-
-no_file : (answer : Result (List Entry) FaultValue) → of_file answer ≡ Ok None → ⊥
-no_file (Ok found) e = cc
-no_file (Err fault) e = cc
 
 pub chroms_of : (genome : Option Handed) (entries : List Entry) → chromosomes_of genome ≡ Ok (Some entries) → AllByRecursion IsChrom entries × AreDistinct (genome_names entries)
 chroms_of None entries e = cc
@@ -209,10 +198,10 @@ pub limit_whole : (order : Order) (limit : Option ℕ) (first : List Feature) (s
 limit_whole order None first second e = refl
 limit_whole order (Some most) first second e = cut_whole (are_too_many order most first) [] second.members second.fault e
 
-abbrev either_met : Bool → List ℕ → List ℕ → Option FaultValue → Option FaultValue → Met ℕ FaultValue
+abbrev pub either_met : Bool → List ℕ → List ℕ → Option FaultValue → Option FaultValue → Met ℕ FaultValue
 either_met b lines other one fault = if b then record { lines = lines; fault = option_or one fault } else record { lines = other; fault = fault }
 
-either_fault : (b : Bool) (lines other : List ℕ) (one : Option FaultValue) (fault : Option FaultValue) → (either_met b lines other one fault).fault ≡ None → fault ≡ None
+pub either_fault : (b : Bool) (lines other : List ℕ) (one : Option FaultValue) (fault : Option FaultValue) → (either_met b lines other one fault).fault ≡ None → fault ≡ None
 either_fault true lines other None None e = refl
 either_fault true lines other None (Some f) e = cc
 either_fault true lines other (Some g) fault e = cc
@@ -307,3 +296,33 @@ subtract_input rule held inputs chromosomes well apart =
       subst (λ text. IsInput (order_of chromosomes) text left) (sym (subtract_whole false rule held inputs chromosomes well)) (cut_input Pieces rule chromosomes inputs refl apart),
       pairs_all AreDisjoint (intervals_of left) (subst (λ rs. EachPair AreDisjoint (intervals_of rs)) (all_read Pieces rule firsts seconds) back),
     )
+
+-- ---- outputs whose records don't overlap
+
+-- the records that are read of intervals, some of them as headers
+of_three : (rs : List Interval) → EachPair AreDisjoint rs → EachPair (λ (r s : Feature). AreDisjoint (interval_of r) (interval_of s)) (map three_columns rs)
+of_three rs h = pairs_map (λ (r s : Feature). AreDisjoint (interval_of r) (interval_of s)) three_columns rs h
+
+of_four : (rs : List DepthInterval) → EachPair AreDisjoint (map interval_at rs) → EachPair (λ (r s : Feature). AreDisjoint (interval_of r) (interval_of s)) (map four_columns rs)
+of_four rs h = pairs_map (λ (r s : Feature). AreDisjoint (interval_of r) (interval_of s)) four_columns rs (pairs_from_map AreDisjoint interval_at rs h)
+
+-- the places of records that are read of these
+places_apart : (rs : List Feature) → EachPair (λ (r s : Feature). AreDisjoint (interval_of r) (interval_of s)) rs → AllPairs AreDisjoint (intervals_of rs)
+places_apart rs h = pairs_all AreDisjoint (intervals_of rs) (pairs_map AreDisjoint interval_of rs h)
+
+pub merge_disjoint : merge_writes_disjoint
+merge_disjoint d strand other inputs chromosomes well =
+    let is = merge_input d strand inputs chromosomes well in
+    subst (λ rs. AllPairs AreDisjoint (intervals_of rs)) (sym (is.2.records_are First)) (places_apart (map three_columns is.0) (of_three is.0 (apart_disjoint is.0 (pairs_each AreSeparate is.0 (is.3 other)))))
+
+pub complement_disjoint : complement_writes_disjoint
+complement_disjoint limit inputs chromosomes well =
+    let is = complement_input limit inputs chromosomes well in
+    subst (λ rs. AllPairs AreDisjoint (intervals_of rs)) (sym (is.2.records_are First))
+    (places_apart (filter is_no_header (map three_columns is.0)) (pairs_filter (λ (r s : Feature). AreDisjoint (interval_of r) (interval_of s)) is_no_header (map three_columns is.0) (of_three is.0 (apart_disjoint is.0 (pairs_each AreSeparate is.0 is.3)))))
+
+pub genomecov_disjoint : genomecov_writes_disjoint
+genomecov_disjoint zeros strand inputs chromosomes well =
+    let is = genomecov_input zeros strand inputs chromosomes well in
+    subst (λ rs. AllPairs AreDisjoint (intervals_of rs)) (sym (is.2.records_are First))
+    (places_apart (filter is_no_header (map four_columns is.0)) (pairs_filter (λ (r s : Feature). AreDisjoint (interval_of r) (interval_of s)) is_no_header (map four_columns is.0) (of_four is.0 (pairs_each AreDisjoint (map interval_at is.0) is.3))))

@@ -14,18 +14,9 @@ use Rattle.bt_runs.specs.model.RunOrder.{AreAscending, AreKnown}
 use Rattle.bt_runs.proofs.lemmas.laws.Standing.{cmp_less, less_cmp}
 use Rattle.bt_runs.proofs.lemmas.order.FileOrder.{rank_of-here, rank_of-later}
 use Rattle.bt_laws.specs.pipes.Taken.{AreSeparate, AreDisjoint}
-use Rattle.bt_laws.proofs.lemmas.pipes.Pairs.{EachPair}
-use Rattle.bt_laws.proofs.lemmas.parts.text.PartLists.{all_any, all_both, all_filter, all_flat_map, all_map, all_so}
+use Rattle.bt_laws.proofs.lemmas.Lists.{EachPair, all_any, all_both, all_filter, all_flat_map, all_map, all_so, all_unmap, all_zip}
 
 -- ---- pairs
-
-pub all_unmap : {A B : Type 0} (P : B → Type 0) (f : A → B) (xs : List A) → AllByRecursion P (map f xs) → AllByRecursion (λ x. P (f x)) xs
-all_unmap P f [] h = tt
-all_unmap P f (x ∷ xs) h = (h.0, all_unmap P f xs h.1)
-
-pub all_zip : {A : Type 0} (P Q R : A → Type 0) (xs : List A) → ((x : A) → P x → Q x → R x) → AllByRecursion P xs → AllByRecursion Q xs → AllByRecursion R xs
-all_zip P Q R [] f h k = tt
-all_zip P Q R (x ∷ xs) f h k = (f x h.0 k.0, all_zip P Q R xs f h.1 k.1)
 
 all_with : {A : Type 0} (P : A → Type 0) (R S : A → A → Type 0) (x : A) (ys : List A) → ((y : A) → P y → R x y → S x y) → AllByRecursion P ys → AllByRecursion (R x) ys → AllByRecursion (S x) ys
 all_with P R S x [] f qs h = tt

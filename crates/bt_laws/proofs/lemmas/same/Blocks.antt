@@ -16,10 +16,10 @@ use Rattle.bt_runs.proofs.lemmas.order.FileOrder.{same_chromosome, without_absen
 use Rattle.bt_seq.specs.model.Masked.{covers}
 use Rattle.bt_seq.specs.model.Owners.{Block, Owned, block_with, blocks_by, items_if_last, left_at_last, left_by, own_records, owned_from}
 use Rattle.bt_seq.proofs.lemmas.laws.LeftLemmas.{leave, leave_all}
-use Rattle.bt_laws.proofs.lemmas.parts.text.PartLists.{all_so}
+use Rattle.bt_laws.proofs.lemmas.Lists.{all_so}
 use Rattle.bt_laws.proofs.lemmas.pipes.Covers.{SameCover}
 use Rattle.bt_laws.proofs.lemmas.pipes.Placing.{others}
-use Rattle.bt_laws.proofs.lemmas.same.RunsAgain.{kept_pass}
+use Rattle.bt_laws.proofs.lemmas.same.SameRuns.{kept_pass}
 
 -- ---- the records of a chromosome
 

@@ -20,7 +20,7 @@ use Rattle.bt_runs.specs.model.Gaps.{IsBare, complement, gaps_of, gaps_on, is_as
 use Rattle.bt_runs.proofs.lemmas.order.ChromosomeLemmas.{spans_on-append, spans_on-elsewhere}
 use Rattle.bt_runs.proofs.lemmas.complement.OneGap.{are_gaps}
 use Rattle.bt_sweep.specs.model.Hits.{any_overlap, hits, hits_among}
-use Rattle.bt_sweep.specs.model.IntersectLines.{hit_line, intersect, lines_for, piece_line}
+use Rattle.bt_sweep.specs.model.IntersectLines.{intersect, lines_for, piece_line}
 use Rattle.bt_sweep.specs.model.Pieces.{pieces, spans_of}
 use Rattle.bt_sweep.specs.declared.output.shape.Shape.TheVariants.{Cut, Pieces}
 use Rattle.bt_sweep.proofs.lemmas.laws.PieceLemmas.{only_pieces}
@@ -33,15 +33,15 @@ use Rattle.bt_tool.specs.declared.planning.plan_type.Command.TheVariants.{Comple
 use Rattle.bt_laws.specs.Runs.{first_records, second_records, RunWrites, of_second, with_second}
 use Rattle.bt_laws.specs.same.SameSweeps.{LieWithinLengths, subtract_by_complement}
 use Rattle.bt_laws.specs.pipes.Taken.{AreSeparate, IsInput, is_no_header, three_columns}
-use Rattle.bt_laws.proofs.lemmas.pipes.Pairs.{EachPair}
-use Rattle.bt_laws.proofs.lemmas.back.GapsBack.{gaps_back, gaps_pairs}
-use Rattle.bt_laws.proofs.lemmas.parts.text.PartLists.{all_any, all_map, all_so, filter_all, flat_map_same}
+use Rattle.bt_laws.proofs.lemmas.Lists.{EachPair, all_any, all_map, all_so, filter_all, flat_map_same, all_zip}
+use Rattle.bt_laws.proofs.lemmas.back.RunsBack.{gaps_back, gaps_pairs}
 use Rattle.bt_laws.proofs.lemmas.pipes.PipeLaws.{chroms_of, intersect_whole, subtract_whole, well_there}
-use Rattle.bt_laws.proofs.lemmas.pipes.Placing.{all_zip, pairs_filter, pairs_map, pairs_so}
-use Rattle.bt_laws.proofs.lemmas.same.RunsAgain.{here_all, none_there, report_there}
+use Rattle.bt_laws.proofs.lemmas.pipes.Placing.{pairs_filter, pairs_map, pairs_so}
+use Rattle.bt_laws.proofs.lemmas.same.SameRuns.{here_all, none_there, report_there}
 use Rattle.bt_laws.proofs.lemmas.back.SaidWell.{IsChrom, IsSaid, good_are_said}
 use Rattle.bt_laws.proofs.lemmas.same.SameSweeps.{hit_back, hit_to, met_none, nones, other_input, output_by, sweeps_from}
 use Rattle.bt_laws.proofs.lemmas.back.SweepBack.{Hit, all_hits, cut_bounds, same_name as hit_name}
+use Rattle.std.proofs.lemmas.List.Folds.{flat_map-map}
 
 -- ---- the gaps of one chromosome
 
@@ -101,10 +101,6 @@ unhidden name (r ∷ rs) e = elim (cases_Bool (is_no_header (three_columns r))) 
 
 abbrev pub cut_span : Feature → Feature → Span
 cut_span a g = record { start = max a.start g.start; stop = min a.stop g.stop }
-
-cut_lines : (a : Feature) (found : List Feature) → flat_map (hit_line Cut a) found ≡ flat_map (piece_line a) (map (cut_span a) found)
-cut_lines a [] = refl
-cut_lines a (g ∷ found) = ap (λ l. hit_line Cut a g ++ l) (cut_lines a found)
 
 from_pairs : (first : ℕ) (spans : List Span) → AllByRecursion (λ (s : Span). (first ≤ s.start) × (s.start < s.stop)) spans → EachPair (λ (s t : Span). s.stop < t.start) spans → AreApartFrom first spans
 from_pairs first [] all pairs = tt
@@ -179,9 +175,6 @@ module _ (inputs : Inputs) (entries : List Entry) (genome : chromosomes_of input
   second_input : IsInput order (of_second (Complement false) inputs) gap_records
   second_input = subst (λ text. IsInput order text gap_records) (sym second_is) (gaps_back entries known.0 known.1 false seconds)
 
-  abbrev read_gaps : List Feature
-  read_gaps = items_in (bed_good Second order (whole_text (of_second (Complement false) inputs)))
-
   gaps_said : AllByRecursion IsSaid gap_records
   gaps_said = subst (AllByRecursion IsSaid) (second_input.records_are Second) (good_are_said Second order (whole_text (of_second (Complement false) inputs)))
 
@@ -192,7 +185,7 @@ module _ (inputs : Inputs) (entries : List Entry) (genome : chromosomes_of input
   one_line : (a : Feature) → IsSaid a → a.stop ≤ length_in entries a.chrom → lines_for Cut any_overlap a gap_records ≡ lines_for Pieces any_overlap a seconds
   unfolding lines_for
   one_line a is within =
-      cut_lines a (hits_among any_overlap a gap_records)
+      sym (flat_map-map (piece_line a) (cut_span a) (hits_among any_overlap a gap_records))
       ∙ ap (flat_map (piece_line a)) (left_in_gaps a seconds gap_records (length_in entries a.chrom) within gaps_said gaps_far (unhidden a.chrom gaps is.no_header ∙ complement_spans entries seconds a.chrom known.1))
 
   all_lines : (as_read : List Feature) → AllByRecursion IsSaid as_read → LieWithinLengths entries as_read → intersect Cut any_overlap as_read gap_records ≡ intersect Pieces any_overlap as_read seconds

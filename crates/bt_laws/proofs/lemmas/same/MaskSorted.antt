@@ -24,10 +24,9 @@ use Rattle.bt_laws.specs.Runs.{RunsWithoutFault}
 use Rattle.bt_laws.specs.same.MaskLaws.{NamesOne, bed_records, is_masked, masked_by_sorted, sequence_lines, with_bed}
 use Rattle.bt_laws.proofs.lemmas.parts.order.PartOwners.{off_behind}
 use Rattle.bt_laws.proofs.lemmas.parts.report.PartMasked.{none_owned}
-use Rattle.bt_laws.proofs.lemmas.parts.text.PartLists.{all_so}
+use Rattle.bt_laws.proofs.lemmas.Lists.{all_so}
 use Rattle.bt_laws.proofs.lemmas.parts.text.PartSequences.{names_begin}
-use Rattle.bt_laws.proofs.lemmas.same.MaskBoth.{bed_of, by_both}
-use Rattle.bt_laws.proofs.lemmas.same.MaskMerged.{or_last}
+use Rattle.bt_laws.proofs.lemmas.same.MaskBeds.{bed_of, by_both, or_last}
 use Rattle.bt_laws.proofs.lemmas.same.MaskTwice.{nones}
 
 abbrev Names : Type 0
@@ -35,7 +34,7 @@ Names = List (List ℕ)
 
 -- ---- a name among names of which one comes once
 
--- where the name c is found: before n, there, or after it
+-- the name c is found before n, at n, or after it
 record IsBefore (c n : List ℕ) (xs ys : Names) : Type 0 where
   rest : Names
   all : names_behind c (xs ++ n ∷ ys) ≡ Some (rest ++ n ∷ ys)

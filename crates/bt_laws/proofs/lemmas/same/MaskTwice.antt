@@ -1,6 +1,6 @@
 -- What maskfasta writes has the lines of its input, and is masked already.
-use Rattle.std.proofs.Common.{◌≡◌, ◌||◌, ℕ, suc, ◌+◌, ◌≤◌, Bool, true, false, List, [], ◌∷◌, ◌++◌, map, length, Option, Some, None, inl, inr, refl, sym, ap, ap₂, ◌∙◌, arith, eqb, leb}
-use Rattle.std.specs.Prelude.{◌⊎◌, flat_map, if◌then◌else◌, is_none}
+use Rattle.std.proofs.Common.{◌≡◌, ◌||◌, ℕ, suc, ◌+◌, ◌≤◌, Bool, true, false, List, [], ◌∷◌, ◌++◌, map, length, Option, Some, None, refl, sym, ap, ap₂, ◌∙◌, arith, eqb, leb}
+use Rattle.std.specs.Prelude.{flat_map, if◌then◌else◌, is_none}
 use Rattle.std.specs.List.{list_all, list_any}
 use Rattle.std.specs.Option.{option_or}
 use Rattle.std.specs.Io.BufRead.{ends_with_byte}
@@ -32,8 +32,12 @@ use Rattle.bt_laws.specs.same.MaskLaws.{KeepsLines, layout_of, masked_keep_layou
 use Rattle.bt_laws.specs.Runs.{RunsWithoutFault, RunWrites, piped}
 use Rattle.bt_laws.proofs.lemmas.pipes.MaskPipes.{IsAgain, Stands, again_lines, with_text}
 use Rattle.bt_laws.proofs.lemmas.pipes.PipeLaws.{report_is, well_there}
-use Rattle.bt_laws.proofs.lemmas.same.RunsAgain.{report_there, writes_is}
+use Rattle.bt_laws.proofs.lemmas.same.SameRuns.{report_there, writes_is}
 use Rattle.bt_laws.proofs.lemmas.back.TailSays.{ends_both}
+use Rattle.bt_laws.proofs.lemmas.parts.report.PartSweep.{all_true}
+use Rattle.bt_laws.proofs.lemmas.Lists.{all_any}
+use Rattle.bt_laws.proofs.lemmas.same.SameSweeps.{cut_none}
+use Rattle.bt_tool.proofs.lemmas.running.members.CameMembers.{or_else_none}
 
 -- ---- a masked byte
 
@@ -156,10 +160,6 @@ module _ (how : MaskHow) (keeps : KeepsLines how) where
 
 -- ---- a run without a fault
 
-all_pass : {A : Type 0} (xs : List A) → list_all (λ (x : A). true) xs ≡ true
-all_pass [] = refl
-all_pass (x ∷ xs) = all_pass xs
-
 abbrev met_of : Bool → List ℕ → List ℕ → Option FaultValue → Option FaultValue → Option FaultValue → Met ℕ FaultValue
 met_of b lines other one last stop = if b then record { lines = lines; fault = option_or one last } else record { lines = other; fault = stop }
 
@@ -177,7 +177,7 @@ module _ (how : MaskHow) (names : List (List ℕ)) (second : Good Feature) where
   pub met_all : (items : List SequenceLine) (fault : Option FaultValue) → second.fault ≡ None → join_report rule items fault ≡ record { lines = flat_map (masked_line how (items_in second)) items; fault = option_or fault rule.last }
   met_all items fault none =
       ap (λ (t : Option FaultValue). met_of (list_all (λ line. is_none t || decided line (items_in second)) items) (flat_map rule.lines items) (written rule items) fault rule.last second.fault) none
-      ∙ ap (λ b. met_of b (flat_map rule.lines items) (written rule items) fault rule.last second.fault) (all_pass items)
+      ∙ ap (λ b. met_of b (flat_map rule.lines items) (written rule items) fault rule.last second.fault) (all_true (λ (line : SequenceLine). true) items (all_any _ items (λ line. refl)))
 
 -- the last names stay
 pub names_same : (f : SequenceLine → List ℕ) (items : List SequenceLine) → names_of (map (λ line. with_text line (f line)) items) ≡ names_of items
@@ -188,14 +188,6 @@ names_same f (line ∷ next ∷ lines) = names_same f (next ∷ lines)
 both_none : (one last : Option FaultValue) → option_or one last ≡ None → (one ≡ None) × (last ≡ None)
 both_none None last e = (refl, e)
 both_none (Some f) last e = cc
-
-or_none : (one cut : Option FaultValue) → or_else one cut ≡ None → (one ≡ None) × (cut ≡ None)
-or_none None cut e = (refl, e)
-or_none (Some f) cut e = cc
-
-pub or_else_none : (fault : Option FaultValue) → or_else fault None ≡ fault
-or_else_none None = refl
-or_else_none (Some fault) = refl
 
 uncut_by : (b : Bool) (told : FaultValue) (whole all : List TextLine) → (if b then Some told else None) ≡ None → (if b then whole else all) ≡ all
 uncut_by true told whole all e = cc
@@ -253,7 +245,7 @@ module _ (how : MaskHow) (full : Bool) (inputs : Inputs) (chromosomes : Option (
   output_there = ap (λ (r : Report). r.output) (report_is (MaskFasta how full) inputs chromosomes well) ∙ ap (λ (m : Met ℕ FaultValue). m.lines) met_is
 
   parts : ((good (sequence_format full) First (lines_handed inputs.first)).fault ≡ None) × (cut_fault First inputs.first ≡ None)
-  parts = or_none (good (sequence_format full) First (lines_handed inputs.first)).fault (cut_fault First inputs.first) nones.0
+  parts = cut_none (good (sequence_format full) First (lines_handed inputs.first)).fault (cut_fault First inputs.first) nones.0
 
   abbrev all_lines : Good SequenceLine
   all_lines = good (sequence_format full) First (text_lines inputs.first.text)

@@ -1,24 +1,43 @@
--- What intersect and subtract see of the second input, where any common base is a hit.
-use Rattle.std.proofs.Common.{◌≡◌, ◌&&◌, ◌++◌, ℕ, suc, ◌-◌, ◌<◌, ◌≤◌, Bool, true, false, cond, List, [], ◌∷◌, map, length, max, min, Option, Some, None, Result, Ok, Err, refl, sym, ap, ap₂, ◌∙◌, subst, inl, inr, arith, ltb}
-use Rattle.std.specs.Prelude.{bytes_eq, flat_map, if◌then◌else◌}
-use Rattle.std.specs.List.{AllByRecursion, list_all}
+-- Which runs of intersect and subtract write the same lines.
+use Rattle.std.proofs.Common.{◌≡◌, ℕ, Bool, true, false, cond, List, [], ◌∷◌, ◌++◌, map, filter, length, Option, Result, Ok, Err, refl, sym, ap, ap₂, ◌∙◌, subst, arith, decimal, ◌&&◌, suc, ◌-◌, ◌<◌, ◌≤◌, max, min, Some, None, inl, inr, ltb}
+use Rattle.std.proofs.lemmas.Bool.{lt-ltb, ne_eqb, cases_Bool}
+use Rattle.std.specs.Prelude.{flat_map, if◌then◌else◌, nat_lt, replicate, ◌==◌, bytes_eq}
+use Rattle.std.specs.List.{list_all, AllByRecursion}
 use Rattle.std.specs.Option.{option_or}
-use Rattle.std.proofs.lemmas.Bool.{cases_Bool, lt-ltb}
 use Rattle.bt_lines.specs.model.Fault.{FaultValue, read_failed}
-use Rattle.bt_lines.specs.model.Lines.{TextLine, whole_lines}
-use Rattle.bt_lines.specs.declared.fault.Input.{Input}
-use Rattle.bt_lines.specs.declared.fault.Kind.{Kind}
 use Rattle.bt_lines.specs.model.Handed.{Handed, cut_fault, lines_handed, whole_text}
 use Rattle.bt_lines.specs.declared.fault.Input.TheVariants.{First, Second}
 use Rattle.bt_bed.specs.model.feature.Feature.{Feature, interval_of, intervals_of}
 use Rattle.bt_bed.specs.model.order.Genome.{Entry}
-use Rattle.bt_bed.specs.model.input.Good.{Good, good, good_from, good_with, items_in, or_else}
-use Rattle.bt_bed.specs.model.input.GoodBed.{bed_format, bed_good, line_says}
+use Rattle.bt_bed.specs.model.input.Good.{Good, items_in, good, good_from, good_with, or_else}
+use Rattle.bt_bed.specs.model.input.GoodBed.{bed_good, bed_format, line_says}
+use Rattle.bt_bed.specs.model.input.TwoInputReport.{Met, Rule, join_report, written}
+use Rattle.bt_bed.specs.model.order.Order.{Order}
+use Rattle.bt_bed.specs.model.feature.Record.{bed_text}
+use Rattle.bt_sweep.specs.model.Hits.{hits_among, any_overlap, hits, shared_bases, strands_agree}
+use Rattle.bt_sweep.specs.model.IntersectLines.{hit_line, intersect, line_with, lines_for, lines_of, piece_line}
+use Rattle.bt_sweep.specs.model.Limit.{limited}
+use Rattle.bt_sweep.specs.model.SweepMeeting.{sweep_rule}
+use Rattle.bt_sweep.specs.declared.hits.hit_rule.HitRule.{HitRule}
+use Rattle.bt_sweep.specs.declared.output.shape.Shape.{Shape}
+use Rattle.bt_sweep.specs.declared.output.shape.Shape.TheVariants.{Count, Missing, Once, OrigA, Whole, Pieces}
+use Rattle.bt_tool.specs.model.report.Behaviour.{order_of, behaviour_of}
+use Rattle.bt_tool.specs.model.report.Inputs.{Inputs, or_empty}
+use Rattle.bt_tool.specs.model.report.Report.{chromosomes_of, report_of, report_on}
+use Rattle.bt_tool.specs.model.report.SweepReport.{met_report, met_within}
+use Rattle.bt_tool.specs.declared.planning.plan_type.Command.TheVariants.{Intersect, Subtract, Merge}
+use Rattle.bt_laws.specs.Runs.{RunsWithoutFault, first_records, second_records, RunWrites, of_second, with_second}
+use Rattle.bt_laws.specs.same.SameLines.{Counted, counts_say_all, missing_is_whole, own_line}
+use Rattle.bt_laws.proofs.lemmas.Lists.{all_any, flat_map_same, map_map, all_so}
+use Rattle.bt_laws.proofs.lemmas.parts.report.PartSweep.{written_same, all_true}
+use Rattle.bt_laws.proofs.lemmas.pipes.PipeLaws.{intersect_whole, limit_whole, subtract_whole, well_there, either_met, either_fault}
+use Rattle.std.proofs.lemmas.List.{map-id}
+use Rattle.bt_lines.specs.model.Lines.{TextLine, whole_lines}
+use Rattle.bt_lines.specs.declared.fault.Input.{Input}
+use Rattle.bt_lines.specs.declared.fault.Kind.{Kind}
 use Rattle.bt_bed.specs.model.feature.Interval.{Interval, span_of, spans_on}
 use Rattle.bt_bed.specs.model.feature.IntervalLine.{interval_lines}
 use Rattle.bt_bed.specs.model.order.Locus.{Locus}
-use Rattle.bt_bed.specs.model.input.TwoInputReport.{Met, join_report, written}
-use Rattle.bt_bed.specs.model.order.Order.{Order}
 use Rattle.bt_bed.specs.model.order.Sorting.{Sorting, sorting_of}
 use Rattle.bt_bed.specs.model.feature.Stretches.{IsCovered}
 use Rattle.bt_bed.proofs.lemmas.laws.GoodBedLemmas.{placed_good}
@@ -28,34 +47,139 @@ use Rattle.bt_runs.specs.model.Merged.{runs_of}
 use Rattle.bt_runs.specs.model.RunOrder.{ordered_runs}
 use Rattle.bt_runs.specs.declared.merge.merge_strand.MergeStrand.TheVariants.{All}
 use Rattle.bt_runs.proofs.lemmas.order.ChromosomeLemmas.{spans_on-here, spans_on-elsewhere}
-use Rattle.bt_sweep.specs.model.Hits.{any_overlap, hits, hits_among, shared_bases, strands_agree}
-use Rattle.bt_sweep.specs.model.IntersectLines.{intersect, lines_for, lines_of, piece_line}
-use Rattle.bt_sweep.specs.model.Limit.{limited}
 use Rattle.bt_sweep.specs.model.Pieces.{IsLeft, pieces, spans_of}
-use Rattle.bt_sweep.specs.model.SweepMeeting.{sweep_rule}
-use Rattle.bt_sweep.specs.declared.hits.hit_rule.HitRule.{HitRule}
-use Rattle.bt_sweep.specs.declared.output.shape.Shape.{Shape}
-use Rattle.bt_sweep.specs.declared.output.shape.Shape.TheVariants.{Missing, Once, Pieces}
 use Rattle.bt_sweep.proofs.lemmas.laws.PieceLemmas.{are_pieces, only_pieces}
 use Rattle.bt_sweep.proofs.lemmas.laws.RuleLemmas.{enough_of_nothing, of_nothing}
-use Rattle.bt_tool.specs.model.report.Behaviour.{behaviour_of, order_of}
-use Rattle.bt_tool.specs.model.report.Inputs.{Inputs, or_empty}
 use Rattle.bt_tool.specs.model.report.RecordReport.{Report, report_by}
-use Rattle.bt_tool.specs.model.report.Report.{chromosomes_of, report_of}
-use Rattle.bt_tool.specs.model.report.SweepReport.{met_within}
 use Rattle.bt_tool.specs.model.report.Written.{Written, merge_written}
 use Rattle.bt_tool.specs.declared.planning.plan_type.Command.{Command}
-use Rattle.bt_tool.specs.declared.planning.plan_type.Command.TheVariants.{Intersect, Merge, Subtract}
-use Rattle.bt_laws.specs.Runs.{RunsWithoutFault, first_records, second_records, RunWrites, of_second, with_second}
 use Rattle.bt_laws.specs.same.SameSweeps.{merged_second_missing, merged_second_once, merged_second_subtract, one_base}
 use Rattle.bt_laws.specs.pipes.Taken.{IsInput, three_columns}
 use Rattle.bt_laws.proofs.lemmas.pipes.Covers.{SameCover, runs_cover, same_sym}
-use Rattle.bt_laws.proofs.lemmas.parts.text.PartLists.{all_any, all_so, filter_all, flat_map_same}
-use Rattle.bt_laws.proofs.lemmas.pipes.PipeLaws.{intersect_whole, limit_whole, order_total, subtract_whole, well_there}
-use Rattle.bt_laws.proofs.lemmas.same.RunsAgain.{back, report_there, run_spans}
+use Rattle.bt_laws.proofs.lemmas.same.SameRuns.{back, report_there, run_spans, all_counted}
 use Rattle.bt_laws.proofs.lemmas.back.RunsBack.{merge_back}
 use Rattle.bt_laws.proofs.lemmas.back.SaidWell.{IsSaid, good_are_said}
 use Rattle.bt_laws.proofs.lemmas.back.SweepBack.{Hit, all_hits, cut_bounds, same_name}
+use Rattle.bt_laws.proofs.lemmas.parts.text.PartTexts.{order_total}
+
+-- ---- two shapes that write the same lines of each record
+
+abbrev met_by : Bool → List ℕ → List ℕ → Option FaultValue → Option FaultValue → Option FaultValue → Met ℕ FaultValue
+met_by b lines other fault last stop = if b then record { lines = lines; fault = option_or fault last } else record { lines = other; fault = stop }
+
+meet_same : (mine yours : Rule Feature ℕ FaultValue) (members : List Feature) (fault : Option FaultValue) → mine.decided ≡ yours.decided → mine.fault ≡ yours.fault → mine.last ≡ yours.last → ((a : Feature) → mine.lines a ≡ yours.lines a)
+    → join_report mine members fault ≡ join_report yours members fault
+meet_same mine yours members fault decided stop last lines =
+    let all : flat_map mine.lines members ≡ flat_map yours.lines members = flat_map_same mine.lines yours.lines members (all_any _ members lines) in
+    let some : written mine members ≡ written yours members = written_same mine yours members (all_any _ members (λ a. (ap (λ (d : Feature → Bool). d a) decided, lines a))) in
+    ap (λ b. met_by b (flat_map mine.lines members) (written mine members) fault mine.last mine.fault) (ap (λ d. list_all d members) decided)
+    ∙ ap₂ (λ x y. met_by (list_all yours.decided members) x y fault mine.last mine.fault) all some
+    ∙ ap₂ (λ l s. met_by (list_all yours.decided members) (flat_map yours.lines members) (written yours members) fault l s) last stop
+
+missing_lines : (rule : HitRule) (a : Feature) (found : List Feature) → lines_of Missing a found ≡ lines_of Whole a found
+missing_lines rule a [] = refl
+missing_lines rule a (b ∷ more) = refl
+
+missing_met : (order : Order) (rule : HitRule) (limit : Option ℕ) (first second : Good Feature) → met_within order Missing rule limit first second ≡ met_within order Whole rule limit first second
+unfolding lines_for
+missing_met order rule limit first second =
+    let seen = limited order limit (items_in first) second in
+    meet_same (sweep_rule order Missing rule (items_in seen) seen.fault) (sweep_rule order Whole rule (items_in seen) seen.fault) (items_in first) first.fault refl refl refl (λ a. missing_lines rule a (hits_among rule a (items_in seen)))
+
+same_on : (rule : HitRule) (held : Option ℕ) (found : Result (Option (List Entry)) FaultValue) (first : Handed) (second : Option Handed) → report_on (Intersect Missing rule held) found first second ≡ report_on (Subtract true rule held) found first second
+same_on rule held (Err fault) first second = refl
+same_on rule held (Ok chromosomes) first second = ap met_report (missing_met (order_of chromosomes) rule held (bed_good First (order_of chromosomes) first) (bed_good Second (order_of chromosomes) (or_empty second)))
+
+pub missing_whole : missing_is_whole
+unfolding report_of
+missing_whole rule held inputs = same_on rule held (chromosomes_of inputs.genome) inputs.first inputs.second
+
+-- ---- the fault doesn't depend on the shape
+
+fault_by : (b : Bool) (l m k n : List ℕ) (fault last stop : Option FaultValue) → (met_by b l m fault last stop).fault ≡ (met_by b k n fault last stop).fault
+fault_by true l m k n fault last stop = refl
+fault_by false l m k n fault last stop = refl
+
+same_fault : (order : Order) (one other : Shape) (rule : HitRule) (limit : Option ℕ) (first second : Good Feature) → (met_within order one rule limit first second).fault ≡ (met_within order other rule limit first second).fault
+same_fault order one other rule limit first second =
+    let seen = limited order limit (items_in first) second in
+    let mine = sweep_rule order one rule (items_in seen) seen.fault in
+    let yours = sweep_rule order other rule (items_in seen) seen.fault in
+    fault_by (list_all mine.decided (items_in first)) (flat_map mine.lines (items_in first)) (written mine (items_in first)) (flat_map yours.lines (items_in first)) (written yours (items_in first)) first.fault seen.fault seen.fault
+
+pub other_shape : (one other : Shape) (rule : HitRule) (held : Option ℕ) (inputs : Inputs) (chromosomes : Option (List Entry)) → RunsWithoutFault (Intersect one rule held) inputs chromosomes → RunsWithoutFault (Intersect other rule held) inputs chromosomes
+unfolding report_of
+other_shape one other rule held inputs chromosomes well = record {
+  genome = well.genome;
+  faultless =
+      ap (λ found. (report_on (Intersect other rule held) found inputs.first inputs.second).fault) well.genome
+      ∙ same_fault (order_of chromosomes) other one rule held (bed_good First (order_of chromosomes) inputs.first) (bed_good Second (order_of chromosomes) (or_empty inputs.second))
+      ∙ ap (λ found. (report_on (Intersect one rule held) found inputs.first inputs.second).fault) (sym well.genome)
+      ∙ well.faultless;
+}
+
+pub writes_lines : (shape : Shape) (rule : HitRule) (held : Option ℕ) (inputs : Inputs) (chromosomes : Option (List Entry)) → RunsWithoutFault (Intersect shape rule held) inputs chromosomes
+    → RunWrites (Intersect shape rule held) inputs (intersect shape rule (first_records chromosomes inputs) (second_records chromosomes inputs))
+writes_lines shape rule held inputs chromosomes well = record { output = intersect_whole shape rule held inputs chromosomes well; faultless = well.faultless }
+
+-- ---- numbers of hits
+
+module _ (rule : HitRule) (second : List Feature) where
+  abbrev with_hits : Feature → Counted
+  with_hits a = record { at = a; hits = length (hits_among rule a second) }
+
+  count_lines : (as_read : List Feature) → intersect Count rule as_read second ≡ flat_map (λ (c : Counted). line_with (bed_text c.at ∷ decimal c.hits ∷ [])) (map with_hits as_read)
+  unfolding lines_for
+  count_lines [] = refl
+  count_lines (a ∷ more) = ap (λ l. line_with (bed_text a ∷ decimal (length (hits_among rule a second)) ∷ []) ++ l) (count_lines more)
+
+  once_by : (a : Feature) (found : List Feature) (kept : List Counted) → lines_of Once a found ++ flat_map (λ (c : Counted). own_line c.at) kept
+      ≡ flat_map (λ (c : Counted). own_line c.at) (cond (nat_lt 0 (length found)) (record { at = a; hits = length found } ∷ kept) kept)
+  once_by a [] kept = refl
+  once_by a (b ∷ found) kept =
+      ap (λ some. flat_map (λ (c : Counted). own_line c.at) (cond some (record { at = a; hits = length (b ∷ found) } ∷ kept) kept)) (sym (lt-ltb 0 (length (b ∷ found)) (omega arith)))
+
+  once_lines : (as_read : List Feature) → intersect Once rule as_read second ≡ flat_map (λ (c : Counted). own_line c.at) (filter (λ (c : Counted). nat_lt 0 c.hits) (map with_hits as_read))
+  unfolding lines_for
+  once_lines [] = refl
+  once_lines (a ∷ more) = ap (λ l. lines_of Once a (hits_among rule a second) ++ l) (once_lines more) ∙ once_by a (hits_among rule a second) (filter (λ (c : Counted). nat_lt 0 c.hits) (map with_hits more))
+
+  missing_by : (a : Feature) (found : List Feature) (kept : List Counted) → lines_of Missing a found ++ flat_map (λ (c : Counted). own_line c.at) kept
+      ≡ flat_map (λ (c : Counted). own_line c.at) (cond (length found == 0) (record { at = a; hits = length found } ∷ kept) kept)
+  missing_by a [] kept = refl
+  missing_by a (b ∷ found) kept =
+      ap (λ none. flat_map (λ (c : Counted). own_line c.at) (cond none (record { at = a; hits = length (b ∷ found) } ∷ kept) kept)) (sym (ne_eqb (length (b ∷ found)) 0 (λ same. absurd (omega (arith, same)))))
+
+  missing_of : (as_read : List Feature) → intersect Missing rule as_read second ≡ flat_map (λ (c : Counted). own_line c.at) (filter (λ (c : Counted). c.hits == 0) (map with_hits as_read))
+  unfolding lines_for
+  missing_of [] = refl
+  missing_of (a ∷ more) = ap (λ l. lines_of Missing a (hits_among rule a second) ++ l) (missing_of more) ∙ missing_by a (hits_among rule a second) (filter (λ (c : Counted). c.hits == 0) (map with_hits more))
+
+  often : (a : Feature) (found : List Feature) → flat_map (hit_line OrigA a) found ≡ flat_map own_line (replicate (length found) a)
+  often a [] = refl
+  often a (b ∷ found) = ap (λ l. own_line a ++ l) (often a found)
+
+  original_lines : (as_read : List Feature) → intersect OrigA rule as_read second ≡ flat_map (λ (c : Counted). flat_map own_line (replicate c.hits c.at)) (map with_hits as_read)
+  unfolding lines_for
+  original_lines [] = refl
+  original_lines (a ∷ more) = ap₂ (λ x y. x ++ y) (often a (hits_among rule a second)) (original_lines more)
+
+pub counts_all : counts_say_all
+counts_all rule held inputs chromosomes well =
+    let firsts = first_records chromosomes inputs in
+    let seconds = second_records chromosomes inputs in
+    let writes : (shape : Shape) → RunWrites (Intersect shape rule held) inputs (intersect shape rule firsts seconds) = λ shape. writes_lines shape rule held inputs chromosomes (other_shape Count shape rule held inputs chromosomes well) in (
+      map (with_hits rule seconds) firsts,
+      map_map (with_hits rule seconds) (λ c. c.at) (λ a. a) firsts (all_any _ firsts (λ a. refl)) ∙ map-id firsts,
+      record {
+        count = subst (RunWrites (Intersect Count rule held) inputs) (count_lines rule seconds firsts) (writes Count);
+        once = subst (RunWrites (Intersect Once rule held) inputs) (once_lines rule seconds firsts) (writes Once);
+        missing = subst (RunWrites (Intersect Missing rule held) inputs) (missing_of rule seconds firsts) (writes Missing);
+        original = subst (RunWrites (Intersect OrigA rule held) inputs) (original_lines rule seconds firsts) (writes OrigA);
+      },
+    )
+
+-- ---- what they see of the second input, if any common base is a hit
 
 -- ---- a common base is a hit
 
@@ -185,25 +309,12 @@ intersect_sees shape see first bs cs one two same = flat_map_same (λ a. lines_f
 
 -- ---- a run by another second input
 
-abbrev met_of : Bool → List ℕ → List ℕ → Option FaultValue → Option FaultValue → Met ℕ FaultValue
-met_of b lines other one fault = if b then record { lines = lines; fault = option_or one fault } else record { lines = other; fault = fault }
-
-none_by : (b : Bool) (lines other : List ℕ) (one fault : Option FaultValue) → one ≡ None → fault ≡ None → (met_of b lines other one fault).fault ≡ None
+none_by : (b : Bool) (lines other : List ℕ) (one fault : Option FaultValue) → one ≡ None → fault ≡ None → (either_met b lines other one fault).fault ≡ None
 none_by true lines other None fault e f = f
 none_by true lines other (Some x) fault e f = cc
 none_by false lines other one fault e f = f
 
-both_by : (b : Bool) (lines other : List ℕ) (one fault : Option FaultValue) → (met_of b lines other one fault).fault ≡ None → fault ≡ None
-both_by true lines other None None e = refl
-both_by true lines other None (Some f) e = cc
-both_by true lines other (Some g) fault e = cc
-both_by false lines other one fault e = e
-
-all_pass : (as_read : List Feature) → list_all (λ (a : Feature). true) as_read ≡ true
-all_pass [] = refl
-all_pass (a ∷ more) = all_pass more
-
-alone_none : (b : Bool) (lines other : List ℕ) (one : Option FaultValue) → b ≡ true → (met_of b lines other one None).fault ≡ None → one ≡ None
+alone_none : (b : Bool) (lines other : List ℕ) (one : Option FaultValue) → b ≡ true → (either_met b lines other one None).fault ≡ None → one ≡ None
 alone_none true lines other None e f = refl
 alone_none true lines other (Some g) e f = cc
 alone_none false lines other one e f = cc
@@ -211,7 +322,7 @@ alone_none false lines other one e f = cc
 first_none : (order : Order) (shape : Shape) (rule : HitRule) (first : Good Feature) (second : List Feature) (fault : Option FaultValue) → fault ≡ None → (join_report (sweep_rule order shape rule second fault) (items_in first) first.fault).fault ≡ None → first.fault ≡ None
 first_none order shape rule first second None none e =
     let r = sweep_rule order shape rule second None in
-    alone_none (list_all r.decided (items_in first)) (flat_map r.lines (items_in first)) (written r (items_in first)) first.fault (all_pass (items_in first)) e
+    alone_none (list_all r.decided (items_in first)) (flat_map r.lines (items_in first)) (written r (items_in first)) first.fault (all_true (λ (a : Feature). true) (items_in first) (all_any _ (items_in first) (λ a. refl))) e
 first_none order shape rule first second (Some fault) none e = cc
 
 pub met_none : (order : Order) (shape : Shape) (rule : HitRule) (first second : Good Feature) → first.fault ≡ None → second.fault ≡ None → (met_within order shape rule None first second).fault ≡ None
@@ -224,7 +335,7 @@ pub met_faultless : (order : Order) (shape : Shape) (rule : HitRule) (limit : Op
 met_faultless order shape rule limit first second e =
     let seen = limited order limit (items_in first) second in
     let r = sweep_rule order shape rule (items_in seen) seen.fault in
-    let nones = both_by (list_all r.decided (items_in first)) (flat_map r.lines (items_in first)) (written r (items_in first)) first.fault seen.fault e in
+    let nones = either_fault (list_all r.decided (items_in first)) (flat_map r.lines (items_in first)) (written r (items_in first)) first.fault seen.fault e in
     (first_none order shape rule first (items_in seen) seen.fault nones e, ap (λ (g : Good Feature). g.fault) (sym (limit_whole order limit (items_in first) second nones)) ∙ nones)
 
 -- a text without a fault as one input has none as another, and the same records
@@ -298,7 +409,7 @@ module _ (inputs : Inputs) (chromosomes : Option (List Entry)) (genome : chromos
   same_bases : (name : List ℕ) → SameCover (spans_on name (intervals_of seconds)) (spans_on name (intervals_of (map three_columns runs)))
   same_bases name =
       let full = all_so IsSaid (λ (r : Feature). r.start < r.stop) seconds (λ r is. is.feature.non_empty) (good_are_said Second order (or_empty inputs.second)) in
-      let all : counted All seconds ≡ intervals_of seconds = ap intervals_of (filter_all (λ (r : Feature). true) seconds (all_any _ seconds (λ r. refl))) in
+      let all : counted All seconds ≡ intervals_of seconds = all_counted seconds in
       subst (SameCover (spans_on name (intervals_of seconds)))
       (sym (ap (spans_on name) (back runs) ∙ run_spans order (order_total chromosomes) 0 All seconds (placed_good Second order (or_empty inputs.second) (order_total chromosomes)) full name ∙ ap (λ l. runs_of 0 (spans_on name l)) all))
       (same_sym (runs_of 0 (spans_on name (intervals_of seconds))) (spans_on name (intervals_of seconds)) (runs_cover (spans_on name (intervals_of seconds))))

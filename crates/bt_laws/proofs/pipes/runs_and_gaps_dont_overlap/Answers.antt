@@ -1,4 +1,4 @@
-use Rattle.bt_laws.proofs.lemmas.pipes.PipesApart.{complement_disjoint, genomecov_disjoint, merge_disjoint}
+use Rattle.bt_laws.proofs.lemmas.pipes.PipeLaws.{complement_disjoint, genomecov_disjoint, merge_disjoint}
 use Rattle.bt_laws.proofs.pipes.runs_and_gaps_dont_overlap.Goals as goal
 
 pub returns-clause-merge : goal.returns-clause-merge

@@ -1,4 +1,4 @@
--- What is good of a text that is put behind another.
+-- What is good of two concatenated texts.
 use Rattle.std.proofs.Common.{◌≡◌, ℕ, false, List, [], ◌∷◌, ◌++◌, Option, Some, None, Result, Ok, Err, refl, sym, ap, ◌∙◌, subst}
 use Rattle.std.specs.Prelude.{is_none}
 use Rattle.std.specs.List.{AllByRecursion}
@@ -25,7 +25,7 @@ put_by : {A : Type 0} → Option FaultValue → Good A → Good A → Good A
 put_by None g h = record { members = g.members ++ h.members; fault = h.fault }
 put_by (Some fault) g h = g
 
--- what is good of lines, where this is good of those behind them
+-- what is good of lines, if this is good of those after them
 put_behind : {A : Type 0} → Good A → Good A → Good A
 unfolding put_by
 put_behind g h = put_by g.fault g h
@@ -92,7 +92,7 @@ module _ {A State : Type 0} (format : Format A State) where
         put_with l.number state (format.says state l) (λ now. good_from format input now (ls ++ ms)) (λ now. good_from format input now ls) leads (λ item e. on.0 state item leads e) (λ now to. put_from now ls ms to is on.1)
 
   module _ (input : Input) (Leads : State → Type 0) (one two : List ℕ) (ends : StandsBefore one two) (free : IsNumberless) where
-    -- where what is good of the second text is so behind each member of the first
+    -- if what is good of the second text is so after each member of the first
     pub good_joint : Leads format.begin → ((n : ℕ) (now : State) → Leads now → good_from format input now (lines_from n two) ≡ good_from format input format.begin (lines_from n two))
         → AllByRecursion (LeadsOn Leads) (text_lines one)
         → IsJoint (good format input (text_lines one)) (good format input (text_lines two)) (good format input (text_lines (one ++ two)))

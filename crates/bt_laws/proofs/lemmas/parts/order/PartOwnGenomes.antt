@@ -1,46 +1,52 @@
 -- Two inputs of which each part has its own part of the genome file.
-use Rattle.std.proofs.Common.{◌≡◌, ℕ, Bool, cond, not, ◌&&◌, ◌||◌, List, [], ◌∷◌, ◌++◌, map, append-nil, append_assoc, Option, Some, None, Ok, refl, sym, ap, ap₂, ◌∙◌, subst}
+use Rattle.std.proofs.Common.{◌≡◌, ℕ, Bool, cond, not, ◌&&◌, ◌||◌, List, [], ◌∷◌, ◌++◌, map, append-nil, append_assoc, Option, Some, None, Ok, refl, sym, ap, ap₂, ◌∙◌, subst, true, false, Result, Err}
 use Rattle.std.specs.Prelude.{IsTrue, flat_map, is_none}
 use Rattle.std.specs.List.{AllByRecursion, list_all, list_any}
 use Rattle.std.specs.Option.{option_or}
 use Rattle.std.specs.declared.cmp.Ordering.TheVariants.{Less}
 use Rattle.std.proofs.lemmas.Bool.{or_left, or_right}
 use Rattle.bt_lines.specs.model.Fault.{FaultValue}
-use Rattle.bt_lines.specs.model.Handed.{Handed}
-use Rattle.bt_lines.specs.model.Lines.{lines_from, text_lines}
+use Rattle.bt_lines.specs.model.Handed.{Handed, whole_text}
+use Rattle.bt_lines.specs.model.Lines.{lines_from, text_lines, TextLine}
 use Rattle.bt_lines.specs.declared.fault.Input.{Input}
 use Rattle.bt_lines.specs.declared.fault.Input.TheVariants.{First, Second}
 use Rattle.bt_bed.specs.model.feature.Feature.{Feature}
 use Rattle.bt_bed.specs.model.order.Genome.{Entry, genome_names}
-use Rattle.bt_bed.specs.model.input.Good.{Good, good, items_in}
-use Rattle.bt_bed.specs.model.input.GoodBed.{bed_format}
-use Rattle.bt_bed.specs.model.order.Locus.{is_below_at}
+use Rattle.bt_bed.specs.model.input.Good.{Good, good, items_in, good_from, good_with}
+use Rattle.bt_bed.specs.model.input.GoodBed.{bed_format, line_says, locus_at, said_after}
+use Rattle.bt_bed.specs.model.order.Locus.{is_below_at, Locus}
 use Rattle.bt_bed.specs.model.input.TwoInputReport.{join_report}
 use Rattle.bt_bed.specs.model.order.Rank.{AreDistinct, is_among, rank_order}
 use Rattle.bt_bed.specs.inside.RankTotal.{ranks_total}
-use Rattle.bt_bed.specs.model.order.Sorting.{sorting_of}
+use Rattle.bt_bed.specs.model.order.Sorting.{sorting_of, falls_in}
 use Rattle.bt_bed.proofs.lemmas.order.RankLemmas.{among_ranked}
 use Rattle.bt_sweep.specs.model.Deciding.{decided, decides}
 use Rattle.bt_sweep.specs.model.Subtract.{subtract_shape}
 use Rattle.bt_sweep.specs.model.SweepMeeting.{sweep_rule}
 use Rattle.bt_sweep.specs.declared.hits.hit_rule.HitRule.{HitRule}
 use Rattle.bt_sweep.specs.declared.output.shape.Shape.{Shape}
-use Rattle.bt_laws.specs.parts.GenomeSplitLaws.{LiesWithin}
-use Rattle.bt_laws.specs.parts.OwnGenomeLaws.{PairShard, intersect_genomes_divide, pair_entries, pair_texts, subtract_genomes_divide}
-use Rattle.bt_laws.specs.parts.Parts.{AddUp, AreOfLines, ComeBefore, StopWithin, joined, said_records}
-use Rattle.bt_tool.specs.model.report.RecordReport.{Report}
-use Rattle.bt_tool.specs.model.report.Report.{chromosomes_of}
-use Rattle.bt_laws.specs.parts.SplitLaws.{ArePairs, PairsAscend, Texts, joined_texts, on_texts, records_of}
+use Rattle.bt_laws.specs.parts.GenomeSplitLaws.{LiesWithin, AreShards, Shard, ShardsAddUp, all_entries}
+use Rattle.bt_laws.specs.parts.OwnGenomeLaws.{PairShard, intersect_genomes_divide, pair_entries, pair_texts, subtract_genomes_divide, PairShardsAddUp, PairShardsSuffice, PairsLieWithin, ShardsSuffice, complement_shards_suffice, genomecov_shards_suffice, intersect_shards_suffice, merge_shards_suffice, subtract_shards_suffice}
+use Rattle.bt_laws.specs.parts.Parts.{AddUp, AreOfLines, ComeBefore, StopWithin, joined, said_records, Suffice, said_record}
+use Rattle.bt_tool.specs.model.report.RecordReport.{Report, good_report, report_by}
+use Rattle.bt_tool.specs.model.report.Report.{chromosomes_of, report_of, report_on}
+use Rattle.bt_laws.specs.parts.SplitLaws.{ArePairs, PairsAscend, Texts, joined_texts, on_texts, records_of, PairsAddUp, on_text}
 use Rattle.bt_tool.specs.model.report.SweepReport.{met_report}
-use Rattle.bt_tool.specs.declared.planning.plan_type.Command.TheVariants.{Intersect, Subtract}
-use Rattle.bt_laws.proofs.lemmas.parts.text.PartBed.{items_all}
-use Rattle.bt_laws.proofs.lemmas.parts.order.PartGenomes.{agree_good, names_both, records_both}
-use Rattle.bt_laws.proofs.lemmas.parts.text.PartLists.{all_back, all_both, all_front, all_so, all_map}
-use Rattle.bt_laws.proofs.lemmas.parts.order.PartRanks.{Agree, Within, among_append, first_agree, first_less, second_agree}
-use Rattle.bt_laws.proofs.lemmas.parts.text.PartSam.{lines_less}
-use Rattle.bt_laws.proofs.lemmas.parts.report.PartShards.{distinct_in}
-use Rattle.bt_laws.proofs.lemmas.parts.report.PartSweep.{sweep_report, take_same}
-use Rattle.bt_laws.proofs.lemmas.parts.text.PartTexts.{intersect_is, intersect_parts, pair_report, subtract_is, subtract_parts}
+use Rattle.bt_tool.specs.declared.planning.plan_type.Command.TheVariants.{Intersect, Subtract, Complement, Coverage, Merge}
+use Rattle.bt_laws.proofs.lemmas.parts.text.PartBed.{items_all, records_on}
+use Rattle.bt_laws.proofs.lemmas.parts.order.PartGenomes.{agree_good, names_both, records_both, Agree, Within, among_append, first_agree, first_less, second_agree}
+use Rattle.bt_laws.proofs.lemmas.Lists.{all_back, all_both, all_front, all_so, all_map, all_unmap, all_zip}
+use Rattle.bt_laws.proofs.lemmas.parts.text.PartTexts.{lines_less, intersect_is, intersect_parts, pair_report, subtract_is, subtract_parts, order_total}
+use Rattle.bt_laws.proofs.lemmas.parts.report.PartShards.{distinct_in, complement_parts, genomecov_parts, merge_genome_parts}
+use Rattle.bt_laws.proofs.lemmas.parts.report.PartSweep.{sweep_report, take_same, report_none}
+use Rattle.bt_tool.specs.declared.planning.plan_type.Command.{Command}
+use Rattle.bt_tool.specs.model.report.Behaviour.{order_of}
+use Rattle.bt_lines.specs.declared.fault.Kind.{Kind}
+use Rattle.bt_lines.specs.declared.fault.Kind.TheVariants.{OutOfOrder, UnknownChrom}
+use Rattle.bt_bed.specs.model.order.Order.{Order}
+use Rattle.bt_bed.specs.model.feature.Record.{record_of}
+use Rattle.bt_tool.specs.model.report.Written.{Written, complement_written, coverage_written, merge_written}
+use Rattle.bt_tool.proofs.lemmas.running.members.CameMembers.{good_whole}
 
 -- ---- two rules that agree
 
@@ -52,19 +58,13 @@ any_same : {A : Type 0} (t u : A → Bool) (xs : List A) → AllByRecursion (λ 
 any_same t u [] h = refl
 any_same t u (x ∷ xs) h = ap₂ (λ a b. a || b) h.0 (any_same t u xs h.1)
 
--- rules that say the same, but for what they decide, which is the same of these members
+-- rules that write the same lines, and decide the same of these members
 meet_same : {A : Type 0} (t u : A → Bool) (lines : A → List ℕ) (told last : Option FaultValue) (xs : List A) (fault : Option FaultValue) → AllByRecursion (λ x. t x ≡ u x) xs
     → join_report (record { decided = t; lines = lines; fault = told; last = last }) xs fault ≡ join_report (record { decided = u; lines = lines; fault = told; last = last }) xs fault
 meet_same t u lines told last xs fault h =
     ap₂ (λ b (ls : List ℕ). cond b (record { lines = flat_map lines xs; fault = option_or fault last }) (record { lines = ls; fault = told })) (all_same t u xs h) (ap (flat_map lines) (take_same t u xs h))
 
 -- ---- names of a part in the middle
-
--- the names of a part, and those before and behind it
-record IsMiddle (whole own : List (List ℕ)) : Type 0 where
-  before : List (List ℕ)
-  behind : List (List ℕ)
-  is : whole ≡ before ++ (own ++ behind)
 
 module _ (before own behind : List (List ℕ)) where
   abbrev All-names : List (List ℕ)
@@ -163,7 +163,7 @@ module _ (whole : List Entry) (distinct : AreDistinct (genome_names whole)) wher
       (joined_all _ (map (λ (p : Texts). p.second) (pair_texts shards)) lines.1
       (all_map _ _ (pair_texts shards) (all_map _ _ shards (all_so _ _ shards (λ s k. all_back _ (said_records s.texts.first) (said_records s.texts.second) k) all))))
 
-  -- where these are the names before the parts
+  -- these are the names before the parts
   module _ (before : List (List ℕ)) where
     come : (shard : PairShard) (shards : List PairShard) → genome_names whole ≡ before ++ genome_names (pair_entries (shard ∷ shards)) → ArePairs (pair_texts (shard ∷ shards)) → AllByRecursion Lies (shard ∷ shards)
         → ComeBefore (rank_order (genome_names whole)) (records_of shard.texts) (records_of (joined_texts (pair_texts shards)))
@@ -206,18 +206,116 @@ module _ (whole : List Entry) (distinct : AreDistinct (genome_names whole)) wher
         (all_reports (before ++ genome_names t.entries) ts
         (is ∙ ap (λ ns. before ++ ns) (names_both t.entries (pair_entries ts)) ∙ sym (append_assoc before (genome_names t.entries) (genome_names (pair_entries ts)))) has.1 h.1)
 
-pub intersect_genome_parts : intersect_genomes_divide
-intersect_genome_parts shape rule genome shards are lies =
+-- a command that writes such a report, of parts with their own genome files
+own_parts : (command : Command) (shape : Shape) (rule : HitRule)
+    → ((genome : Option Handed) (chromosomes : Option (List Entry)) → chromosomes_of genome ≡ Ok chromosomes → (texts : Texts) → on_texts command genome texts ≡ pair_report (order_of chromosomes) (order_total chromosomes) shape rule texts.first texts.second)
+    → ((genome : Option Handed) (chromosomes : Option (List Entry)) (parts : List Texts) → chromosomes_of genome ≡ Ok chromosomes → ArePairs parts → PairsAscend (order_of chromosomes) parts → PairsAddUp command genome parts)
+    → PairShardsAddUp command
+own_parts command shape rule is divides genome shards are lies =
     let distinct = distinct_in genome (pair_entries shards) are.whole in
-    let both = intersect_parts shape rule (Some genome) (Some (pair_entries shards)) (pair_texts shards) are.whole are.lines (ascend_from (pair_entries shards) distinct [] shards refl are.lines lies) in
-    subst (λ (parts : List Report). AddUp parts (on_texts (Intersect shape rule None) (Some genome) (joined_texts (pair_texts shards))) × StopWithin parts (on_texts (Intersect shape rule None) (Some genome) (joined_texts (pair_texts shards))))
-    (all_reports (pair_entries shards) distinct (on_texts (Intersect shape rule None)) genome shape rule (intersect_is (Some genome) (Some (pair_entries shards)) are.whole shape rule) (λ own entries has texts. intersect_is (Some own) (Some entries) has shape rule texts) [] shards refl are.parts lies)
-    both
+    subst (λ (parts : List Report). AddUp parts (on_texts command (Some genome) (joined_texts (pair_texts shards))) × StopWithin parts (on_texts command (Some genome) (joined_texts (pair_texts shards))))
+    (all_reports (pair_entries shards) distinct (on_texts command) genome shape rule (is (Some genome) (Some (pair_entries shards)) are.whole) (λ own entries has. is (Some own) (Some entries) has) [] shards refl are.parts lies)
+    (divides (Some genome) (Some (pair_entries shards)) (pair_texts shards) are.whole are.lines (ascend_from (pair_entries shards) distinct [] shards refl are.lines lies))
+
+pub intersect_genome_parts : intersect_genomes_divide
+intersect_genome_parts shape rule = own_parts (Intersect shape rule None) shape rule (λ genome chromosomes has. intersect_is genome chromosomes has shape rule) (intersect_parts shape rule)
 
 pub subtract_genome_parts : subtract_genomes_divide
-subtract_genome_parts whole rule genome shards are lies =
-    let distinct = distinct_in genome (pair_entries shards) are.whole in
-    let both = subtract_parts whole rule (Some genome) (Some (pair_entries shards)) (pair_texts shards) are.whole are.lines (ascend_from (pair_entries shards) distinct [] shards refl are.lines lies) in
-    subst (λ (parts : List Report). AddUp parts (on_texts (Subtract whole rule None) (Some genome) (joined_texts (pair_texts shards))) × StopWithin parts (on_texts (Subtract whole rule None) (Some genome) (joined_texts (pair_texts shards))))
-    (all_reports (pair_entries shards) distinct (on_texts (Subtract whole rule None)) genome (subtract_shape whole) rule (subtract_is (Some genome) (Some (pair_entries shards)) are.whole whole rule) (λ own entries has texts. subtract_is (Some own) (Some entries) has whole rule texts) [] shards refl are.parts lies)
-    both
+subtract_genome_parts whole rule = own_parts (Subtract whole rule None) (subtract_shape whole) rule (λ genome chromosomes has. subtract_is genome chromosomes has whole rule) (subtract_parts whole rule)
+
+-- ---- runs without a fault suffice
+
+-- ---- records without a fault lie on known chromosomes
+
+module _ (order : Order) (input : Input) where
+  abbrev Known : List Feature → Type 0
+  Known rs = AllByRecursion (λ r. IsTrue (order.knows r.chrom)) rs
+
+  known_kept : (n : ℕ) (last : Option Locus) (r : Feature) (rest : Option Locus → Good Feature) (more : List Feature) → ((now : Option Locus) → (rest now).fault ≡ None → Known more)
+      → (k f : Bool) → order.knows r.chrom ≡ k → (good_with (bed_format (sorting_of order)) input n last (cond k (cond f (Err OutOfOrder) (Ok (Some r))) (Err UnknownChrom)) rest).fault ≡ None → Known (r ∷ more)
+  known_kept n last r rest more next true true is e = cc
+  known_kept n last r rest more next true false is e = (is, next (Some (locus_at r)) e)
+  known_kept n last r rest more next false f is e = cc
+
+  known_with : (n : ℕ) (last : Option Locus) (said : Result (Option Feature) Kind) (rest : Option Locus → Good Feature) (more : List Feature) → ((now : Option Locus) → (rest now).fault ≡ None → Known more)
+      → (good_with (bed_format (sorting_of order)) input n last (said_after (sorting_of order) last said) rest).fault ≡ None → Known (said_record said ++ more)
+  known_with n last (Err kind) rest more next e = cc
+  known_with n last (Ok None) rest more next e = next last e
+  known_with n last (Ok (Some r)) rest more next e = known_kept n last r rest more next (order.knows r.chrom) (falls_in (sorting_of order) last (locus_at r)) refl e
+
+  known_from : (last : Option Locus) (ms : List TextLine) → (good_from (bed_format (sorting_of order)) input last ms).fault ≡ None → Known (records_on ms)
+  unfolding good_from line_says
+  known_from last [] e = tt
+  known_from last (m ∷ ms) e = known_with m.number last (record_of m.text) (λ now. good_from (bed_format (sorting_of order)) input now ms) (records_on ms) (λ now d. known_from now ms d) e
+
+-- on those of the part's genome file
+lies : (own whole : List Entry) (input : Input) (text : List ℕ) → (good (bed_format (sorting_of (rank_order (genome_names own)))) input (text_lines text)).fault ≡ None → AllByRecursion (LiesWithin own whole) (said_records text)
+lies own whole input text e =
+    all_so _ _ (said_records text) (λ r known here. sym (among_ranked (genome_names own) r.chrom) ∙ known) (known_from (rank_order (genome_names own)) input None (text_lines text) e)
+
+add_suffices : (parts : List Report) (whole : Report) → AddUp parts whole → Suffice parts whole
+add_suffices parts whole add all = let none = add.faultless.1 all in (none, add.output none)
+
+-- ---- commands of one input
+
+module _ (W : List Entry → Written Feature) (command : Command)
+    (is : (entries : List Entry) (text : List ℕ) → report_on command (Ok (Some entries)) (whole_text text) None ≡ good_report (W entries) (good (bed_format (sorting_of (rank_order (genome_names entries)))) First (text_lines text)))
+    (add : (genome : Handed) (shards : List Shard) → AreShards genome shards → ShardsAddUp command genome shards) where
+  report_fault : (written : Written Feature) (rs : List Feature) (fault : Option FaultValue) → (report_by written rs fault).fault ≡ fault
+  report_fault written rs None = refl
+  report_fault written rs (Some fault) = refl
+
+  shard_lies : (whole : List Entry) (shard : Shard) → chromosomes_of (Some shard.genome) ≡ Ok (Some shard.entries) → (on_text command (Some shard.genome) shard.text).fault ≡ None
+      → AllByRecursion (LiesWithin shard.entries whole) (said_records shard.text)
+  unfolding report_of
+  shard_lies whole shard has e =
+      let text_good = good (bed_format (sorting_of (rank_order (genome_names shard.entries)))) First (text_lines shard.text) in
+      lies shard.entries whole First shard.text
+      (sym (report_fault (W shard.entries) (items_in text_good) text_good.fault)
+      ∙ ap (λ (r : Report). r.fault) (sym (ap (λ c. report_on command c (whole_text shard.text) None) has ∙ is shard.entries shard.text)) ∙ e)
+
+  shards_suffice : ShardsSuffice command
+  shards_suffice genome shards are all =
+      let within = all_zip _ _ _ shards (λ shard has e. shard_lies (all_entries shards) shard has e) are.parts (all_unmap _ _ shards all) in
+      let both = add genome shards (record { whole = are.whole; parts = are.parts; lines = are.lines; within = within }) in
+      add_suffices _ _ both.0 all
+
+pub merge_suffice : merge_shards_suffice
+merge_suffice d strand = shards_suffice (λ entries. merge_written (rank_order (genome_names entries)) d strand) (Merge d strand)
+    (λ entries text. ap (good_report (merge_written (rank_order (genome_names entries)) d strand)) (good_whole (bed_format (sorting_of (rank_order (genome_names entries)))) First text))
+    (merge_genome_parts d strand)
+
+pub complement_suffice : complement_shards_suffice
+complement_suffice limit = shards_suffice (λ entries. complement_written entries limit) (Complement limit)
+    (λ entries text. ap (good_report (complement_written entries limit)) (good_whole (bed_format (sorting_of (rank_order (genome_names entries)))) First text))
+    (complement_parts limit)
+
+pub genomecov_suffice : genomecov_shards_suffice
+genomecov_suffice zeros strand = shards_suffice (λ entries. coverage_written entries zeros strand) (Coverage zeros strand)
+    (λ entries text. ap (good_report (coverage_written entries zeros strand)) (good_whole (bed_format (sorting_of (rank_order (genome_names entries)))) First text))
+    (genomecov_parts zeros strand)
+
+-- ---- of two
+
+module _ (command : Command) (shape : Shape) (rule : HitRule)
+    (is : (genome : Handed) (entries : List Entry) → chromosomes_of (Some genome) ≡ Ok (Some entries) → (texts : Texts) → on_texts command (Some genome) texts ≡ pair_report (rank_order (genome_names entries)) (ranks_total (genome_names entries)) shape rule texts.first texts.second)
+    (add : PairShardsAddUp command) where
+  pair_lies : (whole : List Entry) (shard : PairShard) → chromosomes_of (Some shard.genome) ≡ Ok (Some shard.entries) → (on_texts command (Some shard.genome) shard.texts).fault ≡ None
+      → AllByRecursion (LiesWithin shard.entries whole) (records_of shard.texts)
+  pair_lies whole shard has e =
+      let order = rank_order (genome_names shard.entries) in
+      let first = good (bed_format (sorting_of order)) First (text_lines shard.texts.first) in
+      let second = good (bed_format (sorting_of order)) Second (text_lines shard.texts.second) in
+      let none = report_none order shape rule (items_in first) first.fault (items_in second) second.fault (ap (λ (r : Report). r.fault) (sym (is shard.genome shard.entries has shard.texts)) ∙ e) in
+      all_both _ (said_records shard.texts.first) (said_records shard.texts.second) (lies shard.entries whole First shard.texts.first none.0) (lies shard.entries whole Second shard.texts.second none.1)
+
+  pairs_suffice : PairShardsSuffice command
+  pairs_suffice genome shards are all =
+      let within : PairsLieWithin shards = all_zip _ _ _ shards (λ shard has e. pair_lies (pair_entries shards) shard has e) are.parts (all_unmap _ _ shards all) in
+      add_suffices _ _ (add genome shards are within).0 all
+
+pub intersect_suffice : intersect_shards_suffice
+intersect_suffice shape rule = pairs_suffice (Intersect shape rule None) shape rule (λ genome entries has texts. intersect_is (Some genome) (Some entries) has shape rule texts) (intersect_genome_parts shape rule)
+
+pub subtract_suffice : subtract_shards_suffice
+subtract_suffice whole rule = pairs_suffice (Subtract whole rule None) (subtract_shape whole) rule (λ genome entries has texts. subtract_is (Some genome) (Some entries) has whole rule texts) (subtract_genome_parts whole rule)

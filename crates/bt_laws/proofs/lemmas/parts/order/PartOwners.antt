@@ -34,7 +34,7 @@ off_found name (x ∷ xs) e =
     let parts = or_parts (bytes_eq x name) (is_among xs name) e in
     ap (λ b. cond b (Some xs) (names_behind name xs)) parts.0 ∙ off_found name xs parts.1
 
--- what isn't among names isn't among those behind another
+-- what isn't among names isn't among those after one of them
 pub off_behind : (name other : List ℕ) (xs now : Names) → is_among xs name ≡ false → names_behind other xs ≡ Some now → (is_among now name ≡ false) × (bytes_eq other name ≡ false)
 off_behind name other [] now off e = cc
 off_behind name other (x ∷ xs) now off e =
@@ -54,7 +54,7 @@ pub leave_append : (left : Option Names) (last : Option (List ℕ)) (rs more : L
 leave_append left last [] more = refl
 leave_append left last (r ∷ rs) more = leave_append (one_leaves left last r) (Some r.chrom) rs more
 
--- behind a block that belongs to none, all belong to none
+-- after a block that belongs to none, all belong to none
 none_tags : (last : Option (List ℕ)) (rs : List Feature) → tags chrom_of None last rs ≡ tag_items None rs
 none_tags last [] = refl
 none_tags last (r ∷ rs) =
@@ -65,7 +65,7 @@ none_own : (rs : List Feature) → own_in (tag_items None rs) ≡ []
 none_own [] = refl
 none_own (r ∷ rs) = none_own rs
 
--- the first of the later records, put behind the others, belongs to none
+-- the first of the later records, put after the others, belongs to none
 abbrev pub IsLost : Names → List Feature → List Feature → Type 0
 IsLost names ones [] = ⊤
 IsLost names ones (r ∷ twos) = leave (Some names) None (ones ++ r ∷ []) ≡ None
@@ -98,7 +98,7 @@ any_first bases names ones r rs lost =
     ∙ list_any-append (tag_decides bases) (tags_of names ones) (tag_items None (r ∷ rs))
     ∙ or_true (list_any (tag_decides bases) (tags_of names ones))
 
--- ---- behind further names
+-- ---- after more names
 
 next_more : (left now more : Names) (last : Option (List ℕ)) (r : Feature) → one_leaves (Some left) last r ≡ Some now → one_leaves (Some (left ++ more)) last r ≡ Some (now ++ more)
 next_more left now more last r e = by_last (is_last last r.chrom) e
@@ -129,7 +129,7 @@ stays_from more rest left last (r ∷ rs) e = by_next (one_leaves (Some left) la
     by_next None is e next = absurd (let apart : None ≡ Some rest = sym (none_leaves (Some r.chrom) rs) ∙ e in cc)
     by_next (Some now) is e next = going now (next_more left now more last r is) (next now e)
 
--- where a name follows, no such record masks the last sequence, nor decides a line of it
+-- if a name follows, no such record masks the last sequence, nor decides a line of it
 ends_own : (n : List ℕ) (ns : Names) (ts : List (Tagged Feature)) → AllByRecursion (EndsWith (n ∷ ns)) ts → own_in ts ≡ []
 ends_own n ns [] h = refl
 ends_own n ns (t ∷ ts) h = ap (λ (l : List Feature). l ++ own_in ts) (one t.item h.0.0 t.left h.0.1) ∙ ends_own n ns ts h.1
@@ -150,7 +150,7 @@ ends_any bases n ns (t ∷ ts) h = ap (λ b. b || list_any (tag_decides bases) t
 pub any_behind : (bases : ℕ) (names rest : Names) (n : List ℕ) (ns : Names) (ones : List Feature) → leave (Some names) None ones ≡ Some rest → list_any (tag_decides bases) (tags_of (names ++ n ∷ ns) ones) ≡ false
 any_behind bases names rest n ns ones e = ends_any bases n ns (tags_of (names ++ n ∷ ns) ones) (stays_from (n ∷ ns) rest names None ones e).tagged
 
--- the names left by the first records, and behind them the block of the first of the later ones
+-- the names left by the first records, then the block of the first of the later ones
 next_enters : (rest more : Names) (last : Option (List ℕ)) (r : Feature) → one_leaves (Some rest) last r ≡ None → one_leaves (Some (rest ++ more)) last r ≡ names_behind r.chrom more
 next_enters rest more last r e = by_last (is_last last r.chrom) e
   where
@@ -178,7 +178,7 @@ module _ (names rest : Names) (ones : List Feature) (kept : leave (Some names) N
       ap (λ o. tags chrom_of o (last_from None ones) (r ∷ rs)) is
       ∙ ap (λ o. record { item = r; left = o } ∷ tags chrom_of o (Some r.chrom) rs) enters
 
-  -- what the later records leave, behind the names of the first part
+  -- what the later records leave, after the names of the first part
   pub later_leave : (more : Names) (r : Feature) (rs : List Feature) → IsLost names ones (r ∷ rs) → leave (Some (names ++ more)) None (ones ++ r ∷ rs) ≡ leave (Some more) None (r ∷ rs)
   later_leave more r rs lost =
       let is = (stays_from more rest names None ones kept).leaves in
@@ -219,7 +219,7 @@ module _ (names rest : Names) (ones : List Feature) (kept : leave (Some names) N
 abbrev pub AreOff : Names → List Feature → Type 0
 AreOff names rs = AllByRecursion (λ r. is_among names r.chrom ≡ false) rs
 
--- records without a sequence have none behind it either
+-- records without a sequence have none after it either
 pub lost_more : (left more : Names) (last : Option (List ℕ)) (rs : List Feature) → AreOff more rs → leave (Some left) last rs ≡ None → leave (Some (left ++ more)) last rs ≡ None
 lost_more left more last [] off e = cc
 lost_more left more last (r ∷ rs) off e = by_next (one_leaves (Some left) last r) refl e (λ now d. lost_more now more (Some r.chrom) rs off.1 d)
@@ -265,7 +265,7 @@ pub lost_fewer : (names more : Names) (ones twos : List Feature) → IsLost (nam
 lost_fewer names more ones [] lost = tt
 lost_fewer names more ones (r ∷ twos) lost = left_fewer names more (ones ++ r ∷ []) lost
 
--- behind records that belong to none, none has a sequence
+-- after records that belong to none, none has a sequence
 pub none_behind : (names : Names) (ones more : List Feature) → leave (Some names) None ones ≡ None → leave (Some names) None (ones ++ more) ≡ None
 none_behind names ones more e =
     leave_append (Some names) None ones more ∙ ap (λ o. leave o (last_from None ones) more) e ∙ none_leaves (last_from None ones) more

@@ -12,12 +12,12 @@ use Rattle.bt_tool.specs.model.report.RecordReport.{Report}
 use Rattle.bt_laws.specs.parts.SplitLaws.{ArePairs, Texts, joined_texts, on_texts}
 use Rattle.bt_tool.specs.declared.planning.plan_type.Command.TheVariants.{MaskFasta}
 use Rattle.bt_laws.proofs.lemmas.parts.report.PartMasked.{mask_is}
-use Rattle.bt_laws.proofs.lemmas.parts.report.PartMaskFaults.{Lacks, faulty_first, lacks_kind, sound_goes, sound_stops}
-use Rattle.bt_laws.proofs.lemmas.parts.report.PartMaskSound.{AreTwo, mask_adds, texts_report, two_suffice}
+use Rattle.bt_laws.proofs.lemmas.parts.report.PartMaskReports.{Lacks, faulty_first, lacks_kind, sound_goes, sound_stops, AreTwo, mask_adds, texts_report, two_suffice}
 use Rattle.bt_laws.proofs.lemmas.parts.report.PartReports.{nothing, parts_add, stop_more, stop_none, stop_one}
-use Rattle.bt_laws.proofs.lemmas.parts.text.PartSam.{lines_less}
+use Rattle.bt_laws.proofs.lemmas.parts.text.PartTexts.{lines_less, join_one}
 use Rattle.bt_laws.proofs.lemmas.parts.report.PartSweep.{unless_none}
-use Rattle.bt_laws.proofs.lemmas.parts.text.PartTexts.{join_one}
+use Rattle.bt_laws.proofs.lemmas.Lists.{all_unmap}
+use Rattle.std.proofs.lemmas.List.Folds.{flat_map-map}
 
 module _ (how : MaskHow) (full : Bool) where
   abbrev T : Texts → Report
@@ -34,7 +34,7 @@ module _ (how : MaskHow) (full : Bool) where
   alone : (t : Texts) → T (joined_texts (t ∷ [])) ≡ T t
   alone t = ap T (join_one t)
 
-  -- parts of whole lines, divided at headers
+  -- parts of complete lines, divided at headers
   record AreFit (parts : List Texts) : Type 0 where
     lines : ArePairs parts
     headers : AreAtHeaders parts
@@ -70,10 +70,10 @@ module _ (how : MaskHow) (full : Bool) where
   own_less t ts own = record { fit = fit_less t ts own.fit; own = own.own.2 }
 
   own_add : (parts : List Texts) → OwnFit parts → AddUp (map T parts) (T (joined_texts parts))
-  own_add = parts_add joined_texts T OwnFit (ap (λ (r : Report). r.fault) empty) (ap (λ (r : Report). r.output) empty) alone own_less
+  own_add = parts_add joined_texts T OwnFit empty alone own_less
       (λ t u ts own. mask_adds how full t (joined_texts (u ∷ ts)) (are_two t u ts own.fit) own.own.0 own.own.1)
 
-  -- what the whole writes begins what the parts write, or goes on behind it
+  -- what the single run writes begins what the parts write, or begins with it
   abbrev Ends : List Texts → Type 0
   Ends parts = StopWithin (map T parts) (T (joined_texts parts))
       ⊎ (Lacks how full (joined_texts parts) × ((more : List ℕ) × ((T (joined_texts parts)).output ≡ outputs_to_fault (map T parts) ++ more)))
@@ -151,14 +151,6 @@ mask_divides how full parts lines headers own =
 pub repeated_divide : repeated_names_divide
 repeated_divide how full parts lines headers none all =
     let fit : CutFit how full parts = record { fit = record { lines = lines; headers = headers }; none = none } in
-    let sound = all_mapped parts (rw (on_is how full parts) at all) in
+    let sound = all_unmap _ (texts_report how full) parts (rw (on_is how full parts) at all) in
     let whole = suffice_all how full parts fit sound in
-    rw (on_is how full parts, mask_is how full (joined_texts parts)) (whole.0, whole.1 ∙ sym (flat_mapped parts))
-  where
-    all_mapped : (ts : List Texts) → AllByRecursion (λ (part : Report). part.fault ≡ None) (map (texts_report how full) ts) → AllByRecursion (λ part. (texts_report how full part).fault ≡ None) ts
-    all_mapped [] h = tt
-    all_mapped (t ∷ ts) h = (h.0, all_mapped ts h.1)
-
-    flat_mapped : (ts : List Texts) → flat_map (λ (part : Report). part.output) (map (texts_report how full) ts) ≡ flat_map (λ part. (texts_report how full part).output) ts
-    flat_mapped [] = refl
-    flat_mapped (t ∷ ts) = ap (λ l. (texts_report how full t).output ++ l) (flat_mapped ts)
+    rw (on_is how full parts, mask_is how full (joined_texts parts)) (whole.0, whole.1 ∙ sym (flat_map-map (λ (part : Report). part.output) (texts_report how full) parts))

@@ -26,11 +26,12 @@ use Rattle.bt_laws.specs.parts.SplitLaws.{Texts, on_texts}
 use Rattle.bt_tool.specs.model.report.SweepReport.{met_report}
 use Rattle.bt_tool.specs.declared.planning.plan_type.Command.TheVariants.{MaskFasta}
 use Rattle.bt_tool.proofs.lemmas.running.members.CameMembers.{good_whole}
-use Rattle.bt_laws.proofs.lemmas.parts.text.PartLists.{all_so, flat_map_same}
+use Rattle.bt_laws.proofs.lemmas.Lists.{all_so, flat_map_same}
 use Rattle.bt_laws.proofs.lemmas.parts.order.PartOwners.{IsLost, lost_fewer, own_first, own_second}
 use Rattle.bt_laws.proofs.lemmas.parts.text.PartSequences.{line_after}
+use Rattle.std.proofs.lemmas.List.Folds.{flat_map-map}
 
--- ---- which fault is told
+-- ---- which fault is reported
 
 module _ (how : MaskHow) where
   -- the report on lines of sequences, and on the records of the second input
@@ -101,7 +102,7 @@ find_lost names past (m ∷ ms) kept lost = by_here (leave (Some names) None (it
         let same : (past ++ m ∷ []) ++ ms ≡ past ++ m ∷ ms = append_assoc past (m ∷ []) ms in
         subst (FirstLost names) same (next (ap is_some e) (ap (λ l. leave (Some names) None (items l)) same ∙ lost))
 
--- it is told that there is no sequence for it
+-- it is reported that there is no sequence for it
 pub told_lost : (names : List (List ℕ)) (ms : List (Member Feature)) → leave (Some names) None (items ms) ≡ None → (line : ℕ) × (no_sequence names ms ≡ Some (fault_at_line Second line NoSequence))
 told_lost names ms lost =
     let f = find_lost names [] ms refl lost in (
@@ -167,10 +168,6 @@ module _ (how : MaskHow) where
           ∙ ap (line_by line) (own_second names rest ones kept n ns twos lost)
           ∙ sym (ap (λ own. line_by line (own_records own twos)) e)
 
-  pub flat_moved : (f : SequenceLine → List ℕ) (names : List (List ℕ)) (ls : List SequenceLine) → flat_map f (map (line_after names) ls) ≡ flat_map (λ l. f (line_after names l)) ls
-  flat_moved f names [] = refl
-  flat_moved f names (l ∷ ls) = ap (λ bytes. f (line_after names l) ++ bytes) (flat_moved f names ls)
-
   -- the lines of the first part
   pub lines_first : (names : List (List ℕ)) (ones twos : List Feature) (ls : List SequenceLine) → IsLost names ones twos → AllByRecursion (λ line. (more : List (List ℕ)) × (names ≡ line.names ++ more)) ls
       → flat_map (masked_line how (ones ++ twos)) ls ≡ flat_map (masked_line how ones) ls
@@ -183,4 +180,4 @@ module _ (how : MaskHow) where
   lines_both names rest ones twos ls ms kept lost begins named =
       flat_map-append (masked_line how (ones ++ twos)) ls (map (line_after names) ms)
       ∙ ap₂ (λ a b. a ++ b) (lines_first names ones twos ls lost begins)
-      (flat_moved (masked_line how (ones ++ twos)) names ms ∙ flat_map_same _ _ ms (all_so _ _ ms (λ line n. line_second names rest ones twos kept lost line n) named))
+      (flat_map-map (masked_line how (ones ++ twos)) (line_after names) ms ∙ flat_map_same _ _ ms (all_so _ _ ms (λ line n. line_second names rest ones twos kept lost line n) named))

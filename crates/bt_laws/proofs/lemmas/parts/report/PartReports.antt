@@ -18,6 +18,10 @@ pub record Adds (one two whole : Report) : Type 0 where
 abbrev pub Stops : Report → Report → Report → Type 0
 Stops one two whole = (rest : List ℕ) × (one.output ++ unless_fault one.fault two.output ≡ whole.output ++ rest)
 
+-- both
+abbrev pub Joins : Report → Report → Report → Type 0
+Joins one two whole = Adds one two whole × Stops one two whole
+
 pub add_none : (whole : Report) → whole.fault ≡ None → whole.output ≡ [] → AddUp [] whole
 add_none whole fault output = record { faultless = (λ e. tt, λ all. fault); output = λ e. output }
 
@@ -56,7 +60,7 @@ stop_by (Some fault) first whole output outputs left more stops = stops
 pub stop_more : (part : Report) (parts : List Report) (rest whole : Report) → StopWithin parts rest → Stops part rest whole → StopWithin (part ∷ parts) whole
 stop_more part parts rest whole more stops = stop_by part.fault part.output whole.output rest.output (outputs_to_fault parts) more.0 more.1 stops
 
--- what a command of one input writes of the members of two parts, where each command may have its own genome file
+-- what a command of one input writes of the members of two parts; each command may have its own genome file
 pub record Splits {A : Type 0} (one two whole : Written A) (ones twos : List A) : Type 0 where
   pub all : whole.whole (ones ++ twos) ≡ one.whole ones ++ two.whole twos
   pub first : whole.settled ones ≡ one.settled ones
@@ -66,7 +70,7 @@ abbrev pub Contiguous : {A : Type 0} → Option FaultValue → Option FaultValue
 Contiguous None g h ones twos all = (all ≡ ones ++ twos) × (is_none h ≡ is_none g)
 Contiguous (Some f) g h ones twos all = (all ≡ ones) × (is_none h ≡ false)
 
--- without a fault in the whole there is none in the parts, and the other way round
+-- the whole is without a fault exactly if the parts are
 pub together_parts : {A : Type 0} (f g h : Option FaultValue) (ones twos all : List A) → Contiguous f g h ones twos all → h ≡ None → (f ≡ None) × (g ≡ None)
 together_parts None None h ones twos all is e = (refl, refl)
 together_parts None (Some g) None ones twos all is e = let apart : true ≡ false = is.1 in absurd (cc)
@@ -85,65 +89,57 @@ together_all None g h ones twos all is e = is.0
 together_all (Some f) g h ones twos all is e = cc
 
 module _ {A : Type 0} (one two whole : Written A) (ones twos all : List A) (splits : Splits one two whole ones twos) where
-  pub adds_by : (f g h : Option FaultValue) → Contiguous f g h ones twos all → Adds (report_by one ones f) (report_by two twos g) (report_by whole all h)
-  adds_by None None None is = record { parts = λ e. (refl, refl); both = λ e d. refl; output = λ e d. ap whole.whole is.0 ∙ splits.all }
-  adds_by None None (Some h) is = let apart = is.1 in record { parts = λ e. cc; both = λ e d. cc; output = λ e d. cc }
-  adds_by None (Some g) None is = let apart = is.1 in record { parts = λ e. cc; both = λ e d. cc; output = λ e d. cc }
-  adds_by None (Some g) (Some h) is = record { parts = λ e. cc; both = λ e d. cc; output = λ e d. cc }
-  adds_by (Some f) g None is = let apart = is.1 in record { parts = λ e. cc; both = λ e d. cc; output = λ e d. cc }
-  adds_by (Some f) g (Some h) is = record { parts = λ e. cc; both = λ e d. cc; output = λ e d. cc }
-
-  pub stops_by : (f g h : Option FaultValue) → Contiguous f g h ones twos all → Stops (report_by one ones f) (report_by two twos g) (report_by whole all h)
-  stops_by None None None is = ([], sym (append-nil (whole.whole all) ∙ ap whole.whole is.0 ∙ splits.all))
-  stops_by None None (Some h) is = let apart : false ≡ true = is.1 in absurd (cc)
-  stops_by None (Some g) None is = let apart : true ≡ false = is.1 in absurd (cc)
-  stops_by None (Some g) (Some h) is = (splits.begin.0, splits.begin.1 ∙ ap (λ l. whole.settled l ++ splits.begin.0) (sym is.0))
-  stops_by (Some f) g None is = let apart : true ≡ false = is.1 in absurd (cc)
-  stops_by (Some f) g (Some h) is = ([], ap (λ l. l ++ []) (sym (ap whole.settled is.0 ∙ splits.first)))
+  pub joins_by : (f g h : Option FaultValue) → Contiguous f g h ones twos all → Joins (report_by one ones f) (report_by two twos g) (report_by whole all h)
+  joins_by None None None is = (
+    record { parts = λ e. (refl, refl); both = λ e d. refl; output = λ e d. ap whole.whole is.0 ∙ splits.all },
+    ([], sym (append-nil (whole.whole all) ∙ ap whole.whole is.0 ∙ splits.all)),
+  )
+  joins_by None None (Some h) is = let apart : false ≡ true = is.1 in absurd (cc)
+  joins_by None (Some g) None is = let apart : true ≡ false = is.1 in absurd (cc)
+  joins_by None (Some g) (Some h) is = (
+    record { parts = λ e. cc; both = λ e d. cc; output = λ e d. cc },
+    (splits.begin.0, splits.begin.1 ∙ ap (λ l. whole.settled l ++ splits.begin.0) (sym is.0)),
+  )
+  joins_by (Some f) g None is = let apart : true ≡ false = is.1 in absurd (cc)
+  joins_by (Some f) g (Some h) is = (
+    record { parts = λ e. cc; both = λ e d. cc; output = λ e d. cc },
+    ([], ap (λ l. l ++ []) (sym (ap whole.settled is.0 ∙ splits.first))),
+  )
 
 pub together : {A : Type 0} (f : Option FaultValue) (one two whole : Good A) → IsJointBy f one two whole → Contiguous f two.fault whole.fault (items_in one) (items_in two) (items_in whole)
 together None one two whole is = is
 together (Some f) one two whole is = is
 
 module _ {A : Type 0} (one two whole : Written A) (first second all : Good A) (joint : IsJoint first second all) (splits : Splits one two whole (items_in first) (items_in second)) where
-  pub good_adds : Adds (good_report one first) (good_report two second) (good_report whole all)
-  good_adds = adds_by one two whole (items_in first) (items_in second) (items_in all) splits first.fault second.fault all.fault (together first.fault first second all joint)
+  pub good_joins : Joins (good_report one first) (good_report two second) (good_report whole all)
+  good_joins = joins_by one two whole (items_in first) (items_in second) (items_in all) splits first.fault second.fault all.fault (together first.fault first second all joint)
 
-  pub good_stops : Stops (good_report one first) (good_report two second) (good_report whole all)
-  good_stops = stops_by one two whole (items_in first) (items_in second) (items_in all) splits first.fault second.fault all.fault (together first.fault first second all joint)
+-- a run that wrote nothing, without a fault
+abbrev pub nothing : Report
+nothing = record { output = []; fault = None }
 
 -- any number of parts, by two of them
 module _ {T : Type 0} (join : List T → T) (report : T → Report) (Fits : List T → Type 0)
-    (none : (report (join [])).fault ≡ None) (empty : (report (join [])).output ≡ [])
+    (empty : report (join []) ≡ nothing)
     (one : (t : T) → report (join (t ∷ [])) ≡ report t)
     (less : (t : T) (ts : List T) → Fits (t ∷ ts) → Fits ts) where
   pub parts_add : ((t u : T) (ts : List T) → Fits (t ∷ u ∷ ts) → Adds (report t) (report (join (u ∷ ts))) (report (join (t ∷ u ∷ ts))))
       → (ts : List T) → Fits ts → AddUp (map report ts) (report (join ts))
-  parts_add two [] fits = add_none (report (join [])) none empty
+  parts_add two [] fits = add_none (report (join [])) (ap (λ (r : Report). r.fault) empty) (ap (λ (r : Report). r.output) empty)
   parts_add two (t ∷ []) fits = subst (λ r. AddUp (report t ∷ []) r) (sym (one t)) (add_one (report t))
   parts_add two (t ∷ u ∷ ts) fits =
       add_more (report t) (map report (u ∷ ts)) (report (join (u ∷ ts))) (report (join (t ∷ u ∷ ts))) (parts_add two (u ∷ ts) (less t (u ∷ ts) fits)) (two t u ts fits)
 
   pub parts_stop : ((t u : T) (ts : List T) → Fits (t ∷ u ∷ ts) → Stops (report t) (report (join (u ∷ ts))) (report (join (t ∷ u ∷ ts))))
       → (ts : List T) → Fits ts → StopWithin (map report ts) (report (join ts))
-  parts_stop two [] fits = stop_none (report (join [])) empty
+  parts_stop two [] fits = stop_none (report (join [])) (ap (λ (r : Report). r.output) empty)
   parts_stop two (t ∷ []) fits = subst (λ r. StopWithin (report t ∷ []) r) (sym (one t)) (stop_one (report t))
   parts_stop two (t ∷ u ∷ ts) fits =
       stop_more (report t) (map report (u ∷ ts)) (report (join (u ∷ ts))) (report (join (t ∷ u ∷ ts))) (parts_stop two (u ∷ ts) (less t (u ∷ ts) fits)) (two t u ts fits)
 
--- a run that wrote nothing, without a fault
-abbrev pub nothing : Report
-nothing = record { output = []; fault = None }
-
--- the same of both
-module _ {T : Type 0} (join : List T → T) (report : T → Report) (Fits : List T → Type 0) (empty : report (join []) ≡ nothing)
-    (one : (t : T) → report (join (t ∷ [])) ≡ report t) (less : (t : T) (ts : List T) → Fits (t ∷ ts) → Fits ts)
-    (two : (t u : T) (ts : List T) → Fits (t ∷ u ∷ ts) → Adds (report t) (report (join (u ∷ ts))) (report (join (t ∷ u ∷ ts))) × Stops (report t) (report (join (u ∷ ts))) (report (join (t ∷ u ∷ ts)))) where
-  pub parts_both : (ts : List T) → Fits ts → AddUp (map report ts) (report (join ts)) × StopWithin (map report ts) (report (join ts))
-  parts_both ts fits = (
-    parts_add join report Fits (ap (λ (r : Report). r.fault) empty) (ap (λ (r : Report). r.output) empty) one less (λ t u ts f. (two t u ts f).0) ts fits,
-    parts_stop join report Fits (ap (λ (r : Report). r.fault) empty) (ap (λ (r : Report). r.output) empty) one less (λ t u ts f. (two t u ts f).1) ts fits,
-  )
+  pub parts_both : ((t u : T) (ts : List T) → Fits (t ∷ u ∷ ts) → Joins (report t) (report (join (u ∷ ts))) (report (join (t ∷ u ∷ ts))))
+      → (ts : List T) → Fits ts → AddUp (map report ts) (report (join ts)) × StopWithin (map report ts) (report (join ts))
+  parts_both two ts fits = (parts_add (λ t u ts f. (two t u ts f).0) ts fits, parts_stop (λ t u ts f. (two t u ts f).1) ts fits)
 
 -- commands that write the same of these members
 pub splits_as : {A : Type 0} (one two whole one_too two_too whole_too : Written A) (ones twos : List A)

@@ -3,7 +3,6 @@ use Rattle.std.proofs.Common.{◌≡◌, ℕ, Bool, true, false, ◌&&◌, not, 
 use Rattle.std.specs.Prelude.{IsTrue, bytes_eq, flat_map, is_none}
 use Rattle.std.specs.List.{AllByRecursion, list_all, list_any, take_while}
 use Rattle.std.specs.Option.{option_or}
-use Rattle.std.specs.Ordering.{ordering_reverse}
 use Rattle.std.specs.declared.cmp.Ordering.{Ordering}
 use Rattle.std.specs.declared.cmp.Ordering.TheVariants.{Less, Equal, Greater}
 use Rattle.std.proofs.lemmas.Grind.{flat_map-append}
@@ -27,9 +26,9 @@ use Rattle.bt_sweep.proofs.lemmas.laws.RuleLemmas.{apart_misses}
 use Rattle.bt_laws.specs.parts.Parts.{unless_fault}
 use Rattle.bt_tool.specs.model.report.RecordReport.{Report}
 use Rattle.bt_tool.specs.model.report.SweepReport.{met_report}
-use Rattle.bt_laws.proofs.lemmas.parts.text.PartBed.{Earlier}
-use Rattle.bt_laws.proofs.lemmas.parts.text.PartLists.{all_any, all_so, all_swapped, filter_none, flat_map_same}
-use Rattle.bt_laws.proofs.lemmas.parts.report.PartReports.{Adds, Stops, Contiguous, together_all, together_both, together_parts}
+use Rattle.bt_laws.proofs.lemmas.parts.text.PartBed.{Earlier, reversed_less}
+use Rattle.bt_laws.proofs.lemmas.Lists.{all_any, all_so, all_swapped, filter_none, flat_map_same}
+use Rattle.bt_laws.proofs.lemmas.parts.report.PartReports.{Adds, Stops, Contiguous, together_all, together_both, together_parts, Joins}
 
 -- ---- lists up to the first that fails a test
 
@@ -61,7 +60,7 @@ pub any_false : {A : Type 0} (t : A → Bool) (xs : List A) → AllByRecursion (
 any_false t [] h = refl
 any_false t (x ∷ xs) h = ap (λ b. b || list_any t xs) h.0 ∙ any_false t xs h.1
 
-any_behind : {A : Type 0} (t : A → Bool) (xs ys : List A) → AllByRecursion (λ x. t x ≡ false) xs → list_any t (xs ++ ys) ≡ list_any t ys
+pub any_behind : {A : Type 0} (t : A → Bool) (xs ys : List A) → AllByRecursion (λ x. t x ≡ false) xs → list_any t (xs ++ ys) ≡ list_any t ys
 any_behind t [] ys h = refl
 any_behind t (x ∷ xs) ys h = ap (λ b. b || list_any t (xs ++ ys)) h.0 ∙ any_behind t xs ys h.1
 
@@ -93,12 +92,9 @@ module _ (order : Order) (total : IsTotal order) where
   is_below_less Equal start other e = cc
   is_below_less Greater start other e = cc
 
-  greater_by : (o p : Ordering) → o ≡ Less → p ≡ ordering_reverse o → p ≡ Greater
-  greater_by o p e is = cc
-
   -- a record on a later chromosome decides one before it
   pub later_decides : (a b : Feature) → IsTrue (order.knows a.chrom) → IsTrue (order.knows b.chrom) → order.compare a.chrom b.chrom ≡ Less → decides order a b ≡ true
-  later_decides a b ka kb less = later_at (order.compare b.chrom a.chrom) b.start a.stop (greater_by (order.compare a.chrom b.chrom) (order.compare b.chrom a.chrom) less (total.swapped a.chrom b.chrom ka kb))
+  later_decides a b ka kb less = later_at (order.compare b.chrom a.chrom) b.start a.stop (reversed_less (order.compare a.chrom b.chrom) (order.compare b.chrom a.chrom) less (total.swapped a.chrom b.chrom ka kb))
 
   -- and one on an earlier chromosome doesn't
   pub earlier_leaves : (a b : Feature) → order.compare b.chrom a.chrom ≡ Less → decides order a b ≡ false
@@ -240,7 +236,7 @@ module _ (order : Order) (total : IsTotal order) (shape : Shape) (rule : HitRule
           ∙ ap₂ (λ x y. x ++ y) (sym (output_none order shape rule aones fa1 bones fb1 one.1)) (sym (output_none order shape rule atwos fa2 btwos fb2 two.1));
     }
 
-  -- where the second input of the first part is at fault, nothing behind it is written
+  -- if the second input of the first part is at fault, nothing after it is written
   module _ (f : FaultValue) (fa1 fa2 fa fb2 fb : Option FaultValue) (all bs : List Feature) (ja : Contiguous fa1 fa2 fa aones atwos all) (jb : Contiguous (Some f) fb2 fb bones btwos bs) where
     same_rule : (xs : List Feature) → written (sweep_rule order shape rule bs fb) xs ≡ written (sweep_rule order shape rule bones (Some f)) xs
     same_rule xs = written_same (sweep_rule order shape rule bs fb) (sweep_rule order shape rule bones (Some f)) xs
@@ -334,3 +330,7 @@ module _ (order : Order) (total : IsTotal order) (shape : Shape) (rule : HitRule
       → Stops (sweep_report order shape rule aones fa1 bones fb1) (sweep_report order shape rule atwos fa2 btwos fb2) (sweep_report order shape rule all fa bs fb)
   sweep_stops fa1 fa2 fa None fb2 fb all bs ja jb = stops_by fa1 fa2 fa fb2 fb all bs ja jb fa1 refl
   sweep_stops fa1 fa2 fa (Some f) fb2 fb all bs ja jb = stops_second f fa1 fa2 fa fb2 fb all bs ja jb
+
+  pub sweep_joins : (fa1 fa2 fa fb1 fb2 fb : Option FaultValue) (all bs : List Feature) → Contiguous fa1 fa2 fa aones atwos all → Contiguous fb1 fb2 fb bones btwos bs
+      → Joins (sweep_report order shape rule aones fa1 bones fb1) (sweep_report order shape rule atwos fa2 btwos fb2) (sweep_report order shape rule all fa bs fb)
+  sweep_joins fa1 fa2 fa fb1 fb2 fb all bs ja jb = (sweep_adds fa1 fa2 fa fb1 fb2 fb all bs ja jb, sweep_stops fa1 fa2 fa fb1 fb2 fb all bs ja jb)

@@ -1,4 +1,4 @@
--- What is good of a text of records that is put behind another.
+-- What is good of two concatenated texts of records.
 use Rattle.std.proofs.Common.{◌≡◌, ℕ, Bool, true, false, cond, List, [], ◌∷◌, ◌++◌, Option, Some, None, Result, Ok, Err, refl, ap, ◌∙◌, subst}
 use Rattle.std.specs.Prelude.{IsTrue, flat_map}
 use Rattle.std.specs.List.{AllByRecursion}
@@ -21,7 +21,7 @@ use Rattle.bt_bed.proofs.lemmas.order.SortingLemmas.{places_sorted}
 use Rattle.bt_laws.specs.parts.Parts.{ComeBefore, StandsBefore, said_record, said_records}
 use Rattle.bt_laws.proofs.lemmas.parts.order.PartGood.{IsJoint, LeadsOn, good_joint}
 use Rattle.bt_laws.proofs.lemmas.parts.text.PartLines.{AreAlike, alike_lines}
-use Rattle.bt_laws.proofs.lemmas.parts.text.PartLists.{all_back, all_front, all_so}
+use Rattle.bt_laws.proofs.lemmas.Lists.{all_back, all_front, all_so}
 
 -- the records that lines say
 abbrev pub records_on : List TextLine → List Feature
@@ -33,20 +33,20 @@ alike_records [] (m ∷ ms) h = absurd h
 alike_records (l ∷ ls) [] h = absurd h
 alike_records (l ∷ ls) (m ∷ ms) h = ap (λ t. said_record (record_of t) ++ records_on ls) h.0 ∙ ap (λ rs. said_record (record_of m.text) ++ rs) (alike_records ls ms h.2)
 
+pub below_no : (o : Ordering) (start other : ℕ) → o ≡ Greater → is_below_at o start other ≡ false
+below_no Less start other e = cc
+below_no Equal start other e = cc
+below_no Greater start other e = refl
+
+pub reversed_less : (o p : Ordering) → o ≡ Less → p ≡ ordering_reverse o → p ≡ Greater
+reversed_less o p e is = cc
+
 module _ (order : Order) (total : IsTotal order) where
-  -- the name, where it is known, comes before the chromosomes of the records
+  -- the name, if it is known, comes before the chromosomes of the records
   abbrev pub Leading : List ℕ → List Feature → Type 0
   Leading name records = AllByRecursion (λ s. IsTrue (order.knows name) → IsTrue (order.knows s.chrom) → order.compare name s.chrom ≡ Less) records
 
-  below_no : (o : Ordering) (start other : ℕ) → o ≡ Greater → is_below_at o start other ≡ false
-  below_no Less start other e = cc
-  below_no Equal start other e = cc
-  below_no Greater start other e = refl
-
-  reversed_less : (o p : Ordering) → o ≡ Less → p ≡ ordering_reverse o → p ≡ Greater
-  reversed_less o p e is = cc
-
-  -- what lies on a later chromosome doesn't fall
+  -- a record on a later chromosome is in order
   later_stays : (last place : Locus) → IsTrue (order.knows last.chrom) → IsTrue (order.knows place.chrom) → order.compare last.chrom place.chrom ≡ Less → falls_in (sorting_of order) (Some last) place ≡ false
   later_stays last place was is less =
       places_sorted order last place total was is

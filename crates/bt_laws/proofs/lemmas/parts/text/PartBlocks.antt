@@ -1,4 +1,4 @@
--- Records in blocks, in a text that is put behind another.
+-- Records in blocks, in two concatenated texts.
 use Rattle.std.proofs.Common.{◌≡◌, ℕ, Bool, true, false, cond, List, [], ◌∷◌, ◌++◌, append-nil, Option, Some, None, Result, Ok, Err, refl, sym, ap, ◌∙◌, subst}
 use Rattle.std.specs.Prelude.{⊤, is_none, nat_lt, option_map}
 use Rattle.std.specs.List.{AllByRecursion}
@@ -21,7 +21,7 @@ use Rattle.bt_laws.specs.parts.Parts.{StandsBefore, said_record, said_records}
 use Rattle.bt_laws.proofs.lemmas.parts.text.PartBed.{alike_records, records_on}
 use Rattle.bt_laws.proofs.lemmas.parts.order.PartGood.{IsLike, like_from, none_like}
 use Rattle.bt_laws.proofs.lemmas.parts.text.PartLines.{alike_lines, lines_join}
-use Rattle.bt_laws.proofs.lemmas.parts.text.PartLists.{all_back, all_front}
+use Rattle.bt_laws.proofs.lemmas.Lists.{all_back, all_front}
 use Rattle.bt_laws.proofs.lemmas.parts.text.PartSequences.{go_from, put_on, reached}
 
 -- the chromosome of a place
@@ -128,7 +128,7 @@ module _ (input : Input) where
     abbrev Whole-good : Good Feature
     Whole-good = good block_format input (text_lines (one ++ two))
 
-    -- what comes behind the records of the first text, whatever the numbers of its lines
+    -- what comes after the records of the first text, whatever the numbers of its lines
     abbrev Lines-behind : List TextLine
     Lines-behind = lines_from (lines_join 1 one two ends).0 two
 
@@ -160,7 +160,7 @@ module _ (input : Input) where
         subst (λ last. BeginsElsewhere last (records_on Lines-behind)) (sym (reached_last None (items_in First-good)))
         (subst (BeginsElsewhere (last_from None (items_in First-good))) (alike_records (text_lines two) Lines-behind (alike_lines 1 (lines_join 1 one two ends).0 two)) h)
 
-    -- where those of the second text begin on another chromosome
+    -- if those of the second text begin on another chromosome
     pub fresh_joint : First-good.fault ≡ None → BeginsElsewhere (last_from None (items_in First-good)) (said_records two) → AreJoint
     fresh_joint none h =
         joint_of First-good (good_from block_format input None Lines-behind) like_two
@@ -171,7 +171,7 @@ module _ (input : Input) where
     none_by None g h is e = (refl, e)
     none_by (Some fault) g h is e = let apart : Some fault ≡ None = sym is ∙ e in cc
 
-    -- or where the whole has no fault
+    -- or if both texts have no fault
     pub calm_joint : Whole-good.fault ≡ None → (First-good.fault ≡ None) × (Second-good.fault ≡ None) × (items_in Whole-good ≡ items_in First-good ++ items_in Second-good)
     calm_joint none =
         let late = good_from block_format input Last Lines-behind in

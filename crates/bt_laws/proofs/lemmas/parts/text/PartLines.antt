@@ -1,4 +1,4 @@
--- Lines of a text that is put behind another, which ends with a line feed where there are any.
+-- Lines of two concatenated texts, of which the first is empty or ends with a line feed.
 use Rattle.std.proofs.Common.{◌≡◌, ℕ, suc, true, false, List, [], ◌∷◌, ◌++◌, refl, sym, ap, ◌∙◌, append-nil, append_assoc, eqb, inl, inr}
 use Rattle.std.specs.Prelude.{IsTrue}
 use Rattle.std.proofs.lemmas.List.Elements.{All-head, All-tail}
@@ -43,7 +43,7 @@ ends_behind [] (byte ∷ bytes) e = e
 ends_behind (byte ∷ []) rest e = ends_behind [] rest e
 ends_behind (byte ∷ next ∷ bytes) rest e = ends_behind (next ∷ bytes) rest e
 
--- behind a text that ends with a line feed
+-- after a text that ends with a line feed
 lines_fed : (n : ℕ) (one two : List ℕ) → IsTrue (ends_line one) → (k : ℕ) × (lines_from n (one ++ two) ≡ lines_from n one ++ lines_from k two)
 lines_fed n one two = by_lines (λ n bytes. IsTrue (ends_line bytes) → (k : ℕ) × (lines_from n (bytes ++ two) ≡ lines_from n bytes ++ lines_from k two))
     (λ n piece clear e.
@@ -59,7 +59,7 @@ lines_fed n one two = by_lines (λ n bytes. IsTrue (ends_line bytes) → (k : �
     ))
     n one
 
--- the lines of the first text, and behind them those of the other, numbered from some number on
+-- the lines of the first text, then those of the other, numbered from some number on
 pub lines_join : (n : ℕ) (one two : List ℕ) → StandsBefore one two → (k : ℕ) × (lines_from n (one ++ two) ≡ lines_from n one ++ lines_from k two)
 lines_join n one two (inl ends) = lines_fed n one two ends
 lines_join n one two (inr none) = (

@@ -4,7 +4,7 @@ use Rattle.std.specs.Prelude.{IsTrue, bytes_eq}
 use Rattle.std.specs.List.{AllByRecursion}
 use Rattle.std.specs.declared.cmp.Ordering.TheVariants.{Less, Equal}
 use Rattle.std.proofs.lemmas.Bool.{or_parts}
-use Rattle.bt_laws.proofs.lemmas.parts.order.PartRanks.{or_assoc}
+use Rattle.bt_laws.proofs.lemmas.parts.order.PartGenomes.{or_assoc}
 use Rattle.bt_bed.specs.model.feature.Feature.{Feature, interval_of, intervals_of}
 use Rattle.bt_bed.specs.model.feature.Interval.{Interval, last_from, last_of, spans_on}
 use Rattle.bt_bed.specs.model.order.Locus.{ArePlaced, IsPlacedBefore}
@@ -13,7 +13,7 @@ use Rattle.bt_bed.specs.model.order.Contiguous.{has_records}
 use Rattle.bt_bed.proofs.lemmas.parse.NameLemmas.{name_ne, name_ne-sym}
 use Rattle.bt_runs.proofs.lemmas.order.ChromosomeLemmas.{spans_on-append, spans_on-none}
 use Rattle.bt_laws.proofs.lemmas.parts.text.PartBed.{Earlier}
-use Rattle.bt_laws.proofs.lemmas.parts.text.PartLists.{all_map, all_so, all_swapped}
+use Rattle.bt_laws.proofs.lemmas.Lists.{all_map, all_so, all_swapped}
 
 -- no record of the one lies on a chromosome of the other
 pub record Away (ones twos : List Interval) : Type 0 where

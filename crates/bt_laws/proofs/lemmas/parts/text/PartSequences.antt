@@ -1,4 +1,4 @@
--- What is good of FASTA text that is put behind other FASTA text.
+-- What is good of two concatenated FASTA texts.
 use Rattle.std.proofs.Common.{◌≡◌, ℕ, suc, ◌-◌, Bool, true, false, cond, List, [], ◌∷◌, ◌++◌, length, map, take, append-nil, append_assoc, Option, Some, None, Result, Ok, Err, refl, sym, ap, ap₂, ◌∙◌, subst, eqb, arith}
 use Rattle.std.specs.Prelude.{IsTrue, ⊤, flat_map}
 use Rattle.std.specs.List.{AllByRecursion}
@@ -21,12 +21,12 @@ use Rattle.bt_laws.proofs.lemmas.parts.order.PartGood.{like_from, none_like}
 use Rattle.bt_laws.proofs.lemmas.parts.text.PartLines.{alike_lines, lines_join}
 
 module _ {A State : Type 0} (format : Format A State) where
-  -- what is known behind members
+  -- what is known after members
   abbrev pub reached : State → List A → State
   reached state [] = state
   reached state (x ∷ xs) = reached (format.after state x) xs
 
-  -- what is good of lines, and behind them this
+  -- what is good of lines, followed by this
   abbrev pub put_on : Option FaultValue → Good A → Good A → Good A
   put_on None g h = record { members = g.members ++ h.members; fault = h.fault }
   put_on (Some fault) g h = g
@@ -46,7 +46,7 @@ module _ {A State : Type 0} (format : Format A State) where
         let m : Member A = record { line = n; item = item } in
         ap (with_member m) (h now) ∙ member_on m (ones now).fault (ones now) (good_from format input (reached now (items_in (ones now))) ms)
 
-    -- what is good of lines and of others behind them
+    -- what is good of lines and of others after them
     pub go_from : (state : State) (ls ms : List TextLine) → good_from format input state (ls ++ ms)
         ≡ put_on (good_from format input state ls).fault (good_from format input state ls) (good_from format input (reached state (items_in (good_from format input state ls))) ms)
     unfolding good_from
@@ -56,15 +56,15 @@ module _ {A State : Type 0} (format : Format A State) where
 
 -- ---- sequences
 
--- a line behind sequences of these names
+-- a line after sequences of these names
 abbrev pub line_after : List (List ℕ) → SequenceLine → SequenceLine
 line_after names line = record { names = names ++ line.names; before = line.before; text = line.text; ending = line.ending }
 
--- a state behind sequences of these names
+-- a state after sequences of these names
 abbrev reached_after : List (List ℕ) → Reached → Reached
 reached_after names reached = record { names = names ++ reached.names; bases = reached.bases }
 
--- lines of sequences, and the same behind sequences of these names
+-- lines of sequences, and the same after sequences of these names
 pub record AreMoved (names : List (List ℕ)) (g h : Good SequenceLine) : Type 0 where
   pub items : items_in g ≡ map (line_after names) (items_in h)
   pub none : g.fault ≡ None
@@ -92,7 +92,7 @@ module _ (full : Bool) (input : Input) where
   abbrev Fasta : Format SequenceLine Reached
   Fasta = sequence_format full
 
-  -- what a line says behind a named sequence, and behind further names
+  -- what a line says after a named sequence, and after more names
   record Moves (names : List (List ℕ)) (s : Reached) (line : TextLine) : Type 0 where
     it : SequenceLine
     here : line_says full s line ≡ Ok (Some it)
@@ -150,7 +150,7 @@ module _ (full : Bool) (input : Input) where
       moved_with r.names Fasta.begin l.number it (line_says full Fasta.begin l) (line_says full r l) (λ now. good_from Fasta input now ls) (λ now. good_from Fasta input now ls)
       (says_header Fasta.begin l h) (says_header r l h) refl (moved_from r.names (Fasta.after Fasta.begin it) ls refl) r
 
-  -- where a line is at fault, no line before it has a sequence
+  -- if a line is at fault, no line before it has a sequence
   unnamed_with : (s : Reached) (l : TextLine) (rest : Reached → Good SequenceLine) (fault : FaultValue)
       → ((now : Reached) → (rest now).fault ≡ Some fault → AllByRecursion (λ line. is_unnamed line.names ≡ true) (items_in (rest now)))
       → ((now : Reached) → is_unnamed now.names ≡ false → (rest now).fault ≡ None)
@@ -183,7 +183,7 @@ module _ (full : Bool) (input : Input) where
   begin_names [] = refl
   begin_names (x ∷ xs) = reached_names Fasta.begin x xs
 
-  -- the names behind lines without a fault
+  -- the names after lines without a fault
   grown_with : (s : Reached) (l : TextLine) (ls : List TextLine) (rest : Reached → Good SequenceLine)
       → ((now : Reached) → (rest now).fault ≡ None → (reached Fasta now (items_in (rest now))).names ≡ now.names ++ flat_map (λ line. name_on full line.text) ls)
       → (h m : Bool) → is_header l.text ≡ h
@@ -293,7 +293,7 @@ module _ (full : Bool) (input : Input) where
       same_said : (state : Reached) (l m : TextLine) → l.text ≡ m.text → l.ending ≡ m.ending → line_says full state l ≡ line_says full state m
       same_said state l m t d = ap₂ (λ text ending. line_says full state (record { number = l.number; text = text; ending = ending })) t d
 
-  -- what is good of both texts: the first is at fault, or the lines of the second come behind its sequences
+  -- what is good of both texts: the first is at fault, or the lines of the second come after its sequences
   abbrev pub AreBothBy : Option FaultValue → Good SequenceLine → Good SequenceLine → Good SequenceLine → Type 0
   AreBothBy None one two whole =
       (items_in whole ≡ items_in one ++ map (line_after (names_of (items_in one))) (items_in two)) × (whole.fault ≡ None)

@@ -1,15 +1,31 @@
--- The reports of merge, intersect and subtract on two texts, one behind the other, and on any number.
-use Rattle.std.proofs.Common.{◌≡◌, ℕ, Bool, List, [], ◌∷◌, ◌++◌, map, append-nil, Option, Some, None, Ok, refl, ap, ap₂, ◌∙◌}
+-- The reports of bamtobed, merge, intersect and subtract on two concatenated texts, and on any number.
+use Rattle.std.proofs.Common.{◌≡◌, ℕ, Bool, List, [], ◌∷◌, ◌++◌, append-nil, Option, Some, None, refl, sym, ap, ◌∙◌, map, Ok, ap₂}
+use Rattle.std.proofs.lemmas.Grind.{flat_map-append}
+use Rattle.bt_lines.specs.model.Fault.{FaultValue}
+use Rattle.bt_lines.specs.model.Lines.{lines_from, text_lines}
+use Rattle.bt_lines.specs.declared.fault.Input.TheVariants.{First, Second}
+use Rattle.bt_bed.specs.model.input.Good.{Good, good, good_from, items_in}
+use Rattle.bt_seq.specs.model.Alignment.{Alignment, alignment_of}
+use Rattle.bt_seq.specs.model.BedLines.{bed_lines}
+use Rattle.bt_seq.specs.model.GoodSam.{sam_format}
+use Rattle.bt_tool.specs.model.report.ConvertReport.{alignment_lines}
+use Rattle.bt_laws.specs.parts.Parts.{AreOfLines, StandsBefore, joined, ComeBefore, said_records}
+use Rattle.bt_tool.specs.model.report.RecordReport.{Report, good_report, report_by}
+use Rattle.bt_tool.specs.model.report.Report.{report_of, chromosomes_of, report_on}
+use Rattle.bt_laws.specs.parts.SplitLaws.{bamtobed_divides, on_text, ArePairs, PairsAscend, Texts, TextsAscend, intersect_divides, joined_texts, merge_divides, on_texts, subtract_divides, PairsAddUp}
+use Rattle.bt_tool.specs.model.report.Written.{Written, merge_written}
+use Rattle.bt_tool.specs.declared.planning.plan_type.Command.TheVariants.{BamToBed, Intersect, Merge, Subtract}
+use Rattle.bt_tool.proofs.lemmas.running.members.CameMembers.{good_whole}
+use Rattle.bt_laws.proofs.lemmas.parts.order.PartGood.{IsJoint, good_joint}
+use Rattle.bt_laws.proofs.lemmas.parts.report.PartReports.{Splits, parts_both, Joins, good_joins, nothing, together}
+use Rattle.bt_laws.proofs.lemmas.Lists.{all_any, all_back, all_front, all_so}
 use Rattle.std.specs.Prelude.{IsTrue}
 use Rattle.std.specs.List.{AllByRecursion}
 use Rattle.bt_lines.specs.model.Handed.{Handed, whole_text}
-use Rattle.bt_lines.specs.model.Lines.{lines_from, text_lines}
 use Rattle.bt_lines.specs.declared.fault.Input.{Input}
-use Rattle.bt_lines.specs.declared.fault.Input.TheVariants.{First, Second}
 use Rattle.bt_bed.specs.model.order.ByteOrder.{bytes_total}
 use Rattle.bt_bed.specs.model.feature.Feature.{Feature, intervals_of}
 use Rattle.bt_bed.specs.model.order.Genome.{Entry, genome_names}
-use Rattle.bt_bed.specs.model.input.Good.{Good, good, good_from, items_in}
 use Rattle.bt_bed.specs.model.input.GoodBed.{bed_format}
 use Rattle.bt_bed.specs.model.order.Locus.{ArePlaced}
 use Rattle.bt_bed.specs.model.order.Order.{Order, IsTotal}
@@ -25,21 +41,58 @@ use Rattle.bt_sweep.specs.model.Subtract.{subtract_shape}
 use Rattle.bt_sweep.specs.declared.hits.hit_rule.HitRule.{HitRule}
 use Rattle.bt_sweep.specs.declared.output.shape.Shape.{Shape}
 use Rattle.bt_tool.specs.model.report.Behaviour.{order_of}
-use Rattle.bt_laws.specs.parts.Parts.{AreOfLines, ComeBefore, StandsBefore, joined, said_records}
-use Rattle.bt_tool.specs.model.report.RecordReport.{Report, good_report}
-use Rattle.bt_tool.specs.model.report.Report.{chromosomes_of, report_of, report_on}
-use Rattle.bt_laws.specs.parts.SplitLaws.{ArePairs, PairsAscend, Texts, TextsAscend, intersect_divides, joined_texts, merge_divides, on_text, on_texts, subtract_divides}
-use Rattle.bt_tool.specs.model.report.Written.{merge_written}
-use Rattle.bt_tool.specs.declared.planning.plan_type.Command.TheVariants.{Intersect, Merge, Subtract}
-use Rattle.bt_tool.proofs.lemmas.running.members.CameMembers.{good_whole}
 use Rattle.bt_laws.proofs.lemmas.parts.text.PartBed.{Earlier, bed_joint, good_earlier, items_all}
-use Rattle.bt_laws.proofs.lemmas.parts.text.PartLists.{all_any, all_back, all_front, all_so}
-use Rattle.bt_laws.proofs.lemmas.parts.report.PartMerge.{pooled_split}
+use Rattle.bt_laws.proofs.lemmas.parts.report.PartMerge.{pooled_split, strands_split}
 use Rattle.bt_laws.proofs.lemmas.parts.text.PartRecords.{names_apart, names_behind, records_away}
-use Rattle.bt_laws.proofs.lemmas.parts.report.PartReports.{Adds, Splits, Stops, good_adds, good_stops, nothing, parts_both, together}
-use Rattle.bt_laws.proofs.lemmas.parts.text.PartSam.{lines_less}
-use Rattle.bt_laws.proofs.lemmas.parts.report.PartStrands.{strands_split}
-use Rattle.bt_laws.proofs.lemmas.parts.report.PartSweep.{AreSplit, sweep_adds, sweep_report, sweep_stops}
+use Rattle.bt_laws.proofs.lemmas.parts.report.PartSweep.{AreSplit, sweep_report, sweep_joins}
+use Rattle.bt_tool.specs.declared.planning.plan_type.Command.{Command}
+
+module _ (split cigar : Bool) where
+  -- each alignment settles its own lines
+  lines_written : Written Alignment
+  lines_written = record { whole = alignment_lines split cigar; settled = alignment_lines split cigar }
+
+  same_report : (members : List Alignment) (fault : Option FaultValue) → report_by lines_written members fault ≡ record { output = alignment_lines split cigar members; fault = fault }
+  unfolding lines_written
+  same_report members None = refl
+  same_report members (Some fault) = refl
+
+  on_sam : List ℕ → Report
+  on_sam text = good_report lines_written (good sam_format First (text_lines text))
+
+  sam_is : (text : List ℕ) → on_text (BamToBed split cigar) None text ≡ on_sam text
+  unfolding report_of on_sam
+  sam_is text =
+      ap (λ (g : Good Alignment). record { output = alignment_lines split cigar (items_in g); fault = g.fault }) (good_whole sam_format First text)
+      ∙ sym (same_report (items_in (good sam_format First (text_lines text))) (good sam_format First (text_lines text)).fault)
+
+  lines_split : (ones twos : List Alignment) → Splits lines_written lines_written lines_written ones twos
+  unfolding lines_written
+  lines_split ones twos =
+      let both = flat_map-append (bed_lines split cigar) ones twos in
+      record { all = both; first = refl; begin = ([], sym (append-nil (alignment_lines split cigar (ones ++ twos)) ∙ both)) }
+
+  sam_joint : (one two : List ℕ) → StandsBefore one two → IsJoint (good sam_format First (text_lines one)) (good sam_format First (text_lines two)) (good sam_format First (text_lines (one ++ two)))
+  sam_joint one two ends = good_joint sam_format First (λ state. Unit {0}) one two ends (λ state l m e d. ap alignment_of e) tt (λ n now leads. refl) (all_any _ (text_lines one) (λ l state item leads e. tt))
+
+  sam_joins : (one two : List ℕ) → StandsBefore one two → Joins (on_sam one) (on_sam two) (on_sam (one ++ two))
+  unfolding on_sam
+  sam_joins one two ends =
+      good_joins lines_written lines_written lines_written (good sam_format First (text_lines one)) (good sam_format First (text_lines two)) (good sam_format First (text_lines (one ++ two))) (sam_joint one two ends) (lines_split _ _)
+
+  text_joins : (one two : List ℕ) → StandsBefore one two → Joins (on_text (BamToBed split cigar) None one) (on_text (BamToBed split cigar) None two) (on_text (BamToBed split cigar) None (one ++ two))
+  text_joins one two ends = rw (sam_is one, sam_is two, sam_is (one ++ two)) (sam_joins one two ends)
+
+pub lines_less : (text : List ℕ) (texts : List (List ℕ)) → AreOfLines (text ∷ texts) → AreOfLines texts
+lines_less text texts lines = lines.1
+
+pub sam_divides : bamtobed_divides
+unfolding report_of lines_from good_from
+sam_divides split cigar texts lines =
+    parts_both joined (on_text (BamToBed split cigar) None) AreOfLines refl (λ t. ap (on_text (BamToBed split cigar) None) (append-nil t)) lines_less
+    (λ t u ts fits. text_joins split cigar t (joined (u ∷ ts)) fits.0) texts lines
+
+-- ---- records
 
 pub order_total : (chromosomes : Option (List Entry)) → IsTotal (order_of chromosomes)
 order_total None = bytes_total
@@ -68,12 +121,8 @@ module _ (order : Order) (total : IsTotal order) where
   merge_report d strand text = good_report (merge_written order d strand) (bed_text_good First text)
 
   module _ (d : ℕ) (strand : MergeStrand) (one two : List ℕ) (ends : StandsBefore one two) (before : ComeBefore order (said_records one) (said_records two)) where
-    pub merge_adds : Adds (merge_report d strand one) (merge_report d strand two) (merge_report d strand (one ++ two))
-    merge_adds = good_adds (merge_written order d strand) (merge_written order d strand) (merge_written order d strand) (bed_text_good First one) (bed_text_good First two) (bed_text_good First (one ++ two))
-        (bed_joint order total one two before First ends) (merge_split d strand one two (good_earlier order total one two before First First))
-
-    pub merge_stops : Stops (merge_report d strand one) (merge_report d strand two) (merge_report d strand (one ++ two))
-    merge_stops = good_stops (merge_written order d strand) (merge_written order d strand) (merge_written order d strand) (bed_text_good First one) (bed_text_good First two) (bed_text_good First (one ++ two))
+    pub merge_joins : Joins (merge_report d strand one) (merge_report d strand two) (merge_report d strand (one ++ two))
+    merge_joins = good_joins (merge_written order d strand) (merge_written order d strand) (merge_written order d strand) (bed_text_good First one) (bed_text_good First two) (bed_text_good First (one ++ two))
         (bed_joint order total one two before First ends) (merge_split d strand one two (good_earlier order total one two before First First))
 
   -- ---- intersect
@@ -114,13 +163,8 @@ module _ (order : Order) (total : IsTotal order) where
           apart_second = names_behind order total (text_records Second b_one) (text_records First a_two) (known_all Second b_one) late;
         }
 
-    pub pair_adds : Adds (pair_report shape rule a_one b_one) (pair_report shape rule a_two b_two) (pair_report shape rule (a_one ++ a_two) (b_one ++ b_two))
-    pair_adds = sweep_adds order total shape rule (text_records First a_one) (text_records First a_two) (text_records Second b_one) (text_records Second b_two) split _ _ _ _ _ _ _ _
-        (together _ (bed_text_good First a_one) (bed_text_good First a_two) (bed_text_good First (a_one ++ a_two)) (bed_joint order total a_one a_two parts.0 First a_ends))
-        (together _ (bed_text_good Second b_one) (bed_text_good Second b_two) (bed_text_good Second (b_one ++ b_two)) (bed_joint order total b_one b_two parts.3 Second b_ends))
-
-    pub pair_stops : Stops (pair_report shape rule a_one b_one) (pair_report shape rule a_two b_two) (pair_report shape rule (a_one ++ a_two) (b_one ++ b_two))
-    pair_stops = sweep_stops order total shape rule (text_records First a_one) (text_records First a_two) (text_records Second b_one) (text_records Second b_two) split _ _ _ _ _ _ _ _
+    pub pair_joins : Joins (pair_report shape rule a_one b_one) (pair_report shape rule a_two b_two) (pair_report shape rule (a_one ++ a_two) (b_one ++ b_two))
+    pair_joins = sweep_joins order total shape rule (text_records First a_one) (text_records First a_two) (text_records Second b_one) (text_records Second b_two) split _ _ _ _ _ _ _ _
         (together _ (bed_text_good First a_one) (bed_text_good First a_two) (bed_text_good First (a_one ++ a_two)) (bed_joint order total a_one a_two parts.0 First a_ends))
         (together _ (bed_text_good Second b_one) (bed_text_good Second b_two) (bed_text_good Second (b_one ++ b_two)) (bed_joint order total b_one b_two parts.3 Second b_ends))
 
@@ -187,34 +231,23 @@ merge_parts d strand genome chromosomes texts has lines ascend =
     parts_both joined (on_text (Merge d strand) genome) (AreFit order) (is [] ∙ merge_empty order total d strand) (λ t. ap (on_text (Merge d strand) genome) (append-nil t)) (fit_less order)
     (λ t u ts f.
     let more = joined (u ∷ ts) in
-    rw (is t, is more, is (t ++ more)) (merge_adds order total d strand t more f.lines.0 f.ascend.0, merge_stops order total d strand t more f.lines.0 f.ascend.0))
+    rw (is t, is more, is (t ++ more)) (merge_joins order total d strand t more f.lines.0 f.ascend.0))
     texts (record { lines = lines; ascend = ascend })
 
-pub intersect_parts : intersect_divides
-intersect_parts shape rule genome chromosomes parts has lines ascend =
-    let order = order_of chromosomes in
-    let total = order_total chromosomes in
-    let is : (texts : Texts) → on_texts (Intersect shape rule None) genome texts ≡ pair_report order total shape rule texts.first texts.second = intersect_is genome chromosomes has shape rule in
-    parts_both joined_texts (on_texts (Intersect shape rule None) genome) (ArePairsFit order) (is (joined_texts []) ∙ pair_empty order total shape rule) (λ t. ap (on_texts (Intersect shape rule None) genome) (join_one t)) (pairs_less order)
+-- a command that writes such a report
+sweep_parts : (command : Command) (shape : Shape) (rule : HitRule) (genome : Option Handed) (order : Order) (total : IsTotal order) → ((texts : Texts) → on_texts command genome texts ≡ pair_report order total shape rule texts.first texts.second)
+    → (parts : List Texts) → ArePairs parts → PairsAscend order parts → PairsAddUp command genome parts
+sweep_parts command shape rule genome order total is parts lines ascend =
+    parts_both joined_texts (on_texts command genome) (ArePairsFit order) (is (joined_texts []) ∙ pair_empty order total shape rule) (λ t. ap (on_texts command genome) (join_one t)) (pairs_less order)
     (λ t u ts f.
     let more = joined_texts (u ∷ ts) in
-    rw (is t, is more, is (joined_texts (t ∷ u ∷ ts))) (
-      pair_adds order total shape rule t.first t.second more.first more.second f.lines.0.0 f.lines.1.0 f.ascend.0,
-      pair_stops order total shape rule t.first t.second more.first more.second f.lines.0.0 f.lines.1.0 f.ascend.0,
-    ))
+    rw (is t, is more, is (joined_texts (t ∷ u ∷ ts))) (pair_joins order total shape rule t.first t.second more.first more.second f.lines.0.0 f.lines.1.0 f.ascend.0))
     parts (record { lines = lines; ascend = ascend })
 
+pub intersect_parts : intersect_divides
+intersect_parts shape rule genome chromosomes parts has =
+    sweep_parts (Intersect shape rule None) shape rule genome (order_of chromosomes) (order_total chromosomes) (intersect_is genome chromosomes has shape rule) parts
+
 pub subtract_parts : subtract_divides
-subtract_parts whole rule genome chromosomes parts has lines ascend =
-    let order = order_of chromosomes in
-    let total = order_total chromosomes in
-    let shape = subtract_shape whole in
-    let is : (texts : Texts) → on_texts (Subtract whole rule None) genome texts ≡ pair_report order total shape rule texts.first texts.second = subtract_is genome chromosomes has whole rule in
-    parts_both joined_texts (on_texts (Subtract whole rule None) genome) (ArePairsFit order) (is (joined_texts []) ∙ pair_empty order total shape rule) (λ t. ap (on_texts (Subtract whole rule None) genome) (join_one t)) (pairs_less order)
-    (λ t u ts f.
-    let more = joined_texts (u ∷ ts) in
-    rw (is t, is more, is (joined_texts (t ∷ u ∷ ts))) (
-      pair_adds order total shape rule t.first t.second more.first more.second f.lines.0.0 f.lines.1.0 f.ascend.0,
-      pair_stops order total shape rule t.first t.second more.first more.second f.lines.0.0 f.lines.1.0 f.ascend.0,
-    ))
-    parts (record { lines = lines; ascend = ascend })
+subtract_parts whole rule genome chromosomes parts has =
+    sweep_parts (Subtract whole rule None) (subtract_shape whole) rule genome (order_of chromosomes) (order_total chromosomes) (subtract_is genome chromosomes has whole rule) parts

@@ -1,4 +1,4 @@
-use Rattle.bt_laws.proofs.lemmas.length.DepthsMerged.{genomecov_merged}
+use Rattle.bt_laws.proofs.lemmas.same.LengthLaws.{genomecov_merged}
 use Rattle.bt_laws.proofs.same.length_laws.depths_are_merged.Goals as goal
 
 pub returns : goal.returns

@@ -1,0 +1,105 @@
+-- What holds of all elements of a list, or of all pairs, by recursion.
+use Rattle.std.proofs.Common.{◌≡◌, Bool, true, false, cond, List, [], ◌∷◌, ◌++◌, map, filter, refl, ap, ap₂, ◌∙◌, suc, arith}
+use Rattle.std.specs.Prelude.{flat_map}
+use Rattle.std.specs.List.{AllByRecursion, AllPairs}
+use Rattle.std.proofs.lemmas.List.{map-append}
+use Rattle.std.proofs.lemmas.List.Elements.{All-from_recursion, recursion_from_All}
+use Rattle.std.proofs.lemmas.List.Kept.{AllPairs-cons}
+
+module _ {A : Type 0} where
+  pub all_front : (P : A → Type 0) (xs ys : List A) → AllByRecursion P (xs ++ ys) → AllByRecursion P xs
+  all_front P [] ys h = tt
+  all_front P (x ∷ xs) ys h = (h.0, all_front P xs ys h.1)
+
+  pub all_back : (P : A → Type 0) (xs ys : List A) → AllByRecursion P (xs ++ ys) → AllByRecursion P ys
+  all_back P [] ys h = h
+  all_back P (x ∷ xs) ys h = all_back P xs ys h.1
+
+  pub all_both : (P : A → Type 0) (xs ys : List A) → AllByRecursion P xs → AllByRecursion P ys → AllByRecursion P (xs ++ ys)
+  all_both P [] ys h k = k
+  all_both P (x ∷ xs) ys h k = (h.0, all_both P xs ys h.1 k)
+
+  pub all_so : (P Q : A → Type 0) (xs : List A) → ((x : A) → P x → Q x) → AllByRecursion P xs → AllByRecursion Q xs
+  all_so P Q [] f h = tt
+  all_so P Q (x ∷ xs) f h = (f x h.0, all_so P Q xs f h.1)
+
+  pub all_any : (P : A → Type 0) (xs : List A) → ((x : A) → P x) → AllByRecursion P xs
+  all_any P [] f = tt
+  all_any P (x ∷ xs) f = (f x, all_any P xs f)
+
+  filter_by : (P : A → Type 0) (b : Bool) (x : A) (xs : List A) → P x → AllByRecursion P xs → AllByRecursion P (cond b (x ∷ xs) xs)
+  filter_by P true x xs p h = (p, h)
+  filter_by P false x xs p h = h
+
+  pub all_filter : (P : A → Type 0) (t : A → Bool) (xs : List A) → AllByRecursion P xs → AllByRecursion P (filter t xs)
+  all_filter P t [] h = tt
+  all_filter P t (x ∷ xs) h = filter_by P (t x) x (filter t xs) h.0 (all_filter P t xs h.1)
+
+  pub filter_all : (t : A → Bool) (xs : List A) → AllByRecursion (λ x. t x ≡ true) xs → filter t xs ≡ xs
+  filter_all t [] h = refl
+  filter_all t (x ∷ xs) h = ap (λ b. cond b (x ∷ filter t xs) (filter t xs)) h.0 ∙ ap (λ l. x ∷ l) (filter_all t xs h.1)
+
+  pub filter_none : (t : A → Bool) (xs : List A) → AllByRecursion (λ x. t x ≡ false) xs → filter t xs ≡ []
+  filter_none t [] h = refl
+  filter_none t (x ∷ xs) h = ap (λ b. cond b (x ∷ filter t xs) (filter t xs)) h.0 ∙ filter_none t xs h.1
+
+  pub filter_same : (t u : A → Bool) (xs : List A) → AllByRecursion (λ x. t x ≡ u x) xs → filter t xs ≡ filter u xs
+  filter_same t u [] h = refl
+  filter_same t u (x ∷ xs) h = ap (λ b. cond b (x ∷ filter t xs) (filter t xs)) h.0 ∙ ap (λ l. cond (u x) (x ∷ l) l) (filter_same t u xs h.1)
+
+  pub flat_map_same : {B : Type 0} (f g : A → List B) (xs : List A) → AllByRecursion (λ x. f x ≡ g x) xs → flat_map f xs ≡ flat_map g xs
+  flat_map_same f g [] h = refl
+  flat_map_same f g (x ∷ xs) h = ap₂ (λ a b. a ++ b) h.0 (flat_map_same f g xs h.1)
+
+  pub map_same : {B : Type 0} (f g : A → B) (xs : List A) → AllByRecursion (λ x. f x ≡ g x) xs → map f xs ≡ map g xs
+  map_same f g [] h = refl
+  map_same f g (x ∷ xs) h = ap₂ (λ a b. a ∷ b) h.0 (map_same f g xs h.1)
+
+  pub all_map : {B : Type 0} (P : B → Type 0) (f : A → B) (xs : List A) → AllByRecursion (λ x. P (f x)) xs → AllByRecursion P (map f xs)
+  all_map P f [] h = tt
+  all_map P f (x ∷ xs) h = (h.0, all_map P f xs h.1)
+
+pub all_flat_map : {A B : Type 0} (P : B → Type 0) (f : A → List B) (xs : List A) → AllByRecursion (λ x. AllByRecursion P (f x)) xs → AllByRecursion P (flat_map f xs)
+all_flat_map P f [] h = tt
+all_flat_map P f (x ∷ xs) h = all_both P (f x) (flat_map f xs) h.0 (all_flat_map P f xs h.1)
+
+-- all pairs, with their sides exchanged
+pub all_swapped : {A B : Type 0} (P : A → B → Type 0) (xs : List A) (ys : List B) → AllByRecursion (λ x. AllByRecursion (P x) ys) xs → AllByRecursion (λ y. AllByRecursion (λ x. P x y) xs) ys
+all_swapped P xs [] h = tt
+all_swapped P xs (y ∷ ys) h = (all_so (λ x. AllByRecursion (P x) (y ∷ ys)) (λ x. P x y) xs (λ x k. k.0) h, all_swapped P xs ys (all_so (λ x. AllByRecursion (P x) (y ∷ ys)) (λ x. AllByRecursion (P x) ys) xs (λ x k. k.1) h))
+
+-- ---- lists of mapped elements
+
+module _ {A B : Type 0} where
+  pub all_unmap : (P : B → Type 0) (f : A → B) (xs : List A) → AllByRecursion P (map f xs) → AllByRecursion (λ x. P (f x)) xs
+  all_unmap P f [] h = tt
+  all_unmap P f (x ∷ xs) h = (h.0, all_unmap P f xs h.1)
+
+  pub map_map : {C : Type 0} (f : A → B) (g : B → C) (h : A → C) (xs : List A) → AllByRecursion (λ x. g (f x) ≡ h x) xs → map g (map f xs) ≡ map h xs
+  map_map f g h [] is = refl
+  map_map f g h (x ∷ xs) is = ap₂ (λ a b. a ∷ b) is.0 (map_map f g h xs is.1)
+
+  pub map_flat : {C : Type 0} (h : B → C) (f : A → List B) (g : A → List C) (xs : List A) → ((x : A) → map h (f x) ≡ g x) → map h (flat_map f xs) ≡ flat_map g xs
+  map_flat h f g [] e = refl
+  map_flat h f g (x ∷ xs) e = map-append h (f x) (flat_map f xs) ∙ ap₂ (λ a b. a ++ b) (e x) (map_flat h f g xs e)
+
+pub all_zip : {A : Type 0} (P Q R : A → Type 0) (xs : List A) → ((x : A) → P x → Q x → R x) → AllByRecursion P xs → AllByRecursion Q xs → AllByRecursion R xs
+all_zip P Q R [] f h k = tt
+all_zip P Q R (x ∷ xs) f h k = (f x h.0 k.0, all_zip P Q R xs f h.1 k.1)
+
+-- ---- each element and each later one
+
+abbrev pub EachPair : {A : Type 0} → (A → A → Type 0) → List A → Type 0
+EachPair R [] = Unit {0}
+EachPair R (x ∷ xs) = AllByRecursion (R x) xs × EachPair R xs
+
+pub pairs_all : {A : Type 0} (R : A → A → Type 0) (xs : List A) → EachPair R xs → AllPairs R xs
+pairs_all R [] h = λ i j d below within. absurd (omega (arith, within))
+pairs_all R (x ∷ xs) h = AllPairs-cons R x xs (All-from_recursion (R x) xs h.0) (pairs_all R xs h.1)
+
+pub pairs_each : {A : Type 0} (R : A → A → Type 0) (xs : List A) → AllPairs R xs → EachPair R xs
+pairs_each R [] h = tt
+pairs_each R (x ∷ xs) h = (
+  recursion_from_All (R x) xs (λ k d within. h 0 (suc k) d (omega arith) (omega (arith, within))),
+  pairs_each R xs (λ i j d below within. h (suc i) (suc j) d (omega (arith, below)) (omega (arith, within))),
+)

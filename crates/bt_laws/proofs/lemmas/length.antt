@@ -1,3 +1,0 @@
--- Lemmas on length.
-pub mod DepthsMerged
-pub mod LengthLaws

@@ -1,0 +1,349 @@
+-- Gaps of gaps, and merged depths.
+use Rattle.std.proofs.Common.{◌≡◌, ℕ, ◌+◌, ◌<◌, ◌≤◌, true, false, cond, List, [], ◌∷◌, ◌++◌, map, filter, min, Some, None, refl, sym, ap, ap₂, ◌∙◌, subst, inl, inr, arith, append-nil}
+use Rattle.std.specs.Prelude.{bytes_eq, flat_map, nat_lt}
+use Rattle.std.specs.List.{AllByRecursion}
+use Rattle.std.proofs.lemmas.Bool.{cases_Bool, cases_lt, false≢true, le-ltb, lt-ltb, or_parts}
+use Rattle.std.proofs.lemmas.Grind.{flat_map-append}
+use Rattle.bt_lines.specs.declared.fault.Input.TheVariants.{First}
+use Rattle.bt_bed.specs.model.feature.Feature.{Feature, intervals_of, interval_of}
+use Rattle.bt_bed.specs.model.order.Genome.{Entry, genome_names}
+use Rattle.bt_bed.specs.model.input.Good.{items_in}
+use Rattle.bt_bed.specs.model.input.GoodBed.{bed_good}
+use Rattle.bt_bed.specs.model.feature.Header.{is_header}
+use Rattle.bt_bed.specs.model.feature.Interval.{Interval, Span, placed_on, spans_on, span_of}
+use Rattle.bt_bed.specs.model.feature.IntervalLine.{interval_lines}
+use Rattle.bt_bed.specs.model.order.Locus.{ArePlaced}
+use Rattle.bt_bed.specs.model.order.Order.{Order}
+use Rattle.bt_bed.specs.model.order.Rank.{AreDistinct, is_among, rank_order}
+use Rattle.bt_bed.specs.model.feature.Stretches.{AreApartFrom, IsCovered}
+use Rattle.bt_bed.proofs.lemmas.laws.GoodBedLemmas.{placed_good}
+use Rattle.bt_bed.proofs.lemmas.parse.NameLemmas.{name_eq, name_ne-sym, cases_name}
+use Rattle.bt_runs.specs.model.Gaps.{complement, gaps_of, gaps_on, is_asked, length_in}
+use Rattle.bt_runs.specs.model.Merged.{is_covered, merged, runs_of, runs_on}
+use Rattle.bt_runs.specs.model.RunOrder.{ordered_runs}
+use Rattle.bt_runs.specs.declared.merge.merge_strand.MergeStrand.TheVariants.{All}
+use Rattle.bt_runs.proofs.lemmas.merge.Bridging.{are_runs, is_covered-Decides}
+use Rattle.bt_runs.proofs.lemmas.complement.OneGap.{are_gaps, only_gaps}
+use Rattle.bt_runs.proofs.lemmas.order.RunOrder.{file_ordered}
+use Rattle.bt_tool.specs.model.report.Behaviour.{order_of}
+use Rattle.bt_tool.specs.model.report.Report.{report_of}
+use Rattle.bt_tool.specs.model.report.Written.{complement_written, merge_written, coverage_written}
+use Rattle.bt_tool.specs.declared.planning.plan_type.Command.TheVariants.{Complement, Merge, Coverage}
+use Rattle.bt_laws.specs.same.LengthLaws.{complement_of_complement, cut_at_length, merge_of_genomecov}
+use Rattle.bt_laws.specs.Runs.{first_records, piped}
+use Rattle.bt_laws.specs.pipes.Taken.{IsInput, is_no_header, three_columns, four_columns}
+use Rattle.bt_laws.proofs.lemmas.pipes.Covers.{runs_cover, SameCover, covered_some, some_covered}
+use Rattle.bt_laws.proofs.lemmas.back.RunsBack.{gaps_back, coverage_back}
+use Rattle.bt_laws.proofs.lemmas.same.GapsHit.{complement_spans, unhidden, hidden_other}
+use Rattle.bt_laws.proofs.lemmas.Lists.{all_any, filter_all, flat_map_same, all_zip}
+use Rattle.bt_laws.proofs.lemmas.pipes.PipeLaws.{chroms_of, complement_whole, merge_whole, genomecov_whole}
+use Rattle.bt_laws.proofs.lemmas.same.SameRuns.{complement_on, fault_as, told_same, writes_is, here_all, merge_on, none_there, alike_merged, all_counted}
+use Rattle.bt_laws.proofs.lemmas.parts.text.PartTexts.{order_total}
+use Rattle.std.proofs.lemmas.List.{map-append}
+use Rattle.bt_lines.specs.model.Handed.{whole_text}
+use Rattle.bt_runs.specs.calls.CoveredLevels.{interval_at}
+use Rattle.bt_runs.specs.model.Depth.{DepthInterval, counted_on, coverage, depth_at, depth_of, depth_on, depths_on}
+use Rattle.bt_runs.specs.model.Levels.{HasValue, Level, begun_after, ended_after, levels_of}
+use Rattle.bt_runs.proofs.lemmas.order.ChromosomeLemmas.{spans_on-append, spans_on-elsewhere}
+use Rattle.bt_runs.proofs.lemmas.coverage.LevelLemmas.{are_levels}
+use Rattle.bt_laws.specs.same.SameSweeps.{LieWithinLengths}
+use Rattle.bt_laws.proofs.lemmas.pipes.DepthParts.{shown}
+use Rattle.bt_laws.proofs.lemmas.back.SaidWell.{IsSaid, good_are_said}
+
+-- ---- on one chromosome
+
+abbrev pub cut_span : ℕ → Span → List Span
+cut_span size s = cond (nat_lt s.start size) (record { start = s.start; stop = min s.stop size } ∷ []) []
+
+abbrev cut_spans : ℕ → List Span → List Span
+cut_spans size spans = flat_map (cut_span size) spans
+
+nearer : (first low : ℕ) (spans : List Span) → low ≤ first → AreApartFrom first spans → AreApartFrom low spans
+nearer first low [] up h = tt
+nearer first low (s ∷ ss) up h = (omega (arith, up, h.0), h.1, h.2)
+
+one_more : (size : ℕ) (s : Span) (ss : List Span) (p : ℕ) → IsCovered (record { start = s.start; stop = min s.stop size } ∷ cut_spans size ss) p → (IsCovered (cut_spans size ss) p → IsCovered ss p × (p < size)) → IsCovered (s ∷ ss) p × (p < size)
+one_more size s ss p (inl here) more = (inl (here.0, omega (arith, here.1)), omega (arith, here.1))
+one_more size s ss p (inr there) more = let rest = more there in (inr rest.0, rest.1)
+
+covered_or : (spans : List Span) (p : ℕ) → ((IsCovered spans p → ⊥) → ⊥) → IsCovered spans p
+covered_or spans p h = elim (cases_Bool (is_covered spans p)) [
+  | inl t ↦ (is_covered-Decides spans p).0 t
+  | inr f ↦ absurd (h (λ c. false≢true (sym f ∙ (is_covered-Decides spans p).1 c)))
+]
+
+cut_apart : (size first : ℕ) (spans : List Span) → AreApartFrom first spans → AreApartFrom first (cut_spans size spans)
+cut_apart size first [] h = tt
+cut_apart size first (s ∷ ss) h = elim (cases_lt s.start size) [
+  | inl below ↦ subst (λ b. AreApartFrom first (cond b (record { start = s.start; stop = min s.stop size } ∷ []) [] ++ cut_spans size ss)) (sym (lt-ltb s.start size below))
+      (h.0, omega (arith, below, h.1), nearer (s.stop + 1) (min s.stop size + 1) (cut_spans size ss) (omega arith) (cut_apart size (s.stop + 1) ss h.2))
+  | inr past ↦ subst (λ b. AreApartFrom first (cond b (record { start = s.start; stop = min s.stop size } ∷ []) [] ++ cut_spans size ss)) (sym (le-ltb s.start size past))
+      (nearer (s.stop + 1) first (cut_spans size ss) (omega (arith, h.0, h.1)) (cut_apart size (s.stop + 1) ss h.2))
+]
+
+cut_to : (size : ℕ) (spans : List Span) (p : ℕ) → IsCovered (cut_spans size spans) p → IsCovered spans p × (p < size)
+cut_to size [] p c = absurd c
+cut_to size (s ∷ ss) p c = elim (cases_lt s.start size) [
+  | inl below ↦ one_more size s ss p (subst (λ b. IsCovered (cond b (record { start = s.start; stop = min s.stop size } ∷ []) [] ++ cut_spans size ss) p) (lt-ltb s.start size below) c) (cut_to size ss p)
+  | inr past ↦
+      let more = cut_to size ss p (subst (λ b. IsCovered (cond b (record { start = s.start; stop = min s.stop size } ∷ []) [] ++ cut_spans size ss) p) (le-ltb s.start size past) c) in
+      (inr more.0, more.1)
+]
+
+cut_back : (size : ℕ) (spans : List Span) (p : ℕ) → p < size → IsCovered spans p → IsCovered (cut_spans size spans) p
+cut_back size [] p within c = absurd c
+cut_back size (s ∷ ss) p within (inl here) = subst (λ b. IsCovered (cond b (record { start = s.start; stop = min s.stop size } ∷ []) [] ++ cut_spans size ss) p) (sym (lt-ltb s.start size (omega (arith, here.0, within)))) (inl (here.0, omega (arith, here.1, within)))
+cut_back size (s ∷ ss) p within (inr there) =
+    elim (nat_lt s.start size) as (λ b. IsCovered (cond b (record { start = s.start; stop = min s.stop size } ∷ []) [] ++ cut_spans size ss) p) [
+      | true ↦ inr (cut_back size ss p within there)
+      | false ↦ cut_back size ss p within there
+    ]
+
+-- the gaps of the gaps are the runs, cut at the length
+pub gaps_twice : (size : ℕ) (spans : List Span) → gaps_of size (gaps_of size spans) ≡ cut_spans size (runs_of 0 spans)
+gaps_twice size spans =
+    let cover = runs_cover spans in
+    let gaps = are_gaps size spans in
+    sym (only_gaps size (gaps_of size spans) (cut_spans size (runs_of 0 spans)) (record {
+      apart = cut_apart size 0 (runs_of 0 spans) (are_runs 0 spans).apart;
+      within = λ p c.
+          let is = cut_to size (runs_of 0 spans) p c in
+          record { within = is.1; bare = λ gap. (gaps.within p gap).bare (cover.to p is.0) };
+      whole = λ p b. cut_back size (runs_of 0 spans) p b.within (cover.back p (covered_or spans p (λ off. b.bare (gaps.whole p (record { within = b.within; bare = off })))));
+    }))
+
+-- ---- chromosome by chromosome
+
+cut_placed : (entries : List Entry) (name : List ℕ) (size : ℕ) (spans : List Span) → length_in entries name ≡ size → flat_map (cut_at_length entries) (map (placed_on name) spans) ≡ map (placed_on name) (cut_spans size spans)
+cut_placed entries name size [] e = refl
+cut_placed entries name size (s ∷ ss) e =
+    ap (λ n. cond (nat_lt s.start n) (record { chrom = name; start = s.start; stop = min s.stop n } ∷ []) [] ++ flat_map (cut_at_length entries) (map (placed_on name) ss)) e
+    ∙ elim (nat_lt s.start size) as (λ b. cond b (record { chrom = name; start = s.start; stop = min s.stop size } ∷ []) [] ++ flat_map (cut_at_length entries) (map (placed_on name) ss) ≡ map (placed_on name) (cond b (record { start = s.start; stop = min s.stop size } ∷ []) [] ++ cut_spans size ss)) [
+      | true ↦ ap (λ rest. record { chrom = name; start = s.start; stop = min s.stop size } ∷ rest) (cut_placed entries name size ss e)
+      | false ↦ cut_placed entries name size ss e
+    ]
+
+module _ (all : List Entry) (used : List Interval) where
+  cut_all : (entries : List Entry) → AllByRecursion (λ (e : Entry). length_in all e.name ≡ e.length) entries
+      → flat_map (cut_at_length all) (flat_map (λ name. runs_on name 0 used) (genome_names entries)) ≡ flat_map (λ (e : Entry). map (placed_on e.name) (cut_spans e.length (runs_of 0 (spans_on e.name used)))) entries
+  cut_all [] h = refl
+  cut_all (e ∷ es) h =
+      flat_map-append (cut_at_length all) (runs_on e.name 0 used) (flat_map (λ name. runs_on name 0 used) (genome_names es))
+      ∙ ap₂ (λ a b. a ++ b) (cut_placed all e.name e.length (runs_of 0 (spans_on e.name used)) h.0) (cut_all es h.1)
+
+length_past : (e f : Entry) (es : List Entry) → bytes_eq e.name f.name ≡ false → length_in es f.name ≡ f.length → length_in (e ∷ es) f.name ≡ f.length
+length_past e f es other is = ap (λ b. cond b e.length (length_in es f.name)) other ∙ is
+
+lengths_more : (e : Entry) (es fs : List Entry) → is_among (genome_names fs) e.name ≡ false → AllByRecursion (λ (f : Entry). length_in es f.name ≡ f.length) fs → AllByRecursion (λ (f : Entry). length_in (e ∷ es) f.name ≡ f.length) fs
+lengths_more e es [] absent h = tt
+lengths_more e es (f ∷ fs) absent h =
+    let parts = or_parts (bytes_eq f.name e.name) (is_among (genome_names fs) e.name) absent in
+    (length_past e f es (name_ne-sym f.name e.name parts.0) h.0, lengths_more e es fs parts.1 h.1)
+
+lengths_are : (entries : List Entry) → AreDistinct (genome_names entries) → AllByRecursion (λ (e : Entry). length_in entries e.name ≡ e.length) entries
+lengths_are [] distinct = tt
+lengths_are (e ∷ es) distinct = (
+  ap (λ b. cond b e.length (length_in es e.name)) (name_eq e.name e.name refl),
+  lengths_more e es es distinct.0 (lengths_are es distinct.1),
+)
+
+module _ (entries : List Entry) (distinct : AreDistinct (genome_names entries)) (records : List Feature) (placed : ArePlaced (rank_order (genome_names entries)) (intervals_of records)) where
+  abbrev order : Order
+  order = rank_order (genome_names entries)
+
+  abbrev gaps : List Interval
+  gaps = complement false entries records
+
+  abbrev gap_records : List Feature
+  gap_records = filter is_no_header (map three_columns gaps)
+
+  by_entries : ordered_runs order 0 All records ≡ flat_map (λ name. runs_on name 0 (intervals_of records)) (genome_names entries)
+  unfolding merged
+  by_entries = sym (file_ordered (genome_names entries) 0 All records distinct placed) ∙ ap (merged (genome_names entries) 0) (all_counted records)
+
+  gap_twice : (e : Entry) → is_header e.name ≡ false → length_in entries e.name ≡ e.length → gaps_on (intervals_of gap_records) e ≡ map (placed_on e.name) (cut_spans e.length (runs_of 0 (spans_on e.name (intervals_of records))))
+  gap_twice e plain size =
+      ap (map (placed_on e.name)) (ap (gaps_of e.length) (unhidden e.name gaps plain ∙ complement_spans entries records e.name distinct ∙ ap (λ n. gaps_of n (spans_on e.name (intervals_of records))) size)
+      ∙ gaps_twice e.length (spans_on e.name (intervals_of records)))
+
+  pub complement_twice : AllByRecursion (λ (e : Entry). is_header e.name ≡ false) entries → complement false entries gap_records ≡ flat_map (cut_at_length entries) (ordered_runs order 0 All records)
+  unfolding complement
+  complement_twice plain =
+      let lengths = lengths_are entries distinct in
+      ap (flat_map (gaps_on (intervals_of gap_records))) (filter_all (is_asked false (intervals_of gap_records)) entries (all_any _ entries (λ e. refl)))
+      ∙ flat_map_same (gaps_on (intervals_of gap_records)) (λ (e : Entry). map (placed_on e.name) (cut_spans e.length (runs_of 0 (spans_on e.name (intervals_of records))))) entries
+      (all_zip (λ (e : Entry). is_header e.name ≡ false) (λ (e : Entry). length_in entries e.name ≡ e.length) _ entries gap_twice plain lengths)
+      ∙ sym (ap (flat_map (cut_at_length entries)) by_entries ∙ cut_all entries (intervals_of records) entries lengths)
+
+pub complements_twice : complement_of_complement
+complements_twice inputs entries well plain =
+    let records = first_records (Some entries) inputs in
+    let order = order_of (Some entries) in
+    let known = chroms_of inputs.genome entries well.genome in
+    let good = bed_good First order inputs.first in
+    let merged_well = fault_as (Complement false) (Merge 0 All) inputs (Some entries) well (told_same (complement_written entries false) (merge_written order 0 All) (items_in good) good.fault) in
+    let e = complement_whole false inputs (Some entries) well in
+    let gaps = complement false entries records in
+    let is = subst (λ text. IsInput order text (filter is_no_header (map three_columns gaps))) (sym e) (gaps_back entries known.0 known.1 false records) in (
+      record { output = merge_whole 0 All inputs (Some entries) merged_well; faultless = merged_well.faultless },
+      writes_is (Complement false) (piped (Complement false) inputs) (interval_lines (flat_map (cut_at_length entries) (ordered_runs order 0 All records)))
+          (complement_on false (piped (Complement false) inputs) (Some entries) (report_of (Complement false) inputs).output (filter is_no_header (map three_columns gaps)) well.genome refl is
+          ∙ ap (λ rs. record { output = interval_lines rs; fault = None }) (complement_twice entries known.1 records (placed_good First order inputs.first (order_total (Some entries))) plain)),
+    )
+
+-- ---- intervals of depths above 0 cover what the records cover
+
+-- ---- where levels lie
+
+abbrev level_span : Level → Span
+level_span l = record { start = l.start; stop = l.stop }
+
+value_covered : (ls : List Level) (p v : ℕ) → HasValue ls p v → IsCovered (map level_span ls) p
+value_covered [] p v h = absurd h
+value_covered (l ∷ ls) p v (inl here) = inl (here.0, here.1)
+value_covered (l ∷ ls) p v (inr there) = inr (value_covered ls p v there)
+
+covered_value : (ls : List Level) (p : ℕ) → IsCovered (map level_span ls) p → (v : ℕ) × HasValue ls p v
+covered_value [] p c = absurd c
+covered_value (l ∷ ls) p (inl here) = (l.value, inl (here.0, here.1, refl))
+covered_value (l ∷ ls) p (inr there) = let more = covered_value ls p there in (more.0, inr more.1)
+
+module _ (records : List Feature) where
+  abbrev levels_for : List ℕ → ℕ → List Level
+  levels_for name size = levels_of (depth_of false (counted_on None name records)) size
+
+  abbrev spans_for : List ℕ → ℕ → List Span
+  spans_for name size = map level_span (levels_for name size)
+
+  places_on : (name : List ℕ) (ls : List Level) → map interval_at (map (depth_on name) ls) ≡ map (placed_on name) (map level_span ls)
+  places_on name [] = refl
+  places_on name (l ∷ ls) = ap (λ rs. placed_on name (level_span l) ∷ rs) (places_on name ls)
+
+  parts_at : (entry : Entry) → map interval_at (depths_on false None records entry) ≡ map (placed_on entry.name) (spans_for entry.name entry.length)
+  parts_at entry = places_on entry.name (levels_for entry.name entry.length)
+
+  no_levels : (name : List ℕ) → spans_for name 0 ≡ []
+  unfolding ended_after begun_after
+  no_levels name = refl
+
+  at_both : (entry : Entry) (es : List Entry) → map interval_at (flat_map (depths_on false None records) (entry ∷ es)) ≡ map (placed_on entry.name) (spans_for entry.name entry.length) ++ map interval_at (flat_map (depths_on false None records) es)
+  at_both entry es = map-append interval_at (depths_on false None records entry) (flat_map (depths_on false None records) es) ∙ ap (λ l. l ++ map interval_at (flat_map (depths_on false None records) es)) (parts_at entry)
+
+  depths_absent : (name : List ℕ) (entries : List Entry) → is_among (genome_names entries) name ≡ false → spans_on name (map interval_at (flat_map (depths_on false None records) entries)) ≡ []
+  depths_absent name [] e = refl
+  depths_absent name (entry ∷ entries) e =
+      let parts = or_parts (bytes_eq entry.name name) (is_among (genome_names entries) name) e in
+      ap (spans_on name) (at_both entry entries)
+      ∙ spans_on-append name (map (placed_on entry.name) (spans_for entry.name entry.length)) (map interval_at (flat_map (depths_on false None records) entries))
+      ∙ ap₂ (λ a b. a ++ b) (none_there name entry.name (spans_for entry.name entry.length) parts.0) (depths_absent name entries parts.1)
+
+  depths_there : (name : List ℕ) (entries : List Entry) → AreDistinct (genome_names entries) → spans_on name (map interval_at (flat_map (depths_on false None records) entries)) ≡ spans_for name (length_in entries name)
+  depths_there name [] distinct = sym (no_levels name)
+  depths_there name (entry ∷ entries) distinct =
+      ap (spans_on name) (at_both entry entries)
+      ∙ spans_on-append name (map (placed_on entry.name) (spans_for entry.name entry.length)) (map interval_at (flat_map (depths_on false None records) entries))
+      ∙ elim (cases_name entry.name name) [
+        | inl same ↦
+            ap₂ (λ a b. a ++ b) (subst (λ n. spans_on n (map (placed_on entry.name) (spans_for entry.name entry.length)) ≡ spans_for entry.name entry.length) same (here_all entry.name (spans_for entry.name entry.length)))
+            (depths_absent name entries (subst (λ n. is_among (genome_names entries) n ≡ false) same distinct.0))
+            ∙ append-nil (spans_for entry.name entry.length)
+            ∙ ap (λ n. spans_for n entry.length) same
+            ∙ ap (λ b. spans_for name (cond b entry.length (length_in entries name))) (sym (name_eq entry.name name same))
+        | inr other ↦
+            ap₂ (λ a b. a ++ b) (none_there name entry.name (spans_for entry.name entry.length) other) (depths_there name entries distinct.1)
+            ∙ ap (λ b. spans_for name (cond b entry.length (length_in entries name))) (sym other)
+      ]
+
+  counted_all : (name : List ℕ) → counted_on None name records ≡ spans_on name (intervals_of records)
+  counted_all name = ap (λ rs. spans_on name (intervals_of rs)) (filter_all (λ (r : Feature). true) records (all_any _ records (λ r. refl)))
+
+  -- within the lengths the records cover what has a depth
+  depth_cover : (name : List ℕ) (size : ℕ) → ((p : ℕ) → IsCovered (spans_on name (intervals_of records)) p → p < size) → SameCover (spans_for name size) (spans_on name (intervals_of records))
+  unfolding depth_of
+  depth_cover name size below =
+      let are = are_levels (depth_of false (counted_on None name records)) size in
+      record {
+        to = λ p c.
+            let has = covered_value (levels_for name size) p c in
+            let is = are.within p has.0 has.1 in
+            let deep = shown (depth_at (counted_on None name records) p) has.0 is.1 in
+            subst (λ l. IsCovered l p) (counted_all name) (some_covered (counted_on None name records) p (subst (λ n. 0 < n) (sym deep.0) deep.1));
+        back = λ p c.
+            let deep = covered_some (counted_on None name records) p (subst (λ l. IsCovered l p) (sym (counted_all name)) c) in
+            value_covered (levels_for name size) p (depth_at (counted_on None name records) p)
+            (are.whole p (depth_at (counted_on None name records) p) (below p c) (ap (λ b. cond b (Some (depth_at (counted_on None name records) p)) None) (lt-ltb 0 (depth_at (counted_on None name records) p) deep)));
+      }
+
+within_by : (entries : List Entry) (name : List ℕ) (r : Feature) (rs : List Feature) (p : ℕ) → r.chrom ≡ name → r.stop ≤ length_in entries r.chrom → IsCovered (span_of (interval_of r) ∷ spans_on name (intervals_of rs)) p
+    → (IsCovered (spans_on name (intervals_of rs)) p → p < length_in entries name) → p < length_in entries name
+within_by entries name r rs p same up (inl here) more = let there : r.stop ≤ length_in entries name = subst (λ n. r.stop ≤ length_in entries n) same up in omega (arith, here.1, there)
+within_by entries name r rs p same up (inr there) more = more there
+
+-- what lies within the lengths
+covered_within : (entries : List Entry) (name : List ℕ) (records : List Feature) (p : ℕ) → LieWithinLengths entries records → IsCovered (spans_on name (intervals_of records)) p → p < length_in entries name
+covered_within entries name [] p within c = absurd c
+covered_within entries name (r ∷ rs) p within c = elim (cases_name r.chrom name) [
+  | inl same ↦ within_by entries name r rs p same within.0 (subst (λ b. IsCovered (cond b (span_of (interval_of r) ∷ spans_on name (intervals_of rs)) (spans_on name (intervals_of rs))) p) (name_eq r.chrom name same) c) (covered_within entries name rs p within.1)
+  | inr other ↦ covered_within entries name rs p within.1 (subst (λ b. IsCovered (cond b (span_of (interval_of r) ∷ spans_on name (intervals_of rs)) (spans_on name (intervals_of rs))) p) other c)
+]
+
+-- lines of header words
+unhidden_depths : (name : List ℕ) (rs : List DepthInterval) → is_header name ≡ false → spans_on name (intervals_of (filter is_no_header (map four_columns rs))) ≡ spans_on name (map interval_at rs)
+unhidden_depths name [] e = refl
+unhidden_depths name (r ∷ rs) e = elim (cases_Bool (is_no_header (four_columns r))) [
+  | inl t ↦
+      ap (λ b. spans_on name (intervals_of (cond b (four_columns r ∷ filter is_no_header (map four_columns rs)) (filter is_no_header (map four_columns rs))))) t
+      ∙ ap (λ l. cond (bytes_eq r.chrom name) (span_of (interval_at r) ∷ l) l) (unhidden_depths name rs e)
+  | inr f ↦
+      ap (λ b. spans_on name (intervals_of (cond b (four_columns r ∷ filter is_no_header (map four_columns rs)) (filter is_no_header (map four_columns rs))))) f
+      ∙ unhidden_depths name rs e ∙ sym (spans_on-elsewhere name (interval_at r) (map interval_at rs) (hidden_other r.chrom name f e))
+]
+
+-- no record that was read lies on a chromosome of a header word
+none_hidden : (name : List ℕ) (records : List Feature) → is_header name ≡ true → AllByRecursion IsSaid records → spans_on name (intervals_of records) ≡ []
+none_hidden name [] e said = refl
+none_hidden name (r ∷ rs) e said = elim (cases_name r.chrom name) [
+  | inl same ↦ absurd (false≢true (sym said.0.no_header ∙ ap is_header same ∙ e))
+  | inr other ↦ spans_on-elsewhere name (interval_of r) (intervals_of rs) other ∙ none_hidden name rs e said.1
+]
+
+module _ (entries : List Entry) (distinct : AreDistinct (genome_names entries)) (records : List Feature) (said : AllByRecursion IsSaid records) (within : LieWithinLengths entries records)
+    (read : List Feature) (read_said : AllByRecursion IsSaid read) (is : read ≡ filter is_no_header (map four_columns (coverage false None entries records))) where
+  same_bases : (name : List ℕ) → SameCover (spans_on name (intervals_of read)) (spans_on name (intervals_of records))
+  unfolding coverage
+  same_bases name = elim (cases_Bool (is_header name)) [
+    | inl t ↦ subst (λ l. SameCover l (spans_on name (intervals_of records))) (sym (none_hidden name read t read_said)) (subst (SameCover []) (sym (none_hidden name records t said)) (record { to = λ p c. c; back = λ p c. c }))
+    | inr f ↦
+        subst (λ l. SameCover l (spans_on name (intervals_of records)))
+        (sym (ap (λ rs. spans_on name (intervals_of rs)) is ∙ unhidden_depths name (coverage false None entries records) f ∙ depths_there records name entries distinct))
+        (depth_cover records name (length_in entries name) (λ p c. covered_within entries name records p within c))
+  ]
+
+  abbrev lengths_order : Order
+  lengths_order = rank_order (genome_names entries)
+
+  pub same_merge : (d : ℕ) → ArePlaced lengths_order (intervals_of records) → ArePlaced lengths_order (intervals_of read) → ordered_runs lengths_order d All read ≡ ordered_runs lengths_order d All records
+  same_merge d placed read_placed =
+      sym (file_ordered (genome_names entries) d All read distinct read_placed) ∙ ap (merged (genome_names entries) d) (all_counted read)
+      ∙ alike_merged (genome_names entries) d (intervals_of read) (intervals_of records) same_bases
+      ∙ sym (ap (merged (genome_names entries) d) (all_counted records)) ∙ file_ordered (genome_names entries) d All records distinct placed
+
+pub genomecov_merged : merge_of_genomecov
+genomecov_merged d inputs entries well within =
+    let records = first_records (Some entries) inputs in
+    let order = order_of (Some entries) in
+    let total = order_total (Some entries) in
+    let known = chroms_of inputs.genome entries well.genome in
+    let good = bed_good First order inputs.first in
+    let depths_well = fault_as (Merge d All) (Coverage false None) inputs (Some entries) well (told_same (merge_written order d All) (coverage_written entries false None) (items_in good) good.fault) in
+    let e = genomecov_whole false None inputs (Some entries) depths_well in
+    let depths = coverage false None entries records in
+    let read = filter is_no_header (map four_columns depths) in
+    let text = (report_of (Coverage false None) inputs).output in
+    let is : IsInput order text read = subst (λ t. IsInput order t read) (sym e) (coverage_back entries known.0 known.1 false None records) in
+    let read_said = subst (AllByRecursion IsSaid) (is.records_are First) (good_are_said First order (whole_text text)) in
+    let read_placed = subst (λ rs. ArePlaced order (intervals_of rs)) (is.records_are First) (placed_good First order (whole_text text) total) in
+    writes_is (Merge d All) (piped (Coverage false None) inputs) (report_of (Merge d All) inputs).output
+    (merge_on d All (piped (Coverage false None) inputs) (Some entries) text read well.genome refl is
+    ∙ ap (λ rs. record { output = interval_lines rs; fault = None }) (same_merge entries known.1 records (good_are_said First order inputs.first) within read read_said refl d (placed_good First order inputs.first total) read_placed)
+    ∙ ap (λ bytes. record { output = bytes; fault = None }) (sym (merge_whole d All inputs (Some entries) well)))

@@ -1,5 +1,0 @@
-use Rattle.bt_laws.proofs.lemmas.parts.text.PartSam.{sam_divides}
-use Rattle.bt_laws.proofs.split_laws.parts_of_bamtobed_add_up.Goals as goal
-
-pub returns : goal.returns
-returns c = sam_divides

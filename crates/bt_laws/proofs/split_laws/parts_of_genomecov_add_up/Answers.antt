@@ -1,5 +1,0 @@
-use Rattle.bt_laws.proofs.lemmas.parts.report.PartShards.{genomecov_parts}
-use Rattle.bt_laws.proofs.split_laws.parts_of_genomecov_add_up.Goals as goal
-
-pub returns : goal.returns
-returns c = genomecov_parts

@@ -1,9 +1,0 @@
-use Rattle.bt_laws.proofs.lemmas.parts.report.PartShards.{merge_genome_parts}
-use Rattle.bt_laws.proofs.lemmas.parts.text.PartTexts.{merge_parts}
-use Rattle.bt_laws.proofs.split_laws.parts_of_merge_add_up.Goals as goal
-
-pub returns-clause-order : goal.returns-clause-order
-returns-clause-order c = merge_parts
-
-pub returns-clause-genome : goal.returns-clause-genome
-returns-clause-genome c = merge_genome_parts

@@ -1,9 +1,0 @@
-use Rattle.bt_laws.proofs.lemmas.parts.order.PartOwnGenomes.{subtract_genome_parts}
-use Rattle.bt_laws.proofs.lemmas.parts.text.PartTexts.{subtract_parts}
-use Rattle.bt_laws.proofs.split_laws.parts_of_subtract_add_up.Goals as goal
-
-pub returns-clause-order : goal.returns-clause-order
-returns-clause-order c = subtract_parts
-
-pub returns-clause-genome : goal.returns-clause-genome
-returns-clause-genome c = subtract_genome_parts

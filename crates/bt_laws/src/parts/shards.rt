@@ -1,0 +1,26 @@
+//! What to know of the jobs that run the parts: each law is the contract of a function that does nothing.
+
+ghost use Rattle.bt_laws.specs.parts.OwnGenomeLaws.{
+  complement_shards_suffice,
+  genomecov_shards_suffice,
+  intersect_shards_suffice,
+  merge_shards_suffice,
+  subtract_shards_suffice,
+};
+ghost use Rattle.bt_laws.specs.parts.Parts.{prefixes_begin};
+
+/// If each part has its own part of the genome file, runs of all parts without a fault are enough: nobody has to
+/// know on which chromosomes the records of a part lie, since one that lies elsewhere is a fault there.
+pub fn runs_without_a_fault_suffice()
+    ensures merge { merge_shards_suffice }
+    ensures complement { complement_shards_suffice }
+    ensures genomecov { genomecov_shards_suffice }
+    ensures intersect { intersect_shards_suffice }
+    ensures subtract { subtract_shards_suffice }
+{}
+
+/// A part whose read, write or memory fails has written a prefix of its output, as `run` promises. After the outputs
+/// of the parts before it that is a prefix of the output of the complete run, if this is without a fault.
+pub fn outputs_up_to_a_failure_begin_the_whole()
+    ensures { prefixes_begin }
+{}
