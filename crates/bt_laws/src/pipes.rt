@@ -70,7 +70,8 @@ pub fn some_strands_change()
     ensures names { names_become_strands }
 {}
 
-/// What bamtobed writes without -split is an input, where the alignments are sorted.
+/// What bamtobed writes without -split is an input, where the alignments are sorted, and all their references are in the
+/// genome file of the next command, if it has one.
 pub fn bamtobed_goes_on()
     ensures { bamtobed_is_input }
 {}

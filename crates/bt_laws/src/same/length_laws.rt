@@ -3,7 +3,8 @@
 
 ghost use Rattle.bt_laws.specs.same.LengthLaws.{complement_of_complement, merge_of_genomecov};
 
-/// Complement of complement is merge, cut at the lengths, without `-L` and if no chromosome has a header word as its name.
+/// Complement of complement is merge, cut at the lengths, without `-L` and if no chromosome's name begins with the word
+/// `track` or `browser`.
 pub fn gaps_of_the_gaps_are_the_runs()
     ensures { complement_of_complement }
 {}

@@ -114,25 +114,23 @@ module _ (d : ℕ) (inputs : Inputs) (chromosomes : Option (List Entry)) where
   placed : ArePlaced order_used (intervals_of merged_records)
   placed = placed_good First order_used inputs.first total
 
-  pooled : (strand : MergeStrand) → RunsWithoutFault (Merge d strand) inputs chromosomes → (report_of (Merge d strand) inputs).output ≡ interval_lines (ordered_runs order_used d strand merged_records)
-      → (runs : List Interval) × ((report_of (Merge d strand) inputs).output ≡ interval_lines runs) × IsInput order_used (report_of (Merge d strand) inputs).output (map three_columns runs) × (strand ≢ Each → AllPairs AreSeparate runs)
-  pooled strand well e = (
-    ordered_runs order_used d strand merged_records,
+  pooled : (strand : MergeStrand) → (report_of (Merge d strand) inputs).output ≡ interval_lines (ordered_runs order_used d strand merged_records)
+      → let runs = ordered_runs order_used d strand merged_records in ((report_of (Merge d strand) inputs).output ≡ interval_lines runs) × IsInput order_used (report_of (Merge d strand) inputs).output (map three_columns runs) × (strand ≢ Each → AllPairs AreSeparate runs)
+  pooled strand e = (
     e,
     subst (λ text. IsInput order_used text (map three_columns (ordered_runs order_used d strand merged_records))) (sym e) (merge_back order_used total d strand merged_records (good_are_said First order_used inputs.first) placed),
     λ other. pairs_all AreSeparate (ordered_runs order_used d strand merged_records) (merge_apart order_used total d strand merged_records (good_are_said First order_used inputs.first) placed),
   )
 
 pub merge_input : merge_is_input
-merge_input d All inputs chromosomes well = pooled d inputs chromosomes All well (merge_whole d All inputs chromosomes well)
-merge_input d (One strand) inputs chromosomes well = pooled d inputs chromosomes (One strand) well (merge_whole d (One strand) inputs chromosomes well)
+merge_input d All inputs chromosomes well = pooled d inputs chromosomes All (merge_whole d All inputs chromosomes well)
+merge_input d (One strand) inputs chromosomes well = pooled d inputs chromosomes (One strand) (merge_whole d (One strand) inputs chromosomes well)
 merge_input d Each inputs chromosomes well =
     let records = first_records chromosomes inputs in
     let order = order_of chromosomes in
     let total = order_total chromosomes in
     let e = merge_whole d Each inputs chromosomes well in
     let runs = places_of (strand_runs d records) in (
-      runs,
       e,
       subst (λ text. IsInput order text (map three_columns runs)) (sym e)
           (runs_back order total runs (strands_written order total d records (good_are_said First order inputs.first))
@@ -164,7 +162,7 @@ complement_input limit inputs chromosomes well =
     let e = complement_whole limit inputs chromosomes well in
     let is = gaps_input limit inputs.genome chromosomes (first_records chromosomes inputs) well.genome in
     let gaps = complement limit (entries_in chromosomes) (first_records chromosomes inputs) in
-    (gaps, e, subst (λ text. IsInput (order_of chromosomes) text (filter is_no_header (map three_columns gaps))) (sym e) is.0, pairs_all AreSeparate gaps is.1)
+    (e, subst (λ text. IsInput (order_of chromosomes) text (filter is_no_header (map three_columns gaps))) (sym e) is.0, pairs_all AreSeparate gaps is.1)
 
 depths_input : (zeros : Bool) (strand : Option Strand) (genome : Option Handed) (chromosomes : Option (List Entry)) (records : List Feature) → chromosomes_of genome ≡ Ok chromosomes
     → IsInput (order_of chromosomes) (depth_lines (coverage zeros strand (entries_in chromosomes) records)) (filter is_no_header (map four_columns (coverage zeros strand (entries_in chromosomes) records)))
@@ -186,7 +184,7 @@ genomecov_input zeros strand inputs chromosomes well =
     let depths = coverage zeros strand (entries_in chromosomes) (first_records chromosomes inputs) in
     let e = genomecov_whole zeros strand inputs chromosomes well in
     let is = depths_input zeros strand inputs.genome chromosomes (first_records chromosomes inputs) well.genome in
-    (depths, e, subst (λ text. IsInput (order_of chromosomes) text (filter is_no_header (map four_columns depths))) (sym e) is.0, pairs_all AreDisjoint (map interval_at depths) is.1)
+    (e, subst (λ text. IsInput (order_of chromosomes) text (filter is_no_header (map four_columns depths))) (sym e) is.0, pairs_all AreDisjoint (map interval_at depths) is.1)
 
 -- ---- two inputs
 
