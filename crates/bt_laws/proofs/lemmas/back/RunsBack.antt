@@ -114,11 +114,11 @@ put_all P order name (n ∷ ns) one all =
       | false ↦ (all.0, put_all P order name ns one all.1)
     ]
 
-ordered_all : (P : List ℕ → Type 0) (order : Order) (names : List (List ℕ)) → AllByRecursion P names → AllByRecursion P (in_order order names)
+pub ordered_all : (P : List ℕ → Type 0) (order : Order) (names : List (List ℕ)) → AllByRecursion P names → AllByRecursion P (in_order order names)
 ordered_all P order [] all = tt
 ordered_all P order (n ∷ ns) all = put_all P order n (in_order order ns) all.0 (ordered_all P order ns all.1)
 
-chromosomes_all : (P : List ℕ → Type 0) (rs : List Interval) → AllByRecursion (λ (r : Interval). P r.chrom) rs → AllByRecursion P (chromosomes rs)
+pub chromosomes_all : (P : List ℕ → Type 0) (rs : List Interval) → AllByRecursion (λ (r : Interval). P r.chrom) rs → AllByRecursion P (chromosomes rs)
 chromosomes_all P [] h = tt
 chromosomes_all P (r ∷ rs) h = (h.0, all_filter P (λ other. not (bytes_eq other r.chrom)) (chromosomes rs) (chromosomes_all P rs h.1))
 
@@ -150,7 +150,7 @@ counted_stops strand records said =
     all_map (λ (r : Interval). r.stop ≤ 999999999999) interval_of (filter (λ r. is_counted strand r.strand) records)
     (all_filter (λ r. r.stop ≤ 999999999999) (λ r. is_counted strand r.strand) records (all_so IsSaid (λ r. r.stop ≤ 999999999999) records (λ r is. is.feature.in_range) said))
 
-placed_known : (order : Order) (rs : List Interval) → ArePlaced order rs → AllByRecursion (λ (r : Interval). IsTrue (order.knows r.chrom)) rs
+pub placed_known : (order : Order) (rs : List Interval) → ArePlaced order rs → AllByRecursion (λ (r : Interval). IsTrue (order.knows r.chrom)) rs
 placed_known order [] placed = tt
 placed_known order (r ∷ rs) placed = (placed.0, placed_known order rs placed.2)
 
