@@ -14,6 +14,7 @@ use Rattle.bt_runs.specs.model.RunOrder.{ordered_runs}
 use Rattle.bt_runs.specs.model.StrandRuns.{places_of, strand_runs}
 use Rattle.bt_runs.specs.declared.merge.merge_strand.MergeStrand.{MergeStrand}
 use Rattle.bt_runs.specs.declared.merge.merge_strand.MergeStrand.TheVariants.{Each}
+use Rattle.bt_sweep.specs.model.Hits.{hits_among}
 use Rattle.bt_sweep.specs.declared.hits.hit_rule.HitRule.{HitRule}
 use Rattle.bt_sweep.specs.declared.output.shape.Shape.{Shape}
 use Rattle.bt_sweep.specs.declared.output.shape.Shape.TheVariants.{Pieces, Whole}
@@ -23,8 +24,8 @@ use Rattle.bt_tool.specs.model.report.Report.{report_of}
 use Rattle.bt_tool.specs.declared.planning.plan_type.Command.TheVariants.{Merge, Complement, Coverage}
 use Rattle.bt_tool.specs.declared.planning.plan_type.Command.TheVariants.{Intersect, Subtract}
 use Rattle.bt_laws.specs.Runs.{RunsWithoutFault, first_records, second_records}
-use Rattle.bt_laws.specs.pipes.SweepLines.{EndsPlain, TakesNoStrand, begins_with_a, copies_written}
-use Rattle.bt_laws.specs.pipes.SweepLines.{is_a_alone, records_written}
+use Rattle.bt_laws.specs.pipes.SweepLines.{EndsPlain, KeepsStrand, TakesNoStrand, begins_with_a}
+use Rattle.bt_laws.specs.pipes.SweepLines.{copies_written, is_a_alone, records_for, records_written}
 use Rattle.bt_laws.specs.pipes.Taken.{AreDisjoint, AreSeparate, IsInput, four_columns}
 use Rattle.bt_laws.specs.pipes.Taken.{is_no_header, three_columns}
 
@@ -123,6 +124,16 @@ kept_strands_stay =
     ≡ map (λ r. r.strand)
     (copies_written shape rule (first_records chromosomes inputs)
     (second_records chromosomes inputs))
+
+-- each cut and each piece of a record has its strand: without a shape, with -wb, and from subtract
+abbrev pub cut_strands_stay : Type 0
+cut_strands_stay =
+    (shape : Shape) (rule : HitRule) (inputs : Inputs) (chromosomes : Option (List Entry))
+    → begins_with_a shape ≡ false
+    → AllByRecursion (KeepsStrand shape) (first_records chromosomes inputs)
+    → AllByRecursion (λ a. AllByRecursion (λ r. r.strand ≡ a.strand)
+    (records_for shape a (hits_among rule a (second_records chromosomes inputs))))
+    (first_records chromosomes inputs)
 
 -- intersect without a shape, and with -wb: where no two records of the first input overlap
 abbrev pub cut_intersect_is_input : Type 0

@@ -47,7 +47,7 @@ use Rattle.bt_tool.specs.model.report.Written.{Written, complement_written, cove
 use Rattle.bt_tool.specs.declared.planning.plan_type.Command.{Command}
 use Rattle.bt_tool.specs.declared.planning.plan_type.Command.TheVariants.{Complement, Coverage, Intersect, Merge, Subtract}
 use Rattle.bt_laws.specs.Runs.{RunsWithoutFault, first_records, second_records}
-use Rattle.bt_laws.specs.pipes.Pipes.{complement_is_input, cut_intersect_is_input, genomecov_is_input, intersect_is_input, kept_places_stay, kept_records_stay, kept_strands_stay, merge_is_input, subtract_is_input, whole_subtract_is_input}
+use Rattle.bt_laws.specs.pipes.Pipes.{complement_is_input, cut_intersect_is_input, cut_strands_stay, genomecov_is_input, intersect_is_input, kept_places_stay, kept_records_stay, kept_strands_stay, merge_is_input, subtract_is_input, whole_subtract_is_input}
 use Rattle.bt_laws.specs.pipes.SweepLines.{begins_with_a, records_written}
 use Rattle.bt_laws.specs.pipes.Taken.{AreSeparate, AreDisjoint, IsInput, four_columns, is_no_header, three_columns}
 use Rattle.bt_laws.proofs.lemmas.pipes.Pairs.{EachPair, pairs_all, pairs_each}
@@ -56,7 +56,7 @@ use Rattle.bt_laws.proofs.lemmas.parts.report.PartShards.{distinct_in}
 use Rattle.bt_laws.proofs.lemmas.back.RunsBack.{intervals_back, merge_apart, merge_back, runs_back, strands_written}
 use Rattle.bt_laws.proofs.lemmas.back.SaidWell.{IsChrom, IsSaid, genome_chroms, good_are_said}
 use Rattle.bt_laws.proofs.lemmas.back.SweepBack.{cut_back, kept_back, pieces_back}
-use Rattle.bt_laws.proofs.lemmas.back.SweepRead.{all_read, places_stay, records_stay, strands_stay}
+use Rattle.bt_laws.proofs.lemmas.back.SweepRead.{all_read, cut_stay, places_stay, records_stay, strands_stay}
 
 -- ---- the order in use
 
@@ -290,6 +290,10 @@ kept_places shape rule inputs chromosomes begins = places_stay shape rule (first
 pub kept_strands : kept_strands_stay
 kept_strands shape rule inputs chromosomes begins alone unsigned =
     strands_stay shape rule (first_records chromosomes inputs) (second_records chromosomes inputs) begins alone (said shape rule chromosomes inputs) (said_second shape rule chromosomes inputs) unsigned
+
+pub cut_strands : cut_strands_stay
+cut_strands shape rule inputs chromosomes cuts keeps =
+    cut_stay shape rule (first_records chromosomes inputs) (second_records chromosomes inputs) cuts (said shape rule chromosomes inputs) (said_second shape rule chromosomes inputs) keeps
 
 pub cut_intersect_input : cut_intersect_is_input
 cut_intersect_input shape rule held inputs chromosomes cuts well apart =

@@ -1,6 +1,6 @@
 -- What maskfasta writes has the lines of its input, and is masked already.
-use Rattle.std.proofs.Common.{◌≡◌, ◌||◌, ℕ, suc, ◌+◌, ◌≤◌, Bool, true, false, List, [], ◌∷◌, ◌++◌, map, length, Option, Some, None, inl, inr, refl, sym, ap, ap₂, ◌∙◌, arith, eqb, leb}
-use Rattle.std.specs.Prelude.{◌⊎◌, flat_map, if◌then◌else◌, is_none}
+use Rattle.std.proofs.Common.{◌≡◌, ◌||◌, ℕ, suc, ◌+◌, ◌≤◌, Bool, true, false, List, [], ◌∷◌, ◌++◌, map, length, Option, Some, None, refl, sym, ap, ap₂, ◌∙◌, arith, eqb, leb}
+use Rattle.std.specs.Prelude.{flat_map, if◌then◌else◌, is_none}
 use Rattle.std.specs.List.{list_all, list_any}
 use Rattle.std.specs.Option.{option_or}
 use Rattle.std.specs.Io.BufRead.{ends_with_byte}
