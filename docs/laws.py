@@ -176,9 +176,12 @@ def pipe_subtract(w):
 
 
 def pipe_bamtobed(w):
-    rows = ["r\t%d\t%s\t%d\t9\t%s\t*\t0\t0\t*\t*\n" % (w.rng.choice((0, 16)), n, r[0] + 1, w.rng.choice(("5M", "2M3N2M", "1S4M", "3M1D2M")))
-            for n in NAMES for r in w.a[n]]
-    return is_input(w, w.run("bamtobed", "-i", w.file("".join(rows))))
+    lengths = {"5M": 5, "2M3N2M": 7, "1S4M": 4, "3M1D2M": 6}
+    found = [(n, r[0], w.rng.choice((0, 16)), w.rng.choice(tuple(lengths))) for n in NAMES for r in w.a[n]]
+    sam = "".join("r\t%d\t%s\t%d\t9\t%s\t*\t0\t0\t*\t*\n" % (flag, n, start + 1, cigar) for n, start, flag, cigar in found)
+    bed = "".join("%s\t%d\t%d\tr\t9\t%s\n" % (n, start, start + lengths[cigar], "-" if flag else "+") for n, start, flag, cigar in found)
+    text = w.run("bamtobed", "-i", w.file(sam))
+    return is_input(w, text) + same(w, text, bed)
 
 
 def fasta(w):
@@ -230,7 +233,8 @@ def depth_0(w):
 
 
 def merge_depths(w):
-    return same(w, w.one("merge", w.file(depths(w, "-bg"))), w.one("merge", w.fa))
+    d = ["-d", str(w.rng.randrange(4))]
+    return same(w, w.one("merge", w.file(depths(w, "-bg")), *d), w.one("merge", w.fa, *d))
 
 
 def depth_sum(w):

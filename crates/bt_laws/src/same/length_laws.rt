@@ -9,7 +9,7 @@ pub fn gaps_of_the_gaps_are_the_runs()
     ensures { complement_of_complement }
 {}
 
-/// merge of genomecov -bg is merge, if the records lie within the lengths; without other options.
+/// merge of genomecov -bg is merge, if the records lie within the lengths; with the same `-d` and without other options.
 pub fn depths_are_merged()
     ensures { merge_of_genomecov }
 {}
