@@ -32,6 +32,8 @@ class World:
         self.b = {name: self.records(name, False, within) for name in NAMES}
         self.genome = self.file("".join("%s\t%d\n" % item for item in self.length.items()))
         self.fa, self.fb = self.bed(self.a), self.bed(self.b)
+        # records over all of a chromosome: one on the strand +, two on the strand -
+        self.strands = self.bed({name: [(0, 100, "all", "0", strand) for strand in "+--"] for name in NAMES})
 
     def records(self, name, apart, within):
         end = self.length[name] if within else 50
@@ -96,13 +98,41 @@ def bases(text):
             for name, lines in by_chromosome(text).items()}
 
 
+def strand_of(columns):
+    return columns[5] if len(columns) > 5 and columns[5] in "+-" else "."
+
+
+def columns_of(text, count=None):
+    return {name: [line.split("\t")[:count] for line in lines] for name, lines in by_chromosome(text).items()}
+
+
 def is_input(world, text):
-    """Taken as the first or the second input the text is without a fault, and no record is lost."""
-    path = world.file(text)
-    counted = world.two("intersect", path, world.fb, "-c")
+    """Taken as the first or the second input the text is without a fault. All columns and the strands are read again."""
+    path, said = world.file(text), columns_of(text)
+    read = columns_of(world.two("intersect", path, world.strands, "-c", "-s"))
     world.two("intersect", world.fa, path, "-u")
-    return same(world, {n: [line.split("\t")[:3] for line in lines] for n, lines in by_chromosome(counted).items()},
-                {n: [line.split("\t")[:3] for line in lines] for n, lines in by_chromosome(text).items()}, "as an input")
+    times = {"+": "1", "-": "2", ".": "0"}
+    return same(world, read, {n: [row + [times[strand_of(row)]] for row in rows] for n, rows in said.items()}, "as an input")
+
+
+def are_kept(world, text, rule, times):
+    """Each line begins with a record of A, with its columns and strand, as often as the number of its hits says."""
+    counted = columns_of(world.two("intersect", world.fa, world.fb, "-c", *rule))
+    kept = {n: [row[:-1] for row in rows for _ in range(times(int(row[-1])))] for n, rows in counted.items()}
+    return same(world, columns_of(text, 6), {n: rows for n, rows in kept.items() if rows}, "records kept")
+
+
+def are_cut(world, text, rule, times):
+    """Each line is cut of a record of A and has its name and strand."""
+    counted = columns_of(world.two("intersect", world.fa, world.fb, "-c", *rule))
+    kept = {n: [row[3:-1] for row in rows for _ in range(times(int(row[-1])))] for n, rows in counted.items()}
+    return same(world, {n: [row[3:] for row in rows] for n, rows in columns_of(text, 6).items()}, kept, "records cut")
+
+
+def none_overlap(world, text, apart):
+    """No two records overlap, or even touch."""
+    found = {n: [(int(r[1]), int(r[2])) for r in rows] for n, rows in columns_of(text).items()}
+    return same(world, {n: [p for p, q in zip(rows, rows[1:]) if p[1] > q[0] or apart and p[1] == q[0]] for n, rows in found.items()}, {}, "overlapping")
 
 
 def depths(world, option):
@@ -110,34 +140,48 @@ def depths(world, option):
 
 
 def pipe_merge(w):
-    return is_input(w, w.one("merge", w.fa, "-d", str(w.rng.randrange(4)), *w.rng.choice(([], ["-s"], ["-S", "+"]))))
+    strand = w.rng.choice(([], ["-s"], ["-S", "+"]))
+    text = w.one("merge", w.fa, "-d", str(w.rng.randrange(4)), *strand)
+    return is_input(w, text) + (0 if strand == ["-s"] else none_overlap(w, text, True))
 
 
 def pipe_gaps(w):
-    return is_input(w, w.one("complement", w.fa, *w.rng.choice(([], ["-L"])))) + is_input(w, depths(w, w.rng.choice(("-bg", "-bga"))))
+    gaps, found = w.one("complement", w.fa, *w.rng.choice(([], ["-L"]))), depths(w, w.rng.choice(("-bg", "-bga")))
+    return is_input(w, gaps) + none_overlap(w, gaps, True) + is_input(w, found) + none_overlap(w, found, False)
 
 
 def pipe_intersect(w):
     shape = w.rng.choice((["-wa"], ["-u"], ["-v"], ["-c"], ["-wa", "-wb"], ["-wo"]))
-    return is_input(w, w.two("intersect", w.fa, w.fb, *shape, *w.rule()))
+    times = {"-u": lambda n: n > 0, "-v": lambda n: n == 0, "-c": lambda n: 1}.get(shape[0], lambda n: n)
+    rule = w.rule()
+    text = w.two("intersect", w.fa, w.fb, *shape, *rule)
+    return is_input(w, text) + are_kept(w, text, rule, times)
 
 
 def pipe_cut(w):
-    return is_input(w, w.two("intersect", w.fa, w.fb, *w.rng.choice(([], ["-wb"])), *w.rule()))
+    rule = w.rule()
+    text = w.two("intersect", w.fa, w.fb, *w.rng.choice(([], ["-wb"])), *rule)
+    return is_input(w, text) + are_cut(w, text, rule, lambda n: n)
 
 
 def pipe_whole(w):
-    return is_input(w, w.two("subtract", w.fa, w.fb, "-A", *w.rule(each=False)))
+    rule = w.rule(each=False)
+    text = w.two("subtract", w.fa, w.fb, "-A", *rule)
+    return is_input(w, text) + are_kept(w, text, rule, lambda n: n == 0)
 
 
 def pipe_subtract(w):
-    return is_input(w, w.two("subtract", w.fa, w.fb, *w.rule(each=False)))
+    text = w.two("subtract", w.fa, w.fb, *w.rule(each=False))
+    return is_input(w, text) + none_overlap(w, text, False)
 
 
 def pipe_bamtobed(w):
-    rows = ["r\t%d\t%s\t%d\t9\t%s\t*\t0\t0\t*\t*\n" % (w.rng.choice((0, 16)), n, r[0] + 1, w.rng.choice(("5M", "2M3N2M", "1S4M", "3M1D2M")))
-            for n in NAMES for r in w.a[n]]
-    return is_input(w, w.run("bamtobed", "-i", w.file("".join(rows))))
+    lengths = {"5M": 5, "2M3N2M": 7, "1S4M": 4, "3M1D2M": 6}
+    found = [(n, r[0], w.rng.choice((0, 16)), w.rng.choice(tuple(lengths))) for n in NAMES for r in w.a[n]]
+    sam = "".join("r\t%d\t%s\t%d\t9\t%s\t*\t0\t0\t*\t*\n" % (flag, n, start + 1, cigar) for n, start, flag, cigar in found)
+    bed = "".join("%s\t%d\t%d\tr\t9\t%s\n" % (n, start, start + lengths[cigar], "-" if flag else "+") for n, start, flag, cigar in found)
+    text = w.run("bamtobed", "-i", w.file(sam))
+    return is_input(w, text) + same(w, text, bed)
 
 
 def fasta(w):
@@ -189,7 +233,8 @@ def depth_0(w):
 
 
 def merge_depths(w):
-    return same(w, w.one("merge", w.file(depths(w, "-bg"))), w.one("merge", w.fa))
+    d = ["-d", str(w.rng.randrange(4))]
+    return same(w, w.one("merge", w.file(depths(w, "-bg")), *d), w.one("merge", w.fa, *d))
 
 
 def depth_sum(w):
@@ -244,7 +289,8 @@ def masks(w):
 
 def exchanged(w):
     other = w.bed({n: sorted(w.rng.sample(w.a[n], len(w.a[n])), key=lambda r: r[0]) for n in NAMES})
-    double = w.bed({n: sorted(w.a[n] + w.a[n][:2], key=lambda r: r[0]) for n in NAMES})
+    again = {n: w.a[n] + w.rng.sample(w.a[n], min(1, len(w.a[n]))) for n in NAMES}
+    double = w.bed({n: sorted(w.rng.sample(again[n], len(again[n])), key=lambda r: r[0]) for n in NAMES})
     d = ["-d", str(w.rng.randrange(3))]
     merged, gaps = w.one("merge", w.fa, *d), w.one("complement", w.fa)
     return same(w, merged, w.one("merge", other, *d)) + same(w, gaps, w.one("complement", other)) + \

@@ -12,6 +12,7 @@ ghost use Rattle.bt_laws.specs.pipes.PipeExamples.{
 ghost use Rattle.bt_laws.specs.pipes.Pipes.{
   complement_is_input,
   cut_intersect_is_input,
+  cut_strands_stay,
   genomecov_is_input,
   intersect_is_input,
   kept_places_stay,
@@ -57,11 +58,12 @@ pub fn subtract_goes_on()
 
 /// The records of the first input are read again as they are from -wa, -u, -v and subtract -A, if no last column ends
 /// with a carriage return; from -c, -wa -wb and -wo with their places, and with their strands, if no record of five
-/// columns lies on a chromosome named `+` or `-`.
+/// columns lies on a chromosome named `+` or `-`. Cuts and pieces have their strands under the same conditions.
 pub fn kept_records_are_read_again()
     ensures records { kept_records_stay }
     ensures places { kept_places_stay }
     ensures strands { kept_strands_stay }
+    ensures cuts { cut_strands_stay }
 {}
 
 /// Records that are read with another strand: by a carriage return, and by a chromosome named `+`.
@@ -70,7 +72,8 @@ pub fn some_strands_change()
     ensures names { names_become_strands }
 {}
 
-/// What bamtobed writes without -split is an input, where the alignments are sorted.
+/// What bamtobed writes without -split is an input, where the alignments are sorted, and all their references are in the
+/// genome file of the next command, if it has one.
 pub fn bamtobed_goes_on()
     ensures { bamtobed_is_input }
 {}

@@ -1,4 +1,5 @@
 -- Lemmas on same.
+pub mod AlikeRecords
 pub mod Blocks
 pub mod GapsHit
 pub mod LengthLaws

@@ -1,5 +1,5 @@
 -- The bases that intersect writes and those that subtract leaves.
-use Rattle.std.specs.Prelude.{◌⊎◌, ℕ, false, List, Option}
+use Rattle.std.specs.Prelude.{◌≡◌, ◌⊎◌, ℕ, false, List, Option, None}
 use Rattle.std.specs.List.{AllPairs}
 use Rattle.bt_bed.specs.model.feature.Feature.{intervals_of}
 use Rattle.bt_bed.specs.model.order.Genome.{Entry}
@@ -27,7 +27,7 @@ pub record PartBases (records first others : List Interval) : Type 0 where
       → IsCovered (spans_on name others) p → ⊥
 
 -- What intersect writes without a shape and what subtract writes part the bases of the first input,
--- where no two of its records overlap, without -f and -s.
+-- where no two of its records overlap, without -f and -s; neither has a fault if the other has none.
 abbrev pub intersect_and_subtract_part : Type 0
 intersect_and_subtract_part =
     (held : Option ℕ) (inputs : Inputs) (chromosomes : Option (List Entry))
@@ -36,6 +36,7 @@ intersect_and_subtract_part =
     → let first = first_records chromosomes inputs in
     let cuts = records_written Cut any_overlap first (second_records chromosomes inputs) in
     let left = records_written Pieces any_overlap first (second_records chromosomes inputs) in
-    IsInput (order_of chromosomes) (report_of (Intersect Cut any_overlap held) inputs).output cuts
+    ((report_of (Subtract false any_overlap held) inputs).fault ≡ None)
+    × IsInput (order_of chromosomes) (report_of (Intersect Cut any_overlap held) inputs).output cuts
     × IsInput (order_of chromosomes) (report_of (Subtract false any_overlap held) inputs).output left
     × PartBases (intervals_of first) (intervals_of cuts) (intervals_of left)

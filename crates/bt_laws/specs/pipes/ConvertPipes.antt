@@ -36,8 +36,8 @@ aligned_record cigar a = record {
 }
 
 -- bamtobed without -split: where the alignments that give a line are sorted by chromosome, in the
--- order of the next command, and by position. A reference may be called `track` or `browser`, or
--- begin with `#`, and its lines are skipped as headers.
+-- order of the next command, and by position. The name of a reference may begin with the word
+-- `track` or `browser`, or with `#`: then its lines are skipped as headers.
 abbrev pub bamtobed_is_input : Type 0
 bamtobed_is_input =
     (cigar : Bool) (inputs : Inputs) (order : Order) → IsTotal order

@@ -95,3 +95,8 @@ EndsPlain a = ends_with_byte 13 a.rest ≡ false
 abbrev pub TakesNoStrand : Shape → Feature → Type 0
 TakesNoStrand Count a = ⊤
 TakesNoStrand _ a = length (columns_in a.rest) ≡ 2 → strand_named a.chrom ≡ Dot
+
+-- what keeps the strand of a record that is cut: with -wb as above, else as that of a record alone
+abbrev pub KeepsStrand : Shape → Feature → Type 0
+KeepsStrand CutAndB a = TakesNoStrand CutAndB a
+KeepsStrand _ a = EndsPlain a

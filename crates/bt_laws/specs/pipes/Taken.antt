@@ -40,7 +40,7 @@ four_columns r = record {
   rest = codes "\t" ++ decimal r.depth;
 }
 
--- whether a record's line isn't skipped as a header: a genome file may name a chromosome `track` or
--- `browser`, and a line of a BED file that begins with this word says nothing
+-- whether a record's line isn't skipped as a header: the name of a chromosome in a genome file may
+-- begin with the word `track` or `browser`, and a line of a BED file that does so says nothing
 abbrev pub is_no_header : Feature → Bool
 is_no_header r = not (is_header r.chrom)

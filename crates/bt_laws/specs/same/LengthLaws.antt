@@ -24,8 +24,8 @@ cut_at_length entries r =
     (record { chrom = r.chrom; start = r.start; stop = min r.stop (length_in entries r.chrom) } ∷ [])
     []
 
--- Complement of complement is merge, cut at the lengths. No chromosome is called by a header word:
--- of one called `track` complement writes a line that the next complement skips as a header.
+-- Complement of complement is merge, cut at the lengths. No chromosome's name begins with
+-- the word `track` or `browser`: the next complement skips its lines as headers.
 abbrev pub complement_of_complement : Type 0
 complement_of_complement =
     (inputs : Inputs) (entries : List Entry)

@@ -1,6 +1,6 @@
 -- Runs of merge, complement and genomecov that write the same bytes.
 use Rattle.std.specs.Prelude.{◌≡◌, ◌≢◌, ◌==◌, ℕ, Bool, true, false, List, ◌∷◌, ◌++◌}
-use Rattle.std.specs.Prelude.{Option, None, map, filter, nat_lt}
+use Rattle.std.specs.Prelude.{Option, None, map, filter, nat_lt, IsPermutation}
 use Rattle.bt_bed.specs.model.feature.Feature.{Feature}
 use Rattle.bt_bed.specs.model.order.Genome.{Entry}
 use Rattle.bt_bed.specs.model.feature.Interval.{Interval}
@@ -32,24 +32,18 @@ complement_of_merge =
     → RunWrites (Complement limit) (piped (Merge 0 All) inputs)
     (report_of (Complement limit) inputs).output
 
--- the same records, except that two neighbours of one chromosome come the other way round; where
--- both lists are in order, the two have one start
-pub record AreExchanged (rs ss : List Feature) : Type 0 where
-  pub before : List Feature
-  pub after : List Feature
-  pub one : Feature
-  pub other : Feature
-  pub same : one.chrom ≡ other.chrom
-  pub first : rs ≡ before ++ one ∷ other ∷ after
-  pub second : ss ≡ before ++ other ∷ one ∷ after
+-- the same records in another order, which changes only the order of those of equal chromosome and
+-- start, where both lists are in order
+abbrev pub AreExchanged : List Feature → List Feature → Type 0
+AreExchanged rs ss = IsPermutation rs ss
 
--- the same records, except that one comes twice
+-- the same records, except that one of them comes once more, anywhere
 pub record IsRepeated (rs ss : List Feature) : Type 0 where
   pub before : List Feature
   pub after : List Feature
   pub twice : Feature
   pub first : rs ≡ before ++ twice ∷ after
-  pub second : ss ≡ before ++ twice ∷ twice ∷ after
+  pub second : IsPermutation (twice ∷ rs) ss
 
 -- a command writes the same bytes of two first inputs, where their records are alike and both runs
 -- are without a fault

@@ -3,12 +3,13 @@
 
 ghost use Rattle.bt_laws.specs.same.LengthLaws.{complement_of_complement, merge_of_genomecov};
 
-/// Complement of complement is merge, cut at the lengths, without `-L` and if no chromosome has a header word as its name.
+/// Complement of complement is merge, cut at the lengths, without `-L` and if no chromosome's name begins with the word
+/// `track` or `browser`.
 pub fn gaps_of_the_gaps_are_the_runs()
     ensures { complement_of_complement }
 {}
 
-/// merge of genomecov -bg is merge, if the records lie within the lengths; without other options.
+/// merge of genomecov -bg is merge, if the records lie within the lengths; with the same `-d` and without other options.
 pub fn depths_are_merged()
     ensures { merge_of_genomecov }
 {}

@@ -22,7 +22,8 @@ pub fn masked_sequences_stay_masked()
     ensures { masked_twice }
 {}
 
-/// maskfasta sees of a BED which positions of each sequence it masks, and nothing else, if bases aren't masked by `>`.
+/// maskfasta sees of a BED which positions of each sequence it masks, and nothing else. By one BED and then by another
+/// it is by both, if bases aren't masked by `>`.
 pub fn masked_positions_are_all()
     ensures alike { masked_by_positions }
     ensures both { masked_by_both }

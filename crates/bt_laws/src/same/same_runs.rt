@@ -23,14 +23,14 @@ pub fn merge_leaves_the_gaps()
     ensures { complement_of_merge }
 {}
 
-/// Records of equal chromosome and start may be exchanged, in merge without `-s`, in complement and in genomecov.
+/// The same records in another order, each list sorted: merge without `-s`, complement and genomecov write the same.
 pub fn equal_starts_may_be_exchanged()
     ensures merge { exchanged_merge }
     ensures complement { exchanged_complement }
     ensures genomecov { exchanged_genomecov }
 {}
 
-/// A record given twice changes nothing in merge without `-s` and in complement.
+/// A record that comes once more, anywhere, changes nothing in merge without `-s` and in complement.
 pub fn a_record_may_come_twice()
     ensures merge { repeated_merge }
     ensures complement { repeated_complement }

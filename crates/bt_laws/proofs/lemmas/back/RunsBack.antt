@@ -112,7 +112,7 @@ put_all P order name (n ∷ ns) one all =
       | false ↦ (all.0, put_all P order name ns one all.1)
     ]
 
-ordered_all : (P : List ℕ → Type 0) (order : Order) (names : List (List ℕ)) → AllByRecursion P names → AllByRecursion P (in_order order names)
+pub ordered_all : (P : List ℕ → Type 0) (order : Order) (names : List (List ℕ)) → AllByRecursion P names → AllByRecursion P (in_order order names)
 ordered_all P order [] all = tt
 ordered_all P order (n ∷ ns) all = put_all P order n (in_order order ns) all.0 (ordered_all P order ns all.1)
 

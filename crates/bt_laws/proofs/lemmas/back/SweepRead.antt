@@ -8,6 +8,7 @@ use Rattle.std.proofs.lemmas.List.Splits.{slice_split_at}
 use Rattle.bt_lines.specs.model.Lines.{pieces as columns_of}
 use Rattle.bt_lines.proofs.lemmas.reader.lines.ColumnLemmas.{IsColumn}
 use Rattle.bt_lines.proofs.lemmas.reader.lines.LinesLemmas.{strip_last-other}
+use Rattle.bt_bed.specs.model.feature.Interval.{Span}
 use Rattle.bt_bed.specs.model.feature.Feature.{Feature, interval_of, intervals_of}
 use Rattle.bt_bed.specs.model.feature.Record.{IsName, bed_text, columns_in, cut_to, is_kept, kept_columns, strand_named, strand_of}
 use Rattle.bt_bed.specs.declared.record.strand.Strand.TheVariants.{Plus, Minus, Dot}
@@ -20,13 +21,13 @@ use Rattle.bt_sweep.specs.model.Pieces.{pieces}
 use Rattle.bt_sweep.specs.declared.hits.hit_rule.HitRule.{HitRule}
 use Rattle.bt_sweep.specs.declared.output.shape.Shape.{Shape}
 use Rattle.bt_sweep.specs.declared.output.shape.Shape.TheVariants.{Count, Cut, CutAndB, Missing, Once, OrigA, OrigBoth, Overlap, Pieces, Whole}
-use Rattle.bt_laws.specs.pipes.SweepLines.{EndsPlain, TakesNoStrand, begins_with_a, copies_written, is_a_alone, line_count, read_alone, read_before, records_for, records_written}
+use Rattle.bt_laws.specs.pipes.SweepLines.{EndsPlain, KeepsStrand, TakesNoStrand, begins_with_a, copies_written, is_a_alone, line_count, read_alone, read_before, records_for, records_written}
 use Rattle.bt_laws.proofs.lemmas.back.Clear.{IsDigit, decimal_digits, strip_number, number_column}
 use Rattle.bt_laws.proofs.lemmas.back.LinesBack.{record_back}
 use Rattle.bt_laws.proofs.lemmas.back.SaidWell.{IsSaid}
 use Rattle.bt_laws.proofs.lemmas.back.SweepBack.{Hit, all_columns, all_hits, columns_at, columns_for, hit_columns, kept_more, part, piece_columns, same_name}
 use Rattle.bt_laws.proofs.lemmas.back.TailSays.{columns_text, kept_by, name_first, record_with, strip_both, strip_columns}
-use Rattle.bt_laws.proofs.lemmas.Lists.{all_any, all_so, flat_map_same, all_zip, map_map, map_flat}
+use Rattle.bt_laws.proofs.lemmas.Lists.{all_any, all_map, all_so, flat_map_same, all_zip, map_map, map_flat}
 
 -- ---- the columns of a line, read again
 
@@ -228,6 +229,24 @@ module _ (a : Feature) (is : IsSaid a) where
   strands_for rule Count found e alone unsigned h = ap (λ s. s ∷ []) (after_number (length found))
   strands_for rule Pieces found e alone unsigned h = cc
   strands_for rule Whole found e alone unsigned h = cc
+
+  cut_strands_for : (rule : HitRule) (shape : Shape) (found : List Feature) → begins_with_a shape ≡ false → KeepsStrand shape a → AllByRecursion (Hit rule a) found → AllByRecursion (λ (r : Feature). r.strand ≡ a.strand) (records_for shape a found)
+  cut_strands_for rule Cut found e plain h = all_map (λ (r : Feature). r.strand ≡ a.strand) (λ b. read_alone (cut a b)) found (all_any _ found (λ b. ap (λ (r : Feature). r.strand) (alone_same a is plain)))
+  cut_strands_for rule CutAndB found e unsigned h = all_map (λ (r : Feature). r.strand ≡ a.strand) (λ b. read_before (bed_text b) (cut a b)) found (all_so (Hit rule a) (λ b. (read_before (bed_text b) a).strand ≡ a.strand) found (λ b hit. both_strand rule unsigned b hit) h)
+  cut_strands_for rule Pieces found e plain h = all_map (λ (r : Feature). r.strand ≡ a.strand) (λ (p : Span). read_alone (cut_to p.start p.stop a)) (pieces a found) (all_any _ (pieces a found) (λ p. ap (λ (r : Feature). r.strand) (alone_same a is plain)))
+  cut_strands_for rule OrigA found e plain h = cc
+  cut_strands_for rule OrigBoth found e plain h = cc
+  cut_strands_for rule Overlap found e plain h = cc
+  cut_strands_for rule Once found e plain h = cc
+  cut_strands_for rule Missing found e plain h = cc
+  cut_strands_for rule Count found e plain h = cc
+  cut_strands_for rule Whole found e plain h = cc
+
+pub cut_stay : (shape : Shape) (rule : HitRule) (first second : List Feature) → begins_with_a shape ≡ false → AllByRecursion IsSaid first → AllByRecursion IsSaid second → AllByRecursion (KeepsStrand shape) first
+    → AllByRecursion (λ a. AllByRecursion (λ (r : Feature). r.strand ≡ a.strand) (records_for shape a (hits_among rule a second))) first
+cut_stay shape rule first second e said said_second keeps =
+    all_zip IsSaid (KeepsStrand shape) (λ a. AllByRecursion (λ (r : Feature). r.strand ≡ a.strand) (records_for shape a (hits_among rule a second))) first
+    (λ a is keeps_it. cut_strands_for a is rule shape (hits_among rule a second) e keeps_it (all_hits rule a second said_second)) said keeps
 
 pub strands_stay : (shape : Shape) (rule : HitRule) (first second : List Feature) → begins_with_a shape ≡ true → is_a_alone shape ≡ false → AllByRecursion IsSaid first → AllByRecursion IsSaid second → AllByRecursion (TakesNoStrand shape) first
     → map (λ (r : Feature). r.strand) (records_written shape rule first second) ≡ map (λ (r : Feature). r.strand) (copies_written shape rule first second)

@@ -139,6 +139,7 @@ parts_of_first held inputs chromosomes well apart =
     let seconds = second_records chromosomes inputs in
     let pieces_well = other_shape Cut Pieces any_overlap held inputs chromosomes well in
     let subtract_well : RunsWithoutFault (Subtract false any_overlap held) inputs chromosomes = record { genome = well.genome; faultless = ap (λ (r : Report). r.fault) (report_there (Subtract false any_overlap held) inputs chromosomes well.genome ∙ sym (report_there (Intersect Pieces any_overlap held) inputs chromosomes well.genome)) ∙ pieces_well.faultless } in (
+      subtract_well.faultless,
       cut_intersect_input Cut any_overlap held inputs chromosomes refl well apart,
       (subtract_input any_overlap held inputs chromosomes subtract_well apart).0,
       subst (λ cut_at. PartBases (intervals_of firsts) cut_at (intervals_of (records_written Pieces any_overlap firsts seconds))) (sym (cut_places seconds firsts))

@@ -46,7 +46,7 @@ use Rattle.bt_tool.specs.model.report.Written.{Written, complement_written, cove
 use Rattle.bt_tool.specs.declared.planning.plan_type.Command.{Command}
 use Rattle.bt_tool.specs.declared.planning.plan_type.Command.TheVariants.{Complement, Coverage, Intersect, Merge, Subtract}
 use Rattle.bt_laws.specs.Runs.{RunsWithoutFault, first_records, second_records}
-use Rattle.bt_laws.specs.pipes.Pipes.{complement_is_input, cut_intersect_is_input, genomecov_is_input, intersect_is_input, kept_places_stay, kept_records_stay, kept_strands_stay, merge_is_input, subtract_is_input, whole_subtract_is_input}
+use Rattle.bt_laws.specs.pipes.Pipes.{runs_by, complement_is_input, cut_intersect_is_input, cut_strands_stay, genomecov_is_input, intersect_is_input, kept_places_stay, kept_records_stay, kept_strands_stay, merge_is_input, subtract_is_input, whole_subtract_is_input}
 use Rattle.bt_laws.specs.pipes.SweepLines.{begins_with_a, records_written}
 use Rattle.bt_laws.specs.pipes.Taken.{AreSeparate, AreDisjoint, IsInput, four_columns, is_no_header, three_columns}
 use Rattle.bt_laws.proofs.lemmas.Lists.{EachPair, pairs_all, pairs_each}
@@ -54,7 +54,7 @@ use Rattle.bt_laws.proofs.lemmas.back.RunsBack.{coverage_back, depths_disjoint, 
 use Rattle.bt_laws.proofs.lemmas.parts.report.PartShards.{distinct_in, file_is}
 use Rattle.bt_laws.proofs.lemmas.back.SaidWell.{IsChrom, IsSaid, genome_chroms, good_are_said}
 use Rattle.bt_laws.proofs.lemmas.back.SweepBack.{cut_back, kept_back, pieces_back}
-use Rattle.bt_laws.proofs.lemmas.back.SweepRead.{all_read, places_stay, records_stay, strands_stay}
+use Rattle.bt_laws.proofs.lemmas.back.SweepRead.{all_read, cut_stay, places_stay, records_stay, strands_stay}
 use Rattle.bt_laws.proofs.lemmas.parts.text.PartTexts.{order_total}
 use Rattle.bt_laws.specs.pipes.PipesApart.{complement_writes_disjoint, genomecov_writes_disjoint, merge_writes_disjoint}
 use Rattle.bt_laws.proofs.lemmas.pipes.Placing.{apart_disjoint, pairs_filter, pairs_from_map, pairs_map}
@@ -103,25 +103,23 @@ module _ (d : ℕ) (inputs : Inputs) (chromosomes : Option (List Entry)) where
   placed : ArePlaced order_used (intervals_of merged_records)
   placed = placed_good First order_used inputs.first total
 
-  pooled : (strand : MergeStrand) → RunsWithoutFault (Merge d strand) inputs chromosomes → (report_of (Merge d strand) inputs).output ≡ interval_lines (ordered_runs order_used d strand merged_records)
-      → (runs : List Interval) × ((report_of (Merge d strand) inputs).output ≡ interval_lines runs) × IsInput order_used (report_of (Merge d strand) inputs).output (map three_columns runs) × (strand ≢ Each → AllPairs AreSeparate runs)
-  pooled strand well e = (
-    ordered_runs order_used d strand merged_records,
+  pooled : (strand : MergeStrand) → (report_of (Merge d strand) inputs).output ≡ interval_lines (ordered_runs order_used d strand merged_records)
+      → let runs = ordered_runs order_used d strand merged_records in ((report_of (Merge d strand) inputs).output ≡ interval_lines runs) × IsInput order_used (report_of (Merge d strand) inputs).output (map three_columns runs) × (strand ≢ Each → AllPairs AreSeparate runs)
+  pooled strand e = (
     e,
     subst (λ text. IsInput order_used text (map three_columns (ordered_runs order_used d strand merged_records))) (sym e) (merge_back order_used total d strand merged_records (good_are_said First order_used inputs.first) placed),
     λ other. pairs_all AreSeparate (ordered_runs order_used d strand merged_records) (merge_apart order_used total d strand merged_records (good_are_said First order_used inputs.first) placed),
   )
 
 pub merge_input : merge_is_input
-merge_input d All inputs chromosomes well = pooled d inputs chromosomes All well (merge_whole d All inputs chromosomes well)
-merge_input d (One strand) inputs chromosomes well = pooled d inputs chromosomes (One strand) well (merge_whole d (One strand) inputs chromosomes well)
+merge_input d All inputs chromosomes well = pooled d inputs chromosomes All (merge_whole d All inputs chromosomes well)
+merge_input d (One strand) inputs chromosomes well = pooled d inputs chromosomes (One strand) (merge_whole d (One strand) inputs chromosomes well)
 merge_input d Each inputs chromosomes well =
     let records = first_records chromosomes inputs in
     let order = order_of chromosomes in
     let total = order_total chromosomes in
     let e = merge_whole d Each inputs chromosomes well in
     let runs = places_of (strand_runs d records) in (
-      runs,
       e,
       subst (λ text. IsInput order text (map three_columns runs)) (sym e)
           (runs_back order total runs (strands_written order total d records (good_are_said First order inputs.first))
@@ -153,7 +151,7 @@ complement_input limit inputs chromosomes well =
     let e = complement_whole limit inputs chromosomes well in
     let is = gaps_input limit inputs.genome chromosomes (first_records chromosomes inputs) well.genome in
     let gaps = complement limit (entries_in chromosomes) (first_records chromosomes inputs) in
-    (gaps, e, subst (λ text. IsInput (order_of chromosomes) text (filter is_no_header (map three_columns gaps))) (sym e) is.0, pairs_all AreSeparate gaps is.1)
+    (e, subst (λ text. IsInput (order_of chromosomes) text (filter is_no_header (map three_columns gaps))) (sym e) is.0, pairs_all AreSeparate gaps is.1)
 
 depths_input : (zeros : Bool) (strand : Option Strand) (genome : Option Handed) (chromosomes : Option (List Entry)) (records : List Feature) → chromosomes_of genome ≡ Ok chromosomes
     → IsInput (order_of chromosomes) (depth_lines (coverage zeros strand (entries_in chromosomes) records)) (filter is_no_header (map four_columns (coverage zeros strand (entries_in chromosomes) records)))
@@ -175,7 +173,7 @@ genomecov_input zeros strand inputs chromosomes well =
     let depths = coverage zeros strand (entries_in chromosomes) (first_records chromosomes inputs) in
     let e = genomecov_whole zeros strand inputs chromosomes well in
     let is = depths_input zeros strand inputs.genome chromosomes (first_records chromosomes inputs) well.genome in
-    (depths, e, subst (λ text. IsInput (order_of chromosomes) text (filter is_no_header (map four_columns depths))) (sym e) is.0, pairs_all AreDisjoint (map interval_at depths) is.1)
+    (e, subst (λ text. IsInput (order_of chromosomes) text (filter is_no_header (map four_columns depths))) (sym e) is.0, pairs_all AreDisjoint (map interval_at depths) is.1)
 
 -- ---- two inputs
 
@@ -282,6 +280,10 @@ pub kept_strands : kept_strands_stay
 kept_strands shape rule inputs chromosomes begins alone unsigned =
     strands_stay shape rule (first_records chromosomes inputs) (second_records chromosomes inputs) begins alone (said shape rule chromosomes inputs) (said_second shape rule chromosomes inputs) unsigned
 
+pub cut_strands : cut_strands_stay
+cut_strands shape rule inputs chromosomes cuts keeps =
+    cut_stay shape rule (first_records chromosomes inputs) (second_records chromosomes inputs) cuts (said shape rule chromosomes inputs) (said_second shape rule chromosomes inputs) keeps
+
 pub cut_intersect_input : cut_intersect_is_input
 cut_intersect_input shape rule held inputs chromosomes cuts well apart =
     subst (λ text. IsInput (order_of chromosomes) text (records_written shape rule (first_records chromosomes inputs) (second_records chromosomes inputs))) (sym (intersect_whole shape rule held inputs chromosomes well)) (cut_input shape rule chromosomes inputs cuts apart)
@@ -313,16 +315,19 @@ places_apart rs h = pairs_all AreDisjoint (intervals_of rs) (pairs_map AreDisjoi
 pub merge_disjoint : merge_writes_disjoint
 merge_disjoint d strand other inputs chromosomes well =
     let is = merge_input d strand inputs chromosomes well in
-    subst (λ rs. AllPairs AreDisjoint (intervals_of rs)) (sym (is.2.records_are First)) (places_apart (map three_columns is.0) (of_three is.0 (apart_disjoint is.0 (pairs_each AreSeparate is.0 (is.3 other)))))
+    let runs = runs_by (order_of chromosomes) d strand (first_records chromosomes inputs) in
+    subst (λ rs. AllPairs AreDisjoint (intervals_of rs)) (sym (is.1.records_are First)) (places_apart (map three_columns runs) (of_three runs (apart_disjoint runs (pairs_each AreSeparate runs (is.2 other)))))
 
 pub complement_disjoint : complement_writes_disjoint
 complement_disjoint limit inputs chromosomes well =
     let is = complement_input limit inputs chromosomes well in
-    subst (λ rs. AllPairs AreDisjoint (intervals_of rs)) (sym (is.2.records_are First))
-    (places_apart (filter is_no_header (map three_columns is.0)) (pairs_filter (λ (r s : Feature). AreDisjoint (interval_of r) (interval_of s)) is_no_header (map three_columns is.0) (of_three is.0 (apart_disjoint is.0 (pairs_each AreSeparate is.0 is.3)))))
+    let gaps = complement limit (entries_in chromosomes) (first_records chromosomes inputs) in
+    subst (λ rs. AllPairs AreDisjoint (intervals_of rs)) (sym (is.1.records_are First))
+    (places_apart (filter is_no_header (map three_columns gaps)) (pairs_filter (λ (r s : Feature). AreDisjoint (interval_of r) (interval_of s)) is_no_header (map three_columns gaps) (of_three gaps (apart_disjoint gaps (pairs_each AreSeparate gaps is.2)))))
 
 pub genomecov_disjoint : genomecov_writes_disjoint
 genomecov_disjoint zeros strand inputs chromosomes well =
     let is = genomecov_input zeros strand inputs chromosomes well in
-    subst (λ rs. AllPairs AreDisjoint (intervals_of rs)) (sym (is.2.records_are First))
-    (places_apart (filter is_no_header (map four_columns is.0)) (pairs_filter (λ (r s : Feature). AreDisjoint (interval_of r) (interval_of s)) is_no_header (map four_columns is.0) (of_four is.0 (pairs_each AreDisjoint (map interval_at is.0) is.3))))
+    let depths = coverage zeros strand (entries_in chromosomes) (first_records chromosomes inputs) in
+    subst (λ rs. AllPairs AreDisjoint (intervals_of rs)) (sym (is.1.records_are First))
+    (places_apart (filter is_no_header (map four_columns depths)) (pairs_filter (λ (r s : Feature). AreDisjoint (interval_of r) (interval_of s)) is_no_header (map four_columns depths) (of_four depths (pairs_each AreDisjoint (map interval_at depths) is.2))))

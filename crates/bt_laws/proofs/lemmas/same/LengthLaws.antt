@@ -37,7 +37,8 @@ use Rattle.bt_laws.proofs.lemmas.back.RunsBack.{gaps_back, coverage_back}
 use Rattle.bt_laws.proofs.lemmas.same.GapsHit.{complement_spans, unhidden, hidden_other}
 use Rattle.bt_laws.proofs.lemmas.Lists.{all_any, filter_all, flat_map_same, all_zip}
 use Rattle.bt_laws.proofs.lemmas.pipes.PipeLaws.{chroms_of, complement_whole, merge_whole, genomecov_whole}
-use Rattle.bt_laws.proofs.lemmas.same.SameRuns.{complement_on, fault_as, told_same, writes_is, here_all, merge_on, none_there, alike_merged, all_counted}
+use Rattle.bt_laws.proofs.lemmas.same.AlikeRecords.{alike_merged}
+use Rattle.bt_laws.proofs.lemmas.same.SameRuns.{complement_on, fault_as, told_same, writes_is, here_all, merge_on, none_there, all_counted}
 use Rattle.bt_laws.proofs.lemmas.parts.text.PartTexts.{order_total}
 use Rattle.std.proofs.lemmas.List.{map-append}
 use Rattle.bt_lines.specs.model.Handed.{whole_text}

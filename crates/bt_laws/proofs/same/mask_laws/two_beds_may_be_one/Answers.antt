@@ -14,4 +14,4 @@ returns-clause-sorted c = by_sorted
 
 pub returns-clause-names : goal.returns-clause-names
 unfolding report_of good_from lines_from line_says record_of value_of digits
-returns-clause-names c = (record { output = refl; faultless = refl }, record { output = refl; faultless = refl })
+returns-clause-names c = (record { output = refl; faultless = refl }, record { output = refl; faultless = refl }, record { output = refl; faultless = refl })
