@@ -314,11 +314,11 @@ pub(crate) struct Answer {
 }
 
 // Plans and runs these words over scripts, for a command of one input.
-pub(crate) fn run_words(
+pub(crate) fn run_words<'a>(
     alloc: Global,
     words: &[&str],
-    genome: (&[u8], Script),
-    first: (&[u8], Script),
+    genome: (&'a [u8], Script),
+    first: (&'a [u8], Script),
     out: Script,
 ) -> Result<Answer, Fail> {
     let second = (b"".as_slice(), whole(1));
