@@ -2,7 +2,7 @@
 """Checks that each link of the pages leads to a file, and to a heading of it where it names one, that what is said
 to be in a file of definitions is and each such file exists, that the paths in code spans of ARCHITECTURE.md, PROVED.md
 and the crates' pages exist, that the pages that name a version name the same one, that PROVED.md says how many files
-define the report, and that ARCHITECTURE.md lists them.
+define the report, and that ARCHITECTURE.md lists them, and the modules of each crate.
 
     docs/links.py [--write]
 
@@ -29,6 +29,9 @@ FILES = re.compile(r"(?:`(bt_\w+)/specs/|\[(bt_\w+)/specs/[\w/]+\.antt\]\([^)]*\
 # Paths in code spans: below a crate that is named, or that has the page, and else below any.
 PATHS = re.compile(r"`(?:(bt_\w+|bedtools)/)?((?:src|specs|proofs|laws)/[\w./]*)`")
 WITH_PATHS = [TOP / "docs" / "ARCHITECTURE.md", TOP / "docs" / "PROVED.md", *sorted(TOP.glob("crates/*/README.md"))]
+
+# A row of ARCHITECTURE.md on the modules of a folder: the crate, or none for that of the row above, the folder and its modules.
+MODULES = re.compile(r"^\| (?:`(\w+)`)? ?\| (?:`(\w+)`)? ?\| ((?:`\w+`(?:, )?)+)( and others)? \|", re.MULTILINE)
 
 # Where the version stands: the first match of each is it.
 VERSIONS = {
@@ -120,6 +123,24 @@ def lost_paths():
             for crate, path in PATHS.findall(line):
                 if not is_path([crate] if crate else own, path):
                     yield page, number, f"{crate}/{path}".lstrip("/")
+
+
+def modules_in(folder):
+    """The modules of a folder of code, with its own, and without tests and those that only list others."""
+    files = {file.stem for file in folder.glob("*.rt")} - {"mod", "lib", "example"}
+    files = {name for name in files if not name.endswith("tests") and not name.endswith("testing")}
+    return files | ({folder.name} if folder.name != "src" and "fn " in (folder / "mod.rt").read_text(encoding="utf-8") else set())
+
+
+def other_modules():
+    """The folders of code whose modules aren't those of ARCHITECTURE.md."""
+    crate = ""
+    for row in MODULES.findall((TOP / "docs" / "ARCHITECTURE.md").read_text(encoding="utf-8")):
+        crate, folder = row[0] or crate, TOP / "crates" / (row[0] or crate) / "src" / row[1]
+        said = set(re.findall(r"`(\w+)`", row[2]))
+        there = modules_in(folder) if folder.is_dir() else set()
+        if row[1] and not row[3] and (said ^ there) - {row[1]}:
+            yield f"docs/ARCHITECTURE.md: {crate}/src/{row[1]} has other modules: {', '.join(sorted((said ^ there) - {row[1]}))}"
 
 
 def versions():
@@ -223,7 +244,7 @@ def main():
     absent = [*missing(), *lost_paths()]
     for page, number, name in absent:
         print(f"{page.relative_to(TOP)}:{number}: {name} isn't there")
-    outside = list(strays())
+    outside = [*strays(), *other_modules()]
     for line in outside:
         print(line)
     found = versions()
