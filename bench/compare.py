@@ -118,7 +118,7 @@ class Behind(OneInput):
     """200,000 short records of one strand behind a long one of the other, whatever the size asked for."""
 
     def name(self):
-        return "200,000 behind one of the other strand"
+        return "200,000 after one of the other strand"
 
     def write(self, folder, count):
         lines = (f"chr1\t{at * 1000}\t{at * 1000 + 500}\tx\t1\t-\n" for at in range(1, 200_001))

@@ -17,6 +17,7 @@ import math
 import os
 import re
 import shutil
+import statistics
 import subprocess
 import sys
 import tempfile
@@ -43,7 +44,7 @@ SHOWN = {
 # What is reported beside the workloads that say so: other shapes, and what holds or waits for many records.
 ALSO = (
     "intersect -sorted -v, reads and exons", "intersect -sorted -c, reads and exons", "intersect -sorted -u, 2,000 in 10,000 nested",
-    "intersect -sorted, 100,000 under a long one", "merge -s, 200,000 behind one of the other strand", "genomecov -bg, peaks",
+    "intersect -sorted, 100,000 under a long one", "merge -s, 200,000 after one of the other strand", "genomecov -bg, peaks",
 )
 SIZES = (1_000_000, 2_000_000, 4_000_000, 8_000_000)
 # A machine with more to do than this isn't idle.
@@ -208,7 +209,8 @@ def caption(kept, about=""):
 def by_command(kept):
     """The table of README.md: how much less each command takes."""
     factors = [times_less(row) for row in kept["workloads"] if row["command"] in SHOWN]
-    lines = [f"**{min(factors):.0f} to {max(factors):.0f} times less processor time than bedtools {kept['bedtools']}, by command**\n\n"]
+    about = f"{spread(factors, digits)} times less processor time than bedtools {kept['bedtools']}; for half of the workloads at least {digits(statistics.median_low(factors))}"
+    lines = [f"**{about}**\n\n"]
     lines.append("| command | times less processor time than bedtools | memory | memory of bedtools |\n|---|---|---|---|\n")
     for command in SHOWN:
         rows = [row for row in kept["workloads"] if row["command"] == command]
