@@ -1,8 +1,8 @@
 -- What the program opens: the input that a name means,
 -- and whether a device has failed or was flushed.
 use Rattle.std.specs.Prelude.{Bool, List, ℕ, Option, Some, None, if◌then◌else◌}
-use Rattle.bt_lines.specs.inside.Adapter.{read_has_failed, read_end_told, write_has_failed}
-use Rattle.bt_lines.specs.inside.Adapter.{write_is_flushed}
+use Rattle.bt_lines.specs.calls.Adapter.{read_has_failed, read_end_told, write_has_failed}
+use Rattle.bt_lines.specs.calls.Adapter.{write_is_flushed}
 use Rattle.bt_tool.specs.model.usage.Options.{is_standard_input}
 use Rattle.bedtools.specs.declared.opened.Input.{Input}
 use Rattle.bedtools.specs.declared.opened.Input.TheVariants.{Standard as StandardInput}

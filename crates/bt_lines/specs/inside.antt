@@ -1,10 +1,8 @@
 -- Words of contracts inside of the crate.
-pub mod Adapter
 pub mod Copying
 pub mod Digits
 pub mod Newline
 pub mod ReadBuffer
 pub mod ReaderState
 pub mod Shape
-pub mod Span
 pub mod Spill

@@ -1,6 +1,7 @@
 -- What a reader of records in blocks holds, and what its calls do.
 use Rattle.std.specs.Prelude.{◌≡◌, ℕ, Bool, true, false, List, Option, Some, None, option_map, Result, Ok, Err}
 use Rattle.std.specs.Prelude.{IfSome, take}
+use Rattle.bt_lines.specs.declared.device.Source.{Ghosts as Source}
 use Rattle.bt_lines.specs.model.Fault.{FaultValue}
 use Rattle.bt_lines.specs.calls.Names.{fault_value}
 use Rattle.bt_lines.specs.calls.Reader.{IsKept}
@@ -60,30 +61,27 @@ module _ {S : Type 0} where
   room blocks = room_in (view_of blocks)
 
   -- a record is ahead
-  pub record GivesRecord (left : S → Option (List ℕ)) (failed : S → Bool) (old : Blocks S)
+  pub record GivesRecord (device : Source S) (old : Blocks S)
       (r : Feature) (new : Blocks S) : Type 0 where
     pub line : ℕ
-    pub read : GivesMember left failed (view_of old) (record { line = line; item = r })
-        (view_of new)
+    pub read : GivesMember device (view_of old) (record { line = line; item = r }) (view_of new)
     -- it is one that a line can say, and in its block it doesn't start before the record before it
     pub feature : IsFeature r
     pub in_order : IfSome (last_locus old) (λ last. IsBlockUpTo last (locus_at r))
 
   -- what `fill` returns: a record is buffered, or there is none, for good or after a fault
-  abbrev pub FillAnswers : (S → Option (List ℕ)) → (S → Bool) → (S → Bool) → Blocks S
-      → Result Bool Fault → Blocks S → Type 0
-  FillAnswers left failed end old (Ok true) new = (r : Feature) × GivesRecord left failed old r new
-  FillAnswers left failed end old (Ok false) new = EndsMembers left failed (view_of old) (view_of new)
-  FillAnswers left failed end old (Err fault) new = AnswersFault left failed end (view_of old)
+  abbrev pub FillAnswers : Source S → Blocks S → Result Bool Fault → Blocks S → Type 0
+  FillAnswers device old (Ok true) new = (r : Feature) × GivesRecord device old r new
+  FillAnswers device old (Ok false) new = EndsMembers device (view_of old) (view_of new)
+  FillAnswers device old (Err fault) new = AnswersFault device (view_of old)
       (fault_value fault) (view_of new)
 
   -- a call of `fill`
-  pub record FillsBlocks (left : S → Option (List ℕ)) (failed end : S → Bool)
-      (IsRead : S → Option ℕ → S → Type 0) (old : Blocks S) (answer : Result Bool Fault)
+  pub record FillsBlocks (device : Source S) (old : Blocks S) (answer : Result Bool Fault)
       (new : Blocks S) : Type 0 where
-    pub answers : FillAnswers left failed end old answer new
-    pub own_failure : TellsOwnFailure IsRead (fault_kept old) (below old) answer (below new)
-    pub kept : IsKept left end (below old) → IsKept left end (below new)
+    pub answers : FillAnswers device old answer new
+    pub own_failure : TellsOwnFailure device.is_read (fault_kept old) (below old) answer (below new)
+    pub kept : IsKept device (below old) → IsKept device (below new)
 
   -- the batch has the records that are buffered
   abbrev pub Lends : Blocks S → Batch → Type 0
@@ -98,29 +96,25 @@ module _ {S : Type 0} where
   IsTaken blocks consumed = IsTakenIn blocks.sorted consumed
 
   -- a call of `consume`: the first `count` of those that are buffered are taken, and nothing is read
-  pub record TakesBlocks (left : S → Option (List ℕ)) (end : S → Bool) (old : Blocks S)
+  pub record TakesBlocks (device : Source S) (old : Blocks S)
       (count : ℕ) (new : Blocks S) : Type 0 where
-    pub takes : Takes left end (view_of old) (take count (buffered_in old)) (view_of new)
+    pub takes : Takes device (view_of old) (take count (buffered_in old)) (view_of new)
 
   -- what `peek` returns
-  abbrev pub Answers : (S → Option (List ℕ)) → (S → Bool) → (S → Bool) → Blocks S → Result
-      (Option BedRef) Fault → Blocks S → Type 0
-  Answers left failed end old (Ok (Some bed)) new = GivesRecord left failed old
-      (feature_lent bed) new
-  Answers left failed end old (Ok None) new = EndsMembers left failed (view_of old) (view_of new)
-  Answers left failed end old (Err fault) new = AnswersFault left failed end (view_of old)
+  abbrev pub Answers : Source S → Blocks S → Result (Option BedRef) Fault → Blocks S → Type 0
+  Answers device old (Ok (Some bed)) new = GivesRecord device old (feature_lent bed) new
+  Answers device old (Ok None) new = EndsMembers device (view_of old) (view_of new)
+  Answers device old (Err fault) new = AnswersFault device (view_of old)
       (fault_value fault) (view_of new)
 
   -- one call of `peek`
-  pub record PeeksBlocks (left : S → Option (List ℕ)) (failed end : S → Bool)
-      (IsRead : S → Option ℕ → S → Type 0) (old : Blocks S)
+  pub record PeeksBlocks (device : Source S) (old : Blocks S)
       (answer : Result (Option BedRef) Fault) (new : Blocks S) : Type 0 where
-    pub answers : Answers left failed end old answer new
-    pub own_failure : TellsOwnFailure IsRead (fault_kept old) (below old) answer (below new)
-    pub kept : IsKept left end (below old) → IsKept left end (below new)
+    pub answers : Answers device old answer new
+    pub own_failure : TellsOwnFailure device.is_read (fault_kept old) (below old) answer (below new)
+    pub kept : IsKept device (below old) → IsKept device (below new)
 
   -- one call of `advance`: the record ahead is the last one, and nothing is read
-  pub record PassesBlocks (left : S → Option (List ℕ)) (end : S → Bool)
-      (old new : Blocks S) : Type 0 where
+  pub record PassesBlocks (device : Source S) (old new : Blocks S) : Type 0 where
     pub last : last_locus new ≡ option_map locus_at (record_ahead old)
-    pub takes : Takes left end (view_of old) (take 1 (buffered_in old)) (view_of new)
+    pub takes : Takes device (view_of old) (take 1 (buffered_in old)) (view_of new)

@@ -1,8 +1,9 @@
 -- What a table of chromosomes holds, and what reading one does.
-use Rattle.std.specs.Prelude.{◌≡◌, ℕ, ◌-◌, ◌⊎◌, Bool, true, List, ◌++◌, take, map, Option, Some}
+use Rattle.std.specs.Prelude.{◌≡◌, ℕ, ◌-◌, ◌⊎◌, true, List, ◌++◌, take, map, Option, Some}
 use Rattle.std.specs.Prelude.{None, Result, Ok, Err, IfSome, Vec, option_map}
 use Rattle.std.specs.Option.{option_to_list}
 use Rattle.std.specs.declared.alloc.Global.{Global}
+use Rattle.bt_lines.specs.declared.device.Source.{Ghosts as Source}
 use Rattle.bt_lines.specs.model.Fault.{FaultValue, no_memory}
 use Rattle.bt_lines.specs.model.Lines.{TextLine}
 use Rattle.bt_lines.specs.calls.Names.{fault_value}
@@ -69,22 +70,21 @@ IsToldFirst input lines count fault = IfSome lines
 
 module _ {S : Type 0} where
   -- the whole genome file was read
-  pub record ReadsAll (left : S → Option (List ℕ)) (failed : S → Bool) (old new : LineReader S)
-      (genome : Genome) : Type 0 where
+  pub record ReadsAll (device : Source S) (old new : LineReader S) (genome : Genome) : Type 0 where
     pub was_going : fault_kept old ≡ None
-    pub is : IfSome (lines_left left old)
+    pub is : IfSome (lines_left device.left old)
         (λ lines. genome_of (input_of old) lines ≡ Ok (entries genome))
     pub distinct : AreDistinct (names_of genome)
     pub ended : has_ended new ≡ true
     pub told : end_told new ≡ true
     pub going : fault_kept new ≡ None
-    pub served : failed (source_of new) ≡ failed (source_of old)
-    pub bytes : (bytes : List ℕ) × Hands left old bytes new
+    pub served : device.has_failed (source_of new) ≡ device.has_failed (source_of old)
+    pub bytes : (bytes : List ℕ) × Hands device.left old bytes new
 
   -- a line is at fault: the last one given
-  pub record EntryIsWrong (left : S → Option (List ℕ)) (failed : S → Bool) (old new : LineReader S)
+  pub record EntryIsWrong (device : Source S) (old new : LineReader S)
       (fault : FaultValue) : Type 0 where
-    pub is : IfSome (lines_left left old) (λ lines. genome_of (input_of old) lines ≡ Err fault)
+    pub is : IfSome (lines_left device.left old) (λ lines. genome_of (input_of old) lines ≡ Err fault)
     -- known or not, it is what is wrong with some text after some names
     pub kind : Kind
     pub names : List (List ℕ)
@@ -93,48 +93,44 @@ module _ {S : Type 0} where
     pub of_line : is_genome_kind kind ≡ true
     pub place : fault ≡ fault_at_line (input_of old) (lines_given new) kind
     pub going : fault_kept new ≡ None
-    pub served : failed (source_of new) ≡ failed (source_of old)
+    pub served : device.has_failed (source_of new) ≡ device.has_failed (source_of old)
 
   -- a line couldn't be read, and no line before it was at fault
-  pub record EntryUnread (left : S → Option (List ℕ)) (failed end : S → Bool)
+  pub record EntryUnread (device : Source S)
       (old new : LineReader S) (fault : FaultValue) : Type 0 where
-    pub fails : ReadingFails left failed end old new fault
-    pub passed : IfSome (lines_left left old) (λ lines. (entries : List Entry)
+    pub fails : ReadingFails device old new fault
+    pub passed : IfSome (lines_left device.left old) (λ lines. (entries : List Entry)
         × (genome_of (input_of old) (take (lines_given new - lines_given old) lines) ≡ Ok entries))
 
   -- why the reading stopped
-  abbrev pub StopCause : (S → Option (List ℕ)) → (S → Bool) → (S → Bool) → LineReader S
-      → LineReader S → FaultValue → Type 0
-  StopCause left failed end old new fault =
-      EntryIsWrong left failed old new fault
-      ⊎ (EntryUnread left failed end old new fault ⊎ MemoryRanOut failed old new fault)
+  abbrev pub StopCause : Source S → LineReader S → LineReader S → FaultValue → Type 0
+  StopCause device old new fault =
+      EntryIsWrong device old new fault
+      ⊎ (EntryUnread device old new fault ⊎ MemoryRanOut device.has_failed old new fault)
 
   -- the reading stopped at a fault
-  pub record ReadingStops (left : S → Option (List ℕ)) (failed end : S → Bool)
+  pub record ReadingStops (device : Source S)
       (old new : LineReader S) (fault : FaultValue) : Type 0 where
     -- a fault that the reader had is returned again, and nothing is read
     pub again : (before : FaultValue) → fault_kept old ≡ Some before → (fault ≡ before) × (new ≡ old)
     -- a reader that had none meets the first
-    pub first : fault_kept old ≡ None → StopCause left failed end old new fault
+    pub first : fault_kept old ≡ None → StopCause device old new fault
     -- the fault of a line given comes before any other
-    pub checked : IsToldFirst (input_of old) (lines_left left old)
+    pub checked : IsToldFirst (input_of old) (lines_left device.left old)
         (lines_given new - lines_given old) fault
-    pub bytes : (bytes : List ℕ) × Hands left old bytes new
+    pub bytes : (bytes : List ℕ) × Hands device.left old bytes new
     -- of known bytes, those after the lines given and one line more are left,
     -- except at most a block
-    pub near : fault_kept old ≡ None → IsSound left end old → IsNear left old new
+    pub near : fault_kept old ≡ None → IsSound device old → IsNear device.left old new
 
   -- what a result says
-  abbrev pub GenomeAnswers : (S → Option (List ℕ)) → (S → Bool) → (S → Bool) → LineReader S
-      → Result Genome Fault → LineReader S → Type 0
-  GenomeAnswers left failed end old (Ok genome) new = ReadsAll left failed old new genome
-  GenomeAnswers left failed end old (Err fault) new = ReadingStops left failed end old new
-      (fault_value fault)
+  abbrev pub GenomeAnswers : Source S → LineReader S → Result Genome Fault → LineReader S → Type 0
+  GenomeAnswers device old (Ok genome) new = ReadsAll device old new genome
+  GenomeAnswers device old (Err fault) new = ReadingStops device old new (fault_value fault)
 
   -- what reading a genome file does
-  pub record ReadsGenome (left : S → Option (List ℕ)) (failed end : S → Bool)
-      (IsRead : S → Option ℕ → S → Type 0) (old : LineReader S)
+  pub record ReadsGenome (device : Source S) (old : LineReader S)
       (answer : Result Genome Fault) (new : LineReader S) : Type 0 where
-    pub answers : GenomeAnswers left failed end old answer new
-    pub own_failure : TellsOwnFailure IsRead (fault_kept old) old answer new
-    pub sound : IsSound left end old → IsSound left end new
+    pub answers : GenomeAnswers device old answer new
+    pub own_failure : TellsOwnFailure device.is_read (fault_kept old) old answer new
+    pub sound : IsSound device old → IsSound device new

@@ -2,6 +2,7 @@
 use Rattle.std.specs.Prelude.{◌≡◌, ℕ, suc, ◌+◌, ◌-◌, ◌^◌, ◌<◌, ◌≤◌, ◌⊎◌, Bool, true, false, List}
 use Rattle.std.specs.Prelude.{[], ◌∷◌, ◌++◌, drop, length, Option, Some, None, option_map, Result, Ok}
 use Rattle.std.specs.Prelude.{Err, IsSome, IfSome, ⊤}
+use Rattle.bt_lines.specs.declared.device.Source.{Ghosts as Source}
 use Rattle.bt_lines.specs.model.Fault.{FaultValue, read_failed, no_memory}
 use Rattle.bt_lines.specs.model.Lines.{TextLine}
 use Rattle.bt_lines.specs.calls.Names.{fault_value}
@@ -78,14 +79,14 @@ module _ {S : Type 0} where
       lines_left left new ≡ Some (drop (lines_given new - lines_given old) lines))
 
   -- the source failed, or its text is too long
-  pub record ReadingFails (left : S → Option (List ℕ)) (failed end : S → Bool)
+  pub record ReadingFails (device : Source S)
       (old new : LineReader S) (fault : FaultValue) : Type 0 where
     pub is : fault ≡ read_failed (input_of old) (suc (lines_given new))
-    pub cause : (failed (source_of new) ≡ true) ⊎ (2 ^ 63 ≤ bytes_taken new)
+    pub cause : (device.has_failed (source_of new) ≡ true) ⊎ (2 ^ 63 ≤ bytes_taken new)
     -- it comes before the end
     pub before_end : end_told old ≡ false
     -- the complete lines among the bytes taken in the call are those that were given
-    pub cut : IsKept left end old → CutsOff left old new
+    pub cut : IsKept device old → CutsOff device.left old new
 
   -- A failed read is reported for the first time only if a read of this call failed, or if the text is
   -- too long by what its reads gave. What the source did before doesn't matter. Else all reads of the
@@ -132,13 +133,13 @@ module _ {S A State : Type 0} where
     pub format : new.format ≡ old.format
 
   -- a member is ahead
-  pub record GivesMember (left : S → Option (List ℕ)) (failed : S → Bool)
+  pub record GivesMember (device : Source S)
       (old : MemberReader S A State) (m : Member A) (new : MemberReader S A State) : Type 0 where
     pub ahead : ahead_in new ≡ Some m
     pub state : new.state ≡ old.state
     -- it is the first of what is still to come, if that is known, and nothing of it is lost
-    pub good : Remains (good_coming left old) (good_coming left new)
-    pub first : IfSome (good_coming left old) (λ good. (rest : List (Member A))
+    pub good : Remains (good_coming device.left old) (good_coming device.left new)
+    pub first : IfSome (good_coming device.left old) (λ good. (rest : List (Member A))
         × (good.members ≡ m ∷ rest))
     -- known or not, it is what a line says after the member before it
     pub said : IsSaidBehind old.format old.state m.item
@@ -148,21 +149,20 @@ module _ {S A State : Type 0} where
     pub at : m.line ≡ suc (lines_given new.below)
     pub rises : lines_given old.below ≤ lines_given new.below
     pub below : m.line < 2 ^ 63
-    pub served : failed (source_of new.below) ≡ failed (source_of old.below)
+    pub served : device.has_failed (source_of new.below) ≡ device.has_failed (source_of old.below)
     -- after a fault none is given
     pub was_going : old.fault ≡ None
     pub goes : new.fault ≡ old.fault
-    pub stays : Stays left old new
-    pub lines : LinesPass left old.below new.below
+    pub stays : Stays device.left old new
+    pub lines : LinesPass device.left old.below new.below
     -- of known bytes, those after the lines given and its own are left, except at most a block
-    pub near : IsNear left old.below new.below
+    pub near : IsNear device.left old.below new.below
     pub shrinks : room new ≤ room old
 
   -- no member is left
-  pub record EndsMembers (left : S → Option (List ℕ)) (failed : S → Bool)
-      (old new : MemberReader S A State) : Type 0 where
-    pub none_left : IfSome (good_coming left old) (λ good. good ≡ ends_with None)
-    pub none_comes : IfSome (good_coming left new) (λ good. good ≡ ends_with None)
+  pub record EndsMembers (device : Source S) (old new : MemberReader S A State) : Type 0 where
+    pub none_left : IfSome (good_coming device.left old) (λ good. good ≡ ends_with None)
+    pub none_comes : IfSome (good_coming device.left new) (λ good. good ≡ ends_with None)
     pub was_none : old.buffered ≡ []
     pub none_buffered : new.buffered ≡ []
     pub state : new.state ≡ old.state
@@ -170,21 +170,21 @@ module _ {S A State : Type 0} where
     pub told : end_told new.below ≡ true
     pub rises : lines_given old.below ≤ lines_given new.below
     -- all known lines were given
-    pub lines : IfSome (lines_left left old.below) (λ lines.
+    pub lines : IfSome (lines_left device.left old.below) (λ lines.
         drop (lines_given new.below - lines_given old.below) lines ≡ [])
     -- once the end is reached, nothing more is read
     pub again : has_ended old.below ≡ true → new ≡ old
-    pub served : failed (source_of new.below) ≡ failed (source_of old.below)
+    pub served : device.has_failed (source_of new.below) ≡ device.has_failed (source_of old.below)
     -- after a fault no end is reported
     pub was_going : old.fault ≡ None
     pub goes : new.fault ≡ None
-    pub stays : Stays left old new
+    pub stays : Stays device.left old new
     pub shrinks : room new ≤ room old
 
   -- a line is at fault: the last one given
-  pub record LineIsWrong (left : S → Option (List ℕ)) (failed : S → Bool)
+  pub record LineIsWrong (device : Source S)
       (old : MemberReader S A State) (fault : FaultValue) (new : MemberReader S A State) : Type 0 where
-    pub none_left : IfSome (good_coming left old) (λ good. good ≡ ends_with (Some fault))
+    pub none_left : IfSome (good_coming device.left old) (λ good. good ≡ ends_with (Some fault))
     -- known or not, it is what is wrong with some line after the last member
     pub kind : Kind
     pub line : TextLine
@@ -193,7 +193,7 @@ module _ {S A State : Type 0} where
     pub place : fault ≡ fault_at_line (input_of old.below) (lines_given new.below) kind
     pub rises : lines_given old.below < lines_given new.below
     pub going : line_fault new.below ≡ None
-    pub served : failed (source_of new.below) ≡ failed (source_of old.below)
+    pub served : device.has_failed (source_of new.below) ≡ device.has_failed (source_of old.below)
     -- after it at most a block is held
     pub near : length (held new.below) ≤ block_size
 
@@ -203,10 +203,10 @@ module _ {S A State : Type 0} where
   SaidNothing left old new = IfSome (good_coming left old) (IsBeyond (lines_given new.below))
 
   -- a line couldn't be read, and no line before it was at fault or had a member
-  pub record LineUnread (left : S → Option (List ℕ)) (failed end : S → Bool)
+  pub record LineUnread (device : Source S)
       (old : MemberReader S A State) (fault : FaultValue) (new : MemberReader S A State) : Type 0 where
-    pub fails : ReadingFails left failed end old.below new.below fault
-    pub passed : SaidNothing left old new
+    pub fails : ReadingFails device old.below new.below fault
+    pub passed : SaidNothing device.left old new
 
   -- the last line given has the first member of what was still to come, which couldn't be kept
   pub record LastUnkept (left : S → Option (List ℕ))
@@ -220,22 +220,22 @@ module _ {S A State : Type 0} where
 
   -- memory ran out: for a line that couldn't be read, once those before it were checked, or for the
   -- member of the last line given, once it was
-  pub record RunsOut (left : S → Option (List ℕ)) (failed : S → Bool)
+  pub record RunsOut (device : Source S)
       (old : MemberReader S A State) (fault : FaultValue) (new : MemberReader S A State) : Type 0 where
     pub is : fault ≡ no_memory
-    pub checked : ((line_fault new.below ≡ Some no_memory) × SaidNothing left old new)
-        ⊎ LastUnkept left old new
-    pub served : failed (source_of new.below) ≡ failed (source_of old.below)
+    pub checked : ((line_fault new.below ≡ Some no_memory) × SaidNothing device.left old new)
+        ⊎ LastUnkept device.left old new
+    pub served : device.has_failed (source_of new.below) ≡ device.has_failed (source_of old.below)
 
   -- why a fault came
-  abbrev pub Cause : (S → Option (List ℕ)) → (S → Bool) → (S → Bool) → MemberReader S A State
+  abbrev pub Cause : Source S → MemberReader S A State
       → FaultValue → MemberReader S A State → Type 0
-  Cause left failed end old fault new =
-      LineIsWrong left failed old fault new ⊎ (LineUnread left failed end old fault new
-      ⊎ RunsOut left failed old fault new)
+  Cause device old fault new =
+      LineIsWrong device old fault new ⊎ (LineUnread device old fault new
+      ⊎ RunsOut device old fault new)
 
   -- a fault was returned
-  pub record AnswersFault (left : S → Option (List ℕ)) (failed end : S → Bool)
+  pub record AnswersFault (device : Source S)
       (old : MemberReader S A State) (fault : FaultValue) (new : MemberReader S A State) : Type 0 where
     pub kept : new.fault ≡ Some fault
     pub was_none : old.buffered ≡ []
@@ -243,52 +243,49 @@ module _ {S A State : Type 0} where
     pub state : new.state ≡ old.state
     -- a fault is returned again, and nothing is read
     pub again : (before : FaultValue) → old.fault ≡ Some before → (fault ≡ before) × (new ≡ old)
-    pub first : old.fault ≡ None → Cause left failed end old fault new
-    pub stays : Stays left old new
+    pub first : old.fault ≡ None → Cause device old fault new
+    pub stays : Stays device.left old new
     -- the lines that were given aren't left, if the line read last could be read
     pub rises : lines_given old.below ≤ lines_given new.below
-    pub lines : line_fault new.below ≡ None → LinesPass left old.below new.below
+    pub lines : line_fault new.below ≡ None → LinesPass device.left old.below new.below
     -- of known bytes, those after the lines given and one line more are left,
     -- except at most a block
-    pub near : old.fault ≡ None → IsKept left end old.below → IsNear left old.below new.below
+    pub near : old.fault ≡ None → IsKept device old.below → IsNear device.left old.below new.below
 
   -- a member was made buffered
-  pub record MakesMember (left : S → Option (List ℕ)) (failed : S → Bool)
-      (old new : MemberReader S A State) : Type 0 where
+  pub record MakesMember (device : Source S) (old new : MemberReader S A State) : Type 0 where
     pub m : Member A
-    pub gives : GivesMember left failed old m new
+    pub gives : GivesMember device old m new
 
   -- what `fill` returns
-  abbrev pub FillAnswers : (S → Option (List ℕ)) → (S → Bool) → (S → Bool) → MemberReader S A State
+  abbrev pub FillAnswers : Source S → MemberReader S A State
       → Result Bool Fault → MemberReader S A State → Type 0
-  FillAnswers left failed end old (Ok true) new = MakesMember left failed old new
-  FillAnswers left failed end old (Ok false) new = EndsMembers left failed old new
-  FillAnswers left failed end old (Err fault) new = AnswersFault left failed end old
-      (fault_value fault) new
+  FillAnswers device old (Ok true) new = MakesMember device old new
+  FillAnswers device old (Ok false) new = EndsMembers device old new
+  FillAnswers device old (Err fault) new = AnswersFault device old (fault_value fault) new
 
   -- a call of `fill`
-  pub record Fills (left : S → Option (List ℕ)) (failed end : S → Bool)
-      (old : MemberReader S A State) (answer : Result Bool Fault)
+  pub record Fills (device : Source S) (old : MemberReader S A State) (answer : Result Bool Fault)
       (new : MemberReader S A State) : Type 0 where
-    pub answers : FillAnswers left failed end old answer new
-    pub kept : IsKept left end old.below → IsKept left end new.below
+    pub answers : FillAnswers device old answer new
+    pub kept : IsKept device old.below → IsKept device new.below
 
   -- members were taken, which were buffered, and nothing is read
-  pub record Takes (left : S → Option (List ℕ)) (end : S → Bool) (old : MemberReader S A State)
+  pub record Takes (device : Source S) (old : MemberReader S A State)
       (taken : List A) (new : MemberReader S A State) : Type 0 where
     pub buffered : old.buffered ≡ taken ++ new.buffered
     pub said : AreSaid old.format old.state taken
     pub state : new.state ≡ state_behind old.format old.state taken
     pub good : option_map (with_members (members_from (suc (lines_given old.below)) taken))
-        (good_coming left new) ≡ good_coming left old
+        (good_coming device.left new) ≡ good_coming device.left old
     pub goes : new.fault ≡ old.fault
     pub format : new.format ≡ old.format
     pub given : lines_given new.below ≡ lines_given old.below + length taken
     pub below : lines_given new.below < 2 ^ 63
-    pub hands : Hands left old.below [] new.below
+    pub hands : Hands device.left old.below [] new.below
     pub source : source_of new.below ≡ source_of old.below
-    pub lines : LinesPass left old.below new.below
-    pub kept : IsKept left end old.below → IsKept left end new.below
+    pub lines : LinesPass device.left old.below new.below
+    pub kept : IsKept device old.below → IsKept device new.below
     -- after the lines at most a block is held
     pub near : 0 < length taken → length (held new.below) ≤ block_size
     pub shrinks : room new + length taken ≤ room old

@@ -1,6 +1,7 @@
 -- What a reader of records holds, and what its calls do.
 use Rattle.std.specs.Prelude.{◌≡◌, ℕ, Bool, true, false, IsTrue, List, Option, Some, None, option_map, Result}
 use Rattle.std.specs.Prelude.{Ok, Err, IfSome, take}
+use Rattle.bt_lines.specs.declared.device.Source.{Ghosts as Source}
 use Rattle.bt_lines.specs.model.Fault.{FaultValue}
 use Rattle.bt_lines.specs.calls.Names.{fault_value}
 use Rattle.bt_lines.specs.calls.Reader.{IsKept}
@@ -66,31 +67,28 @@ module _ {S O : Type 0} {g : Ghosts O} where
   room records = room_in (view_of records)
 
   -- a record is ahead
-  pub record GivesRecord (left : S → Option (List ℕ)) (failed : S → Bool) (old : Records S O g)
+  pub record GivesRecord (device : Source S) (old : Records S O g)
       (r : Feature) (new : Records S O g) : Type 0 where
     pub line : ℕ
-    pub read : GivesMember left failed (view_of old) (record { line = line; item = r })
-        (view_of new)
+    pub read : GivesMember device (view_of old) (record { line = line; item = r }) (view_of new)
     -- it is one that a line can say, and its place isn't below that of the record before it
     pub feature : IsFeature r
     pub known : IsTrue ((order_in old).knows r.chrom)
     pub in_order : IfSome (last_locus old) (λ last. IsUpTo (order_in old) last (locus_at r))
 
   -- what `fill` returns: a record is buffered, or there is none, for good or after a fault
-  abbrev pub FillAnswers : (S → Option (List ℕ)) → (S → Bool) → (S → Bool) → Records S O g
-      → Result Bool Fault → Records S O g → Type 0
-  FillAnswers left failed end old (Ok true) new = (r : Feature) × GivesRecord left failed old r new
-  FillAnswers left failed end old (Ok false) new = EndsMembers left failed (view_of old) (view_of new)
-  FillAnswers left failed end old (Err fault) new = AnswersFault left failed end (view_of old)
+  abbrev pub FillAnswers : Source S → Records S O g → Result Bool Fault → Records S O g → Type 0
+  FillAnswers device old (Ok true) new = (r : Feature) × GivesRecord device old r new
+  FillAnswers device old (Ok false) new = EndsMembers device (view_of old) (view_of new)
+  FillAnswers device old (Err fault) new = AnswersFault device (view_of old)
       (fault_value fault) (view_of new)
 
   -- a call of `fill`
-  pub record FillsRecords (left : S → Option (List ℕ)) (failed end : S → Bool)
-      (IsRead : S → Option ℕ → S → Type 0) (old : Records S O g) (answer : Result Bool Fault)
+  pub record FillsRecords (device : Source S) (old : Records S O g) (answer : Result Bool Fault)
       (new : Records S O g) : Type 0 where
-    pub answers : FillAnswers left failed end old answer new
-    pub own_failure : TellsOwnFailure IsRead (fault_kept old) (below old) answer (below new)
-    pub kept : IsKept left end (below old) → IsKept left end (below new)
+    pub answers : FillAnswers device old answer new
+    pub own_failure : TellsOwnFailure device.is_read (fault_kept old) (below old) answer (below new)
+    pub kept : IsKept device (below old) → IsKept device (below new)
     pub order : order_in new ≡ order_in old
 
   -- the batch has the records that are buffered
@@ -106,32 +104,29 @@ module _ {S O : Type 0} {g : Ghosts O} where
   IsTaken records consumed = IsTakenIn records.sorted consumed
 
   -- a call of `consume`: the first `count` of those that are buffered are taken, and nothing is read
-  pub record TakesRecords (left : S → Option (List ℕ)) (end : S → Bool) (old : Records S O g)
+  pub record TakesRecords (device : Source S) (old : Records S O g)
       (count : ℕ) (new : Records S O g) : Type 0 where
-    pub takes : Takes left end (view_of old) (take count (buffered_in old)) (view_of new)
+    pub takes : Takes device (view_of old) (take count (buffered_in old)) (view_of new)
     pub order : order_in new ≡ order_in old
 
   -- what `peek` returns
-  abbrev pub Answers : (S → Option (List ℕ)) → (S → Bool) → (S → Bool) → Records S O g → Result
+  abbrev pub Answers : Source S → Records S O g → Result
       (Option BedRef) Fault → Records S O g → Type 0
-  Answers left failed end old (Ok (Some bed)) new = GivesRecord left failed old
-      (feature_lent bed) new
-  Answers left failed end old (Ok None) new = EndsMembers left failed (view_of old) (view_of new)
-  Answers left failed end old (Err fault) new = AnswersFault left failed end (view_of old)
+  Answers device old (Ok (Some bed)) new = GivesRecord device old (feature_lent bed) new
+  Answers device old (Ok None) new = EndsMembers device (view_of old) (view_of new)
+  Answers device old (Err fault) new = AnswersFault device (view_of old)
       (fault_value fault) (view_of new)
 
   -- one call of `peek`
-  pub record PeeksRecord (left : S → Option (List ℕ)) (failed end : S → Bool)
-      (IsRead : S → Option ℕ → S → Type 0) (old : Records S O g)
+  pub record PeeksRecord (device : Source S) (old : Records S O g)
       (answer : Result (Option BedRef) Fault) (new : Records S O g) : Type 0 where
-    pub answers : Answers left failed end old answer new
-    pub own_failure : TellsOwnFailure IsRead (fault_kept old) (below old) answer (below new)
-    pub kept : IsKept left end (below old) → IsKept left end (below new)
+    pub answers : Answers device old answer new
+    pub own_failure : TellsOwnFailure device.is_read (fault_kept old) (below old) answer (below new)
+    pub kept : IsKept device (below old) → IsKept device (below new)
     pub order : order_in new ≡ order_in old
 
   -- one call of `advance`: the record ahead is the last one, and nothing is read
-  pub record PassesRecord (left : S → Option (List ℕ)) (end : S → Bool)
-      (old new : Records S O g) : Type 0 where
+  pub record PassesRecord (device : Source S) (old new : Records S O g) : Type 0 where
     pub last : last_locus new ≡ option_map locus_at (record_ahead old)
-    pub takes : Takes left end (view_of old) (take 1 (buffered_in old)) (view_of new)
+    pub takes : Takes device (view_of old) (take 1 (buffered_in old)) (view_of new)
     pub order : order_in new ≡ order_in old

@@ -1,6 +1,7 @@
 -- What a reader of sorted records holds.
 use Rattle.std.specs.Prelude.{◌≡◌, ℕ, ◌-◌, ◌≤◌, ◌⊎◌, ◌&&◌, not, Bool, true, false, List, [], ◌∷◌, Option, Some, None, Result, Ok, Err, IsTrue, drop, length, option_map, take}
 use Rattle.std.specs.Option.{ForSome}
+use Rattle.bt_lines.specs.declared.device.Source.{Ghosts as Source}
 use Rattle.bt_lines.specs.calls.Buffered.{BeginsLines}
 use Rattle.bt_lines.specs.model.Fault.{FaultValue}
 use Rattle.bt_lines.specs.model.Lines.{TextLine}
@@ -44,10 +45,10 @@ pub record IsPlaced {S : Type 0} (sorting : Sorting)
   pub going : is_some_left reader.buffered ≡ true → reader.fault ≡ None
 
 -- the reader's next line was consumed
-pub record TakesOne {S : Type 0} (left : S → Option (List ℕ)) (end : S → Bool) (old new : LineReader S) : Type 0 where
+pub record TakesOne {S : Type 0} (device : Source S) (old new : LineReader S) : Type 0 where
   pub consumed : ConsumedLines
   pub are : TakenLines old consumed 1
-  pub takes : TakesLines left end old consumed new
+  pub takes : TakesLines device old consumed new
 
 module _ {S Q : Type 0} where
   -- a reader of lines and two neighbours, with a fault of their own and records that are buffered, as a reader of records
@@ -91,7 +92,7 @@ module _ {S Q : Type 0} where
         ≡ last_start (start_in sorted.lookahead) (take (count_in sorted consumed) (buffered_in sorted))
     pub ahead : consumed.is_ahead ≡ is_some_left (drop (count_in sorted consumed) (buffered_in sorted))
 
-  module _ (left : S → Option (List ℕ)) (end : S → Bool) (sorting : Sorting) where
+  module _ (device : Source S) (sorting : Sorting) where
     -- the line says a record, which is buffered now
     pub record FindsRecord (old : SortedReader S Q) (line : TextLine) (new : SortedReader S Q) : Type 0 where
       pub r : Feature
@@ -105,14 +106,14 @@ module _ {S Q : Type 0} where
     -- it says nothing
     pub record SkipsLine (old : SortedReader S Q) (line : TextLine) (new : SortedReader S Q) : Type 0 where
       pub says : line_says sorting (last_in old.lookahead) line.text ≡ Ok None
-      pub takes : TakesOne left end old.reader new.reader
+      pub takes : TakesOne device old.reader new.reader
       pub none : new.is_ahead ≡ false
 
     -- it is at fault, or memory ran out
     pub record LosesLine (old : SortedReader S Q) (line : TextLine) (fault : FaultValue) (new : SortedReader S Q) : Type 0 where
       pub cause : LineWrong sorting (record { input = input_of old.reader; line = line.number }) line.text old.lookahead fault
           ⊎ LineUnkept sorting line.text old.lookahead fault
-      pub takes : TakesOne left end old.reader new.reader
+      pub takes : TakesOne device old.reader new.reader
       pub none : new.is_ahead ≡ false
 
     abbrev pub TakesAs : SortedReader S Q → TextLine → Result Bool Fault → SortedReader S Q → Type 0

@@ -47,7 +47,7 @@ impl Genome {
     /// these, and the reader's own faults, `ReadFailed` and `NoMemory`, before. A fault that the reader
     /// had already is returned again.
     pub fn read<S: Source>(alloc: Global, reader: &mut LineReader<S>) -> Result<Genome, Fault>
-        ensures { ReadsGenome S.left S.has_failed S.end_told S.is_read reader.old result reader.new }
+        ensures { ReadsGenome S.Source reader.old result reader.new }
     {
         let input = reader.input();
         let mut genome = Genome::new(alloc);

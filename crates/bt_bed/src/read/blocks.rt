@@ -54,7 +54,7 @@ impl<S: Source> Blocks<S> {
     /// after. It allocates for the line, and if the chromosome is another than that of the record before.
     #[inline(always)]
     pub fn fill(&mut self) -> Result<bool, Fault>
-        ensures { FillsBlocks S.left S.has_failed S.end_told S.is_read self.old result self.new }
+        ensures { FillsBlocks S.Source self.old result self.new }
     {
         self.sorted.fill()
     }
@@ -70,7 +70,7 @@ impl<S: Source> Blocks<S> {
     /// Takes the records that were consumed of what [`Blocks::buffered`] gave. It reads nothing and doesn't allocate.
     pub fn consume(&mut self, consumed: Consumed)
         requires { IsTaken self.old consumed }
-        ensures { TakesBlocks S.left S.end_told self.old (count_in self.old consumed) self.new }
+        ensures { TakesBlocks S.Source self.old (count_in self.old consumed) self.new }
     {
         self.sorted.consume(consumed);
     }
@@ -80,7 +80,7 @@ impl<S: Source> Blocks<S> {
     #[inline]
     pub fn peek(&mut self) -> Result<Option<BedRef<'_>>, Fault>
         ensures* after { sem 𝓛 (Rests (the_row S.row) self.entry
-            (λ new. PeeksBlocks S.left S.has_failed S.end_told S.is_read self.old result new)) }
+            (λ new. PeeksBlocks S.Source self.old result new)) }
     {
         self.fill()?;
         Ok(self.sorted.first())
@@ -89,7 +89,7 @@ impl<S: Source> Blocks<S> {
     /// Takes the record ahead, which the last `peek` gave: `consume` of one. It reads nothing and can't fail.
     pub fn advance(&mut self)
         requires { IsSome (line_ahead self.old) }
-        ensures { PassesBlocks S.left S.end_told self.old self.new }
+        ensures { PassesBlocks S.Source self.old self.new }
     {
         self.sorted.advance();
     }

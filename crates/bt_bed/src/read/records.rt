@@ -60,7 +60,7 @@ impl<'o, S: Source, O: ChromOrder> Records<'o, S, O> {
     /// after. It allocates for the line, and if the chromosome is another than that of the record before.
     #[inline(always)]
     pub fn fill(&mut self) -> Result<bool, Fault>
-        ensures { FillsRecords S.left S.has_failed S.end_told S.is_read self.old result self.new }
+        ensures { FillsRecords S.Source self.old result self.new }
     {
         self.sorted.fill()
     }
@@ -76,7 +76,7 @@ impl<'o, S: Source, O: ChromOrder> Records<'o, S, O> {
     /// Takes the records that were consumed of what [`Records::buffered`] gave. It reads nothing and doesn't allocate.
     pub fn consume(&mut self, consumed: Consumed)
         requires { IsTaken self.old consumed }
-        ensures { TakesRecords S.left S.end_told self.old (count_in self.old consumed) self.new }
+        ensures { TakesRecords S.Source self.old (count_in self.old consumed) self.new }
     {
         self.sorted.consume(consumed);
     }
@@ -87,7 +87,7 @@ impl<'o, S: Source, O: ChromOrder> Records<'o, S, O> {
     pub fn peek(&mut self) -> Result<Option<BedRef<'_>>, Fault>
         ensures* after { sem 𝓛 (Rests (the_row (record { mir = named 0; lft = [] }) S.row O.row O.ChromOrder)
             self.entry
-            (λ new. PeeksRecord S.left S.has_failed S.end_told S.is_read self.old result new)) }
+            (λ new. PeeksRecord S.Source self.old result new)) }
     {
         self.fill()?;
         Ok(self.sorted.first())
@@ -96,7 +96,7 @@ impl<'o, S: Source, O: ChromOrder> Records<'o, S, O> {
     /// Takes the record ahead, which the last `peek` gave: `consume` of one. It reads nothing and can't fail.
     pub fn advance(&mut self)
         requires { IsSome (line_ahead self.old) }
-        ensures { PassesRecord S.left S.end_told self.old self.new }
+        ensures { PassesRecord S.Source self.old self.new }
     {
         self.sorted.advance();
     }

@@ -57,8 +57,7 @@ impl<S: Source, Q: Sorted + Drop> SortedReader<S, Q> {
         requires { IsPlaced (Q.sorting self.old.lookahead.rule)
             (view_in (Q.sorting self.old.lookahead.rule) self.old) }
         ensures rule { self.new.lookahead.rule ≡ self.old.lookahead.rule }
-        ensures fills { Fills S.left S.has_failed S.end_told
-            (view_in (Q.sorting self.old.lookahead.rule) self.old) result
+        ensures fills { Fills S.Source (view_in (Q.sorting self.old.lookahead.rule) self.old) result
             (view_in (Q.sorting self.old.lookahead.rule) self.new) }
         ensures own_failure { TellsOwnFailure S.is_read
             (view_in (Q.sorting self.old.lookahead.rule) self.old).fault self.old.reader result self.new.reader }
@@ -98,7 +97,7 @@ impl<S: Source, Q: Sorted + Drop> SortedReader<S, Q> {
         requires placed { IsPlaced (Q.sorting self.old.lookahead.rule)
             (view_in (Q.sorting self.old.lookahead.rule) self.old) }
         ensures rule { self.new.lookahead.rule ≡ self.old.lookahead.rule }
-        ensures takes { Takes S.left S.end_told (view_in (Q.sorting self.old.lookahead.rule) self.old)
+        ensures takes { Takes S.Source (view_in (Q.sorting self.old.lookahead.rule) self.old)
             (take (count_in self.old consumed) (buffered_in self.old))
             (view_in (Q.sorting self.old.lookahead.rule) self.new) }
         ensures placed { IsPlaced (Q.sorting self.old.lookahead.rule)
@@ -118,7 +117,7 @@ impl<S: Source, Q: Sorted + Drop> SortedReader<S, Q> {
         requires placed { IsPlaced (Q.sorting self.old.lookahead.rule)
             (view_in (Q.sorting self.old.lookahead.rule) self.old) }
         ensures rule { self.new.lookahead.rule ≡ self.old.lookahead.rule }
-        ensures takes { Takes S.left S.end_told (view_in (Q.sorting self.old.lookahead.rule) self.old)
+        ensures takes { Takes S.Source (view_in (Q.sorting self.old.lookahead.rule) self.old)
             (take 1 (buffered_in self.old)) (view_in (Q.sorting self.old.lookahead.rule) self.new) }
         ensures placed { IsPlaced (Q.sorting self.old.lookahead.rule)
             (view_in (Q.sorting self.old.lookahead.rule) self.new) }
@@ -158,8 +157,7 @@ impl<S: Source, Q: Sorted + Drop> SortedReader<S, Q> {
         requires placed { IsPlaced (Q.sorting self.old.lookahead.rule)
             (view_in (Q.sorting self.old.lookahead.rule) self.old) }
         ensures rule { self.new.lookahead.rule ≡ self.old.lookahead.rule }
-        ensures fills { Fills S.left S.has_failed S.end_told
-            (view_in (Q.sorting self.old.lookahead.rule) self.old) result
+        ensures fills { Fills S.Source (view_in (Q.sorting self.old.lookahead.rule) self.old) result
             (view_in (Q.sorting self.old.lookahead.rule) self.new) }
         ensures own_failure { TellsOwnFailure S.is_read
             (view_in (Q.sorting self.old.lookahead.rule) self.old).fault self.old.reader result self.new.reader }
@@ -187,8 +185,7 @@ impl<S: Source, Q: Sorted + Drop> SortedReader<S, Q> {
         ensures rule { self.new.lookahead.rule ≡ self.old.lookahead.rule }
         ensures fault { self.new.fault ≡ None }
         ensures none { self.new.is_ahead ≡ true → result ≡ Ok true }
-        ensures fills { Fills S.left S.has_failed S.end_told
-            (view_in (Q.sorting self.old.lookahead.rule) self.old) result
+        ensures fills { Fills S.Source (view_in (Q.sorting self.old.lookahead.rule) self.old) result
             (view_with (Q.sorting self.old.lookahead.rule) (fault_in result) self.new.reader self.new.lookahead (buffered_in self.new)) }
         ensures own_failure { TellsOwnFailure S.is_read (line_fault self.old.reader) self.old.reader result
             self.new.reader }
@@ -217,7 +214,7 @@ impl<S: Source, Q: Sorted + Drop> SortedReader<S, Q> {
         ensures rule { self.new.lookahead.rule ≡ self.old.lookahead.rule }
         ensures fault { self.new.fault ≡ None }
         ensures ahead { self.new.is_ahead ≡ true → result ≡ Ok true }
-        ensures takes { TakesFirst S.left S.end_told (Q.sorting self.old.lookahead.rule) self.old result self.new }
+        ensures takes { TakesFirst S.Source (Q.sorting self.old.lookahead.rule) self.old result self.new }
     {
         let mut lines = self.reader.buffered();
         let Some(line) = lines.next() else {

@@ -2,8 +2,7 @@
 
 ghost use Rattle.std.specs.Prelude.{◌≡◌, ◌+◌, ◌≤◌, ◌++◌, codes, decimal, drop, false, true};
 ghost use Rattle.bt_lines.specs.model.Fault.{write_failed};
-ghost use Rattle.bt_lines.specs.calls.Putting.{FailsToPut, Puts, PutsAll};
-ghost use Rattle.bt_lines.specs.inside.Span.{span_text};
+ghost use Rattle.bt_lines.specs.calls.Putting.{FailsToPut, Puts, PutsAll, span_text};
 ghost use Rattle.bt_bed.specs.model.feature.IntervalLine.{bounds_text, interval_line};
 
 use bt_lines::{COLUMN, Fault, Out, Sink, put_both, put_column, write_column, write_failed};

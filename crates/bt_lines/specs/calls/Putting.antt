@@ -1,5 +1,5 @@
 -- What calls that put bytes do to an output, and how two texts go on to one another there.
-use Rattle.std.specs.Prelude.{◌≡◌, ℕ, true, false, List, [], ◌++◌, Result, Ok, Err}
+use Rattle.std.specs.Prelude.{◌≡◌, ℕ, true, false, List, [], ◌∷◌, ◌++◌, Result, Ok, Err, codes, decimal}
 use Rattle.std.specs.Io.KnownBytes.{Appends}
 use Rattle.bt_lines.specs.model.Fault.{FaultValue, write_failed}
 use Rattle.bt_lines.specs.calls.Names.{fault_value}
@@ -69,3 +69,9 @@ module _ (before after : List ℕ) (old new : Output) where
     pub bytes : List ℕ
     pub goes_on : after ≡ before ++ bytes
     pub front : IsPrefixOf new.took old.put bytes
+
+-- what follows a name at the beginning of a line: a tab, the start, a tab, the stop and a byte that ends them
+-- (UCSC BED description, fields chromStart and chromEnd)
+abbrev pub span_text : ℕ → ℕ → ℕ → List ℕ
+span_text start stop end =
+    codes "\t" ++ (decimal start ++ (codes "\t" ++ (decimal stop ++ end ∷ [])))

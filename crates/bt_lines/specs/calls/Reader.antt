@@ -3,6 +3,7 @@ use Rattle.std.specs.Prelude.{◌≡◌, ◌≢◌, ℕ, suc, ◌+◌, ◌-◌, 
 use Rattle.std.specs.Prelude.{[], ◌++◌, length, Option, Some, None, option_map, Result, Ok, Err}
 use Rattle.std.specs.Prelude.{IfSome, IsSome, take, drop, ⊤}
 use Rattle.std.specs.Io.KnownBytes.{Consumes, IsAtEnd, prepend_known}
+use Rattle.bt_lines.specs.declared.device.Source.{Ghosts as Source}
 use Rattle.bt_lines.specs.inside.ReadBuffer.{complete, text_in, unread}
 use Rattle.bt_lines.specs.inside.ReaderState.{ended_at, fault_at, going_at, open_at, taken_at, text_at, told_at}
 use Rattle.bt_lines.specs.inside.Shape.{held_at, is_fed}
@@ -89,11 +90,10 @@ module _ {S : Type 0} where
 
   -- what holds of a reader whose lines are given one at a time: `new` establishes it, and `next` keeps it; `fill` and
   -- `consume` keep `IsKept`
-  pub record IsSound (left : S → Option (List ℕ)) (told : S → Bool)
-      (reader : LineReader S) : Type 0 where
+  pub record IsSound (device : Source S) (reader : LineReader S) : Type 0 where
     -- once the end was reported to a reader, its source has reported it, and none of the known bytes is left
     pub end : end_told reader ≡ true
-        → (told (source_of reader) ≡ true) × IsAtEnd (left (source_of reader))
+        → (device.end_told (source_of reader) ≡ true) × IsAtEnd (device.left (source_of reader))
     -- without a fault, fewer than 2^63 bytes were taken
     pub within : fault_kept reader ≡ None → bytes_taken reader < 2 ^ 63
     -- without a fault, at most a block is held after the lines given
@@ -118,12 +118,12 @@ module _ {S : Type 0} where
     pub told_stays : end_told old ≡ true → end_told new ≡ true
 
   -- a line was given
-  pub record GivesLine (left : S → Option (List ℕ)) (failed : S → Bool) (old : LineReader S)
+  pub record GivesLine (device : Source S) (old : LineReader S)
       (line : TextLine) (new : LineReader S) : Type 0 where
     -- it is the first of the lines left, if these are known
-    pub first : GivesFirst (lines_left left old) line (lines_left left new)
+    pub first : GivesFirst (lines_left device.left old) line (lines_left device.left new)
     -- the bytes taken are the line's and at most a block more, known or not
-    pub bytes : (bytes : List ℕ) × Hands left old bytes new
+    pub bytes : (bytes : List ℕ) × Hands device.left old bytes new
         × (held old ++ bytes ≡ spelled line ++ held new)
     pub ahead : length (held new) ≤ block_size
     -- nothing is read while a complete line is held
@@ -134,20 +134,19 @@ module _ {S : Type 0} where
     pub counted : lines_given new ≡ suc (lines_given old)
     pub below : lines_given new < 2 ^ 63
     pub shrinks : room new < room old
-    pub served : failed (source_of new) ≡ failed (source_of old)
+    pub served : device.has_failed (source_of new) ≡ device.has_failed (source_of old)
     pub was_going : (fault_kept old ≡ None) × (has_ended old ≡ false)
     pub goes : fault_kept new ≡ None
 
   -- the end was reached
-  pub record GivesEnd (left : S → Option (List ℕ)) (failed : S → Bool)
-      (old new : LineReader S) : Type 0 where
+  pub record GivesEnd (device : Source S) (old new : LineReader S) : Type 0 where
     -- no line was left, if they are known, and none is
-    pub none_left : IfSome (lines_left left old) (λ lines. lines ≡ [])
-    pub none_comes : IfSome (lines_left left new) (λ lines. lines ≡ [])
+    pub none_left : IfSome (lines_left device.left old) (λ lines. lines ≡ [])
+    pub none_comes : IfSome (lines_left device.left new) (λ lines. lines ≡ [])
     pub nothing_held : held new ≡ []
     pub counted : lines_given new ≡ lines_given old
-    pub bytes : (bytes : List ℕ) × Hands left old bytes new × (held old ++ bytes ≡ [])
-    pub served : failed (source_of new) ≡ failed (source_of old)
+    pub bytes : (bytes : List ℕ) × Hands device.left old bytes new × (held old ++ bytes ≡ [])
+    pub served : device.has_failed (source_of new) ≡ device.has_failed (source_of old)
     pub was_going : fault_kept old ≡ None
     pub goes : fault_kept new ≡ None
     pub ends : has_ended new ≡ true
@@ -157,10 +156,10 @@ module _ {S : Type 0} where
 
   -- a failed read: the source has failed, or the text is too long (that a read of this call
   -- failed `TellsReads` says)
-  pub record FailsToRead (left : S → Option (List ℕ)) (failed : S → Bool) (old : LineReader S)
+  pub record FailsToRead (device : Source S) (old : LineReader S)
       (fault : FaultValue) (new : LineReader S) : Type 0 where
     pub is : fault ≡ read_failed (input_of old) (suc (lines_given old))
-    pub cause : (failed (source_of new) ≡ true) ⊎ (2 ^ 63 ≤ bytes_taken new)
+    pub cause : (device.has_failed (source_of new) ≡ true) ⊎ (2 ^ 63 ≤ bytes_taken new)
 
   -- the piece that was cut off is no line: the line feeds among the bytes taken, the last one past
   -- the bound aside, all end lines that were given
@@ -178,10 +177,10 @@ module _ {S : Type 0} where
       bytes_in (drop (suc (lines_given new) - lines_given old) lines) ≤ length rest + block_size))
 
   -- a fault was returned
-  pub record GivesFault (left : S → Option (List ℕ)) (failed : S → Bool) (old : LineReader S)
+  pub record GivesFault (device : Source S) (old : LineReader S)
       (fault : FaultValue) (new : LineReader S) : Type 0 where
     pub kept : fault_kept new ≡ Some fault
-    pub bytes : (bytes : List ℕ) × Hands left old bytes new
+    pub bytes : (bytes : List ℕ) × Hands device.left old bytes new
     pub counted : lines_given new ≡ lines_given old
     -- a fault is returned again, and nothing is read
     pub again : (before : FaultValue) → fault_kept old ≡ Some before → (fault ≡ before) × (new ≡ old)
@@ -190,20 +189,19 @@ module _ {S : Type 0} where
     pub before_end : fault_kept old ≡ None → end_told old ≡ false
     -- nor while a complete line is held
     pub no_line : fault_kept old ≡ None → line_feeds (held old) ≡ 0
-    pub first : fault_kept old ≡ None → FailsToRead left failed old fault new ⊎ (fault ≡ no_memory)
+    pub first : fault_kept old ≡ None → FailsToRead device old fault new ⊎ (fault ≡ no_memory)
     pub cut_off : fault_kept old ≡ None → fault ≡ read_failed (input_of old) (suc (lines_given old))
-        → CutsOff left old new
+        → CutsOff device.left old new
     -- of known bytes, those after the line that couldn't be given are left,
     -- except at most a block
-    pub near : fault_kept old ≡ None → IsNear left old new
-    pub served : fault ≡ no_memory → failed (source_of new) ≡ failed (source_of old)
+    pub near : fault_kept old ≡ None → IsNear device.left old new
+    pub served : fault ≡ no_memory → device.has_failed (source_of new) ≡ device.has_failed (source_of old)
 
   -- what a result says
-  abbrev pub Answers : (S → Option (List ℕ)) → (S → Bool) → LineReader S
-      → Result (Option Line) Fault → LineReader S → Type 0
-  Answers left failed old (Ok (Some line)) new = GivesLine left failed old (line_seen line) new
-  Answers left failed old (Ok None) new = GivesEnd left failed old new
-  Answers left failed old (Err fault) new = GivesFault left failed old (fault_value fault) new
+  abbrev pub Answers : Source S → LineReader S → Result (Option Line) Fault → LineReader S → Type 0
+  Answers device old (Ok (Some line)) new = GivesLine device old (line_seen line) new
+  Answers device old (Ok None) new = GivesEnd device old new
+  Answers device old (Err fault) new = GivesFault device old (fault_value fault) new
 
   -- the reads of the source in between all served, and gave as many bytes as the reader counts
   abbrev pub HasRead : (S → Option ℕ → S → Type 0) → LineReader S → LineReader S → Type 0
@@ -233,94 +231,86 @@ module _ {S : Type 0} where
       → TellsReads IsRead old (Some (fault_value fault)) new
 
   -- one call of `next`
-  pub record NextLine (left : S → Option (List ℕ)) (failed : S → Bool) (end : S → Bool)
-      (IsRead : S → Option ℕ → S → Type 0) (old : LineReader S)
-      (answer : Result (Option Line) Fault)
+  pub record NextLine (device : Source S) (old : LineReader S) (answer : Result (Option Line) Fault)
       (new : LineReader S) : Type 0 where
-    pub answers : Answers left failed old answer new
-    pub own_failure : TellsOwnFailure IsRead old answer new
-    pub sound : IsSound left end old → IsSound left end new
+    pub answers : Answers device old answer new
+    pub own_failure : TellsOwnFailure device.is_read old answer new
+    pub sound : IsSound device old → IsSound device new
 
   -- what a step to the next line gives, or to the end if there is none
-  abbrev pub StepsTo : (S → Option (List ℕ)) → (S → Bool) → LineReader S → Option TextLine
-      → LineReader S → Type 0
-  StepsTo left failed old (Some line) new = GivesLine left failed old line new
-  StepsTo left failed old None new = GivesEnd left failed old new
+  abbrev pub StepsTo : Source S → LineReader S → Option TextLine → LineReader S → Type 0
+  StepsTo device old (Some line) new = GivesLine device old line new
+  StepsTo device old None new = GivesEnd device old new
 
-  abbrev pub StepAnswers : {A : Type 0} → (S → Option (List ℕ)) → (S → Bool) → LineReader S
+  abbrev pub StepAnswers : {A : Type 0} → Source S → LineReader S
       → Result A Fault → LineReader S → Type 0
-  StepAnswers left failed old (Ok done) new = StepsTo left failed old (line_at new) new
-  StepAnswers left failed old (Err fault) new = GivesFault left failed old (fault_value fault) new
+  StepAnswers device old (Ok done) new = StepsTo device old (line_at new) new
+  StepAnswers device old (Err fault) new = GivesFault device old (fault_value fault) new
 
   -- the same call of `next`, with the line held instead of borrowed
-  pub record Stepped {A : Type 0} (left : S → Option (List ℕ)) (failed : S → Bool) (end : S → Bool)
+  pub record Stepped {A : Type 0} (device : Source S)
       (old : LineReader S) (answer : Result A Fault) (new : LineReader S) : Type 0 where
-    pub answers : StepAnswers left failed old answer new
-    pub sound : IsSound left end old → IsSound left end new
+    pub answers : StepAnswers device old answer new
+    pub sound : IsSound device old → IsSound device new
 
   -- a step that met no fault
-  pub record Moves (left : S → Option (List ℕ)) (failed : S → Bool) (end : S → Bool)
-      (IsRead : S → Option ℕ → S → Type 0) (old new : LineReader S) : Type 0 where
-    pub steps : StepsTo left failed old (line_at new) new
-    pub read : HasRead IsRead old new
-    pub sound : IsSound left end old → IsSound left end new
+  pub record Moves (device : Source S) (old new : LineReader S) : Type 0 where
+    pub steps : StepsTo device old (line_at new) new
+    pub read : HasRead device.is_read old new
+    pub sound : IsSound device old → IsSound device new
 
   -- a step that met a fault, which the reader keeps
-  pub record Stops (left : S → Option (List ℕ)) (failed : S → Bool) (end : S → Bool)
-      (IsRead : S → Option ℕ → S → Type 0) (old new : LineReader S) : Type 0 where
+  pub record Stops (device : Source S) (old new : LineReader S) : Type 0 where
     pub kept : IsSome (fault_kept new)
     -- whatever has this fault as its result
     pub answers : (fault : Fault) → fault_kept new ≡ Some (fault_value fault)
-        → GivesFault left failed old (fault_value fault) new
+        → GivesFault device old (fault_value fault) new
     pub own_failure : (fault : Fault) → fault_kept new ≡ Some (fault_value fault)
-        → TellsOwnFailure {A = Option Line} IsRead old (Err fault) new
-    pub sound : IsSound left end old → IsSound left end new
+        → TellsOwnFailure {A = Option Line} device.is_read old (Err fault) new
+    pub sound : IsSound device old → IsSound device new
 
   -- the complete lines that are buffered, as bytes
   unfoldable pub buffered_bytes : LineReader S → List ℕ
   buffered_bytes reader = complete reader.buffer
 
   -- a line was made buffered
-  pub record MakesLine (left : S → Option (List ℕ)) (failed : S → Bool) (old new : LineReader S)
-      : Type 0 where
+  pub record MakesLine (device : Source S) (old new : LineReader S) : Type 0 where
     pub some : 0 < length (buffered_bytes new)
-    pub bytes : (bytes : List ℕ) × Hands left old bytes new × (held new ≡ held old ++ bytes)
-    pub same : SameLines (lines_left left old) (lines_left left new)
+    pub bytes : (bytes : List ℕ) × Hands device.left old bytes new × (held new ≡ held old ++ bytes)
+    pub same : SameLines (lines_left device.left old) (lines_left device.left new)
     pub counted : lines_given new ≡ lines_given old
     -- nothing is read while a complete line is held
     pub ready : 0 < line_feeds (held old) → source_of new ≡ source_of old
-    pub served : failed (source_of new) ≡ failed (source_of old)
+    pub served : device.has_failed (source_of new) ≡ device.has_failed (source_of old)
     pub was_going : (fault_kept old ≡ None) × (has_ended old ≡ false)
     pub goes : fault_kept new ≡ None
     pub within : bytes_taken new < 2 ^ 63
 
-  abbrev pub FillAnswers : (S → Option (List ℕ)) → (S → Bool) → LineReader S → Result Bool Fault
-      → LineReader S → Type 0
-  FillAnswers left failed old (Ok true) new = MakesLine left failed old new
-  FillAnswers left failed old (Ok false) new = GivesEnd left failed old new
-  FillAnswers left failed old (Err fault) new = GivesFault left failed old (fault_value fault) new
+  abbrev pub FillAnswers : Source S → LineReader S → Result Bool Fault → LineReader S → Type 0
+  FillAnswers device old (Ok true) new = MakesLine device old new
+  FillAnswers device old (Ok false) new = GivesEnd device old new
+  FillAnswers device old (Err fault) new = GivesFault device old (fault_value fault) new
 
   -- what holds of a reader at all times, except how much it has buffered
-  pub record IsKept (left : S → Option (List ℕ)) (told : S → Bool) (reader : LineReader S) : Type 0 where
+  pub record IsKept (device : Source S) (reader : LineReader S) : Type 0 where
     pub end : end_told reader ≡ true
-        → (told (source_of reader) ≡ true) × IsAtEnd (left (source_of reader))
+        → (device.end_told (source_of reader) ≡ true) × IsAtEnd (device.left (source_of reader))
     pub within : fault_kept reader ≡ None → bytes_taken reader < 2 ^ 63
 
   -- a call of `fill`
-  pub record FillsLines (left : S → Option (List ℕ)) (failed : S → Bool) (end : S → Bool)
+  pub record FillsLines (device : Source S)
       (old : LineReader S) (answer : Result Bool Fault) (new : LineReader S) : Type 0 where
-    pub answers : FillAnswers left failed old answer new
+    pub answers : FillAnswers device old answer new
     -- if a line is buffered, nothing changes
     pub unread : 0 < length (buffered_bytes old) → new ≡ old
-    pub kept : IsKept left end old → IsKept left end new
+    pub kept : IsKept device old → IsKept device new
 
   -- the first line that is buffered was given
-  pub record CutsFirst (left : S → Option (List ℕ)) (failed : S → Bool) (end : S → Bool)
-      (old new : LineReader S) : Type 0 where
+  pub record CutsFirst (device : Source S) (old new : LineReader S) : Type 0 where
     pub line : TextLine
     pub at : line_at new ≡ Some line
-    pub gives : GivesLine left failed old line new
-    pub sound : IsKept left end old → IsSound left end new
+    pub gives : GivesLine device old line new
+    pub sound : IsKept device old → IsSound device new
 
   -- whether the last line that is buffered has no line feed of its own
   unfoldable pub is_open : LineReader S → Bool
@@ -351,14 +341,14 @@ module _ {S : Type 0} where
         ≡ drop count (buffered_in reader)
 
   -- they were taken
-  pub record TakesLines (left : S → Option (List ℕ)) (end : S → Bool) (old : LineReader S)
+  pub record TakesLines (device : Source S) (old : LineReader S)
       (consumed : ConsumedLines) (new : LineReader S) : Type 0 where
-    pub kept : IsKept left end old → IsKept left end new
+    pub kept : IsKept device old → IsKept device new
     -- after the lines at most a block is held
     pub near : 0 < consumed.bytes → length (held new) ≤ block_size
     -- of the lines that were left, the first `count` are gone
-    pub left_is : DropsLines (lines_left left old)
-        (line_feeds (take consumed.bytes (buffered_bytes old))) (lines_left left new)
+    pub left_is : DropsLines (lines_left device.left old)
+        (line_feeds (take consumed.bytes (buffered_bytes old))) (lines_left device.left new)
     pub bytes : buffered_bytes new ≡ drop consumed.bytes (buffered_bytes old)
     pub given : lines_given new ≡ consumed.lines
     pub below : lines_given new < 2 ^ 63
@@ -370,6 +360,6 @@ module _ {S : Type 0} where
     pub told_is : end_told new ≡ end_told old
     pub ended_is : has_ended new ≡ has_ended old
     -- nothing is handed over
-    pub hands : Hands left old [] new
+    pub hands : Hands device.left old [] new
     -- and so much less is held
     pub shrinks : length (held new) + line_feeds (take consumed.bytes (buffered_bytes old)) ≤ length (held old)

@@ -1,10 +1,6 @@
--- The first byte of a value among some bytes, as a line feed or a tab.
-use Rattle.std.specs.Prelude.{◌≡◌, ℕ, ◌+◌, ◌<◌, ◌≤◌, ◌==◌, false, List, ◌∷◌, ◌++◌, drop, length, take, Option, Some, None}
-use Rattle.std.specs.List.{All}
-
--- no byte has this value
-abbrev pub Lacks : ℕ → List ℕ → Type 0
-Lacks value bytes = All (λ byte. (byte == value) ≡ false) bytes
+-- Some bytes, cut at the first of a value.
+use Rattle.std.specs.Prelude.{◌≡◌, ℕ, ◌+◌, ◌<◌, List, ◌∷◌, ◌++◌, drop, length, take, Option, Some, None}
+use Rattle.bt_lines.specs.calls.FirstByte.{Lacks}
 
 -- some bytes, cut at the first of this value
 abbrev pub IsFirstOf : ℕ → List ℕ → Option ℕ → Type 0
@@ -16,9 +12,3 @@ IsFirstOf value bytes (Some at) =
 -- some bytes, cut at their first line feed
 abbrev pub IsFirstFeed : List ℕ → Option ℕ → Type 0
 IsFirstFeed bytes found = IsFirstOf 10 bytes found
-
--- the count of bytes before the first of this value, or of all bytes if there is none
-pub record IsBefore (value : ℕ) (bytes : List ℕ) (count : ℕ) : Type 0 where
-  pub within : count ≤ length bytes
-  pub clear : Lacks value (take count bytes)
-  pub cut : count < length bytes → bytes ≡ take count bytes ++ value ∷ drop (count + 1) bytes

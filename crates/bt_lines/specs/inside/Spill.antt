@@ -3,6 +3,7 @@
 use Rattle.std.specs.Prelude.{◌≡◌, ◌⊎◌, ℕ, suc, ◌+◌, ◌-◌, ◌^◌, ◌<◌, Bool, true, List, [], ◌∷◌}
 use Rattle.std.specs.Prelude.{◌++◌, length, Option}
 use Rattle.std.specs.Io.KnownBytes.{Consumes, IsAtEnd}
+use Rattle.bt_lines.specs.declared.device.Source.{Ghosts as Source}
 use Rattle.bt_lines.specs.calls.Device.{ReadsCounted, ReadsFail}
 use Rattle.bt_lines.specs.calls.LentLine.{NoLineFeed}
 use Rattle.bt_lines.specs.model.Lines.{line_feeds}
@@ -37,15 +38,17 @@ uncounted_more NoBytes = 0
 uncounted_more BadRead = 0
 uncounted_more PastBound = 1
 
-module _ {S : Type 0} (left : S → Option (List ℕ)) (failed : S → Bool) (told : S → Bool) where
+module _ {S : Type 0} (device : Source S) where
   -- more bytes were requested
   pub record AsksMore (old : S) (old_unread : List ℕ) (old_taken : ℕ) (more : More)
       (new : S) (unread : List ℕ) (taken : ℕ) : Type 0 where
     pub bytes : List ℕ
-    pub consumed : Consumes (left old) (left new) bytes
+    pub consumed : Consumes (device.left old) (device.left new) bytes
     pub counted : taken + uncounted_more more ≡ old_taken + length bytes
     pub within : taken < 2 ^ 63
-    pub came : MoreComes more (left new) (failed old) (failed new) (told new) bytes old_unread unread taken
+    pub came : MoreComes more (device.left new)
+        (device.has_failed old) (device.has_failed new) (device.end_told new)
+        bytes old_unread unread taken
 
 module _ {S : Type 0} (IsRead : S → Option ℕ → S → Type 0) where
   -- the read for more bytes gave as many as are counted, or failed
@@ -76,18 +79,20 @@ StopsAt TooLong left was_failed is_failed told text behind unread taken =
 StopsAt NoMemory left was_failed is_failed told text behind unread taken =
     NoLineFeed text × (behind ≡ unread) × (is_failed ≡ was_failed)
 
-module _ {S : Type 0} (left : S → Option (List ℕ)) (failed : S → Bool) (told : S → Bool) where
+module _ {S : Type 0} (device : Source S) where
   -- what was read after the lines, and the bytes read after that, were moved to a line except `behind`
   pub record Fills (old : S) (old_unread : List ℕ) (old_taken : ℕ) (stop : Stop)
       (new : S) (unread text : List ℕ) (taken : ℕ) : Type 0 where
     pub bytes : List ℕ
-    pub consumed : Consumes (left old) (left new) bytes
+    pub consumed : Consumes (device.left old) (device.left new) bytes
     pub counted : taken + uncounted stop ≡ old_taken + length bytes
     pub within : taken < 2 ^ 63
     -- those that follow the line
     pub behind : List ℕ
     pub joined : old_unread ++ bytes ≡ text ++ behind
-    pub stopped : StopsAt stop (left new) (failed old) (failed new) (told new) text behind unread taken
+    pub stopped : StopsAt stop (device.left new)
+        (device.has_failed old) (device.has_failed new) (device.end_told new)
+        text behind unread taken
 
 -- a last piece with a line feed; an empty one is no line
 abbrev pub closed : List ℕ → List ℕ
@@ -109,15 +114,17 @@ StopsWith TooLong left was_failed is_failed told all complete unread taken =
 StopsWith NoMemory left was_failed is_failed told all complete unread taken =
     ((text : List ℕ) × NoLineFeed text × (all ≡ text ++ unread)) × (complete ≡ []) × (is_failed ≡ was_failed)
 
-module _ {S : Type 0} (left : S → Option (List ℕ)) (failed : S → Bool) (told : S → Bool) where
+module _ {S : Type 0} (device : Source S) where
   -- lines were buffered, if none was: those among the bytes that were read already, else by reads
   pub record Buffers (old : S) (old_unread : List ℕ) (old_taken : ℕ) (stop : Stop)
       (new : S) (complete unread : List ℕ) (taken : ℕ) : Type 0 where
     pub bytes : List ℕ
-    pub consumed : Consumes (left old) (left new) bytes
+    pub consumed : Consumes (device.left old) (device.left new) bytes
     pub counted : taken + uncounted stop ≡ old_taken + length bytes
     pub within : taken < 2 ^ 63
     -- nothing is read while a line feed is held
     pub ready : 0 < line_feeds old_unread → new ≡ old
     pub first : (line_feeds old_unread ≡ 0) ⊎ (stop ≡ LineFeed)
-    pub stopped : StopsWith stop (left new) (failed old) (failed new) (told new) (old_unread ++ bytes) complete unread taken
+    pub stopped : StopsWith stop (device.left new)
+        (device.has_failed old) (device.has_failed new) (device.end_told new)
+        (old_unread ++ bytes) complete unread taken

@@ -78,7 +78,7 @@ impl<S: Source> LineReader<S> {
         ensures none_given { lines_given result ≡ 0 }
         ensures none_taken { (bytes_taken result ≡ 0) × (held result ≡ []) }
         ensures none_fed { feeds_taken result ≡ 0 }
-        ensures sound { IsSound S.left S.end_told result }
+        ensures sound { IsSound S.Source result }
         ensures going { (fault_kept result ≡ None) × (has_ended result ≡ false) }
     {
         LineReader {
@@ -96,7 +96,7 @@ impl<S: Source> LineReader<S> {
     /// nothing while one is buffered. It fails as [`LineReader::next`] does.
     #[inline(always)]
     pub fn fill(&mut self) -> Result<bool, Fault>
-        ensures fills { FillsLines S.left S.has_failed S.end_told self.old result self.new }
+        ensures fills { FillsLines S.Source self.old result self.new }
         ensures own_failure { TellsOwnFailure S.is_read self.old result self.new }
     {
         if !self.buffer.lines().is_empty() {
@@ -118,7 +118,7 @@ impl<S: Source> LineReader<S> {
     /// Takes the lines that were consumed of what [`LineReader::buffered`] gave. It reads nothing and can't fail.
     pub fn consume(&mut self, consumed: ConsumedLines)
         requires { IsTaken self.old consumed }
-        ensures { TakesLines S.left S.end_told self.old consumed self.new }
+        ensures { TakesLines S.Source self.old consumed self.new }
     {
         self.buffer.consume(consumed.bytes);
         self.lines = consumed.lines;
@@ -131,7 +131,7 @@ impl<S: Source> LineReader<S> {
     #[inline(always)]
     pub fn next(&mut self) -> Result<Option<Line<'_>>, Fault>
         ensures* after { sem 𝓛 (Rests (the_row S.row) self.entry (λ new.
-            NextLine S.left S.has_failed S.end_told S.is_read self.old result new)) }
+            NextLine S.Source self.old result new)) }
     {
         if self.cuts_line() {
             return Ok(Some(self.last_line()));
@@ -214,7 +214,7 @@ impl<S: Source> LineReader<S> {
     // Moves on to the next line if one is buffered, and else does nothing.
     #[inline(always)]
     fn cuts_line(&mut self) -> bool
-        ensures cut { result ≡ true → CutsFirst S.left S.has_failed S.end_told self.old self.new }
+        ensures cut { result ≡ true → CutsFirst S.Source self.old self.new }
         ensures at { result ≡ true → IsSome (line_at self.new) }
         ensures reads_nothing { result ≡ true → HasRead S.is_read self.old self.new }
         ensures unchanged { result ≡ false → self.new ≡ self.old }
@@ -236,8 +236,8 @@ impl<S: Source> LineReader<S> {
     #[inline(never)]
     fn moves_on(&mut self) -> bool
         requires { complete self.old.buffer ≡ [] }
-        ensures moved { result ≡ true → Moves S.left S.has_failed S.end_told S.is_read self.old self.new }
-        ensures stopped { result ≡ false → Stops S.left S.has_failed S.end_told S.is_read self.old self.new }
+        ensures moved { result ≡ true → Moves S.Source self.old self.new }
+        ensures stopped { result ≡ false → Stops S.Source self.old self.new }
     {
         match self.step() {
             Ok(()) => true,
@@ -260,7 +260,7 @@ impl<S: Source> LineReader<S> {
     // Moves on if no line is buffered: reads one, if there is one.
     fn step(&mut self) -> Result<(), Fault>
         requires { complete self.old.buffer ≡ [] }
-        ensures steps { Stepped S.left S.has_failed S.end_told self.old result self.new }
+        ensures steps { Stepped S.Source self.old result self.new }
         ensures own_failure { TellsOwnFailure S.is_read self.old result self.new }
     {
         match self.fill() {
@@ -278,7 +278,7 @@ impl<S: Source> LineReader<S> {
     #[inline(never)]
     fn read_on(&mut self) -> Result<bool, Fault>
         requires { complete self.old.buffer ≡ [] }
-        ensures fills { FillsLines S.left S.has_failed S.end_told self.old result self.new }
+        ensures fills { FillsLines S.Source self.old result self.new }
         ensures own_failure { TellsOwnFailure S.is_read self.old result self.new }
     {
         match self.state {
@@ -297,7 +297,7 @@ impl<S: Source> LineReader<S> {
     fn read_more(&mut self) -> Result<bool, Fault>
         requires none { complete self.old.buffer ≡ [] }
         requires going { is_going self.old ≡ true }
-        ensures fills { FillsLines S.left S.has_failed S.end_told self.old result self.new }
+        ensures fills { FillsLines S.Source self.old result self.new }
         ensures own_failure { TellsOwnFailure S.is_read self.old result self.new }
     {
         match read_lines(&mut self.source, &mut self.buffer, &mut self.taken) {

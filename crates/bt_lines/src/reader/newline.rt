@@ -1,7 +1,8 @@
 //! The first byte of a value among some bytes, as a line feed or a tab.
 
 ghost use Rattle.std.specs.Prelude.{◌≡◌, ◌≤◌, length, take};
-ghost use Rattle.bt_lines.specs.inside.Newline.{IsBefore, IsFirstFeed, IsFirstOf, Lacks};
+ghost use Rattle.bt_lines.specs.calls.FirstByte.{IsBefore, Lacks};
+ghost use Rattle.bt_lines.specs.inside.Newline.{IsFirstFeed, IsFirstOf};
 
 use memchr::memchr;
 

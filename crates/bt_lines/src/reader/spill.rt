@@ -48,7 +48,7 @@ pub(crate) fn read_lines<S: Source>(
 ) -> Stop
     requires counted { taken.old < 2 ^ 63 }
     requires none { complete buffer.old ≡ [] }
-    ensures buffers { Buffers S.left S.has_failed S.end_told source.old (unread buffer.old) taken.old result
+    ensures buffers { Buffers S.Source source.old (unread buffer.old) taken.old result
         source.new (complete buffer.new) (unread buffer.new) taken.new }
     ensures counted { AreCounted S.is_read result source.old taken.old source.new taken.new }
 {
@@ -75,7 +75,7 @@ fn read_long<S: Source>(source: &mut S, buffer: &mut ReadBuffer, taken: &mut u64
     requires none { complete buffer.old ≡ [] }
     requires clear { NoLineFeed (unread buffer.old) }
     requires some { 0 < length (unread buffer.old) }
-    ensures buffers { Buffers S.left S.has_failed S.end_told source.old (unread buffer.old) taken.old result
+    ensures buffers { Buffers S.Source source.old (unread buffer.old) taken.old result
         source.new (complete buffer.new) (unread buffer.new) taken.new }
     ensures counted { AreCounted S.is_read result source.old taken.old source.new taken.new }
 {
@@ -104,7 +104,7 @@ fn read_spilled<S: Source>(source: &mut S, buffer: &mut ReadBuffer, taken: &mut 
     requires empty { buffer.old.spilled.items ≡ [] }
     requires none { complete buffer.old ≡ [] }
     requires plain { buffer.old.is_spilled ≡ false }
-    ensures fills { Fills S.left S.has_failed S.end_told source.old (unread buffer.old) taken.old result
+    ensures fills { Fills S.Source source.old (unread buffer.old) taken.old result
         source.new (unread buffer.new) buffer.new.spilled.items taken.new }
     ensures none { complete buffer.new ≡ [] }
     ensures plain { buffer.new.is_spilled ≡ false }
@@ -130,7 +130,7 @@ fn ask_more<S: Source>(source: &mut S, buffer: &mut ReadBuffer, taken: &mut u64)
     requires counted { taken.old < 2 ^ 63 }
     requires none { complete buffer.old ≡ [] }
     requires room { length (unread buffer.old) < block_size }
-    ensures asks { AsksMore S.left S.has_failed S.end_told source.old (unread buffer.old) taken.old result
+    ensures asks { AsksMore S.Source source.old (unread buffer.old) taken.old result
         source.new (unread buffer.new) taken.new }
     ensures none { complete buffer.new ≡ [] }
     ensures plain { buffer.new.is_spilled ≡ false }

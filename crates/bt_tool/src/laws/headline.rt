@@ -17,6 +17,5 @@ use bt_lines::{Sink, Source};
 pub fn runs_show_the_report<G: Source, A: Source, B: Source, K: Sink>()
     ensures usage { (words : List Word) (usage : Usage) → options words ≡ Err usage
         → ReportsUsage words usage }
-    ensures run { ShowsReport G.left G.has_failed A.left A.has_failed A.end_told B.left B.has_failed
-        K.took K.has_failed }
+    ensures run { ShowsReport G.Source A.Source B.Source K.Sink }
 {}

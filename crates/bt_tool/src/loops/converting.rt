@@ -44,7 +44,7 @@ fn convert_all<S: Source, K: Sink>(
     converter: &mut BamToBed,
     out: &mut Out<K>,
 ) -> Result<(), Fault>
-    requires fresh { IsFresh S.left S.end_told (sam_reader lines.old) }
+    requires fresh { IsFresh S.Source (sam_reader lines.old) }
     requires going { converter.old.fault ≡ None }
     requires block { HoldsBlock out.old.output.took out.old.output.put }
     ensures converts { ConvertsAll S.Source converter.old lines.old out.old.output result
@@ -69,7 +69,7 @@ pub(crate) fn convert<A: Source, K: Sink>(
     out: &mut Out<K>,
 ) -> (Option<Fault>, A)
     requires { HoldsBlock out.old.output.took out.old.output.put }
-    ensures written { WritesAlone A.left A.has_failed (of_bamtobed split cigar)
+    ensures written { WritesAlone A.Source (of_bamtobed split cigar)
         first out.old.output (option_map fault_value result.0) result.1 out.new.output }
     ensures reads { TellsNoRead (option_map fault_value result.0) → ReadsServe A.is_read first result.1 }
     ensures own_failure { TellsOwnReads ⊥ (IsOwnFailure A.is_read first result.1) ⊥

@@ -29,7 +29,7 @@ fn feed_all<S: Source, O: ChromOrder, E: Engine, K: Sink>(
     engine: &mut E,
     out: &mut Out<K>,
 ) -> Result<(), Fault>
-    requires fresh { IsFresh S.left S.end_told (view_of records.old) }
+    requires fresh { IsFresh S.Source (view_of records.old) }
     requires sorted { (view_of records.old).format ≡ bed_format (sorting_of (order_in records.old)) }
     requires none_last { last_locus records.old ≡ None }
     requires total { IsTotal (order_in records.old) }
@@ -81,7 +81,7 @@ pub(crate) fn drive<A: Source, O: ChromOrder, E: Engine + Drop, K: Sink>(
     requires stays { SettledStays (E.settled engine) (E.takes engine) }
     requires begins { SettledBegins (E.settled engine) (E.output engine) (E.takes engine) }
     requires block { HoldsBlock out.old.output.took out.old.output.put }
-    ensures written { WritesRecords A.left A.has_failed
+    ensures written { WritesRecords A.Source
         (record { whole = E.output engine; settled = E.settled engine }) (O.order order.now)
         first out.old.output (option_map fault_value result.0) result.1 out.new.output }
     ensures reads { TellsNoRead (option_map fault_value result.0) → ReadsServe A.is_read first result.1 }

@@ -114,7 +114,7 @@ pub(crate) fn mask<A: Source, B: Source, K: Sink>(
     out: &mut Out<K>,
 ) -> (Option<Fault>, Sources<A, B>)
     requires { HoldsBlock out.old.output.took out.old.output.put }
-    ensures written { WritesBy A.left A.has_failed A.end_told B.left B.has_failed (of_maskfasta how full)
+    ensures written { WritesBy A.Source B.Source (of_maskfasta how full)
         sources.first (Some sources.second) out.old.output (option_map fault_value result.0)
         result.1.first (Some result.1.second) out.new.output }
     ensures reads { TellsNoRead (option_map fault_value result.0)

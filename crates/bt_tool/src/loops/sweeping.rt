@@ -174,7 +174,7 @@ pub(crate) fn sweep<A: Source, B: Source, O: ChromOrder, K: Sink>(
 ) -> (Option<Fault>, Sources<A, B>)
     requires total { IsTotal (O.order order.now) }
     requires block { HoldsBlock out.old.output.took out.old.output.put }
-    ensures written { WritesBy A.left A.has_failed A.end_told B.left B.has_failed
+    ensures written { WritesBy A.Source B.Source
         (of_intersect (O.order order.now) config.shape config.rule config.limit)
         sources.first (Some sources.second) out.old.output (option_map fault_value result.0)
         result.1.first (Some result.1.second) out.new.output }

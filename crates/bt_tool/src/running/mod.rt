@@ -64,7 +64,7 @@ pub fn run<G: Source, A: Source, B: Source, K: Sink>(
     ensures second { is_some result.second ≡ is_some second }
     ensures flushed { (option_map fault_value result.outcome.fault ≡ Some write_failed)
         ⊎ (K.is_flushed result.out ≡ true) }
-    ensures report { Runs G.left G.has_failed A.left A.has_failed A.end_told B.left B.has_failed K.took K.has_failed
+    ensures report { Runs G.Source A.Source B.Source K.Sink
         plan.now.command genome first second out (option_map fault_value result.outcome.fault)
         result.genome result.first result.second result.out }
     ensures reads { option_map fault_value result.outcome.fault ≢ Some write_failed → TellsNoRead (option_map fault_value result.outcome.fault)
@@ -97,7 +97,7 @@ fn read_genome<G: Source>(
 ) -> (Result<Option<Genome>, Fault>, Option<G>)
     ensures genome { is_some result.1 ≡ is_some genome }
     ensures named { MatchResult result.0 (λ table. is_some table ≡ is_some genome) (λ _. ⊤) }
-    ensures read { ReadsChromosomes G.left G.has_failed genome result.0 result.1 }
+    ensures read { ReadsChromosomes G.Source genome result.0 result.1 }
     ensures reads { AnswersNoRead result.0 → ReadsServeIf G.is_read genome result.1 }
     ensures own_failure { MatchResult result.0 (λ _. ⊤) (λ fault. TellsOwnReads
         (IsOwnFailureIf G.is_read genome result.1) ⊥ ⊥ (Some (fault_value fault))) }
@@ -137,7 +137,7 @@ fn write_output<A: Source, B: Source, K: Sink>(
     requires distinct { MatchResult chromosomes
         (λ table. IfSome table (λ table. AreDistinct (names_of table))) (λ _. ⊤) }
     requires block { HoldsBlock out.old.output.took out.old.output.put }
-    ensures written { WritesOutput A.left A.has_failed A.end_told B.left B.has_failed command chromosomes sources.first sources.second
+    ensures written { WritesOutput A.Source B.Source command chromosomes sources.first sources.second
         out.old.output (option_map fault_value result.0) result.1.first result.1.second out.new.output }
     ensures second { is_some result.1.second ≡ is_some sources.second }
     ensures reads { TellsNoRead (option_map fault_value result.0)
@@ -171,8 +171,7 @@ fn write_records<A: Source, B: Source, K: Sink>(
     requires second { IsNamedBy (table_of (tool_of command)) (table_of (tool_of command)).second sources.second }
     requires distinct { IfSome setup.now.genome.now (λ table. AreDistinct (names_of table)) }
     requires block { HoldsBlock out.old.output.took out.old.output.put }
-    ensures written { WritesBy A.left A.has_failed A.end_told B.left B.has_failed
-        (behaviour_of command (option_map entries setup.now.genome.now))
+    ensures written { WritesBy A.Source B.Source (behaviour_of command (option_map entries setup.now.genome.now))
         sources.first sources.second out.old.output (option_map fault_value result.0) result.1.first result.1.second out.new.output }
     ensures second { is_some result.1.second ≡ is_some sources.second }
     ensures reads { TellsNoRead (option_map fault_value result.0)
@@ -231,7 +230,7 @@ fn merge<A: Source, K: Sink>(
 ) -> (Option<Fault>, A)
     requires limit { d ≤ max_number }
     requires block { HoldsBlock out.old.output.took out.old.output.put }
-    ensures written { WritesRecords A.left A.has_failed (merge_written (order_of (option_map entries setup.now.genome.now)) d strand)
+    ensures written { WritesRecords A.Source (merge_written (order_of (option_map entries setup.now.genome.now)) d strand)
         (order_of (option_map entries setup.now.genome.now)) first out.old.output (option_map fault_value result.0) result.1 out.new.output }
     ensures reads { TellsNoRead (option_map fault_value result.0) → ReadsServe A.is_read first result.1 }
     ensures own_failure { TellsOwnReads ⊥ (IsOwnFailure A.is_read first result.1) ⊥
@@ -254,7 +253,7 @@ fn complement<A: Source, K: Sink>(
     requires genome { IsSome setup.now.genome.now }
     requires distinct { IfSome setup.now.genome.now (λ table. AreDistinct (names_of table)) }
     requires block { HoldsBlock out.old.output.took out.old.output.put }
-    ensures written { WritesRecords A.left A.has_failed
+    ensures written { WritesRecords A.Source
         (complement_written (entries_in (option_map entries setup.now.genome.now)) limit)
         (order_of (option_map entries setup.now.genome.now)) first out.old.output (option_map fault_value result.0) result.1 out.new.output }
     ensures reads { TellsNoRead (option_map fault_value result.0) → ReadsServe A.is_read first result.1 }
@@ -279,7 +278,7 @@ fn cover<A: Source, K: Sink>(
     requires genome { IsSome setup.now.genome.now }
     requires distinct { IfSome setup.now.genome.now (λ table. AreDistinct (names_of table)) }
     requires block { HoldsBlock out.old.output.took out.old.output.put }
-    ensures written { WritesRecords A.left A.has_failed
+    ensures written { WritesRecords A.Source
         (coverage_written (entries_in (option_map entries setup.now.genome.now)) zeros strand)
         (order_of (option_map entries setup.now.genome.now)) first out.old.output (option_map fault_value result.0) result.1 out.new.output }
     ensures reads { TellsNoRead (option_map fault_value result.0) → ReadsServe A.is_read first result.1 }
@@ -310,7 +309,7 @@ fn sweep_both<A: Source, B: Source, K: Sink>(
 ) -> (Option<Fault>, Sources<A, Option<B>>)
     requires second { IsSome sources.second }
     requires block { HoldsBlock out.old.output.took out.old.output.put }
-    ensures written { WritesBy A.left A.has_failed A.end_told B.left B.has_failed
+    ensures written { WritesBy A.Source B.Source
         (of_intersect (order_of (option_map entries setup.now.genome.now)) config.shape config.rule config.limit)
         sources.first sources.second out.old.output (option_map fault_value result.0) result.1.first result.1.second out.new.output }
     ensures second { is_some result.1.second ≡ is_some sources.second }
@@ -341,7 +340,7 @@ fn mask_both<A: Source, B: Source, K: Sink>(
 ) -> (Option<Fault>, Sources<A, Option<B>>)
     requires second { IsSome sources.second }
     requires block { HoldsBlock out.old.output.took out.old.output.put }
-    ensures written { WritesBy A.left A.has_failed A.end_told B.left B.has_failed (of_maskfasta how full)
+    ensures written { WritesBy A.Source B.Source (of_maskfasta how full)
         sources.first sources.second out.old.output (option_map fault_value result.0) result.1.first result.1.second out.new.output }
     ensures second { is_some result.1.second ≡ is_some sources.second }
     ensures reads { TellsNoRead (option_map fault_value result.0)

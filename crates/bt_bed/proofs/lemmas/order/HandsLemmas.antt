@@ -1,8 +1,9 @@
 -- Lemmas on lines that were given one after another.
 use Rattle.std.proofs.Common.{◌≡◌, ℕ, suc, ◌+◌, ◌-◌, ◌^◌, ◌<◌, ◌≤◌, List, [], ◌++◌, length, take, drop, Option, Some, None, refl, sym, ap, ◌∙◌, subst, arith}
-use Rattle.std.specs.Prelude.{Bool, IfSome, option_map}
+use Rattle.std.specs.Prelude.{IfSome, option_map}
 use Rattle.std.proofs.Math.Seq.{take-append-add}
 use Rattle.std.proofs.lemmas.List.{drop-drop}
+use Rattle.bt_lines.specs.declared.device.Source.{Ghosts as Source}
 use Rattle.bt_lines.proofs.lemmas.reader.lines.ReaderLemmas.{given_drops, hands_none as none_handed, hands_both as both_handed, sound_near}
 use Rattle.bt_lines.proofs.lemmas.reader.lines.TakingLemmas.{taken_below}
 use Rattle.bt_lines.proofs.lemmas.reader.lines.TextLemmas.{bytes_in-drop, line_feeds-append, lines_are_numbered}
@@ -56,43 +57,43 @@ numbered_by n (Some bytes) = lines_are_numbered n bytes
 front_of_both : (first second : List ℕ) (n m : ℕ) → n ≡ length first + m → take n (first ++ second) ≡ first ++ take m second
 front_of_both first second n m e = rw e (take-append-add first second m)
 
-module _ {S : Type 0} (left : S → Option (List ℕ)) (end : S → Bool) where
+module _ {S : Type 0} (device : Source S) where
   -- lines were given, in some calls one after another
   pub record Passed (old now : LineReader S) : Type 0 where
-    pub lines : LinesPass left old now
+    pub lines : LinesPass device.left old now
     pub least : lines_given old ≤ lines_given now
-    pub bytes : (bytes : List ℕ) × Hands left old bytes now
-    pub sound : IsSound left end old → IsSound left end now
+    pub bytes : (bytes : List ℕ) × Hands device.left old bytes now
+    pub sound : IsSound device old → IsSound device now
 
   pub passed_none : (reader : LineReader S) → Passed reader reader
   passed_none reader = record {
-    lines = no_pass (lines_left left reader) (lines_given reader);
+    lines = no_pass (lines_left device.left reader) (lines_given reader);
     least = omega arith;
-    bytes = ([], hands_none left reader);
+    bytes = ([], hands_none device.left reader);
     sound = λ sound. sound;
   }
 
   -- the lines that are left are numbered on from those given
-  pub left_numbered : (reader : LineReader S) → IfSome (lines_left left reader) (AreNumbered (suc (lines_given reader)))
-  left_numbered reader = numbered_by (suc (lines_given reader)) (bytes_left left reader)
+  pub left_numbered : (reader : LineReader S) → IfSome (lines_left device.left reader) (AreNumbered (suc (lines_given reader)))
+  left_numbered reader = numbered_by (suc (lines_given reader)) (bytes_left device.left reader)
 
-  module _ (failed : S → Bool) (old now new : LineReader S) (p : Passed old now) where
-    pub passed_line : (line : TextLine) → GivesLine left failed now line new → (IsSound left end now → IsSound left end new) → Passed old new
+  module _ (old now new : LineReader S) (p : Passed old now) where
+    pub passed_line : (line : TextLine) → GivesLine device now line new → (IsSound device now → IsSound device new) → Passed old new
     passed_line line gives sound = record {
-      lines = pass_more (lines_left left old) (lines_left left now) (lines_left left new) (lines_given now - lines_given old) 1 (lines_given new - lines_given old) p.lines (given_drops (lines_left left now) line (lines_left left new) gives.first) (let one = gives.counted in let least = p.least in omega arith);
+      lines = pass_more (lines_left device.left old) (lines_left device.left now) (lines_left device.left new) (lines_given now - lines_given old) 1 (lines_given new - lines_given old) p.lines (given_drops (lines_left device.left now) line (lines_left device.left new) gives.first) (let one = gives.counted in let least = p.least in omega arith);
       least = let one = gives.counted in let least = p.least in omega arith;
-      bytes = (p.bytes.0 ++ gives.bytes.0, hands_both left old now new p.bytes.0 gives.bytes.0 p.bytes.1 gives.bytes.1);
+      bytes = (p.bytes.0 ++ gives.bytes.0, hands_both device.left old now new p.bytes.0 gives.bytes.0 p.bytes.1 gives.bytes.1);
       sound = λ was. sound (p.sound was);
     }
 
     -- a line couldn't be read: of known bytes, those after it are left
-    pub near_fault : (fault : FaultValue) → GivesFault left failed now fault new → fault_kept now ≡ None → IsNear left old new
+    pub near_fault : (fault : FaultValue) → GivesFault device now fault new → fault_kept now ≡ None → IsNear device.left old new
     near_fault fault gives going =
-        near_pass (lines_left left old) (lines_left left now) (left (source_of new)) (lines_given now - lines_given old) (suc (lines_given new) - lines_given now) (suc (lines_given new) - lines_given old) p.lines
+        near_pass (lines_left device.left old) (lines_left device.left now) (device.left (source_of new)) (lines_given now - lines_given old) (suc (lines_given new) - lines_given now) (suc (lines_given new) - lines_given old) p.lines
         (let same = gives.counted in let least = p.least in omega arith) (gives.near going)
 
     -- the line feeds among the bytes taken all end lines that were given
-    pub cut_fault : (fault : FaultValue) → GivesFault left failed now fault new → fault_kept now ≡ None → fault ≡ read_failed (input_of now) (suc (lines_given now)) → CutsOff left old new
+    pub cut_fault : (fault : FaultValue) → GivesFault device now fault new → fault_kept now ≡ None → fault ≡ read_failed (input_of now) (suc (lines_given now)) → CutsOff device.left old new
     cut_fault fault gives going is =
         let cut = gives.cut_off going is in
         let within : bytes_taken now < 2 ^ 63 = taken_below now going in
@@ -102,12 +103,12 @@ module _ {S : Type 0} (left : S → Option (List ℕ)) (end : S → Bool) where
         let front = front_of_both p.bytes.0 cut.bytes (2 ^ 63 - 1 - bytes_taken old) (2 ^ 63 - 1 - bytes_taken now) (omega arith) in
         record {
           bytes = p.bytes.0 ++ cut.bytes;
-          hands = hands_both left old now new p.bytes.0 cut.bytes p.bytes.1 cut.hands;
+          hands = hands_both device.left old now new p.bytes.0 cut.bytes p.bytes.1 cut.hands;
           given = rw front (omega (arith, line_feeds-append p.bytes.0 (take (2 ^ 63 - 1 - bytes_taken now) cut.bytes)));
         }
 
   -- of known bytes, those after the lines given are left, and so those after one more
-  pub near_line : (old new : LineReader S) → Passed old new → fault_kept new ≡ None → IsSound left end old → IsNear left old new
+  pub near_line : (old new : LineReader S) → Passed old new → fault_kept new ≡ None → IsSound device old → IsNear device.left old new
   near_line old new p going sound =
-      near_pass (lines_left left old) (lines_left left new) (left (source_of new)) (lines_given new - lines_given old) 1 (suc (lines_given new) - lines_given old) p.lines
-      (let least = p.least in omega arith) (near_fewer (lines_left left new) (left (source_of new)) (sound_near left end new (p.sound sound) going))
+      near_pass (lines_left device.left old) (lines_left device.left new) (device.left (source_of new)) (lines_given new - lines_given old) 1 (suc (lines_given new) - lines_given old) p.lines
+      (let least = p.least in omega arith) (near_fewer (lines_left device.left new) (device.left (source_of new)) (sound_near device new (p.sound sound) going))

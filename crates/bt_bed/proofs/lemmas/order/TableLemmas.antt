@@ -23,6 +23,7 @@ use Rattle.std.specs.Map.{keys_of}
 use Rattle.std.specs.declared.alloc.Global.{Global}
 use Rattle.std.proofs.lemmas.Iterator.Adapters.{position_from-zero}
 use Rattle.std.proofs.lemmas.Bool.{or_parts}
+use Rattle.bt_lines.specs.declared.device.Source.{Ghosts as Source}
 use Rattle.bt_lines.proofs.lemmas.reader.lines.ReaderLemmas.{not_told}
 use Rattle.indexmap.specs.IndexMap.{insert_entry}
 use Rattle.bt_bed.specs.model.order.Genome.{Entry, is_skipped, genome_names, genome_from, genome_of, new_entry, entry_of, entry_from, columns_give}
@@ -241,27 +242,27 @@ given_entries input (Some old) None from to front c = absurd c
 given_entries input (Some old) (Some now) from to front c = (front, ap (λ lines. genome_of input lines) (first_lines old c.0 now from to c.1 c.2) ∙ c.3)
 
 -- how far the reading of a genome file is: nothing was read by a reader that had a fault
-pub record Going {S : Type 0} (left : S → Option (List ℕ)) (failed end : S → Bool) (old now : LineReader S) (genome : Genome) : Type 0 where
-  pub continues : Continues (input_of old) (lines_left left old) (lines_given old) (entries genome) (lines_left left now) (lines_given now)
+pub record Going {S : Type 0} (device : Source S) (old now : LineReader S) (genome : Genome) : Type 0 where
+  pub continues : Continues (input_of old) (lines_left device.left old) (lines_given old) (entries genome) (lines_left device.left now) (lines_given now)
   pub distinct : AreDistinct (names_of genome)
   pub stays : (before : FaultValue) → fault_kept old ≡ Some before → now ≡ old
   pub going : fault_kept old ≡ None → fault_kept now ≡ None
-  pub served : failed (source_of now) ≡ failed (source_of old)
-  pub passed : Passed left end old now
+  pub served : device.has_failed (source_of now) ≡ device.has_failed (source_of old)
+  pub passed : Passed device old now
 
-module _ {S : Type 0} (left : S → Option (List ℕ)) (failed end : S → Bool) (old : LineReader S) where
-  pub going_start : (genome : Genome) → entries genome ≡ [] → Going left failed end old old genome
+module _ {S : Type 0} (device : Source S) (old : LineReader S) where
+  pub going_start : (genome : Genome) → entries genome ≡ [] → Going device old old genome
   going_start genome none = record {
-    continues = rw none (continues_start (input_of old) (lines_left left old) (lines_given old));
+    continues = rw none (continues_start (input_of old) (lines_left device.left old) (lines_given old));
     distinct = rw none tt;
     stays = λ before e. refl;
     going = λ e. e;
     served = refl;
-    passed = passed_none left end old;
+    passed = passed_none device old;
   }
 
   -- a reader that returns anything but a fault had none from the start
-  had_none : (now : LineReader S) (genome : Genome) → Going left failed end old now genome → fault_kept now ≡ None → fault_kept old ≡ None
+  had_none : (now : LineReader S) (genome : Genome) → Going device old now genome → fault_kept now ≡ None → fault_kept old ≡ None
   had_none now genome g none = by (fault_kept old) refl
     where
       by : (kept : Option FaultValue) → fault_kept old ≡ kept → kept ≡ None
@@ -273,26 +274,26 @@ module _ {S : Type 0} (left : S → Option (List ℕ)) (failed end : S → Bool)
   distinct_line : (text : List ℕ) (genome grown : Genome) → AreDistinct (names_of genome) → LineAdded text genome grown → AreDistinct (names_of grown)
   distinct_line text genome grown d added = rw added.added (distinct_more (entries genome) (entry_of text) added.entry d added.says)
 
-  both : (now next : LineReader S) → (bytes : List ℕ) × Hands left old bytes now → (bytes : List ℕ) × Hands left now bytes next → (bytes : List ℕ) × Hands left old bytes next
-  both now next h more = (h.0 ++ more.0, hands_both left old now next h.0 more.0 h.1 more.1)
+  both : (now next : LineReader S) → (bytes : List ℕ) × Hands device.left old bytes now → (bytes : List ℕ) × Hands device.left now bytes next → (bytes : List ℕ) × Hands device.left old bytes next
+  both now next h more = (h.0 ++ more.0, hands_both device.left old now next h.0 more.0 h.1 more.1)
 
-  same_input : (now : LineReader S) (genome : Genome) → Going left failed end old now genome → input_of now ≡ input_of old
+  same_input : (now : LineReader S) (genome : Genome) → Going device old now genome → input_of now ≡ input_of old
   same_input now genome g = g.passed.bytes.1.same_input
 
-  pub going_line : (now next : LineReader S) (line : TextLine) (genome grown : Genome) → Going left failed end old now genome → GivesLine left failed now line next → (IsSound left end now → IsSound left end next) → LineAdded line.text genome grown → Going left failed end old next grown
+  pub going_line : (now next : LineReader S) (line : TextLine) (genome grown : Genome) → Going device old now genome → GivesLine device now line next → (IsSound device now → IsSound device next) → LineAdded line.text genome grown → Going device old next grown
   going_line now next line genome grown g gives sound added = record {
-    continues = rw added.added (continues_line (input_of old) (lines_left left old) (lines_left left now) (lines_left left next) (lines_given old) (lines_given now) (lines_given next) (entries genome) line added.entry g.continues gives.first gives.counted added.says);
+    continues = rw added.added (continues_line (input_of old) (lines_left device.left old) (lines_left device.left now) (lines_left device.left next) (lines_given old) (lines_given now) (lines_given next) (entries genome) line added.entry g.continues gives.first gives.counted added.says);
     distinct = distinct_line line.text genome grown g.distinct added;
     stays = λ before e. let none = had_none now genome g gives.was_going.0 in cc;
     going = λ e. gives.goes;
     served = gives.served ∙ g.served;
-    passed = passed_line left end failed old now next g.passed line gives sound;
+    passed = passed_line device old now next g.passed line gives sound;
   }
 
-  pub going_end : (now new : LineReader S) (genome : Genome) → Going left failed end old now genome → GivesEnd left failed now new → ReadsAll left failed old new genome
+  pub going_end : (now new : LineReader S) (genome : Genome) → Going device old now genome → GivesEnd device now new → ReadsAll device old new genome
   going_end now new genome g gives = record {
     was_going = had_none now genome g gives.was_going;
-    is = continues_end (input_of old) (lines_left left old) (lines_left left now) (lines_given old) (lines_given now) (entries genome) g.continues gives.none_left;
+    is = continues_end (input_of old) (lines_left device.left old) (lines_left device.left now) (lines_given old) (lines_given now) (entries genome) g.continues gives.none_left;
     distinct = g.distinct;
     ended = gives.ends;
     told = gives.told;
@@ -301,13 +302,13 @@ module _ {S : Type 0} (left : S → Option (List ℕ)) (failed end : S → Bool)
     bytes = both now new g.passed.bytes (gives.bytes.0, gives.bytes.1);
   }
 
-  pub going_refused : (now next : LineReader S) (line : TextLine) (genome : Genome) (place : Place) (fault : FaultValue) → Going left failed end old now genome → GivesLine left failed now line next
-      → place ≡ record { input = input_of old; line = line.number } → LineRefused place line.text genome fault → EntryIsWrong left failed old next fault
+  pub going_refused : (now next : LineReader S) (line : TextLine) (genome : Genome) (place : Place) (fault : FaultValue) → Going device old now genome → GivesLine device now line next
+      → place ≡ record { input = input_of old; line = line.number } → LineRefused place line.text genome fault → EntryIsWrong device old next fault
   going_refused now next line genome place fault g gives at refused =
       let is : fault ≡ fault_at_line (input_of old) line.number refused.kind = refused.is ∙ ap (λ (p : Place). fault_at_line p.input p.line refused.kind) at in
       let counted : line.number ≡ lines_given next = gives.number ∙ sym gives.counted in
       record {
-        is = rw is (continues_fault (input_of old) (lines_left left old) (lines_left left now) (lines_left left next) (lines_given old) (lines_given now) (entries genome) line refused.kind g.continues gives.first refused.says);
+        is = rw is (continues_fault (input_of old) (lines_left device.left old) (lines_left device.left now) (lines_left device.left next) (lines_given old) (lines_given now) (entries genome) line refused.kind g.continues gives.first refused.says);
         kind = refused.kind;
         names = names_of genome;
         text = line.text;
@@ -318,59 +319,59 @@ module _ {S : Type 0} (left : S → Option (List ℕ)) (failed end : S → Bool)
         served = gives.served ∙ g.served;
       }
 
-  stops_by : (now new : LineReader S) (genome : Genome) (fault : FaultValue) → Going left failed end old now genome → GivesFault left failed now fault new → fault_kept now ≡ None → FailsToRead left failed now fault new ⊎ (fault ≡ no_memory) → StopCause left failed end old new fault
+  stops_by : (now new : LineReader S) (genome : Genome) (fault : FaultValue) → Going device old now genome → GivesFault device now fault new → fault_kept now ≡ None → FailsToRead device now fault new ⊎ (fault ≡ no_memory) → StopCause device old new fault
   stops_by now new genome fault g gives going (inl fails) = inr (inl (record {
     fails = record {
       is = fails.is ∙ ap (λ i. read_failed i (suc (lines_given now))) (same_input now genome g) ∙ ap (λ n. read_failed (input_of old) (suc n)) (sym gives.counted);
       cause = fails.cause;
       before_end = not_told (end_told old) (end_told now) g.passed.bytes.1.told_stays (gives.before_end going);
-      cut = λ kept. cut_fault left end failed old now new g.passed fault gives going fails.is;
+      cut = λ kept. cut_fault device old now new g.passed fault gives going fails.is;
     };
-    passed = rw gives.counted (given_entries (input_of old) (lines_left left old) (lines_left left now) (lines_given old) (lines_given now) (entries genome) g.continues);
+    passed = rw gives.counted (given_entries (input_of old) (lines_left device.left old) (lines_left device.left now) (lines_given old) (lines_given now) (entries genome) g.continues);
   }))
   stops_by now new genome fault g gives going (inr is) = inr (inr (record { is = is; served = gives.served is ∙ g.served }))
 
-  pub going_fault : (now new : LineReader S) (genome : Genome) (fault : FaultValue) → Going left failed end old now genome → GivesFault left failed now fault new → ReadingStops left failed end old new fault
+  pub going_fault : (now new : LineReader S) (genome : Genome) (fault : FaultValue) → Going device old now genome → GivesFault device now fault new → ReadingStops device old new fault
   going_fault now new genome fault g gives = record {
     again = λ before e.
         let same = g.stays before e in
         let told = gives.again before (ap fault_kept same ∙ e) in
         (told.0, told.1 ∙ same);
     first = λ none. stops_by now new genome fault g gives (g.going none) (gives.first (g.going none));
-    checked = rw gives.counted (none_wrong (input_of old) (lines_left left old) (lines_left left now) (lines_given old) (lines_given now) (entries genome) fault g.continues);
+    checked = rw gives.counted (none_wrong (input_of old) (lines_left device.left old) (lines_left device.left now) (lines_given old) (lines_given now) (entries genome) fault g.continues);
     bytes = both now new g.passed.bytes gives.bytes;
-    near = λ none sound. near_fault left end failed old now new g.passed fault gives (g.going none);
+    near = λ none sound. near_fault device old now new g.passed fault gives (g.going none);
   }
 
   -- a line was refused, or had no room
-  going_wrong : (now next : LineReader S) (line : TextLine) (genome : Genome) (place : Place) (fault : FaultValue) → Going left failed end old now genome → GivesLine left failed now line next → (IsSound left end now → IsSound left end next)
-      → place ≡ record { input = input_of old; line = line.number } → LineRefused place line.text genome fault → ReadingStops left failed end old next fault
+  going_wrong : (now next : LineReader S) (line : TextLine) (genome : Genome) (place : Place) (fault : FaultValue) → Going device old now genome → GivesLine device now line next → (IsSound device now → IsSound device next)
+      → place ≡ record { input = input_of old; line = line.number } → LineRefused place line.text genome fault → ReadingStops device old next fault
   going_wrong now next line genome place fault g gives sound at refused =
       let none = had_none now genome g gives.was_going.0 in
       let is : fault ≡ fault_at_line (input_of old) line.number refused.kind = refused.is ∙ ap (λ (p : Place). fault_at_line p.input p.line refused.kind) at in
       record {
         again = λ before e. cc;
         first = λ going. inl (going_refused now next line genome place fault g gives at refused);
-        checked = rw is (last_wrong (input_of old) (lines_left left old) (lines_left left now) (lines_left left next) (lines_given old) (lines_given now) (lines_given next) (entries genome) line refused.kind g.continues gives.first gives.counted refused.says);
+        checked = rw is (last_wrong (input_of old) (lines_left device.left old) (lines_left device.left now) (lines_left device.left next) (lines_given old) (lines_given now) (lines_given next) (entries genome) line refused.kind g.continues gives.first gives.counted refused.says);
         bytes = both now next g.passed.bytes (gives.bytes.0, gives.bytes.1);
-        near = λ none was. near_line left end old next (passed_line left end failed old now next g.passed line gives sound) gives.goes was;
+        near = λ none was. near_line device old next (passed_line device old now next g.passed line gives sound) gives.goes was;
       }
 
-  going_unkept : (now next : LineReader S) (line : TextLine) (genome : Genome) (fault : FaultValue) → Going left failed end old now genome → GivesLine left failed now line next → (IsSound left end now → IsSound left end next) → LineUnkept line.text genome fault → ReadingStops left failed end old next fault
+  going_unkept : (now next : LineReader S) (line : TextLine) (genome : Genome) (fault : FaultValue) → Going device old now genome → GivesLine device now line next → (IsSound device now → IsSound device next) → LineUnkept line.text genome fault → ReadingStops device old next fault
   going_unkept now next line genome fault g gives sound unkept =
       let none = had_none now genome g gives.was_going.0 in
-      let more = continues_line (input_of old) (lines_left left old) (lines_left left now) (lines_left left next) (lines_given old) (lines_given now) (lines_given next) (entries genome) line (Some unkept.entry) g.continues gives.first gives.counted unkept.says in
+      let more = continues_line (input_of old) (lines_left device.left old) (lines_left device.left now) (lines_left device.left next) (lines_given old) (lines_given now) (lines_given next) (entries genome) line (Some unkept.entry) g.continues gives.first gives.counted unkept.says in
       record {
         again = λ before e. cc;
         first = λ going. inr (inr (record { is = unkept.is; served = gives.served ∙ g.served }));
-        checked = none_wrong (input_of old) (lines_left left old) (lines_left left next) (lines_given old) (lines_given next) (entries genome ++ unkept.entry ∷ []) fault more;
+        checked = none_wrong (input_of old) (lines_left device.left old) (lines_left device.left next) (lines_given old) (lines_given next) (entries genome ++ unkept.entry ∷ []) fault more;
         bytes = both now next g.passed.bytes (gives.bytes.0, gives.bytes.1);
-        near = λ none was. near_line left end old next (passed_line left end failed old now next g.passed line gives sound) gives.goes was;
+        near = λ none was. near_line device old next (passed_line device old now next g.passed line gives sound) gives.goes was;
       }
 
   -- a line could not be added
-  pub going_err : (now next : LineReader S) (line : TextLine) (genome : Genome) (place : Place) (fault : FaultValue) → Going left failed end old now genome → GivesLine left failed now line next → (IsSound left end now → IsSound left end next)
-      → place ≡ record { input = input_of old; line = line.number } → LineRefused place line.text genome fault ⊎ LineUnkept line.text genome fault → ReadingStops left failed end old next fault
+  pub going_err : (now next : LineReader S) (line : TextLine) (genome : Genome) (place : Place) (fault : FaultValue) → Going device old now genome → GivesLine device now line next → (IsSound device now → IsSound device next)
+      → place ≡ record { input = input_of old; line = line.number } → LineRefused place line.text genome fault ⊎ LineUnkept line.text genome fault → ReadingStops device old next fault
   going_err now next line genome place fault g gives sound at (inl refused) = going_wrong now next line genome place fault g gives sound at refused
   going_err now next line genome place fault g gives sound at (inr unkept) = going_unkept now next line genome fault g gives sound unkept
 

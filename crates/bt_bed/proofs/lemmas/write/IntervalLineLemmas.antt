@@ -5,11 +5,10 @@ use Rattle.std.proofs.lemmas.List.{length-drop, take_all}
 use Rattle.std.specs.Result.{is_ok}
 use Rattle.bt_lines.specs.model.Fault.{write_failed}
 use Rattle.bt_lines.specs.calls.Output.{Output}
-use Rattle.bt_lines.specs.calls.Putting.{Adds, FailsToPut, Puts, PutsAll}
+use Rattle.bt_lines.specs.calls.Putting.{Adds, FailsToPut, Puts, PutsAll, span_text}
 use Rattle.bt_lines.specs.declared.fault.Fault.{Fault}
 use Rattle.bt_lines.proofs.lemmas.writer.PuttingLemmas.{line_alone}
 use Rattle.bt_bed.specs.model.feature.Interval.{Interval}
-use Rattle.bt_lines.specs.inside.Span.{span_text}
 use Rattle.bt_bed.specs.model.feature.IntervalLine.{interval_line, interval_lines}
 
 -- the name, and what follows it

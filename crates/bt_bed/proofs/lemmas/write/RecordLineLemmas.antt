@@ -3,11 +3,10 @@ use Rattle.std.proofs.Common.{◌≡◌, ℕ, ◌-◌, List, [], ◌∷◌, ◌+
 use Rattle.std.proofs.lemmas.List.{length-drop, take_at}
 use Rattle.bt_lines.specs.model.Fault.{FaultValue}
 use Rattle.bt_lines.specs.calls.Output.{Output}
-use Rattle.bt_lines.specs.calls.Putting.{FailsToPut, Puts, PutsAll}
+use Rattle.bt_lines.specs.calls.Putting.{FailsToPut, Puts, PutsAll, span_text}
 use Rattle.bt_lines.specs.declared.fault.Fault.{Fault}
 use Rattle.bt_lines.proofs.lemmas.writer.PuttingLemmas.{fails_before, puts_more}
 use Rattle.bt_bed.specs.model.feature.Feature.{Feature}
-use Rattle.bt_lines.specs.inside.Span.{span_text}
 use Rattle.bt_bed.specs.model.feature.IntervalLine.{bounds_text}
 use Rattle.bt_bed.specs.model.feature.Record.{bed_text}
 

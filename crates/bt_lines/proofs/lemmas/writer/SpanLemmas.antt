@@ -6,7 +6,7 @@ use Rattle.std.proofs.lemmas.List.{drop-set, drop_at, length-drop, take-append-l
 use Rattle.std.proofs.lemmas.Simd.{length-chunk, take_more_put_chunk}
 use Rattle.std.proofs.lemmas.Slice.{take-put_mid, take-put_mid_below}
 use Rattle.std.specs.Simd.Lanes.{chunk, put_chunk}
-use Rattle.bt_lines.specs.inside.Span.{span_text}
+use Rattle.bt_lines.specs.calls.Putting.{span_text}
 use borrow.Rule.Slice.PartMut.{put_mid}
 
 -- a number has at most twenty digits

@@ -1,5 +1,7 @@
 -- What a user sees of a run is the report.
-use Rattle.std.proofs.Common.{◌≡◌, ℕ, Bool, List, [], Option, Some, Err, sym, ap, ◌∙◌}
+use Rattle.std.proofs.Common.{◌≡◌, ℕ, List, [], Some, Err, sym, ap, ◌∙◌}
+use Rattle.bt_lines.specs.declared.device.Sink.{Ghosts as Sink}
+use Rattle.bt_lines.specs.declared.device.Source.{Ghosts as Source}
 use Rattle.bt_tool.specs.calls.run.Headline.{ShowsReport}
 use Rattle.bt_tool.specs.model.usage.Options.{options}
 use Rattle.bt_tool.specs.model.report.Report.{ReportsUsage, answer_of, report, report_of, seen_of, texts_of}
@@ -13,8 +15,8 @@ pub usage_reported : (words : List Word) (usage : Usage) → options words ≡ E
 unfolding report
 usage_reported words usage e = λ genome first second. ap (λ answer. answer_of words answer genome first second) e
 
-module _ {G A B K : Type 0} (g_left : G → Option (List ℕ)) (g_failed : G → Bool) (a_left : A → Option (List ℕ)) (a_failed a_end : A → Bool) (b_left : B → Option (List ℕ)) (b_failed : B → Bool) (k_took : K → Option (List ℕ)) (k_failed : K → Bool) where
-  pub shows_report : ShowsReport g_left g_failed a_left a_failed a_end b_left b_failed k_took k_failed
+module _ {G A B K : Type 0} (source_g : Source G) (source_a : Source A) (source_b : Source B) (sink : Sink K) where
+  pub shows_report : ShowsReport source_g source_a source_b sink
   unfolding report
   shows_report words plan genome first second out fault genome_after first_after second_after out_after genome_text first_text second_text bytes asked well =
       let inputs = texts_of plan genome_text first_text second_text in

@@ -40,11 +40,11 @@ pub returns-in-Some-clause-written : goal.returns-in-Some-clause-written
 returns-in-Some-clause-written g c =
     let names = names_of c.in-Some.genome in
     rw c.in-Some.is
-    (merge_writes (rank_order names) (ranks_total names) g.A.Source.left g.A.Source.has_failed c.args.d c.args.strand c.new-engine.result c.new-engine.ensures.begun
+    (merge_writes (rank_order names) (ranks_total names) g.A.Source c.args.d c.args.strand c.new-engine.result c.new-engine.ensures.begun
     c.args.first c.args.out.now.output (option_map fault_value c.drive.result.0) c.drive.result.1 c.drive.new.out.output c.drive.ensures.written)
 
 pub returns-in-None-clause-written : goal.returns-in-None-clause-written
 returns-in-None-clause-written g c =
     rw c.in-None.is
-    (merge_writes byte_order bytes_total g.A.Source.left g.A.Source.has_failed c.args.d c.args.strand c.new-engine.result c.new-engine.ensures.begun
+    (merge_writes byte_order bytes_total g.A.Source c.args.d c.args.strand c.new-engine.result c.new-engine.ensures.begun
     c.args.first c.args.out.now.output (option_map fault_value c.drive-in-None.result.0) c.drive-in-None.result.1 c.drive-in-None.new.out.output c.drive-in-None.ensures.written)

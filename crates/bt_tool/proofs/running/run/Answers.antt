@@ -8,7 +8,7 @@ use Rattle.bt_tool.proofs.running.run.Goals as goal
 pub returns-clause-report : goal.returns-clause-report
 returns-clause-report g c =
     let begun = c.new-out in
-    runs_by g.G.Source.left g.G.Source.has_failed g.A.Source.left g.A.Source.has_failed g.A.Source.end_told g.B.Source.left g.B.Source.has_failed g.K.Sink.took g.K.Sink.has_failed
+    runs_by g.G.Source g.A.Source g.B.Source g.K.Sink
     c.args.plan.now.command c.args.genome c.read_genome-chromosomes.result.1 c.args.first c.write_output-fault.result.1.first c.args.second c.write_output-fault.result.1.second c.args.out c.into_sink.result
     begun.result.output c.write_output-fault.new.out.output c.flushed-fault.new.out.output (ap (λ o. o.output.put) begun.ensures) (ap (λ o. o.output.took) begun.ensures) (ap (λ o. o.output.sink_has_failed) begun.ensures)
     c.into_sink.ensures.took c.into_sink.ensures.failed (option_map fault_value c.write_output-fault.result.0) (option_map fault_value c.flushed-fault.result) c.flushed-fault.ensures.ends
@@ -17,7 +17,7 @@ returns-clause-report g c =
 pub returns-clause-own_failure : goal.returns-clause-own_failure
 returns-clause-own_failure g c =
     flushed_own _ _ _ c.write_output-fault.new.out.output c.flushed-fault.new.out.output (option_map fault_value c.write_output-fault.result.0) (option_map fault_value c.flushed-fault.result) c.flushed-fault.ensures.ends
-    (all_own g.A.Source.left g.A.Source.has_failed g.A.Source.end_told g.B.Source.left g.B.Source.has_failed c.args.plan.now.command c.args.first c.args.second c.new-out.result.output (option_map fault_value c.write_output-fault.result.0) c.write_output-fault.result.1.first
+    (all_own g.A.Source g.B.Source c.args.plan.now.command c.args.first c.args.second c.new-out.result.output (option_map fault_value c.write_output-fault.result.0) c.write_output-fault.result.1.first
     c.write_output-fault.result.1.second c.write_output-fault.new.out.output _ _ _ c.read_genome-chromosomes.result.0 c.read_genome-chromosomes.ensures.own_failure c.write_output-fault.ensures.written c.write_output-fault.ensures.own_failure)
 
 pub returns-clause-reads : goal.returns-clause-reads
@@ -26,7 +26,7 @@ returns-clause-reads g c = λ no_write never.
     let none = flushed_no_read c.write_output-fault.new.out.output c.flushed-fault.new.out.output fault (option_map fault_value c.flushed-fault.result) c.flushed-fault.ensures.ends no_write never in
     let others = c.write_output-fault.ensures.reads none in (
       c.read_genome-chromosomes.ensures.reads
-          (genome_no_read g.A.Source.left g.A.Source.has_failed g.A.Source.end_told g.B.Source.left g.B.Source.has_failed c.args.plan.now.command c.args.first c.args.second c.new-out.result.output fault c.write_output-fault.result.1.first
+          (genome_no_read g.A.Source g.B.Source c.args.plan.now.command c.args.first c.args.second c.new-out.result.output fault c.write_output-fault.result.1.first
           c.write_output-fault.result.1.second c.write_output-fault.new.out.output c.read_genome-chromosomes.result.0 c.write_output-fault.ensures.written none),
       others.0,
       others.1,

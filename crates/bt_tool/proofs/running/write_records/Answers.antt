@@ -12,32 +12,32 @@ use Rattle.bt_tool.proofs.running.write_records.Goals as goal
 pub returns-in-Merge-clause-written : goal.returns-in-Merge-clause-written
 returns-in-Merge-clause-written g c =
     let done = c.merge-fault in
-    behaves_alone g.A.Source.left g.A.Source.has_failed g.A.Source.end_told g.B.Source.left g.B.Source.has_failed (Merge c.in-Merge.d c.in-Merge.strand) (option_map entries c.args.setup.now.genome.now) (λ one two. refl) (λ two lines. refl)
+    behaves_alone g.A.Source g.B.Source (Merge c.in-Merge.d c.in-Merge.strand) (option_map entries c.args.setup.now.genome.now) (λ one two. refl) (λ two lines. refl)
     _ c.in-Merge.is c.args.sources.first c.args.sources.second c.args.out.now.output (option_map fault_value done.result.0) done.result.1 done.new.out.output done.ensures.written
 
 pub returns-in-Complement-clause-written : goal.returns-in-Complement-clause-written
 returns-in-Complement-clause-written g c =
     let done = c.complement-fault in
-    behaves_alone g.A.Source.left g.A.Source.has_failed g.A.Source.end_told g.B.Source.left g.B.Source.has_failed (Complement c.in-Complement.limit) (option_map entries c.args.setup.now.genome.now) (λ one two. refl) (λ two lines. refl)
+    behaves_alone g.A.Source g.B.Source (Complement c.in-Complement.limit) (option_map entries c.args.setup.now.genome.now) (λ one two. refl) (λ two lines. refl)
     _ c.in-Complement.is c.args.sources.first c.args.sources.second c.args.out.now.output (option_map fault_value done.result.0) done.result.1 done.new.out.output done.ensures.written
 
 pub returns-in-Coverage-clause-written : goal.returns-in-Coverage-clause-written
 returns-in-Coverage-clause-written g c =
     let done = c.cover-fault in
-    behaves_alone g.A.Source.left g.A.Source.has_failed g.A.Source.end_told g.B.Source.left g.B.Source.has_failed (Coverage c.in-Coverage.zeros c.in-Coverage.strand) (option_map entries c.args.setup.now.genome.now) (λ one two. refl) (λ two lines. refl)
+    behaves_alone g.A.Source g.B.Source (Coverage c.in-Coverage.zeros c.in-Coverage.strand) (option_map entries c.args.setup.now.genome.now) (λ one two. refl) (λ two lines. refl)
     _ c.in-Coverage.is c.args.sources.first c.args.sources.second c.args.out.now.output (option_map fault_value done.result.0) done.result.1 done.new.out.output done.ensures.written
 
 pub returns-in-BamToBed-clause-written : goal.returns-in-BamToBed-clause-written
 returns-in-BamToBed-clause-written g c =
     let done = c.convert-fault in
-    behaves_alone g.A.Source.left g.A.Source.has_failed g.A.Source.end_told g.B.Source.left g.B.Source.has_failed (BamToBed c.in-BamToBed.split c.in-BamToBed.cigar) (option_map entries c.args.setup.now.genome.now) (λ one two. refl) (λ two lines. refl)
+    behaves_alone g.A.Source g.B.Source (BamToBed c.in-BamToBed.split c.in-BamToBed.cigar) (option_map entries c.args.setup.now.genome.now) (λ one two. refl) (λ two lines. refl)
     _ c.in-BamToBed.is c.args.sources.first c.args.sources.second c.args.out.now.output (option_map fault_value done.result.0) done.result.1 done.new.out.output done.ensures.written
 
 pub returns-in-Subtract-clause-written : goal.returns-in-Subtract-clause-written
 returns-in-Subtract-clause-written g c =
     let swept = c.sweep_both-in-Subtract in
     rw c.in-Subtract.is
-    (subtract_writes g.A.Source.left g.A.Source.has_failed g.A.Source.end_told g.B.Source.left g.B.Source.has_failed (order_of (option_map entries c.args.setup.now.genome.now)) c.in-Subtract.whole c.in-Subtract.rule c.in-Subtract.limit c.args.sources.first c.args.sources.second c.args.out.now.output
+    (subtract_writes g.A.Source g.B.Source (order_of (option_map entries c.args.setup.now.genome.now)) c.in-Subtract.whole c.in-Subtract.rule c.in-Subtract.limit c.args.sources.first c.args.sources.second c.args.out.now.output
     (option_map fault_value swept.result.0) swept.result.1.first swept.result.1.second swept.new.out.output (rw c.shape_left-shape.ensures at swept.ensures.written))
 
 pub returns-in-Merge-clause-own_failure : goal.returns-in-Merge-clause-own_failure

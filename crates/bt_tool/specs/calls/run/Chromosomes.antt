@@ -1,6 +1,7 @@
 -- What reading the genome file of a run does, if it has one.
-use Rattle.std.specs.Prelude.{◌≡◌, ◌≢◌, ℕ, ◌⊎◌, Bool, List, Option, Some, Ok, Err, Result, is_some}
+use Rattle.std.specs.Prelude.{◌≡◌, ◌≢◌, ◌⊎◌, Option, Some, Ok, Err, Result, is_some}
 use Rattle.std.specs.Prelude.{IfSome, option_map}
+use Rattle.bt_lines.specs.declared.device.Source.{Ghosts as Source}
 use Rattle.bt_lines.specs.model.Fault.{FaultValue, no_memory, write_failed}
 use Rattle.bt_lines.specs.model.Handed.{Handed}
 use Rattle.bt_lines.specs.calls.Names.{fault_value}
@@ -19,26 +20,25 @@ use Rattle.bt_tool.specs.model.report.Report.{chromosomes_of}
 use Rattle.bt_tool.specs.calls.run.Writing.{WritesBy}
 use Rattle.bt_tool.specs.declared.planning.plan_type.Command.{Command}
 
-module _ {G : Type 0} (left : G → Option (List ℕ)) (failed : G → Bool) where
+module _ {G : Type 0} (device : Source G) where
   -- the chromosomes were read
   pub record KnowsChromosomes (before after : Option G) (table : Option Genome) : Type 0 where
-    pub whole : (handed : Option Handed) → ReadsIf left failed before after handed
+    pub whole : (handed : Option Handed) → ReadsIf device before after handed
         → chromosomes_of handed ≡ Ok (option_map entries table)
-    pub told : (handed : Option Handed) → HoldsIf left before handed
+    pub told : (handed : Option Handed) → HoldsIf device.left before handed
         → chromosomes_of handed ≡ Ok (option_map entries table)
     -- there are some exactly if there is a file
     pub named : is_some table ≡ is_some before
     pub distinct : IfSome table (λ table. AreDistinct (names_of table))
-    pub served : ServesIf failed before after
+    pub served : ServesIf device.has_failed before after
 
   -- the genome file is at fault, or couldn't be read
   pub record LacksChromosomes (before after : Option G) (fault : FaultValue) : Type 0 where
-    pub whole : (handed : Option Handed) → ReadsIf left failed before after handed
-        → fault ≢ no_memory
+    pub whole : (handed : Option Handed) → ReadsIf device before after handed → fault ≢ no_memory
         → chromosomes_of handed ≡ Err fault
-    pub told : (handed : Option Handed) → HoldsIf left before handed → IsOfInput (Some fault)
+    pub told : (handed : Option Handed) → HoldsIf device.left before handed → IsOfInput (Some fault)
         → chromosomes_of handed ≡ Err fault
-    pub named : TellsInputIf left failed (IsOneOf is_genome_kind) FromGenome before after fault
+    pub named : TellsInputIf device (IsOneOf is_genome_kind) FromGenome before after fault
         ⊎ (fault ≡ no_memory)
     pub no_write : fault ≢ write_failed
 
@@ -55,14 +55,12 @@ pub record StopsAtGenome {A B : Type 0} (first : A) (second : Option B) (out : O
   pub other_untouched : second_after ≡ second
   pub unchanged : grown ≡ out
 
-module _ {A B : Type 0} (a_left : A → Option (List ℕ)) (a_failed a_end : A → Bool)
-    (b_left : B → Option (List ℕ)) (b_failed : B → Bool) where
+module _ {A B : Type 0} (source_a : Source A) (source_b : Source B) where
   -- the output was written by the chromosomes that were read, or the run ended with their fault
   abbrev pub WritesOutput : Command → Result (Option Genome) Fault → A → Option B → Output
       → Option FaultValue → A → Option B → Output → Type 0
   WritesOutput command (Ok table) first second out fault first_after second_after grown =
-      WritesBy a_left a_failed a_end b_left b_failed
-      (behaviour_of command (option_map entries table)) first second out fault first_after
-      second_after grown
+      WritesBy source_a source_b (behaviour_of command (option_map entries table))
+      first second out fault first_after second_after grown
   WritesOutput command (Err genome_fault) first second out fault first_after second_after grown =
       StopsAtGenome first second out (fault_value genome_fault) fault first_after second_after grown

@@ -2,6 +2,7 @@
 use Rattle.std.specs.Prelude.{◌≡◌, ◌≢◌, ℕ, ◌+◌, ◌-◌, ◌^◌, ◌≤◌, ◌⊎◌, Bool, true, List, ◌++◌, length}
 use Rattle.std.specs.Prelude.{false, take, Option, Some, None, IfSome}
 use Rattle.std.specs.Io.KnownBytes.{Consumes}
+use Rattle.bt_lines.specs.declared.device.Source.{Ghosts as Source}
 use Rattle.bt_lines.specs.model.Fault.{FaultValue, read_failed, no_memory, write_failed}
 use Rattle.bt_lines.specs.model.Lines.{TextLine, bytes_in, text_lines}
 use Rattle.bt_lines.specs.calls.Output.{Output, block_size}
@@ -29,24 +30,24 @@ pub record TellsLine (Kinds : Kind → Type 0) (input : Input) (fault : FaultVal
 
 -- a failed read, reported only if the source has failed or handed over too many bytes (of unknown
 -- bytes that can't be said)
-pub record TellsRead {S : Type 0} (left : S → Option (List ℕ)) (failed : S → Bool) (input : Input)
+pub record TellsRead {S : Type 0} (device : Source S) (input : Input)
     (before after : S) (fault : FaultValue) : Type 0 where
   pub line : ℕ
   pub is : fault ≡ read_failed input line
-  pub cause : (failed after ≡ true) ⊎ PassesBound (left before) (left after)
+  pub cause : (device.has_failed after ≡ true) ⊎ PassesBound (device.left before) (device.left after)
 
 -- a fault of an input: of a line, or of reading it
-abbrev pub TellsInput : {S : Type 0} → (S → Option (List ℕ)) → (S → Bool) → (Kind → Type 0) → Input
+abbrev pub TellsInput : {S : Type 0} → Source S → (Kind → Type 0) → Input
     → S → S → FaultValue → Type 0
-TellsInput left failed Kinds input before after fault =
-    TellsLine Kinds input fault ⊎ TellsRead left failed input before after fault
+TellsInput device Kinds input before after fault =
+    TellsLine Kinds input fault ⊎ TellsRead device input before after fault
 
 -- the same of an input that may not be there
-abbrev pub TellsInputIf : {S : Type 0} → (S → Option (List ℕ)) → (S → Bool) → (Kind → Type 0)
+abbrev pub TellsInputIf : {S : Type 0} → Source S → (Kind → Type 0)
     → Input → Option S → Option S → FaultValue → Type 0
-TellsInputIf left failed Kinds input (Some before) (Some after) fault =
-    TellsInput left failed Kinds input before after fault
-TellsInputIf left failed Kinds input _ _ fault = ⊥
+TellsInputIf device Kinds input (Some before) (Some after) fault =
+    TellsInput device Kinds input before after fault
+TellsInputIf device Kinds input _ _ fault = ⊥
 
 -- a fault of the output, reported only if the sink failed, or of memory
 abbrev pub TellsDevice : Bool → FaultValue → Type 0

@@ -1,6 +1,8 @@
 -- What a run gives, by what its inputs hand over.
 use Rattle.std.specs.Prelude.{◌≡◌, ◌≢◌, ℕ, ◌+◌, ◌⊎◌, Bool, true, false, List, ◌++◌, Option, Some}
 use Rattle.std.specs.Prelude.{None, Err, is_some, take}
+use Rattle.bt_lines.specs.declared.device.Sink.{Ghosts as Sink}
+use Rattle.bt_lines.specs.declared.device.Source.{Ghosts as Source}
 use Rattle.bt_lines.specs.model.Fault.{FaultValue, no_memory, write_failed}
 use Rattle.bt_lines.specs.calls.Output.{block_size}
 use Rattle.bt_lines.specs.model.Handed.{Handed}
@@ -28,23 +30,22 @@ abbrev pub lies_in_genome : Option Place → Bool
 lies_in_genome None = false
 lies_in_genome (Some place) = is_of_genome place.input
 
-module _ {G A B K : Type 0} (g_left : G → Option (List ℕ)) (g_failed : G → Bool)
-    (a_left : A → Option (List ℕ)) (a_failed a_end : A → Bool) (b_left : B → Option (List ℕ))
-    (b_failed : B → Bool) (k_took : K → Option (List ℕ)) (k_failed : K → Bool) where
+module _ {G A B K : Type 0} (source_g : Source G) (source_a : Source A) (source_b : Source B)
+    (sink : Sink K) where
   -- this came of the inputs, all of which worked before the run
   pub record ReadsInputs (genome : Option G) (first : A) (second : Option B)
       (genome_after : Option G) (first_after : A) (second_after : Option B)
       (inputs : Inputs) : Type 0 where
-    pub genome_file : ReadsIf g_left g_failed genome genome_after inputs.genome
-    pub first_input : Reads a_left a_failed first first_after inputs.first
-    pub second_input : ReadsIf b_left b_failed second second_after inputs.second
+    pub genome_file : ReadsIf source_g genome genome_after inputs.genome
+    pub first_input : Reads source_a first first_after inputs.first
+    pub second_input : ReadsIf source_b second second_after inputs.second
 
   -- these are the whole texts of the inputs, what they never hand over included
   pub record HoldInputs (genome : Option G) (first : A) (second : Option B)
       (inputs : Inputs) : Type 0 where
-    pub genome_file : HoldsIf g_left genome inputs.genome
-    pub first_input : Holds a_left first inputs.first
-    pub second_input : HoldsIf b_left second inputs.second
+    pub genome_file : HoldsIf source_g.left genome inputs.genome
+    pub first_input : Holds source_a.left first inputs.first
+    pub second_input : HoldsIf source_b.left second inputs.second
 
   -- A fault of an input other than the genome file, of a kind that a line of it can have. With a
   -- genome file that is by some list of its chromosomes, and without one in the order of the names'
@@ -53,9 +54,9 @@ module _ {G A B K : Type 0} (g_left : G → Option (List ℕ)) (g_failed : G →
       (second second_after : Option B) (told : FaultValue) : Type 0 where
     pub chromosomes : Option (List Entry)
     pub named : is_some chromosomes ≡ is_some genome
-    pub tells : TellsInput a_left a_failed (behaviour_of command chromosomes).FirstKinds First
+    pub tells : TellsInput source_a (behaviour_of command chromosomes).FirstKinds First
         first first_after told
-        ⊎ TellsInputIf b_left b_failed (behaviour_of command chromosomes).SecondKinds Second
+        ⊎ TellsInputIf source_b (behaviour_of command chromosomes).SecondKinds Second
         second second_after told
 
   -- a run of a command
@@ -67,21 +68,21 @@ module _ {G A B K : Type 0} (g_left : G → Option (List ℕ)) (g_failed : G →
     -- read failed or an input passes 2^63 - 1 bytes.
     pub whole : (inputs : Inputs) (before : List ℕ)
         → ReadsInputs genome first second genome_after first_after second_after inputs
-        → k_took out ≡ Some before → k_failed out_after ≡ false → fault ≢ Some no_memory
+        → sink.took out ≡ Some before → sink.has_failed out_after ≡ false → fault ≢ Some no_memory
         → (fault ≡ (report_of command inputs).fault)
-        × (k_took out_after ≡ Some (before ++ (report_of command inputs).output))
+        × (sink.took out_after ≡ Some (before ++ (report_of command inputs).output))
     -- The devices tell their bytes, whether they fail or not. If the run ends without a
     -- fault, or tells a line's, that fault and the bytes written are
     -- those of the report on the whole texts.
     pub told : (inputs : Inputs) (before : List ℕ) → HoldInputs genome first second inputs
-        → k_took out ≡ Some before → IsOfInput fault
+        → sink.took out ≡ Some before → IsOfInput fault
         → (fault ≡ (report_of command inputs).fault)
-        × (k_took out_after ≡ Some (before ++ (report_of command inputs).output))
+        × (sink.took out_after ≡ Some (before ++ (report_of command inputs).output))
     -- Whatever read, write or growth fails of such devices, what was written is a prefix of the
     -- report's output for the whole texts, what wasn't handed over of them included.
     pub front : (inputs : Inputs) (before : List ℕ) → HoldInputs genome first second inputs
-        → k_took out ≡ Some before
-        → (front : List ℕ) × (rest : List ℕ) × (k_took out_after ≡ Some (before ++ front))
+        → sink.took out ≡ Some before
+        → (front : List ℕ) × (rest : List ℕ) × (sink.took out_after ≡ Some (before ++ front))
         × ((report_of command inputs).output ≡ front ++ rest)
     -- However the run ends, if the devices tell their bytes, there is an n. The first input handed over at
     -- most its first n lines and a block. What its first n - 1 lines settle was written, except at
@@ -90,20 +91,22 @@ module _ {G A B K : Type 0} (g_left : G → Option (List ℕ)) (g_failed : G →
     -- second handed over at most what those n lines need and a block. So if it handed over more, n is
     -- past the last line, and all lines of the first input were settled.
     pub near : (inputs : Inputs) (before : List ℕ) → HoldInputs genome first second inputs
-        → k_took out ≡ Some before
-        → ReadsNoFurther (λ n. IsWithin (a_end first_after) inputs.first.text n
-        → HandsUpToIf b_left (reaches_on command (chromosomes_of inputs.genome) inputs.second
+        → sink.took out ≡ Some before
+        → ReadsNoFurther (λ n. IsWithin (source_a.end_told first_after) inputs.first.text n
+        → HandsUpToIf source_b.left (reaches_on command (chromosomes_of inputs.genome) inputs.second
         (take n (text_lines inputs.first.text)) + block_size) second second_after)
         (settles_on command (chromosomes_of inputs.genome) inputs.second) inputs.first.text
-        (a_left first_after) before (k_took out_after) (fault ≡ Some write_failed)
-        (IsFaultButWrite fault) (k_took out_after)
+        (source_a.left first_after) before (sink.took out_after) (fault ≡ Some write_failed)
+        (IsFaultButWrite fault) (sink.took out_after)
     -- Whatever the devices do, known or not: a run that ends without a fault has met no failure of
     -- a device that it used. So a failed read or write never ends with status 0.
     pub served : fault ≡ None
-        → (ServesIf g_failed genome genome_after × ServesIf b_failed second second_after)
-        × ((a_failed first_after ≡ a_failed first) × (k_failed out_after ≡ k_failed out))
+        → (ServesIf source_g.has_failed genome genome_after
+        × ServesIf source_b.has_failed second second_after)
+        × ((source_a.has_failed first_after ≡ source_a.has_failed first)
+        × (sink.has_failed out_after ≡ sink.has_failed out))
     -- If the genome file's text is at fault no other input was touched, whatever else failed.
-    pub after_genome : (file : Option Handed) → HoldsIf g_left genome file → (wrong : FaultValue)
+    pub after_genome : (file : Option Handed) → HoldsIf source_g.left genome file → (wrong : FaultValue)
         → chromosomes_of file ≡ Err wrong
         → (first_after ≡ first) × (second_after ≡ second)
     -- Nor was it after a fault that is reported of the genome file, whatever the devices do.
@@ -115,6 +118,6 @@ module _ {G A B K : Type 0} (g_left : G → Option (List ℕ)) (g_failed : G →
     -- memory. That a failed read is of this run, whatever its source did before, `run` says beside
     -- this, by `TellsOwnReads` of `OwnReads`.
     pub named : (told : FaultValue) → fault ≡ Some told
-        → (TellsInputIf g_left g_failed (IsOneOf is_genome_kind) Genome genome genome_after told
+        → (TellsInputIf source_g (IsOneOf is_genome_kind) Genome genome genome_after told
         ⊎ TellsOther command genome first first_after second second_after told)
-        ⊎ TellsDevice (k_failed out_after) told
+        ⊎ TellsDevice (sink.has_failed out_after) told

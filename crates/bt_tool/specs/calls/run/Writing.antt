@@ -1,6 +1,7 @@
 -- What a command does with its inputs, by what they hand over; the second may not be there.
-use Rattle.std.specs.Prelude.{◌≡◌, ◌≢◌, ℕ, ◌+◌, ◌⊎◌, Bool, true, List, [], ◌++◌, take, Option, Some}
+use Rattle.std.specs.Prelude.{◌≡◌, ◌≢◌, ℕ, ◌+◌, ◌⊎◌, true, List, [], ◌++◌, take, Option, Some}
 use Rattle.std.specs.Prelude.{None}
+use Rattle.bt_lines.specs.declared.device.Source.{Ghosts as Source}
 use Rattle.bt_lines.specs.model.Fault.{FaultValue, no_memory, write_failed}
 use Rattle.bt_lines.specs.model.Handed.{Handed}
 use Rattle.bt_lines.specs.model.Lines.{text_lines}
@@ -14,61 +15,60 @@ use Rattle.bt_tool.specs.calls.run.FaultSource.{IsFaultButWrite, IsOfInput, IsRe
 use Rattle.bt_tool.specs.calls.run.FaultSource.{TellsDevice, TellsInput, TellsInputIf}
 use Rattle.bt_tool.specs.model.report.Written.{Written}
 
-module _ {A B : Type 0} (a_left : A → Option (List ℕ)) (a_failed a_end : A → Bool)
-    (b_left : B → Option (List ℕ)) (b_failed : B → Bool) (behaviour : Behaviour) where
+module _ {A B : Type 0} (source_a : Source A) (source_b : Source B) (behaviour : Behaviour) where
   -- the inputs were read, and what they make a command write was written:
   -- the report on what they hand over
   pub record WritesBy (first : A) (second : Option B) (out : Output) (fault : Option FaultValue)
       (first_after : A) (second_after : Option B) (grown : Output) : Type 0 where
     -- no write and no growth failed: the report on what was handed over, also if a read failed
     pub whole : (one : Handed) (two : Option Handed) (before : List ℕ)
-        → Reads a_left a_failed first first_after one
-        → ReadsIf b_left b_failed second second_after two → out.put ≡ Some before
+        → Reads source_a first first_after one
+        → ReadsIf source_b second second_after two → out.put ≡ Some before
         → fault ≢ Some write_failed → fault ≢ Some no_memory
         → IsReported (behaviour.report one two) before fault grown
     -- no device's fault is reported: the report on the whole texts
-    pub told : (one : Handed) (two : Option Handed) (before : List ℕ) → Holds a_left first one
-        → HoldsIf b_left second two
+    pub told : (one : Handed) (two : Option Handed) (before : List ℕ) → Holds source_a.left first one
+        → HoldsIf source_b.left second two
         → out.put ≡ Some before → IsOfInput fault → IsReported (behaviour.report one two) before fault grown
     -- if a write failed: the sink took a prefix of the report's output
     pub cut : fault ≡ Some write_failed → (one : Handed) (two : Option Handed) (before : List ℕ)
-        → Holds a_left first one
-        → HoldsIf b_left second two → out.put ≡ Some before → (front : List ℕ) × (rest : List ℕ)
+        → Holds source_a.left first one
+        → HoldsIf source_b.left second two → out.put ≡ Some before → (front : List ℕ) × (rest : List ℕ)
         × ((behaviour.report one two).output ≡ front ++ rest)
         × IsPrefixOf grown.took (Some (before ++ front)) []
     -- whatever else fails: a prefix of the report's output was put
     pub kept : fault ≢ Some write_failed → (one : Handed) (two : Option Handed) (before : List ℕ)
-        → Holds a_left first one
-        → HoldsIf b_left second two → out.put ≡ Some before → (front : List ℕ) × (rest : List ℕ)
+        → Holds source_a.left first one
+        → HoldsIf source_b.left second two → out.put ≡ Some before → (front : List ℕ) × (rest : List ℕ)
         × ((behaviour.report one two).output ≡ front ++ rest) × (grown.put ≡ Some (before ++ front))
     pub grows : Grows out.took grown.took
     -- without a fault no device failed, known or not
     pub served : fault ≡ None
-        → ((a_failed first_after ≡ a_failed first) × ServesIf b_failed second second_after)
+        → ((source_a.has_failed first_after ≡ source_a.has_failed first)
+        × ServesIf source_b.has_failed second second_after)
         × (grown.sink_has_failed ≡ out.sink_has_failed)
     -- how far the inputs were read, whatever happened
-    pub near : (one : Handed) (two : Option Handed) (before taken : List ℕ) → Holds a_left first one
-        → HoldsIf b_left second two
+    pub near : (one : Handed) (two : Option Handed) (before taken : List ℕ) → Holds source_a.left first one
+        → HoldsIf source_b.left second two
         → out.put ≡ Some before → out.took ≡ Some taken
-        → ReadsNoFurther (λ n. IsWithin (a_end first_after) one.text n
-        → HandsUpToIf b_left (behaviour.reaches two (take n (text_lines one.text)) + block_size)
+        → ReadsNoFurther (λ n. IsWithin (source_a.end_told first_after) one.text n
+        → HandsUpToIf source_b.left (behaviour.reaches two (take n (text_lines one.text)) + block_size)
         second second_after)
-        (behaviour.settles two) one.text (a_left first_after) before grown.took
+        (behaviour.settles two) one.text (source_a.left first_after) before grown.took
         (grown.has_failed ≡ true) (IsFaultButWrite fault) grown.put
     -- what the fault may be, whatever the devices do
     pub named : (told : FaultValue) → fault ≡ Some told
-        → (TellsInput a_left a_failed behaviour.FirstKinds First first first_after told
-        ⊎ TellsInputIf b_left b_failed behaviour.SecondKinds Second second second_after told)
+        → (TellsInput source_a behaviour.FirstKinds First first first_after told
+        ⊎ TellsInputIf source_b behaviour.SecondKinds Second second second_after told)
         ⊎ TellsDevice grown.sink_has_failed told
 
 -- the same of one input
-abbrev pub WritesAlone : {A : Type 0} → (A → Option (List ℕ)) → (A → Bool) → Behaviour → A → Output
+abbrev pub WritesAlone : {A : Type 0} → Source A → Behaviour → A → Output
     → Option FaultValue → A → Output → Type 0
-WritesAlone left failed behaviour first out fault new grown =
-    WritesBy left failed (λ source. true) left failed behaviour first None out fault new None grown
+WritesAlone device behaviour first out fault new grown =
+    WritesBy device device behaviour first None out fault new None grown
 
 -- the records of an input were read, in an order of their chromosomes
-abbrev pub WritesRecords : {A : Type 0} → (A → Option (List ℕ)) → (A → Bool) → Written Feature
-    → Order
+abbrev pub WritesRecords : {A : Type 0} → Source A → Written Feature → Order
     → A → Output → Option FaultValue → A → Output → Type 0
-WritesRecords left failed written order = WritesAlone left failed (of_records order written)
+WritesRecords device written order = WritesAlone device (of_records order written)

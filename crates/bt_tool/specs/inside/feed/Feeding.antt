@@ -1,6 +1,6 @@
 -- What feeding an engine with the members of a reader does to the devices.
-use Rattle.std.specs.Prelude.{◌≡◌, ◌≢◌, ℕ, ◌+◌, ◌^◌, ◌<◌, ◌≤◌, ◌⊎◌, Bool, true, List, [], ◌++◌}
-use Rattle.std.specs.Prelude.{length, Option, Some, None, Result, Ok, Err, IfSome}
+use Rattle.std.specs.Prelude.{◌≡◌, ◌≢◌, ℕ, ◌+◌, ◌^◌, ◌<◌, ◌≤◌, ◌⊎◌, true, List, [], ◌++◌}
+use Rattle.std.specs.Prelude.{length, Some, None, Result, Ok, Err, IfSome}
 use Rattle.bt_lines.specs.declared.device.Source.{Ghosts as Source}
 use Rattle.bt_lines.specs.model.Fault.{FaultValue, write_failed}
 use Rattle.bt_lines.specs.calls.Names.{fault_value}
@@ -57,14 +57,14 @@ pub record TookButBlock (old : Output) (bytes : List ℕ) (new : Output) : Type 
   pub put : (new.has_failed ≡ true) ⊎ ((before : List ℕ) → old.put ≡ Some before
       → IsPutTo (length (before ++ bytes)) new.put)
 
-module _ {S A State : Type 0} (left : S → Option (List ℕ)) (end : S → Bool) where
+module _ {S A State : Type 0} (device : Source S) where
   -- a reader of members that has given nothing yet
   pub record IsFresh (reader : MemberReader S A State) : Type 0 where
     pub none_given : (lines_given reader.below ≡ 0) × (bytes_taken reader.below ≡ 0)
         × (feeds_taken reader.below ≡ 0)
     pub none_buffered : reader.buffered ≡ []
     pub going : reader.fault ≡ None
-    pub sound : IsSound left end reader.below
+    pub sound : IsSound device reader.below
 
 module _ {S A State : Type 0} (settled : List A → List ℕ) (Kinds : Kind → Type 0)
     (Sorted : List A → Type 0) (device : Source S) where

@@ -61,28 +61,28 @@ module _ {S A State : Type 0} (device : Source S) where
   -- the reader has a member buffered
   pub record IsFilled (old new : MemberReader S A State) : Type 0 where
     pub m : Member A
-    pub gives : GivesMember device.left device.has_failed old m new
-    pub kept : IsKept device.left device.end_told old.below → IsKept device.left device.end_told new.below
+    pub gives : GivesMember device old m new
+    pub kept : IsKept device old.below → IsKept device new.below
     pub clear : new.fault ≡ None → line_fault new.below ≡ None
 
   -- members that were buffered are taken
   pub record HasTaken (old : MemberReader S A State) (taken : List A)
       (new : MemberReader S A State) : Type 0 where
-    pub takes : Takes device.left device.end_told old taken new
+    pub takes : Takes device old taken new
     pub clear : new.fault ≡ None → line_fault new.below ≡ None
     pub ahead : AheadComes new
 
   -- it has given all members
   pub record IsOver (old new : MemberReader S A State) : Type 0 where
-    pub ends : EndsMembers device.left device.has_failed old new
-    pub kept : IsKept device.left device.end_told old.below → IsKept device.left device.end_told new.below
+    pub ends : EndsMembers device old new
+    pub kept : IsKept device old.below → IsKept device new.below
     pub clear : new.fault ≡ None → line_fault new.below ≡ None
 
   -- it reports a fault
   pub record IsStopped (old : MemberReader S A State) (fault : FaultValue)
       (new : MemberReader S A State) : Type 0 where
-    pub answers : AnswersFault device.left device.has_failed device.end_told old fault new
-    pub kept : IsKept device.left device.end_told old.below → IsKept device.left device.end_told new.below
+    pub answers : AnswersFault device old fault new
+    pub kept : IsKept device old.below → IsKept device new.below
 
   module _ (old : MemberReader S A State) where
     -- these members were consumed, and more may be buffered
@@ -98,7 +98,7 @@ module _ {S A State : Type 0} (device : Source S) where
           (λ lines. lines_left device.left now.below ≡ Some (drop (lines_given now.below) lines))
       pub going : now.fault ≡ None
       pub clear : line_fault now.below ≡ None
-      pub kept : IsKept device.left device.end_told now.below
+      pub kept : IsKept device now.below
       pub served : device.has_failed (source_of now.below) ≡ device.has_failed (source_of old.below)
       pub ahead : IsSome (good_coming device.left old) → AheadComes now
       -- of known bytes, those after the lines given and one more line are left, except at most a block

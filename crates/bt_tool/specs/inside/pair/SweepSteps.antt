@@ -53,8 +53,7 @@ module _ {A B O : Type 0} {g : Ghosts O} (source_a : Source A) (source_b : Sourc
       (grown : Output) : Type 0 where
     pub wants : want_in sweep ≡ WantA
     pub answer : Bool
-    pub fills : FillsRecords source_a.left source_a.has_failed source_a.end_told source_a.is_read
-        first (Ok answer) new
+    pub fills : FillsRecords source_a first (Ok answer) new
     pub ends : EndsFirst answer swept
     pub same_second : new_second ≡ second
     pub same_output : grown ≡ out
@@ -63,7 +62,7 @@ module _ {A B O : Type 0} {g : Ghosts O} (source_a : Source A) (source_b : Sourc
       (grown : Output) : Type 0 where
     pub wants : want_in sweep ≡ WantB
     pub answer : Bool
-    pub fills : FillsRecords source_b.left source_b.has_failed source_b.end_told source_b.is_read
+    pub fills : FillsRecords source_b
         second (Ok answer) new
     pub ends : EndsSecond answer swept grown
     pub same_first : new_first ≡ first
@@ -80,15 +79,14 @@ module _ {A B O : Type 0} {g : Ghosts O} (source_a : Source A) (source_b : Sourc
   pub record StopsFirst (fault : Fault) (new : Records A O g) (new_second : Records B O g)
       (grown : Output) : Type 0 where
     pub wants : want_in sweep ≡ WantA
-    pub fills : FillsRecords source_a.left source_a.has_failed source_a.end_told source_a.is_read
-        first (Err fault) new
+    pub fills : FillsRecords source_a first (Err fault) new
     pub same_second : new_second ≡ second
     pub same_output : grown ≡ out
 
   pub record StopsSecond (fault : Fault) (new_first : Records A O g) (new : Records B O g)
       (grown : Output) : Type 0 where
     pub wants : want_in sweep ≡ WantB
-    pub fills : FillsRecords source_b.left source_b.has_failed source_b.end_told source_b.is_read
+    pub fills : FillsRecords source_b
         second (Err fault) new
     pub same_first : new_first ≡ first
     pub same_output : grown ≡ out
@@ -97,7 +95,7 @@ module _ {A B O : Type 0} {g : Ghosts O} (source_a : Source A) (source_b : Sourc
   pub record FailsAtEnd (fault : Fault) (new_first : Records A O g) (new : Records B O g)
       (grown : Output) : Type 0 where
     pub wants : want_in sweep ≡ WantB
-    pub fills : FillsRecords source_b.left source_b.has_failed source_b.end_told source_b.is_read
+    pub fills : FillsRecords source_b
         second (Ok false) new
     pub same_first : new_first ≡ first
     pub fails : (config : SweepConfig) (stage : Stage) (a : Feature)

@@ -2,6 +2,7 @@
 use Rattle.std.specs.Prelude.{◌≡◌, ℕ, ◌-◌, ◌^◌, ◌≤◌, Bool, true, false, ⊤, List, [], length}
 use Rattle.std.specs.Prelude.{nat_le, take, Option, Some, None, unwrap_or}
 use Rattle.std.specs.Io.KnownBytes.{Consumes}
+use Rattle.bt_lines.specs.declared.device.Source.{Ghosts as Source}
 use Rattle.bt_lines.specs.model.Handed.{Handed, whole_text}
 
 -- what came of each input; one that the plan doesn't have is `None`
@@ -39,15 +40,15 @@ abbrev pub handed_by : Bool → Bool → List ℕ → List ℕ → Handed
 handed_by false false text bytes = whole_text text
 handed_by _ _ text bytes = record { text = take (2 ^ 63 - 1) bytes; is_cut = true }
 
-module _ {S : Type 0} (left : S → Option (List ℕ)) (failed : S → Bool) where
+module _ {S : Type 0} (device : Source S) where
   -- the source told its bytes and worked before the run, and in it this came of its text
   pub record Reads (before after : S) (handed : Handed) : Type 0 where
     pub text : List ℕ
-    pub known : left before ≡ Some text
-    pub worked : failed before ≡ false
+    pub known : device.left before ≡ Some text
+    pub worked : device.has_failed before ≡ false
     pub bytes : List ℕ
-    pub consumed : Consumes (left before) (left after) bytes
-    pub is : handed ≡ handed_by (failed after) (nat_le (2 ^ 63) (length bytes)) text bytes
+    pub consumed : Consumes (device.left before) (device.left after) bytes
+    pub is : handed ≡ handed_by (device.has_failed after) (nat_le (2 ^ 63) (length bytes)) text bytes
 
   -- the same of an input that may not be there
   abbrev pub ReadsIf : Option S → Option S → Option Handed → Type 0

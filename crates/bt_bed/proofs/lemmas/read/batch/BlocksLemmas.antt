@@ -1,6 +1,7 @@
 -- Lemmas on the reader of records in blocks.
 use Rattle.std.proofs.Common.{◌≡◌, ℕ, suc, Bool, true, false, List, [], ◌∷◌, Option, Some, None, Ok, Err, take, refl, sym, ap, ◌∙◌, subst}
 use Rattle.std.specs.Prelude.{IfSome, IfNone, Result, option_map}
+use Rattle.bt_lines.specs.declared.device.Source.{Ghosts as Source}
 use Rattle.bt_lines.specs.calls.Reader.{lines_given}
 use Rattle.bt_lines.specs.declared.fault.Fault.{Fault}
 use Rattle.bt_bed.proofs.lemmas.laws.GoodBedLemmas.{line_said}
@@ -19,8 +20,8 @@ use Rattle.bt_bed.specs.model.order.Sorting.{block_sorting}
 use Rattle.bt_bed.specs.declared.record.bed.BedRef.{BedRef}
 use Rattle.bt_bed.specs.declared.read.blocks.Blocks.{Blocks}
 
-module _ {S : Type 0} (left : S → Option (List ℕ)) (failed end : S → Bool) where
-  given : (old new : Blocks S) (m : Member Feature) → GivesMember left failed (view_of old) m (view_of new) → GivesRecord left failed old m.item new
+module _ {S : Type 0} (device : Source S) where
+  given : (old new : Blocks S) (m : Member Feature) → GivesMember device (view_of old) m (view_of new) → GivesRecord device old m.item new
   unfolding view_of view_with
   given old new m gives =
       let said = line_said block_sorting (view_of old).state gives.said.0.text m.item gives.said.1 in
@@ -31,33 +32,33 @@ module _ {S : Type 0} (left : S → Option (List ℕ)) (failed end : S → Bool)
         in_order = block_up_to (view_of old).state (locus_at m.item) said.stays;
       }
 
-  filled : (old new : Blocks S) (result : Result Bool Fault) → MembersAnswers left failed end (view_of old) result (view_of new) → FillAnswers left failed end old result new
+  filled : (old new : Blocks S) (result : Result Bool Fault) → MembersAnswers device (view_of old) result (view_of new) → FillAnswers device old result new
   filled old new (Ok true) makes = (makes.m.item, given old new makes.m makes.gives)
   filled old new (Ok false) ends = ends
   filled old new (Err fault) answers = answers
 
   -- `fill` of the reader below
-  pub fills_blocks : (IsRead : S → Option ℕ → S → Type 0) (old new : Blocks S) (result : Result Bool Fault) → Fills left failed end (view_in block_sorting old.sorted) result (view_in block_sorting new.sorted)
-      → TellsOwnFailure IsRead (view_in block_sorting old.sorted).fault old.sorted.reader result new.sorted.reader → FillsBlocks left failed end IsRead old result new
+  pub fills_blocks : (old new : Blocks S) (result : Result Bool Fault) → Fills device (view_in block_sorting old.sorted) result (view_in block_sorting new.sorted)
+      → TellsOwnFailure device.is_read (view_in block_sorting old.sorted).fault old.sorted.reader result new.sorted.reader → FillsBlocks device old result new
   unfolding view_of view_with
-  fills_blocks IsRead old new result there own = record { answers = filled old new result there.answers; own_failure = own; kept = there.kept }
+  fills_blocks old new result there own = record { answers = filled old new result there.answers; own_failure = own; kept = there.kept }
 
   -- the first buffered record is returned
-  pub peeked : (old new : Blocks S) (done : Bool) (lent : Option BedRef) → FillAnswers left failed end old (Ok done) new
-      → IfSome lent (λ bed. (more : List Feature) × (buffered_in new ≡ feature_lent bed ∷ more)) → IfNone lent (buffered_in new ≡ []) → Answers left failed end old (Ok lent) new
+  pub peeked : (old new : Blocks S) (done : Bool) (lent : Option BedRef) → FillAnswers device old (Ok done) new
+      → IfSome lent (λ bed. (more : List Feature) × (buffered_in new ≡ feature_lent bed ∷ more)) → IfNone lent (buffered_in new ≡ []) → Answers device old (Ok lent) new
   peeked old new true None answers some none = absurd (none_is (suc (lines_given (view_of new).below)) (buffered_in new) _ none answers.1.read.ahead)
   peeked old new true (Some bed) answers some none =
       let same = ahead_is (suc (lines_given (view_of new).below)) (buffered_in new) (feature_lent bed) some.0 _ some.1 answers.1.read.ahead in
-      subst (λ (r : Feature). GivesRecord left failed old r new) (sym same) answers.1
+      subst (λ (r : Feature). GivesRecord device old r new) (sym same) answers.1
   peeked old new false None answers some none = answers
   peeked old new false (Some bed) answers some none = absurd (no_both (buffered_in new) (feature_lent bed) some.0 some.1 answers.none_buffered)
     where
       no_both : (items : List Feature) (r : Feature) (more : List Feature) → items ≡ r ∷ more → items ≡ [] → ⊥
       no_both items r more e h = cc
 
-module _ {S : Type 0} (left : S → Option (List ℕ)) (end : S → Bool) (old new : Blocks S) where
+module _ {S : Type 0} (device : Source S) (old new : Blocks S) where
   -- `consume` of the reader below
-  pub takes_blocks : (count : ℕ) → Takes left end (view_in block_sorting old.sorted) (take count (records_in old.sorted)) (view_in block_sorting new.sorted) → TakesBlocks left end old count new
+  pub takes_blocks : (count : ℕ) → Takes device (view_in block_sorting old.sorted) (take count (records_in old.sorted)) (view_in block_sorting new.sorted) → TakesBlocks device old count new
   unfolding view_of view_with
   takes_blocks count takes = record { takes = takes }
 
@@ -65,7 +66,7 @@ module _ {S : Type 0} (left : S → Option (List ℕ)) (end : S → Bool) (old n
   last_one [] line item more state e s = cc
   last_one (x ∷ xs) line item more state e s = let same : x ≡ item = cc in s ∙ ap (λ (f : Feature). Some (locus_at f)) (sym same)
 
-  pub passes_blocks : (item : Feature) (more : List Feature) → records_in old.sorted ≡ item ∷ more → Takes left end (view_in block_sorting old.sorted) (take 1 (records_in old.sorted)) (view_in block_sorting new.sorted) → PassesBlocks left end old new
+  pub passes_blocks : (item : Feature) (more : List Feature) → records_in old.sorted ≡ item ∷ more → Takes device (view_in block_sorting old.sorted) (take 1 (records_in old.sorted)) (view_in block_sorting new.sorted) → PassesBlocks device old new
   unfolding view_of view_with
   passes_blocks item more is takes = record {
     last = last_one (records_in old.sorted) _ item more (view_of new).state is (takes.state ∙ rw is refl);

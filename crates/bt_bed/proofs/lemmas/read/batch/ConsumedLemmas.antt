@@ -1,9 +1,9 @@
 -- Lemmas on the bytes of lines that were consumed.
-use Rattle.std.proofs.Common.{◌≡◌, ◌∙◌, ◌+◌, ◌-◌, ◌<◌, ◌≤◌, ℕ, Bool, true, false, List, [], ◌∷◌, ◌++◌, ap, append_assoc, arith, cond, drop, length, min, nat_lt, refl, subst, sym, take}
+use Rattle.std.proofs.Common.{◌≡◌, ◌∙◌, ◌+◌, ◌-◌, ◌≤◌, ℕ, Bool, true, false, List, [], ◌∷◌, ◌++◌, ap, append_assoc, arith, cond, drop, length, nat_lt, refl, sym, take}
 use Rattle.std.specs.Io.BufRead.{ends_with_byte, strip_last}
 use Rattle.std.specs.List.{slice_range}
 use Rattle.std.proofs.Math.Seq.{take-add, take-append-add}
-use Rattle.std.proofs.lemmas.List.{drop-take, take-append-drop, take-append-le, length-take-le}
+use Rattle.std.proofs.lemmas.List.{take-append-drop, take-append-le, length-take-le}
 use Rattle.bt_lines.specs.calls.FirstLine.{Cut, Shown}
 use Rattle.bt_lines.proofs.lemmas.reader.lines.LinesLemmas.{strip_last-other, strip_last-push}
 

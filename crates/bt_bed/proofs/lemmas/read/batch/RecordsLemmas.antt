@@ -3,6 +3,7 @@ use Rattle.std.proofs.Common.{◌≡◌, ℕ, suc, Bool, true, false, List, [], 
 use Rattle.std.specs.Prelude.{IfSome, IsSome, IsTrue, IfNone, Result, option_map}
 use Rattle.std.specs.Option.{ForSome}
 use Rattle.std.proofs.lemmas.Bool.{false≢true}
+use Rattle.bt_lines.specs.declared.device.Source.{Ghosts as Source}
 use Rattle.bt_lines.specs.calls.Reader.{input_of, lines_given, lines_left, fault_kept as line_fault}
 use Rattle.bt_lines.specs.declared.fault.Fault.{Fault}
 use Rattle.bt_lines.specs.declared.reader.line_reader.LineReader.{LineReader}
@@ -65,41 +66,41 @@ pub some_first : {A : Type 0} (line : ℕ) (items : List A) → IsSome (option_m
 some_first line [] some = absurd (false≢true some)
 some_first line (x ∷ xs) some = (x, xs, refl)
 
-module _ {S O : Type 0} {g : Ghosts O} (left : S → Option (List ℕ)) (failed end : S → Bool) where
-  given : (old new : Records S O g) (m : Member Feature) → IsTotal (order_in old) → GivesMember left failed (view_of old) m (view_of new) → GivesRecord left failed old m.item new
+module _ {S O : Type 0} {g : Ghosts O} (device : Source S) where
+  given : (old new : Records S O g) (m : Member Feature) → IsTotal (order_in old) → GivesMember device (view_of old) m (view_of new) → GivesRecord device old m.item new
   unfolding view_of view_with order_in
   given old new m total gives =
       let behind = said_behind (order_in old) (view_of old).state gives.said.0.text m.item total old.placed.last gives.said.1 in
       record { line = m.line; read = gives; feature = behind.feature; known = behind.known; in_order = behind.in_order }
 
   -- what `fill` of the reader below returns
-  pub filled : (old new : Records S O g) (result : Result Bool Fault) → IsTotal (order_in old) → MembersAnswers left failed end (view_of old) result (view_of new) → FillAnswers left failed end old result new
+  pub filled : (old new : Records S O g) (result : Result Bool Fault) → IsTotal (order_in old) → MembersAnswers device (view_of old) result (view_of new) → FillAnswers device old result new
   filled old new (Ok true) total makes = (makes.m.item, given old new makes.m total makes.gives)
   filled old new (Ok false) total ends = ends
   filled old new (Err fault) total answers = answers
 
   -- the first buffered record is returned
-  pub peeked : (old new : Records S O g) (done : Bool) (lent : Option BedRef) → FillAnswers left failed end old (Ok done) new
-      → IfSome lent (λ bed. (more : List Feature) × (buffered_in new ≡ feature_lent bed ∷ more)) → IfNone lent (buffered_in new ≡ []) → Answers left failed end old (Ok lent) new
+  pub peeked : (old new : Records S O g) (done : Bool) (lent : Option BedRef) → FillAnswers device old (Ok done) new
+      → IfSome lent (λ bed. (more : List Feature) × (buffered_in new ≡ feature_lent bed ∷ more)) → IfNone lent (buffered_in new ≡ []) → Answers device old (Ok lent) new
   peeked old new true None answers some none = absurd (none_is (suc (lines_given (view_of new).below)) (buffered_in new) _ none answers.1.read.ahead)
   peeked old new true (Some bed) answers some none =
       let same = ahead_is (suc (lines_given (view_of new).below)) (buffered_in new) (feature_lent bed) some.0 _ some.1 answers.1.read.ahead in
-      subst (λ (r : Feature). GivesRecord left failed old r new) (sym same) answers.1
+      subst (λ (r : Feature). GivesRecord device old r new) (sym same) answers.1
   peeked old new false None answers some none = answers
   peeked old new false (Some bed) answers some none = absurd (no_both (buffered_in new) (feature_lent bed) some.0 some.1 answers.none_buffered)
     where
       no_both : (items : List Feature) (r : Feature) (more : List Feature) → items ≡ r ∷ more → items ≡ [] → ⊥
       no_both items r more e h = cc
 
-module _ {S Q : Type 0} (left : S → Option (List ℕ)) (failed end : S → Bool) (sorting : Sorting) (sorted : SortedReader S Q) where
+module _ {S Q : Type 0} (device : Source S) (sorting : Sorting) (sorted : SortedReader S Q) where
   -- a reader that has given no record has all of the good ones left
   pub good_at_start : (reader : LineReader S) → sorted.reader ≡ reader → sorted.fault ≡ None → last_in sorted.lookahead ≡ None → line_fault reader ≡ None
-      → good_coming left (view_in sorting sorted) ≡ option_map (good (bed_format sorting) (input_of reader)) (lines_left left reader)
+      → good_coming device.left (view_in sorting sorted) ≡ option_map (good (bed_format sorting) (input_of reader)) (lines_left device.left reader)
   unfolding view_with
   good_at_start reader same own last going =
       let fault : (view_in sorting sorted).fault ≡ None = rw (own, same) going in
-      good_at_first left failed end (view_in sorting sorted) fault last
-      ∙ ap (λ r. option_map (good (bed_format sorting) (input_of r)) (lines_left left r)) same
+      good_at_first device (view_in sorting sorted) fault last
+      ∙ ap (λ r. option_map (good (bed_format sorting) (input_of r)) (lines_left device.left r)) same
 
   pub placed_at_start : records_in sorted ≡ [] → last_in sorted.lookahead ≡ None → IsPlaced sorting (view_in sorting sorted)
   unfolding view_with
@@ -119,7 +120,7 @@ module _ {S O : Type 0} (g : Ghosts O) (old new : SortedReader S (ByOrder O)) (r
   pub placed_by : IsPlaced (sorting_at g old) (view_in (sorting_at g old) new) → IsPlaced (sorting_at g new) (view_in (sorting_at g new) new)
   placed_by placed = subst (λ (by : ByOrder O). IsPlaced (sorting_of (g.order by.order.now)) (view_in (sorting_of (g.order by.order.now)) new)) (sym rule) placed
 
-module _ {S O : Type 0} {g : Ghosts O} (left : S → Option (List ℕ)) (failed end : S → Bool) (old new : Records S O g) (rule : new.sorted.lookahead.rule ≡ old.sorted.lookahead.rule) where
+module _ {S O : Type 0} {g : Ghosts O} (device : Source S) (old new : Records S O g) (rule : new.sorted.lookahead.rule ≡ old.sorted.lookahead.rule) where
   same_order : order_in new ≡ order_in old
   unfolding order_in
   same_order = ap (λ (by : ByOrder O). g.order by.order.now) rule
@@ -133,20 +134,20 @@ module _ {S O : Type 0} {g : Ghosts O} (left : S → Option (List ℕ)) (failed 
   was_view = refl
 
   -- `fill` of the reader below
-  pub fills_records : (IsRead : S → Option ℕ → S → Type 0) (result : Result Bool Fault) → IsTotal (order_in old) → Fills left failed end (view_in (sorting_at g old.sorted) old.sorted) result (view_in (sorting_at g old.sorted) new.sorted)
-      → TellsOwnFailure IsRead (view_in (sorting_at g old.sorted) old.sorted).fault old.sorted.reader result new.sorted.reader → FillsRecords left failed end IsRead old result new
+  pub fills_records : (result : Result Bool Fault) → IsTotal (order_in old) → Fills device (view_in (sorting_at g old.sorted) old.sorted) result (view_in (sorting_at g old.sorted) new.sorted)
+      → TellsOwnFailure device.is_read (view_in (sorting_at g old.sorted) old.sorted).fault old.sorted.reader result new.sorted.reader → FillsRecords device old result new
   unfolding view_of view_with
-  fills_records IsRead result total fills own =
-      let there : Fills left failed end (view_of old) result (view_of new) = rw (same_view, ← was_view) fills in
+  fills_records result total fills own =
+      let there : Fills device (view_of old) result (view_of new) = rw (same_view, ← was_view) fills in
       record {
-        answers = filled left failed end old new result total there.answers;
+        answers = filled device old new result total there.answers;
         own_failure = own;
         kept = there.kept;
         order = same_order;
       }
 
   -- `consume` of the reader below
-  pub takes_records : (count : ℕ) → Takes left end (view_in (sorting_at g old.sorted) old.sorted) (take count (records_in old.sorted)) (view_in (sorting_at g old.sorted) new.sorted) → TakesRecords left end old count new
+  pub takes_records : (count : ℕ) → Takes device (view_in (sorting_at g old.sorted) old.sorted) (take count (records_in old.sorted)) (view_in (sorting_at g old.sorted) new.sorted) → TakesRecords device old count new
   unfolding view_of view_with
   takes_records count takes = record { takes = rw (← same_view) at takes; order = same_order }
 
@@ -154,7 +155,7 @@ module _ {S O : Type 0} {g : Ghosts O} (left : S → Option (List ℕ)) (failed 
   last_one [] line item more state e s = cc
   last_one (x ∷ xs) line item more state e s = let same : x ≡ item = cc in s ∙ ap (λ (f : Feature). Some (locus_at f)) (sym same)
 
-  pub passes_record : (item : Feature) (more : List Feature) → records_in old.sorted ≡ item ∷ more → Takes left end (view_in (sorting_at g old.sorted) old.sorted) (take 1 (records_in old.sorted)) (view_in (sorting_at g old.sorted) new.sorted) → PassesRecord left end old new
+  pub passes_record : (item : Feature) (more : List Feature) → records_in old.sorted ≡ item ∷ more → Takes device (view_in (sorting_at g old.sorted) old.sorted) (take 1 (records_in old.sorted)) (view_in (sorting_at g old.sorted) new.sorted) → PassesRecord device old new
   unfolding view_of view_with
   passes_record item more is takes =
       let all = takes_records 1 takes in

@@ -3,6 +3,7 @@ use Rattle.std.proofs.Common.{◌≡◌, ℕ, suc, ◌+◌, ◌-◌, ◌<◌, �
 use Rattle.std.specs.Prelude.{if◌then◌else◌, IfSome, IsTrue, is_some, option_map}
 use Rattle.std.specs.Option.{ForSome}
 use Rattle.std.proofs.lemmas.Bool.{false≢true}
+use Rattle.bt_lines.specs.declared.device.Source.{Ghosts as Source}
 use Rattle.bt_lines.proofs.lemmas.reader.lines.TakingLemmas.{is_prefix}
 use Rattle.bt_lines.specs.calls.Buffered.{buffered_lines}
 use Rattle.bt_lines.specs.model.Lines.{AreNumbered, TextLine, lines_from}
@@ -104,8 +105,8 @@ known_last sorting state r [] more last said e place is =
     subst (λ (p : Locus). IsTrue (sorting.knows p.chrom)) same (knows_said sorting state said.0.0.text r said.0.1)
 known_last sorting state r (x ∷ records) more last said e place is = known_last sorting (Some (locus_at r)) x records more last said.1 e place is
 
-module _ {S Q : Type 0} (left : S → Option (List ℕ)) (end : S → Bool) (sorting : Sorting) (old : SortedReader S Q) (reader : LineReader S) (lookahead : OrderedLookahead Q) (is_ahead : Bool) (consumed : Consumed) (is : IsTaken old consumed) (some : 0 < count_in old consumed)
-    (placed : IsPlaced sorting (view_in sorting old)) (takes : TakesLines left end old.reader consumed.lines reader) (makes : MakesLast old.lookahead consumed.start lookahead)
+module _ {S Q : Type 0} (device : Source S) (sorting : Sorting) (old : SortedReader S Q) (reader : LineReader S) (lookahead : OrderedLookahead Q) (is_ahead : Bool) (consumed : Consumed) (is : IsTaken old consumed) (some : 0 < count_in old consumed)
+    (placed : IsPlaced sorting (view_in sorting old)) (takes : TakesLines device old.reader consumed.lines reader) (makes : MakesLast old.lookahead consumed.start lookahead)
     (ahead : is_ahead ≡ consumed.is_ahead) where
   abbrev pub now : MemberReader S Feature (Option Locus)
   now = view_with sorting (option_map fault_value old.fault) reader lookahead (ahead_of is_ahead reader lookahead)
@@ -185,17 +186,17 @@ module _ {S Q : Type 0} (left : S → Option (List ℕ)) (end : S → Bool) (sor
   unfolding view_with
   fault_then = ap (or_else (option_map fault_value old.fault)) takes.fault_is
 
-  good_then : option_map (with_members (members_from (suc (lines_given old.reader)) taken)) (good_coming left now) ≡ good_coming left (view_in sorting old)
+  good_then : option_map (with_members (members_from (suc (lines_given old.reader)) taken)) (good_coming device.left now) ≡ good_coming device.left (view_in sorting old)
   unfolding good_coming view_with
   good_then =
       let format = bed_format sorting in
       let state = last_in old.lookahead in
-      let drops : DropsLines (lines_left left old.reader) (length taken) (lines_left left reader) = subst (λ k. DropsLines (lines_left left old.reader) k (lines_left left reader)) (is.lines.feeds ∙ count_is) takes.left_is in
+      let drops : DropsLines (lines_left device.left old.reader) (length taken) (lines_left device.left reader) = subst (λ k. DropsLines (lines_left device.left old.reader) k (lines_left device.left reader)) (is.lines.feeds ∙ count_is) takes.left_is in
       rw (ap (or_else (option_map fault_value old.fault)) takes.fault_is ∙ none_kept, none_kept, state_then, takes.input_is)
-      (taken_good format (input_of old.reader) state (suc (lines_given old.reader)) taken (lines_left left old.reader) (lines_left left reader) (left_numbered left end old.reader)
-      (say_all format state (lines_buffered old.reader) taken (lines_left left old.reader) (is_prefix left old.reader) say_those) (still_unknown left old.reader reader takes.source_is) drops)
+      (taken_good format (input_of old.reader) state (suc (lines_given old.reader)) taken (lines_left device.left old.reader) (lines_left device.left reader) (left_numbered device old.reader)
+      (say_all format state (lines_buffered old.reader) taken (lines_left device.left old.reader) (is_prefix device.left old.reader) say_those) (still_unknown device.left old.reader reader takes.source_is) drops)
 
-  pub sorted_takes : Takes left end (view_in sorting old) taken now
+  pub sorted_takes : Takes device (view_in sorting old) taken now
   unfolding view_with
   sorted_takes = record {
     buffered = split ∙ ap (λ l. taken ++ l) (sym buffered_then);
@@ -208,7 +209,7 @@ module _ {S Q : Type 0} (left : S → Option (List ℕ)) (end : S → Bool) (sor
     below = takes.below;
     hands = takes.hands;
     source = takes.source_is;
-    lines = drops_pass (lines_left left old.reader) (lines_left left reader) _ (lines_given reader - lines_given old.reader) takes.left_is (omega (arith, takes.given, is.lines.given, is.lines.feeds));
+    lines = drops_pass (lines_left device.left old.reader) (lines_left device.left reader) _ (lines_given reader - lines_given old.reader) takes.left_is (omega (arith, takes.given, is.lines.given, is.lines.feeds));
     kept = takes.kept;
     near = λ h. takes.near (some_bytes consumed.lines.bytes (buffered_bytes old.reader) (omega (arith, is.lines.feeds, some)));
     shrinks = omega (arith, takes.taken_is, takes.shrinks, is.lines.feeds, count_is);
@@ -233,8 +234,8 @@ module _ {S Q : Type 0} (left : S → Option (List ℕ)) (end : S → Bool) (sor
   was_ahead = was.0
 
 -- the records that are buffered are the first of those still to come
-module _ {S Q : Type 0} (left : S → Option (List ℕ)) (end : S → Bool) (sorting : Sorting) (sorted : SortedReader S Q) (placed : IsPlaced sorting (view_in sorting sorted)) where
-  some_comes : (r : Feature) (more : List Feature) → buffered_in sorted ≡ r ∷ more → BeginsComing left (view_in sorting sorted)
+module _ {S Q : Type 0} (device : Source S) (sorting : Sorting) (sorted : SortedReader S Q) (placed : IsPlaced sorting (view_in sorting sorted)) where
+  some_comes : (r : Feature) (more : List Feature) → buffered_in sorted ≡ r ∷ more → BeginsComing device.left (view_in sorting sorted)
   unfolding good_coming view_with buffered_in
   some_comes r more e =
       let format = bed_format sorting in
@@ -244,18 +245,18 @@ module _ {S Q : Type 0} (left : S → Option (List ℕ)) (end : S → Bool) (sor
       let is : run_of (name_in sorted.lookahead) (start_in sorted.lookahead) (lines_buffered reader) ≡ buffered_in sorted = run.1 ∙ sym e in
       let said = order_is_said sorting state (name_in sorted.lookahead) (start_in sorted.lookahead) (lines_buffered reader) (buffered_in sorted) is placed.in_order in
       let say = run_says sorting state (name_in sorted.lookahead) (start_in sorted.lookahead) (lines_buffered reader) (buffered_in sorted) is said in
-      let all = say_all format state (lines_buffered reader) (buffered_in sorted) (lines_left left reader) (is_prefix left reader) say in
-      subst (λ own. IfSome (option_map (good_behind format (input_of reader) own state) (lines_left left reader))
+      let all = say_all format state (lines_buffered reader) (buffered_in sorted) (lines_left device.left reader) (is_prefix device.left reader) say in
+      subst (λ own. IfSome (option_map (good_behind format (input_of reader) own state) (lines_left device.left reader))
       (λ good. (rest : List (Member Feature)) × (good.members ≡ members_from (suc (lines_given reader)) (buffered_in sorted) ++ rest)))
       (sym (placed.going (ap is_some_left e)))
-      (begins_good format (input_of reader) state (suc (lines_given reader)) (buffered_in sorted) (lines_left left reader) (left_numbered left end reader) all)
+      (begins_good format (input_of reader) state (suc (lines_given reader)) (buffered_in sorted) (lines_left device.left reader) (left_numbered device reader) all)
 
-  comes_by : (items : List Feature) → buffered_in sorted ≡ items → BeginsComing left (view_in sorting sorted)
+  comes_by : (items : List Feature) → buffered_in sorted ≡ items → BeginsComing device.left (view_in sorting sorted)
   unfolding view_with
-  comes_by [] e = begins_none (good_coming left (view_in sorting sorted)) (suc (lines_given sorted.reader)) (buffered_in sorted) e
+  comes_by [] e = begins_none (good_coming device.left (view_in sorting sorted)) (suc (lines_given sorted.reader)) (buffered_in sorted) e
   comes_by (r ∷ more) e = some_comes r more e
 
-  pub sorted_comes : BeginsComing left (view_in sorting sorted)
+  pub sorted_comes : BeginsComing device.left (view_in sorting sorted)
   sorted_comes = comes_by (buffered_in sorted) refl
 
 -- a line that says a record which fits begins the records that are buffered then

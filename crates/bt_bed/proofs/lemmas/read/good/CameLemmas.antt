@@ -1,8 +1,9 @@
 -- Lemmas on lines that a reader of records takes one after another.
-use Rattle.std.proofs.Common.{◌≡◌, ℕ, zero, suc, ◌+◌, ◌-◌, ◌^◌, ◌<◌, ◌≤◌, Bool, List, [], ◌∷◌, ◌++◌, length, take, drop, Option, Some, None, refl, sym, ap, ◌∙◌, subst, arith, false, length-append}
+use Rattle.std.proofs.Common.{◌≡◌, ℕ, zero, suc, ◌+◌, ◌-◌, ◌^◌, ◌<◌, ◌≤◌, List, [], ◌∷◌, ◌++◌, length, take, drop, Option, Some, None, refl, sym, ap, ◌∙◌, subst, arith, false, length-append}
 use Rattle.std.specs.Prelude.{IfSome, option_map}
 use Rattle.std.proofs.Math.Seq.{take-append-add}
 use Rattle.std.proofs.lemmas.List.{drop-drop}
+use Rattle.bt_lines.specs.declared.device.Source.{Ghosts as Source}
 use Rattle.bt_lines.proofs.lemmas.reader.lines.ReaderLemmas.{hands_both, hands_none}
 use Rattle.bt_lines.proofs.lemmas.reader.lines.TakingLemmas.{is_prefix, near_next}
 use Rattle.bt_lines.proofs.lemmas.reader.lines.TextLemmas.{line_feeds-append, lines_are_numbered}
@@ -67,14 +68,14 @@ first_by (Some all) (Some mid) (Some new) line more buffered count s p is d one 
     front_line all line more front ∙ ap (λ l. line ∷ l) (sym left)
 
 -- the reader's next line was made buffered, and taken
-pub record LineCame {S : Type 0} (left : S → Option (List ℕ)) (failed : S → Bool) (old : LineReader S) (line : TextLine) (new : LineReader S) : Type 0 where
-  pub first : GivesFirst (lines_left left old) line (lines_left left new)
-  pub bytes : (bytes : List ℕ) × Hands left old bytes new
+pub record LineCame {S : Type 0} (device : Source S) (old : LineReader S) (line : TextLine) (new : LineReader S) : Type 0 where
+  pub first : GivesFirst (lines_left device.left old) line (lines_left device.left new)
+  pub bytes : (bytes : List ℕ) × Hands device.left old bytes new
   pub number : line.number ≡ suc (lines_given old)
   pub counted : lines_given new ≡ suc (lines_given old)
   pub below : lines_given new < 2 ^ 63
   pub shrinks : room new < room old
-  pub served : failed (source_of new) ≡ failed (source_of old)
+  pub served : device.has_failed (source_of new) ≡ device.has_failed (source_of old)
   pub was_going : (fault_kept old ≡ None) × (has_ended old ≡ false)
   pub goes : fault_kept new ≡ None
   pub near : length (held new) ≤ block_size
@@ -84,45 +85,45 @@ pub some_bytes : (count : ℕ) (bytes : List ℕ) → 0 < line_feeds (take count
 some_bytes zero bytes some = absurd (omega (arith, some))
 some_bytes (suc count) bytes some = omega arith
 
-module _ {S : Type 0} (left : S → Option (List ℕ)) (failed end : S → Bool) (old mid new : LineReader S) (makes : MakesLine left failed old mid) where
+module _ {S : Type 0} (device : Source S) (old mid new : LineReader S) (makes : MakesLine device old mid) where
   pub same_room : room mid ≡ room old
   same_room =
       omega (arith, makes.bytes.1.counted, ap length makes.bytes.2, length-append (held old) makes.bytes.0, makes.within)
 
-  module _ (line : TextLine) (more : List TextLine) (first : buffered_in mid ≡ line ∷ more) (number : line.number ≡ suc (lines_given mid)) (consumed : ConsumedLines) (are : TakenLines mid consumed 1) (takes : TakesLines left end mid consumed new) where
-    pub line_came : LineCame left failed old line new
+  module _ (line : TextLine) (more : List TextLine) (first : buffered_in mid ≡ line ∷ more) (number : line.number ≡ suc (lines_given mid)) (consumed : ConsumedLines) (are : TakenLines mid consumed 1) (takes : TakesLines device mid consumed new) where
+    pub line_came : LineCame device old line new
     line_came = record {
-      first = first_by (lines_left left old) (lines_left left mid) (lines_left left new) line more (buffered_in mid) (line_feeds (take consumed.bytes (buffered_bytes mid))) makes.same (is_prefix left mid) first takes.left_is are.feeds;
-      bytes = (makes.bytes.0 ++ [], hands_both left old mid new makes.bytes.0 [] makes.bytes.1 takes.hands);
+      first = first_by (lines_left device.left old) (lines_left device.left mid) (lines_left device.left new) line more (buffered_in mid) (line_feeds (take consumed.bytes (buffered_bytes mid))) makes.same (is_prefix device.left mid) first takes.left_is are.feeds;
+      bytes = (makes.bytes.0 ++ [], hands_both device.left old mid new makes.bytes.0 [] makes.bytes.1 takes.hands);
       number = number ∙ ap suc makes.counted;
       counted = omega (arith, takes.given, are.given, makes.counted);
       below = takes.below;
       shrinks = omega (arith, same_room, takes.taken_is, takes.shrinks, are.feeds);
-      served = ap failed takes.source_is ∙ makes.served;
+      served = ap device.has_failed takes.source_is ∙ makes.served;
       was_going = makes.was_going;
       goes = takes.fault_is ∙ makes.goes;
       near = takes.near (some_bytes consumed.bytes (buffered_bytes mid) (omega (arith, are.feeds)));
     }
 
-module _ {S : Type 0} (left : S → Option (List ℕ)) (end : S → Bool) where
+module _ {S : Type 0} (device : Source S) where
   -- lines came, in some calls one after another
   pub record Came (old now : LineReader S) : Type 0 where
-    pub lines : LinesPass left old now
+    pub lines : LinesPass device.left old now
     pub least : lines_given old ≤ lines_given now
-    pub bytes : (bytes : List ℕ) × Hands left old bytes now
-    pub kept : IsKept left end old → IsKept left end now
+    pub bytes : (bytes : List ℕ) × Hands device.left old bytes now
+    pub kept : IsKept device old → IsKept device now
 
   pub came_none : (reader : LineReader S) → Came reader reader
   came_none reader = record {
-    lines = no_pass (lines_left left reader) (lines_given reader);
+    lines = no_pass (lines_left device.left reader) (lines_given reader);
     least = omega arith;
-    bytes = ([], hands_none left reader);
+    bytes = ([], hands_none device.left reader);
     kept = λ kept. kept;
   }
 
   -- the lines that are left are numbered on from those given
-  pub left_numbered : (reader : LineReader S) → IfSome (lines_left left reader) (AreNumbered (suc (lines_given reader)))
-  left_numbered reader = numbered_by (suc (lines_given reader)) (bytes_left left reader)
+  pub left_numbered : (reader : LineReader S) → IfSome (lines_left device.left reader) (AreNumbered (suc (lines_given reader)))
+  left_numbered reader = numbered_by (suc (lines_given reader)) (bytes_left device.left reader)
 
   first_drops : (old : Option (List TextLine)) (line : TextLine) (new : Option (List TextLine)) → GivesFirst old line new → IfSome old (λ lines. new ≡ Some (drop 1 lines))
   first_drops None line new h = tt
@@ -130,37 +131,37 @@ module _ {S : Type 0} (left : S → Option (List ℕ)) (end : S → Bool) where
   first_drops (Some lines) line (Some rest) h = rw h refl
 
   -- of known bytes, those after one more line are left
-  pub near_came : (old new : LineReader S) → Came old new → IsNear left old new
+  pub near_came : (old new : LineReader S) → Came old new → IsNear device.left old new
   near_came old new q =
-      near_pass (lines_left left old) (lines_left left new) (left (source_of new)) (lines_given new - lines_given old) 1 (suc (lines_given new) - lines_given old) q.lines (omega (arith, q.least)) (near_next left new)
+      near_pass (lines_left device.left old) (lines_left device.left new) (device.left (source_of new)) (lines_given new - lines_given old) 1 (suc (lines_given new) - lines_given old) q.lines (omega (arith, q.least)) (near_next device.left new)
 
-  module _ (failed : S → Bool) (old now new : LineReader S) (p : Came old now) where
-    pub came_line : (line : TextLine) → LineCame left failed now line new → (IsKept left end now → IsKept left end new) → Came old new
+  module _ (old now new : LineReader S) (p : Came old now) where
+    pub came_line : (line : TextLine) → LineCame device now line new → (IsKept device now → IsKept device new) → Came old new
     came_line line came kept = record {
-      lines = pass_more (lines_left left old) (lines_left left now) (lines_left left new) (lines_given now - lines_given old) 1 (lines_given new - lines_given old) p.lines (first_drops (lines_left left now) line (lines_left left new) came.first) (omega (arith, came.counted, p.least));
+      lines = pass_more (lines_left device.left old) (lines_left device.left now) (lines_left device.left new) (lines_given now - lines_given old) 1 (lines_given new - lines_given old) p.lines (first_drops (lines_left device.left now) line (lines_left device.left new) came.first) (omega (arith, came.counted, p.least));
       least = omega (arith, came.counted, p.least);
-      bytes = (p.bytes.0 ++ came.bytes.0, hands_both left old now new p.bytes.0 came.bytes.0 p.bytes.1 came.bytes.1);
+      bytes = (p.bytes.0 ++ came.bytes.0, hands_both device.left old now new p.bytes.0 came.bytes.0 p.bytes.1 came.bytes.1);
       kept = λ was. kept (p.kept was);
     }
 
     -- a line was made buffered
-    pub came_made : MakesLine left failed now new → (IsKept left end now → IsKept left end new) → Came old new
+    pub came_made : MakesLine device now new → (IsKept device now → IsKept device new) → Came old new
     came_made makes kept = record {
-      lines = pass_more (lines_left left old) (lines_left left now) (lines_left left new) (lines_given now - lines_given old) (lines_given new - lines_given now) (lines_given new - lines_given old) p.lines
-          (same_pass (lines_left left now) (lines_left left new) (lines_given now) (lines_given new) makes.same makes.counted) (omega (arith, makes.counted, p.least));
+      lines = pass_more (lines_left device.left old) (lines_left device.left now) (lines_left device.left new) (lines_given now - lines_given old) (lines_given new - lines_given now) (lines_given new - lines_given old) p.lines
+          (same_pass (lines_left device.left now) (lines_left device.left new) (lines_given now) (lines_given new) makes.same makes.counted) (omega (arith, makes.counted, p.least));
       least = omega (arith, makes.counted, p.least);
-      bytes = (p.bytes.0 ++ makes.bytes.0, hands_both left old now new p.bytes.0 makes.bytes.0 p.bytes.1 makes.bytes.1);
+      bytes = (p.bytes.0 ++ makes.bytes.0, hands_both device.left old now new p.bytes.0 makes.bytes.0 p.bytes.1 makes.bytes.1);
       kept = λ was. kept (p.kept was);
     }
 
     -- a line couldn't be read: of known bytes, those after it are left
-    pub near_fault : (fault : FaultValue) → GivesFault left failed now fault new → fault_kept now ≡ None → IsNear left old new
+    pub near_fault : (fault : FaultValue) → GivesFault device now fault new → fault_kept now ≡ None → IsNear device.left old new
     near_fault fault gives going =
-        near_pass (lines_left left old) (lines_left left now) (left (source_of new)) (lines_given now - lines_given old) (suc (lines_given new) - lines_given now) (suc (lines_given new) - lines_given old) p.lines
+        near_pass (lines_left device.left old) (lines_left device.left now) (device.left (source_of new)) (lines_given now - lines_given old) (suc (lines_given new) - lines_given now) (suc (lines_given new) - lines_given old) p.lines
         (omega (arith, gives.counted, p.least)) (gives.near going)
 
     -- the line feeds among the bytes taken all end lines that were given
-    pub cut_fault : (fault : FaultValue) → GivesFault left failed now fault new → fault_kept now ≡ None → fault ≡ read_failed (input_of now) (suc (lines_given now)) → IsKept left end old → CutsOff left old new
+    pub cut_fault : (fault : FaultValue) → GivesFault device now fault new → fault_kept now ≡ None → fault ≡ read_failed (input_of now) (suc (lines_given now)) → IsKept device old → CutsOff device.left old new
     cut_fault fault gives going is kept =
         let cut = gives.cut_off going is in
         let within : bytes_taken now < 2 ^ 63 = (p.kept kept).within going in
@@ -170,6 +171,6 @@ module _ {S : Type 0} (left : S → Option (List ℕ)) (end : S → Bool) where
         let front = front_of_both p.bytes.0 cut.bytes (2 ^ 63 - 1 - bytes_taken old) (2 ^ 63 - 1 - bytes_taken now) (omega arith) in
         record {
           bytes = p.bytes.0 ++ cut.bytes;
-          hands = hands_both left old now new p.bytes.0 cut.bytes p.bytes.1 cut.hands;
+          hands = hands_both device.left old now new p.bytes.0 cut.bytes p.bytes.1 cut.hands;
           given = rw front (omega (arith, line_feeds-append p.bytes.0 (take (2 ^ 63 - 1 - bytes_taken now) cut.bytes)));
         }

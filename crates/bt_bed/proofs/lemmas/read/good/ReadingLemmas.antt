@@ -1,7 +1,8 @@
 -- Lemmas on a step of a reader of members, whatever the lines say.
-use Rattle.std.proofs.Common.{◌≡◌, ℕ, suc, ◌-◌, ◌^◌, ◌<◌, ◌≤◌, Bool, true, false, List, [], ◌∷◌, ◌++◌, drop, take, length, Option, Some, None, Ok, Err, refl, sym, ap, ◌∙◌, subst, arith, inl, inr}
+use Rattle.std.proofs.Common.{◌≡◌, ℕ, suc, ◌-◌, ◌^◌, ◌<◌, ◌≤◌, true, false, List, [], ◌∷◌, ◌++◌, drop, take, length, Option, Some, None, Ok, Err, refl, sym, ap, ◌∙◌, subst, arith, inl, inr}
 use Rattle.std.specs.Prelude.{◌⊎◌, IsSome, IfSome, option_map}
 use Rattle.std.proofs.lemmas.Bool.{false≢true}
+use Rattle.bt_lines.specs.declared.device.Source.{Ghosts as Source}
 use Rattle.bt_lines.proofs.lemmas.reader.lines.ReaderLemmas.{not_told}
 use Rattle.bt_lines.specs.model.Fault.{FaultValue, read_failed, no_memory}
 use Rattle.bt_lines.specs.calls.LentLine.{GivesFirst}
@@ -100,18 +101,18 @@ beyond_lines : {A State : Type 0} (format : Format A State) (input : Input) (sta
 beyond_lines format input state count None n = tt
 beyond_lines format input state count (Some lines) n = beyond_from format input count state lines n
 
-module _ {S A State : Type 0} (left : S → Option (List ℕ)) (failed end : S → Bool) where
+module _ {S A State : Type 0} (device : Source S) where
   -- what is still to come, without a fault
   pub good_is : (reader : MemberReader S A State) → reader.fault ≡ None
-      → good_coming left reader ≡ option_map (good_behind reader.format (input_of reader.below) None reader.state) (lines_left left reader.below)
+      → good_coming device.left reader ≡ option_map (good_behind reader.format (input_of reader.below) None reader.state) (lines_left device.left reader.below)
   unfolding good_coming
   good_is reader going = rw going refl
 
-  stays_same : (reader : MemberReader S A State) → Stays left reader reader
-  stays_same reader = record { bytes = ([], hands_none left reader.below); format = refl }
+  stays_same : (reader : MemberReader S A State) → Stays device.left reader reader
+  stays_same reader = record { bytes = ([], hands_none device.left reader.below); format = refl }
 
   -- a fault that is kept is returned
-  pub fault_again : (old : MemberReader S A State) (fault : FaultValue) → old.fault ≡ Some fault → old.buffered ≡ [] → AnswersFault left failed end old fault old
+  pub fault_again : (old : MemberReader S A State) (fault : FaultValue) → old.fault ≡ Some fault → old.buffered ≡ [] → AnswersFault device old fault old
   fault_again old fault kept none = record {
     kept = kept;
     was_none = none;
@@ -121,7 +122,7 @@ module _ {S A State : Type 0} (left : S → Option (List ℕ)) (failed end : S �
     first = λ was. absurd (let apart : None ≡ Some fault = sym was ∙ kept in cc);
     stays = stays_same old;
     rises = omega arith;
-    lines = λ none. (came_none left end old.below).lines;
+    lines = λ none. (came_none device old.below).lines;
     near = λ going. cc;
   }
 
@@ -132,7 +133,7 @@ module _ {S A State : Type 0} (left : S → Option (List ℕ)) (failed end : S �
 
   -- how far a step is: no member has come yet, and no fault but one of the reader of lines
   pub record Going (old now : MemberReader S A State) : Type 0 where
-    pub good : Remains (good_coming left old) (good_coming left now)
+    pub good : Remains (good_coming device.left old) (good_coming device.left now)
     pub was_none : old.buffered ≡ []
     pub none_buffered : now.buffered ≡ []
     pub begun : (now ≡ old) ⊎ Begun old
@@ -140,8 +141,8 @@ module _ {S A State : Type 0} (left : S → Option (List ℕ)) (failed end : S �
     pub going : old.fault ≡ None → now.fault ≡ None
     pub state : now.state ≡ old.state
     pub format : now.format ≡ old.format
-    pub passed : Came left end old.below now.below
-    pub served : failed (source_of now.below) ≡ failed (source_of old.below)
+    pub passed : Came device old.below now.below
+    pub served : device.has_failed (source_of now.below) ≡ device.has_failed (source_of old.below)
     pub shrinks : line_room now.below ≤ line_room old.below
 
   -- the reader of lines moved, and nothing more is known after it
@@ -152,7 +153,7 @@ module _ {S A State : Type 0} (left : S → Option (List ℕ)) (failed end : S �
   module _ (old : MemberReader S A State) where
     pub going_start : old.buffered ≡ [] → old.fault ≡ line_fault old.below → Going old old
     going_start none rest = record {
-      good = remains_same (good_coming left old);
+      good = remains_same (good_coming device.left old);
       was_none = none;
       none_buffered = none;
       begun = inl refl;
@@ -160,12 +161,12 @@ module _ {S A State : Type 0} (left : S → Option (List ℕ)) (failed end : S �
       going = λ going. going;
       state = refl;
       format = refl;
-      passed = came_none left end old.below;
+      passed = came_none device old.below;
       served = refl;
       shrinks = omega arith;
     }
 
-    begun_by : (now : MemberReader S A State) (line : TextLine) (reader : LineReader S) → (now ≡ old) ⊎ Begun old → now.fault ≡ line_fault now.below → LineCame left failed now.below line reader → Begun old
+    begun_by : (now : MemberReader S A State) (line : TextLine) (reader : LineReader S) → (now ≡ old) ⊎ Begun old → now.fault ≡ line_fault now.below → LineCame device now.below line reader → Begun old
     begun_by now line reader (inl same) rest gives = record { was_going = ap (λ r. r.fault) (sym same) ∙ rest ∙ gives.was_going.0; not_told = ap (λ r. has_ended r.below) (sym same) ∙ gives.was_going.1 }
     begun_by now line reader (inr begun) rest gives = record { was_going = begun.was_going; not_told = begun.not_told }
 
@@ -176,37 +177,37 @@ module _ {S A State : Type 0} (left : S → Option (List ℕ)) (failed end : S �
       | inr begun ↦ begun.was_going
     ]
 
-    more_bytes : (now : MemberReader S A State) (reader : LineReader S) → Going old now → (bytes : List ℕ) × Hands left now.below bytes reader → (bytes : List ℕ) × Hands left old.below bytes reader
-    more_bytes now reader g more = (g.passed.bytes.0 ++ more.0, hands_both left old.below now.below reader g.passed.bytes.0 more.0 g.passed.bytes.1 more.1)
+    more_bytes : (now : MemberReader S A State) (reader : LineReader S) → Going old now → (bytes : List ℕ) × Hands device.left now.below bytes reader → (bytes : List ℕ) × Hands device.left old.below bytes reader
+    more_bytes now reader g more = (g.passed.bytes.0 ++ more.0, hands_both device.left old.below now.below reader g.passed.bytes.0 more.0 g.passed.bytes.1 more.1)
 
-    stays_more : (now new : MemberReader S A State) → Going old now → (bytes : List ℕ) × Hands left now.below bytes new.below → Follows now new → Stays left old new
+    stays_more : (now new : MemberReader S A State) → Going old now → (bytes : List ℕ) × Hands device.left now.below bytes new.below → Follows now new → Stays device.left old new
     stays_more now new g more follows = record { bytes = more_bytes now new.below g more; format = follows.format ∙ g.format }
 
     -- the lines consumed and the one given
-    passed_more : (now new : MemberReader S A State) (line : TextLine) → Going old now → LineCame left failed now.below line new.below → (IsKept left end now.below → IsKept left end new.below) → Came left end old.below new.below
-    passed_more now new line g gives sound = came_line left end failed old.below now.below new.below g.passed line gives sound
+    passed_more : (now new : MemberReader S A State) (line : TextLine) → Going old now → LineCame device now.below line new.below → (IsKept device now.below → IsKept device new.below) → Came device old.below new.below
+    passed_more now new line g gives sound = came_line device old.below now.below new.below g.passed line gives sound
 
     -- what is still to come lies after the lines given
-    beyond : (now : MemberReader S A State) → Going old now → line_fault now.below ≡ None → IfSome (good_coming left old) (IsBeyond (lines_given now.below))
+    beyond : (now : MemberReader S A State) → Going old now → line_fault now.below ≡ None → IfSome (good_coming device.left old) (IsBeyond (lines_given now.below))
     beyond now g going =
-        remains_if (good_coming left old) (good_coming left now) (IsBeyond (lines_given now.below)) g.good
-        (rw (good_is now (g.rest ∙ going)) (beyond_lines now.format (input_of now.below) now.state (lines_given now.below) (lines_left left now.below) (left_numbered left end now.below)))
+        remains_if (good_coming device.left old) (good_coming device.left now) (IsBeyond (lines_given now.below)) g.good
+        (rw (good_is now (g.rest ∙ going)) (beyond_lines now.format (input_of now.below) now.state (lines_given now.below) (lines_left device.left now.below) (left_numbered device now.below)))
 
     same_input : (now : MemberReader S A State) → Going old now → input_of now.below ≡ input_of old.below
     same_input now g = g.passed.bytes.1.same_input
 
     -- what is to come, once a line said nothing
-    good_taken : (now new : MemberReader S A State) (line : TextLine) → Going old now → LineCame left failed now.below line new.below
-        → now.format.says now.state line ≡ Ok None → new.fault ≡ None → Follows now new → Remains (good_coming left old) (good_coming left new)
+    good_taken : (now new : MemberReader S A State) (line : TextLine) → Going old now → LineCame device now.below line new.below
+        → now.format.says now.state line ≡ Ok None → new.fault ≡ None → Follows now new → Remains (good_coming device.left old) (good_coming device.left new)
     good_taken now new line g gives says none follows =
         let going : now.fault ≡ None = g.rest ∙ gives.was_going.0 in
-        let step = good_line now.format (input_of now.below) now.state line (lines_left left now.below) (lines_left left new.below) gives.first says in
-        let further : Remains (good_coming left now) (good_coming left new) = rw (good_is now going, good_is new none, gives.bytes.1.same_input, follows.state, follows.format) step in
-        remains_further (good_coming left old) (good_coming left now) (good_coming left new) g.good further
+        let step = good_line now.format (input_of now.below) now.state line (lines_left device.left now.below) (lines_left device.left new.below) gives.first says in
+        let further : Remains (good_coming device.left now) (good_coming device.left new) = rw (good_is now going, good_is new none, gives.bytes.1.same_input, follows.state, follows.format) step in
+        remains_further (good_coming device.left old) (good_coming device.left now) (good_coming device.left new) g.good further
 
     -- a line said nothing
-    pub going_more : (now new : MemberReader S A State) (line : TextLine) → Going old now → LineCame left failed now.below line new.below
-        → (IsKept left end now.below → IsKept left end new.below) → now.format.says now.state line ≡ Ok None → new.buffered ≡ [] → new.fault ≡ line_fault new.below → Follows now new → Going old new
+    pub going_more : (now new : MemberReader S A State) (line : TextLine) → Going old now → LineCame device now.below line new.below
+        → (IsKept device now.below → IsKept device new.below) → now.format.says now.state line ≡ Ok None → new.buffered ≡ [] → new.fault ≡ line_fault new.below → Follows now new → Going old new
     going_more now new line g gives sound says ahead rest follows = record {
       good = good_taken now new line g gives says (rest ∙ gives.goes) follows;
       was_none = g.was_none;
@@ -226,31 +227,31 @@ module _ {S A State : Type 0} (left : S → Option (List ℕ)) (failed end : S �
     lines_first a (Some all) line more buffered p is =
         (drop 1 all, front_line all line more (subst (λ (l : List TextLine). take (length l) all ≡ l) is p))
 
-    good_same : (now new : MemberReader S A State) → now.fault ≡ None → new.fault ≡ None → MakesLine left failed now.below new.below → Follows now new → Remains (good_coming left now) (good_coming left new)
+    good_same : (now new : MemberReader S A State) → now.fault ≡ None → new.fault ≡ None → MakesLine device now.below new.below → Follows now new → Remains (good_coming device.left now) (good_coming device.left new)
     good_same now new going goes makes follows =
         rw (good_is now going, good_is new goes, makes.bytes.1.same_input, follows.state, follows.format)
-        (remains_lines now.format (input_of now.below) now.state (lines_left left now.below) (lines_left left new.below) makes.same)
+        (remains_lines now.format (input_of now.below) now.state (lines_left device.left now.below) (lines_left device.left new.below) makes.same)
 
     -- a line was made buffered that says a member
-    pub going_member : (now new : MemberReader S A State) (line : TextLine) (more : List TextLine) (item : A) (items : List A) → Going old now → MakesLine left failed now.below new.below
-        → (IsKept left end now.below → IsKept left end new.below) → buffered_in new.below ≡ line ∷ more → line.number ≡ suc (lines_given new.below)
+    pub going_member : (now new : MemberReader S A State) (line : TextLine) (more : List TextLine) (item : A) (items : List A) → Going old now → MakesLine device now.below new.below
+        → (IsKept device now.below → IsKept device new.below) → buffered_in new.below ≡ line ∷ more → line.number ≡ suc (lines_given new.below)
         → now.format.says now.state line ≡ Ok (Some item) → new.buffered ≡ item ∷ items → new.fault ≡ line_fault new.below → Follows now new
-        → GivesMember left failed old (record { line = line.number; item = item }) new
+        → GivesMember device old (record { line = line.number; item = item }) new
     going_member now new line more item items g makes kept first number says buffered rest follows =
         let m : Member A = record { line = line.number; item = item } in
         let goes : new.fault ≡ None = rest ∙ makes.goes in
         let went : now.fault ≡ None = g.rest ∙ makes.was_going.0 in
-        let good = remains_further (good_coming left old) (good_coming left now) (good_coming left new) g.good (good_same now new went goes makes follows) in
-        let came = came_made left end failed old.below now.below new.below g.passed makes kept in
+        let good = remains_further (good_coming device.left old) (good_coming device.left now) (good_coming device.left new) g.good (good_same now new went goes makes follows) in
+        let came = came_made device old.below now.below new.below g.passed makes kept in
         let input : input_of new.below ≡ input_of now.below = makes.bytes.1.same_input in
-        let there : IfSome (good_coming left new) (λ good. (rest : List (Member A)) × (good.members ≡ m ∷ rest)) =
+        let there : IfSome (good_coming device.left new) (λ good. (rest : List (Member A)) × (good.members ≡ m ∷ rest)) =
         rw (good_is new goes, follows.state, follows.format)
-        (good_first now.format (input_of new.below) now.state line item (lines_left left new.below) (lines_first (lines_left left now.below) (lines_left left new.below) line more (buffered_in new.below) (is_prefix left new.below) first) says) in
+        (good_first now.format (input_of new.below) now.state line item (lines_left device.left new.below) (lines_first (lines_left device.left now.below) (lines_left device.left new.below) line more (buffered_in new.below) (is_prefix device.left new.below) first) says) in
         record {
           ahead = ap (first_from (suc (lines_given new.below))) buffered ∙ ap (λ n. Some (record { line = n; item = item })) (sym number);
           state = follows.state ∙ g.state;
           good = good;
-          first = remains_if (good_coming left old) (good_coming left new) (λ good. (rest : List (Member A)) × (good.members ≡ m ∷ rest)) good there;
+          first = remains_if (good_coming device.left old) (good_coming device.left new) (λ good. (rest : List (Member A)) × (good.members ≡ m ∷ rest)) good there;
           said = (line, rw (g.format, g.state) at says);
           again = λ some. absurd (none_ahead (suc (lines_given old.below)) old.buffered g.was_none some);
           at = number;
@@ -261,21 +262,21 @@ module _ {S A State : Type 0} (left : S → Option (List ℕ)) (failed end : S �
           goes = goes ∙ sym (was_faultless now g makes.was_going.0);
           stays = stays_more now new g (makes.bytes.0, makes.bytes.1) follows;
           lines = came.lines;
-          near = near_came left end old.below new.below came;
-          shrinks = omega (arith, same_room left failed end now.below new.below new.below makes, g.shrinks);
+          near = near_came device old.below new.below came;
+          shrinks = omega (arith, same_room device now.below new.below new.below makes, g.shrinks);
         }
 
     -- a line is at fault
-    wrong_cause : (now new : MemberReader S A State) (line : TextLine) (fault : FaultValue) (kind : Kind) → Going old now → LineCame left failed now.below line new.below
-        → now.format.says now.state line ≡ Err kind → is_of_line kind ≡ true → fault ≡ fault_at_line (input_of old.below) line.number kind → LineIsWrong left failed old fault new
+    wrong_cause : (now new : MemberReader S A State) (line : TextLine) (fault : FaultValue) (kind : Kind) → Going old now → LineCame device now.below line new.below
+        → now.format.says now.state line ≡ Err kind → is_of_line kind ≡ true → fault ≡ fault_at_line (input_of old.below) line.number kind → LineIsWrong device old fault new
     wrong_cause now new line fault kind g gives says of_line is =
         let counted : line.number ≡ lines_given new.below = gives.number ∙ sym gives.counted in
         let before = good_is now (g.rest ∙ gives.was_going.0) in
-        let none : IfSome (good_coming left now) (λ good. good ≡ ends_with (Some (fault_at_line (input_of now.below) line.number kind))) =
-        rw before (good_fault now.format (input_of now.below) now.state line (lines_left left now.below) (lines_left left new.below) kind gives.first says) in
-        let none_at : IfSome (good_coming left now) (λ good. good ≡ ends_with (Some fault)) = rw is (rw (same_input now g) at none) in
+        let none : IfSome (good_coming device.left now) (λ good. good ≡ ends_with (Some (fault_at_line (input_of now.below) line.number kind))) =
+        rw before (good_fault now.format (input_of now.below) now.state line (lines_left device.left now.below) (lines_left device.left new.below) kind gives.first says) in
+        let none_at : IfSome (good_coming device.left now) (λ good. good ≡ ends_with (Some fault)) = rw is (rw (same_input now g) at none) in
         record {
-          none_left = remains_if (good_coming left old) (good_coming left now) (λ good. good ≡ ends_with (Some fault)) g.good none_at;
+          none_left = remains_if (good_coming device.left old) (good_coming device.left now) (λ good. good ≡ ends_with (Some fault)) g.good none_at;
           kind = kind;
           line = line;
           says = rw (g.format, g.state) at says;
@@ -298,17 +299,17 @@ module _ {S A State : Type 0} (left : S → Option (List ℕ)) (failed end : S �
     told_first (Some good) n line item e h = (item, h.0, h.1 ∙ ap (λ (k : ℕ). record { line = k; item = item } ∷ h.0) e)
 
     -- a member that couldn't be kept was good
-    unkept_cause : (now new : MemberReader S A State) (line : TextLine) (fault : FaultValue) (item : A) → Going old now → LineCame left failed now.below line new.below
-        → now.format.says now.state line ≡ Ok (Some item) → fault ≡ no_memory → RunsOut left failed old fault new
+    unkept_cause : (now new : MemberReader S A State) (line : TextLine) (fault : FaultValue) (item : A) → Going old now → LineCame device now.below line new.below
+        → now.format.says now.state line ≡ Ok (Some item) → fault ≡ no_memory → RunsOut device old fault new
     unkept_cause now new line fault item g gives says is =
         let IsGood : Good A → Type 0 = λ good. (item : A) × (rest : List (Member A)) × (good.members ≡ record { line = lines_given new.below; item = item } ∷ rest) in
         let counted : line.number ≡ lines_given new.below = gives.number ∙ sym gives.counted in
-        let first = good_first now.format (input_of now.below) now.state line item (lines_left left now.below) (first_came (lines_left left now.below) (lines_left left new.below) line gives.first) says in
-        let here : IfSome (good_coming left now) IsGood = rw (good_is now (g.rest ∙ gives.was_going.0)) (told_first _ (lines_given new.below) line.number item counted first) in
-        record { is = is; checked = inr (record { first = remains_if (good_coming left old) (good_coming left now) IsGood g.good here; rises = omega (arith, g.passed.least, gives.counted); going = gives.goes; near = gives.near }); served = gives.served ∙ g.served }
+        let first = good_first now.format (input_of now.below) now.state line item (lines_left device.left now.below) (first_came (lines_left device.left now.below) (lines_left device.left new.below) line gives.first) says in
+        let here : IfSome (good_coming device.left now) IsGood = rw (good_is now (g.rest ∙ gives.was_going.0)) (told_first _ (lines_given new.below) line.number item counted first) in
+        record { is = is; checked = inr (record { first = remains_if (good_coming device.left old) (good_coming device.left now) IsGood g.good here; rises = omega (arith, g.passed.least, gives.counted); going = gives.goes; near = gives.near }); served = gives.served ∙ g.served }
 
-    lost_by : (now new : MemberReader S A State) (line : TextLine) (fault : FaultValue) → Going old now → LineCame left failed now.below line new.below → new.fault ≡ Some fault → new.buffered ≡ [] → Follows now new → (IsKept left end now.below → IsKept left end new.below)
-        → Cause left failed end old fault new → AnswersFault left failed end old fault new
+    lost_by : (now new : MemberReader S A State) (line : TextLine) (fault : FaultValue) → Going old now → LineCame device now.below line new.below → new.fault ≡ Some fault → new.buffered ≡ [] → Follows now new → (IsKept device now.below → IsKept device new.below)
+        → Cause device old fault new → AnswersFault device old fault new
     lost_by now new line fault g gives kept ahead follows sound cause = record {
       kept = kept;
       was_none = g.was_none;
@@ -319,23 +320,23 @@ module _ {S A State : Type 0} (left : S → Option (List ℕ)) (failed end : S �
       stays = stays_more now new g (gives.bytes.0, gives.bytes.1) follows;
       rises = omega (arith, g.passed.least, gives.counted);
       lines = λ none. (passed_more now new line g gives sound).lines;
-      near = λ none was. near_came left end old.below new.below (passed_more now new line g gives sound);
+      near = λ none was. near_came device old.below new.below (passed_more now new line g gives sound);
     }
 
     -- a line was wrong
-    pub going_wrong : (now new : MemberReader S A State) (line : TextLine) (fault : FaultValue) (kind : Kind) → Going old now → LineCame left failed now.below line new.below → new.fault ≡ Some fault → new.buffered ≡ [] → Follows now new → (IsKept left end now.below → IsKept left end new.below)
-        → now.format.says now.state line ≡ Err kind → is_of_line kind ≡ true → fault ≡ fault_at_line (input_of old.below) line.number kind → AnswersFault left failed end old fault new
+    pub going_wrong : (now new : MemberReader S A State) (line : TextLine) (fault : FaultValue) (kind : Kind) → Going old now → LineCame device now.below line new.below → new.fault ≡ Some fault → new.buffered ≡ [] → Follows now new → (IsKept device now.below → IsKept device new.below)
+        → now.format.says now.state line ≡ Err kind → is_of_line kind ≡ true → fault ≡ fault_at_line (input_of old.below) line.number kind → AnswersFault device old fault new
     going_wrong now new line fault kind g gives kept ahead follows sound says of_line is =
         lost_by now new line fault g gives kept ahead follows sound (inl (wrong_cause now new line fault kind g gives says of_line is))
 
     -- a member had no room
-    pub going_unkept : (now new : MemberReader S A State) (line : TextLine) (fault : FaultValue) (item : A) → Going old now → LineCame left failed now.below line new.below → new.fault ≡ Some fault → new.buffered ≡ [] → Follows now new → (IsKept left end now.below → IsKept left end new.below)
-        → now.format.says now.state line ≡ Ok (Some item) → fault ≡ no_memory → AnswersFault left failed end old fault new
+    pub going_unkept : (now new : MemberReader S A State) (line : TextLine) (fault : FaultValue) (item : A) → Going old now → LineCame device now.below line new.below → new.fault ≡ Some fault → new.buffered ≡ [] → Follows now new → (IsKept device now.below → IsKept device new.below)
+        → now.format.says now.state line ≡ Ok (Some item) → fault ≡ no_memory → AnswersFault device old fault new
     going_unkept now new line fault item g gives kept ahead follows sound says is =
         lost_by now new line fault g gives kept ahead follows sound (inr (inr (unkept_cause now new line fault item g gives says is)))
 
     -- the line couldn't be read
-    read_cause : (now new : MemberReader S A State) (fault : FaultValue) → Going old now → GivesFault left failed now.below fault new.below → line_fault now.below ≡ None → FailsToRead left failed now.below fault new.below ⊎ (fault ≡ no_memory) → Cause left failed end old fault new
+    read_cause : (now new : MemberReader S A State) (fault : FaultValue) → Going old now → GivesFault device now.below fault new.below → line_fault now.below ≡ None → FailsToRead device now.below fault new.below ⊎ (fault ≡ no_memory) → Cause device old fault new
     read_cause now new fault g gives going (inl fails) =
         let said = rw (sym gives.counted) at (beyond now g going) in
         inr (inl (record {
@@ -343,7 +344,7 @@ module _ {S A State : Type 0} (left : S → Option (List ℕ)) (failed end : S �
             is = fails.is ∙ ap (λ i. read_failed i (suc (lines_given now.below))) (same_input now g) ∙ ap (λ n. read_failed (input_of old.below) (suc n)) (sym gives.counted);
             cause = fails.cause;
             before_end = not_told (end_told old.below) (end_told now.below) g.passed.bytes.1.told_stays (gives.before_end going);
-            cut = cut_fault left end failed old.below now.below new.below g.passed fault gives going fails.is;
+            cut = cut_fault device old.below now.below new.below g.passed fault gives going fails.is;
           };
           passed = said;
         }))
@@ -351,7 +352,7 @@ module _ {S A State : Type 0} (left : S → Option (List ℕ)) (failed end : S �
         let said = rw (sym gives.counted) at (beyond now g going) in
         inr (inr (record { is = is; checked = inl (gives.kept ∙ ap Some is, said); served = gives.served is ∙ g.served }))
 
-    again_by : (now new : MemberReader S A State) (fault : FaultValue) → Going old now → GivesFault left failed now.below fault new.below → new.fault ≡ Some fault → (new.below ≡ now.below → new.fault ≡ now.fault → new ≡ now) → (now ≡ old) ⊎ Begun old → (before : FaultValue) → old.fault ≡ Some before
+    again_by : (now new : MemberReader S A State) (fault : FaultValue) → Going old now → GivesFault device now.below fault new.below → new.fault ≡ Some fault → (new.below ≡ now.below → new.fault ≡ now.fault → new ≡ now) → (now ≡ old) ⊎ Begun old → (before : FaultValue) → old.fault ≡ Some before
         → (fault ≡ before) × (new ≡ old)
     again_by now new fault g gives is track (inl same) before kept =
         let line_kept : line_fault now.below ≡ Some before = sym g.rest ∙ ap (λ r. r.fault) same ∙ kept in
@@ -360,8 +361,8 @@ module _ {S A State : Type 0} (left : S → Option (List ℕ)) (failed end : S �
     again_by now new fault g gives is track (inr begun) before kept =
         absurd (let apart : None ≡ Some before = sym begun.was_going ∙ kept in cc)
 
-    pub going_unread : (now new : MemberReader S A State) (fault : FaultValue) → Going old now → GivesFault left failed now.below fault new.below → new.fault ≡ Some fault → new.buffered ≡ [] → Follows now new → (new.below ≡ now.below → new.fault ≡ now.fault → new ≡ now)
-        → AnswersFault left failed end old fault new
+    pub going_unread : (now new : MemberReader S A State) (fault : FaultValue) → Going old now → GivesFault device now.below fault new.below → new.fault ≡ Some fault → new.buffered ≡ [] → Follows now new → (new.below ≡ now.below → new.fault ≡ now.fault → new ≡ now)
+        → AnswersFault device old fault new
     going_unread now new fault g gives kept ahead follows track = record {
       kept = kept;
       was_none = g.was_none;
@@ -372,35 +373,35 @@ module _ {S A State : Type 0} (left : S → Option (List ℕ)) (failed end : S �
       stays = stays_more now new g gives.bytes follows;
       rises = omega (arith, g.passed.least, gives.counted);
       lines = λ none. absurd (let apart : None ≡ Some fault = sym none ∙ gives.kept in cc);
-      near = λ none sound. near_fault left end failed old.below now.below new.below g.passed fault gives (sym g.rest ∙ g.going none);
+      near = λ none sound. near_fault device old.below now.below new.below g.passed fault gives (sym g.rest ∙ g.going none);
     }
 
     -- no line was left
-    end_again : (now new : MemberReader S A State) → Going old now → GivesEnd left failed now.below new.below → new.fault ≡ line_fault new.below → (new.below ≡ now.below → new.fault ≡ now.fault → new ≡ now) → (now ≡ old) ⊎ Begun old → has_ended old.below ≡ true → new ≡ old
+    end_again : (now new : MemberReader S A State) → Going old now → GivesEnd device now.below new.below → new.fault ≡ line_fault new.below → (new.below ≡ now.below → new.fault ≡ now.fault → new ≡ now) → (now ≡ old) ⊎ Begun old → has_ended old.below ≡ true → new ≡ old
     end_again now new g gives rest track (inl same) ended =
         let reader = gives.again (ap (λ r. has_ended r.below) same ∙ ended) in
         track reader (rest ∙ ap line_fault reader ∙ sym g.rest) ∙ same
     end_again now new g gives rest track (inr begun) ended = absurd (false≢true (sym begun.not_told ∙ ended))
 
-    room_at_end : (now : LineReader S) (reader : LineReader S) → GivesEnd left failed now reader → line_room reader ≤ line_room now
+    room_at_end : (now : LineReader S) (reader : LineReader S) → GivesEnd device now reader → line_room reader ≤ line_room now
     room_at_end now reader gives = let counted = gives.bytes.1.counted in rw gives.nothing_held (omega arith)
 
-    pub going_end : (now new : MemberReader S A State) → Going old now → GivesEnd left failed now.below new.below → new.buffered ≡ [] → new.fault ≡ line_fault new.below → Follows now new → (new.below ≡ now.below → new.fault ≡ now.fault → new ≡ now)
-        → EndsMembers left failed old new
+    pub going_end : (now new : MemberReader S A State) → Going old now → GivesEnd device now.below new.below → new.buffered ≡ [] → new.fault ≡ line_fault new.below → Follows now new → (new.below ≡ now.below → new.fault ≡ now.fault → new ≡ now)
+        → EndsMembers device old new
     going_end now new g gives ahead rest follows track =
-        let none : IfSome (good_coming left now) (λ good. good ≡ ends_with None) =
-        rw (good_is now (g.rest ∙ gives.was_going)) (good_end now.format (input_of now.below) now.state (lines_left left now.below) gives.none_left) in
+        let none : IfSome (good_coming device.left now) (λ good. good ≡ ends_with None) =
+        rw (good_is now (g.rest ∙ gives.was_going)) (good_end now.format (input_of now.below) now.state (lines_left device.left now.below) gives.none_left) in
         let falls = room_at_end now.below new.below gives in
         record {
-          none_left = remains_if (good_coming left old) (good_coming left now) (λ good. good ≡ ends_with None) g.good none;
-          none_comes = rw (good_is new (rest ∙ gives.goes)) (good_end new.format (input_of new.below) new.state (lines_left left new.below) gives.none_comes);
+          none_left = remains_if (good_coming device.left old) (good_coming device.left now) (λ good. good ≡ ends_with None) g.good none;
+          none_comes = rw (good_is new (rest ∙ gives.goes)) (good_end new.format (input_of new.below) new.state (lines_left device.left new.below) gives.none_comes);
           was_none = g.was_none;
           none_buffered = ahead;
           state = follows.state ∙ g.state;
           ends = gives.ends;
           told = gives.told;
           rises = omega (arith, g.passed.least, gives.counted);
-          lines = all_given (lines_left left old.below) (lines_left left now.below) (lines_given now.below - lines_given old.below) (lines_given new.below - lines_given old.below) g.passed.lines gives.none_left (ap (λ n. n - lines_given old.below) gives.counted);
+          lines = all_given (lines_left device.left old.below) (lines_left device.left now.below) (lines_given now.below - lines_given old.below) (lines_given new.below - lines_given old.below) g.passed.lines gives.none_left (ap (λ n. n - lines_given old.below) gives.counted);
           again = end_again now new g gives rest track g.begun;
           served = gives.served ∙ g.served;
           was_going = was_faultless now g gives.was_going;
@@ -411,18 +412,18 @@ module _ {S A State : Type 0} (left : S → Option (List ℕ)) (failed end : S �
 
   -- a reader that has given no member has all of the good ones left
   pub good_at_first : (reader : MemberReader S A State) → reader.fault ≡ None → reader.state ≡ reader.format.begin
-      → good_coming left reader ≡ option_map (good reader.format (input_of reader.below)) (lines_left left reader.below)
+      → good_coming device.left reader ≡ option_map (good reader.format (input_of reader.below)) (lines_left device.left reader.below)
   good_at_first reader going begin = good_is reader going ∙ (rw begin refl)
 
   -- the member ahead is given again
   pub gives_again : (old : MemberReader S A State) (line : TextLine) (more : List TextLine) (item : A) (items : List A) → old.fault ≡ None → 0 < length (buffered_bytes old.below) → buffered_in old.below ≡ line ∷ more
-      → line.number ≡ suc (lines_given old.below) → old.format.says old.state line ≡ Ok (Some item) → old.buffered ≡ item ∷ items → GivesMember left failed old (record { line = line.number; item = item }) old
+      → line.number ≡ suc (lines_given old.below) → old.format.says old.state line ≡ Ok (Some item) → old.buffered ≡ item ∷ items → GivesMember device old (record { line = line.number; item = item }) old
   gives_again old line more item items going some first number says buffered = record {
     ahead = ap (first_from (suc (lines_given old.below))) buffered ∙ ap (λ n. Some (record { line = n; item = item })) (sym number);
     state = refl;
-    good = remains_same (good_coming left old);
+    good = remains_same (good_coming device.left old);
     first = rw (good_is old going)
-        (good_first old.format (input_of old.below) old.state line item (lines_left left old.below) (lines_first old (lines_left left old.below) (lines_left left old.below) line more (buffered_in old.below) (is_prefix left old.below) first) says);
+        (good_first old.format (input_of old.below) old.state line item (lines_left device.left old.below) (lines_first old (lines_left device.left old.below) (lines_left device.left old.below) line more (buffered_in old.below) (is_prefix device.left old.below) first) says);
     said = (line, says);
     again = λ some. refl;
     at = number;
@@ -432,8 +433,8 @@ module _ {S A State : Type 0} (left : S → Option (List ℕ)) (failed end : S �
     was_going = going;
     goes = refl;
     stays = stays_same old;
-    lines = (came_none left end old.below).lines;
-    near = near_came left end old.below old.below (came_none left end old.below);
+    lines = (came_none device old.below).lines;
+    near = near_came device old.below old.below (came_none device old.below);
     shrinks = omega arith;
   }
 
@@ -442,19 +443,19 @@ with_none None = refl
 with_none (Some good) = refl
 
 -- no member was taken
-pub takes_none : {S A State : Type 0} (left : S → Option (List ℕ)) (end : S → Bool) (reader : MemberReader S A State) → Takes left end reader [] reader
-takes_none left end reader = record {
+pub takes_none : {S A State : Type 0} (device : Source S) (reader : MemberReader S A State) → Takes device reader [] reader
+takes_none device reader = record {
   buffered = refl;
   said = tt;
   state = refl;
-  good = with_none (good_coming left reader);
+  good = with_none (good_coming device.left reader);
   goes = refl;
   format = refl;
   given = omega arith;
   below = given_below reader.below;
-  hands = hands_none left reader.below;
+  hands = hands_none device.left reader.below;
   source = refl;
-  lines = (came_none left end reader.below).lines;
+  lines = (came_none device reader.below).lines;
   kept = λ was. was;
   near = λ some. absurd (omega (arith, some));
   shrinks = omega arith;

@@ -1,4 +1,4 @@
-use Rattle.std.proofs.Common.{◌≡◌, ◌∙◌, ◌+◌, ◌∷◌, ◌++◌, Bool, true, false, [], ap, arith, cond, length, nat_lt}
+use Rattle.std.proofs.Common.{◌≡◌, ◌∙◌, ◌+◌, ◌∷◌, ◌++◌, false, [], ap, arith, cond, length, nat_lt}
 use Rattle.std.proofs.lemmas.Bool.Decides.{nat_tests}
 use Rattle.bt_bed.specs.calls.RawRecord.{raw_in, text_in}
 use Rattle.bt_bed.proofs.lemmas.records.RawRecordLemmas.{text_written}

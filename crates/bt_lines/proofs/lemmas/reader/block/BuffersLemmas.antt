@@ -4,6 +4,7 @@ use Rattle.std.proofs.KnownBytes.{Consumes-nil, Consumes-trans}
 use Rattle.std.proofs.lemmas.Bool.Decides.{nat_tests}
 use Rattle.std.proofs.lemmas.List.Elements.{All-nil}
 use Rattle.std.specs.Io.KnownBytes.{Consumes}
+use Rattle.bt_lines.specs.declared.device.Source.{Ghosts as Source}
 use Rattle.bt_lines.proofs.lemmas.reader.block.BufferLemmas.{fed_push}
 use Rattle.bt_lines.proofs.lemmas.reader.lines.TextLemmas.{line_feeds-append, line_feeds-none}
 use Rattle.bt_lines.proofs.lemmas.reader.block.ReadsLemmas.{counts_then, fails_then}
@@ -55,21 +56,21 @@ then_stopped : (stop : Stop) (left : Option (List ℕ)) (first mid last told : B
     → StopsWith stop left mid last told same complete rest taken → StopsWith stop left first last told all complete rest taken
 then_stopped stop left first mid last told all same complete rest taken e f h = rw (e, ← f) h
 
-module _ {S : Type 0} (left : S → Option (List ℕ)) (failed told : S → Bool) where
+module _ {S : Type 0} (device : Source S) where
   -- the bytes read so far follow those that were held
   pub record ReadSoFar (old : S) (old_unread : List ℕ) (old_taken : ℕ) (new : S) (unread : List ℕ) (taken : ℕ) : Type 0 where
     pub bytes : List ℕ
-    pub consumed : Consumes (left old) (left new) bytes
+    pub consumed : Consumes (device.left old) (device.left new) bytes
     pub counted : taken ≡ old_taken + length bytes
     pub within : taken < 2 ^ 63
     pub joined : unread ≡ old_unread ++ bytes
-    pub served : failed new ≡ failed old
+    pub served : device.has_failed new ≡ device.has_failed old
     pub ready : 0 < line_feeds old_unread → new ≡ old
 
   pub none_yet : (old : S) (unread : List ℕ) (taken : ℕ) → taken < 2 ^ 63 → ReadSoFar old unread taken old unread taken
   none_yet old unread taken within = record {
     bytes = [];
-    consumed = Consumes-nil (left old);
+    consumed = Consumes-nil (device.left old);
     counted = sym (add-zero taken);
     within = within;
     joined = sym (append-nil unread);
@@ -83,8 +84,8 @@ module _ {S : Type 0} (left : S → Option (List ℕ)) (failed told : S → Bool
       never : 0 < line_feeds old_unread → ⊥
       never h = none_in_front old_unread so_far.bytes same (is ∙ so_far.joined) clear h
 
-      both : (new : S) (next : List ℕ) → Consumes (left mid) (left new) next → Consumes (left old) (left new) (so_far.bytes ++ next)
-      both new next c = Consumes-trans (left old) (left mid) (left new) so_far.bytes next so_far.consumed c
+      both : (new : S) (next : List ℕ) → Consumes (device.left mid) (device.left new) next → Consumes (device.left old) (device.left new) (so_far.bytes ++ next)
+      both new next c = Consumes-trans (device.left old) (device.left mid) (device.left new) so_far.bytes next so_far.consumed c
 
       all : (next : List ℕ) → old_unread ++ (so_far.bytes ++ next) ≡ same ++ next
       all next = sym (append_assoc old_unread so_far.bytes next) ∙ ap (λ l. l ++ next) (sym so_far.joined ∙ sym is)
@@ -92,7 +93,7 @@ module _ {S : Type 0} (left : S → Option (List ℕ)) (failed told : S → Bool
       counts : (next : List ℕ) → length (so_far.bytes ++ next) ≡ length so_far.bytes + length next
       counts next = length-append so_far.bytes next
 
-      pub more_read : (new : S) (next_unread : List ℕ) (next_taken : ℕ) → AsksMore left failed told mid same taken Bytes new next_unread next_taken
+      pub more_read : (new : S) (next_unread : List ℕ) (next_taken : ℕ) → AsksMore device mid same taken Bytes new next_unread next_taken
           → ReadSoFar old old_unread old_taken new next_unread next_taken
       more_read new next_unread next_taken asks = record {
         bytes = so_far.bytes ++ asks.bytes;
@@ -104,11 +105,11 @@ module _ {S : Type 0} (left : S → Option (List ℕ)) (failed told : S → Bool
         ready = λ h. absurd (never h);
       }
 
-      pub shorter : (new : S) (next_unread : List ℕ) (next_taken : ℕ) → AsksMore left failed told mid same taken Bytes new next_unread next_taken → 2 ^ 63 - next_taken < 2 ^ 63 - taken
+      pub shorter : (new : S) (next_unread : List ℕ) (next_taken : ℕ) → AsksMore device mid same taken Bytes new next_unread next_taken → 2 ^ 63 - next_taken < 2 ^ 63 - taken
       shorter new next_unread next_taken asks = omega (arith, asks.counted, asks.came.0, asks.within, so_far.within)
 
-      pub text_ended : (new : S) (next_unread : List ℕ) (next_taken : ℕ) (complete rest : List ℕ) → AsksMore left failed told mid same taken NoBytes new next_unread next_taken
-          → complete ≡ closed next_unread → rest ≡ [] → Buffers left failed told old old_unread old_taken End new complete rest next_taken
+      pub text_ended : (new : S) (next_unread : List ℕ) (next_taken : ℕ) (complete rest : List ℕ) → AsksMore device mid same taken NoBytes new next_unread next_taken
+          → complete ≡ closed next_unread → rest ≡ [] → Buffers device old old_unread old_taken End new complete rest next_taken
       text_ended new next_unread next_taken complete rest asks lines none =
           let whole : old_unread ++ (so_far.bytes ++ asks.bytes) ≡ same = all asks.bytes ∙ ap (λ l. same ++ l) asks.came.0 ∙ append-nil same in
           record {
@@ -121,8 +122,8 @@ module _ {S : Type 0} (left : S → Option (List ℕ)) (failed told : S → Bool
             stopped = (rw whole clear, rw whole (lines ∙ ap closed asks.came.1), none, asks.came.2 ∙ so_far.served, asks.came.3, asks.came.4);
           }
 
-      pub source_failed : (new : S) (next_unread : List ℕ) (next_taken : ℕ) (complete : List ℕ) → AsksMore left failed told mid same taken BadRead new next_unread next_taken
-          → complete ≡ [] → Buffers left failed told old old_unread old_taken Failed new complete next_unread next_taken
+      pub source_failed : (new : S) (next_unread : List ℕ) (next_taken : ℕ) (complete : List ℕ) → AsksMore device mid same taken BadRead new next_unread next_taken
+          → complete ≡ [] → Buffers device old old_unread old_taken Failed new complete next_unread next_taken
       source_failed new next_unread next_taken complete asks none =
           let whole : old_unread ++ (so_far.bytes ++ asks.bytes) ≡ same = all asks.bytes ∙ ap (λ l. same ++ l) asks.came.0 ∙ append-nil same in
           record {
@@ -135,8 +136,8 @@ module _ {S : Type 0} (left : S → Option (List ℕ)) (failed told : S → Bool
             stopped = (rw whole clear, none, rw asks.came.1 clear, asks.came.2, ([], whole ∙ sym asks.came.1));
           }
 
-      pub text_too_long : (new : S) (next_unread : List ℕ) (next_taken : ℕ) (complete : List ℕ) → AsksMore left failed told mid same taken PastBound new next_unread next_taken
-          → complete ≡ [] → Buffers left failed told old old_unread old_taken TooLong new complete next_unread next_taken
+      pub text_too_long : (new : S) (next_unread : List ℕ) (next_taken : ℕ) (complete : List ℕ) → AsksMore device mid same taken PastBound new next_unread next_taken
+          → complete ≡ [] → Buffers device old old_unread old_taken TooLong new complete next_unread next_taken
       text_too_long new next_unread next_taken complete asks none = record {
         bytes = so_far.bytes ++ asks.bytes;
         consumed = both new asks.bytes asks.consumed;
@@ -148,8 +149,8 @@ module _ {S : Type 0} (left : S → Option (List ℕ)) (failed told : S → Bool
       }
 
       -- the line is longer than a block
-      pub then_long : (stop : Stop) (new : S) (complete rest : List ℕ) (next_taken : ℕ) → Buffers left failed told mid same taken stop new complete rest next_taken
-          → Buffers left failed told old old_unread old_taken stop new complete rest next_taken
+      pub then_long : (stop : Stop) (new : S) (complete rest : List ℕ) (next_taken : ℕ) → Buffers device mid same taken stop new complete rest next_taken
+          → Buffers device old old_unread old_taken stop new complete rest next_taken
       then_long stop new complete rest next_taken long = record {
         bytes = so_far.bytes ++ long.bytes;
         consumed = both new long.bytes long.consumed;
@@ -157,7 +158,7 @@ module _ {S : Type 0} (left : S → Option (List ℕ)) (failed told : S → Bool
         within = long.within;
         ready = λ h. absurd (never h);
         first = inl (zero_of _ never);
-        stopped = then_stopped stop (left new) (failed old) (failed mid) (failed new) (told new) (old_unread ++ (so_far.bytes ++ long.bytes)) (same ++ long.bytes) complete rest next_taken (all long.bytes) so_far.served long.stopped;
+        stopped = then_stopped stop (device.left new) (device.has_failed old) (device.has_failed mid) (device.has_failed new) (device.end_told new) (old_unread ++ (so_far.bytes ++ long.bytes)) (same ++ long.bytes) complete rest next_taken (all long.bytes) so_far.served long.stopped;
       }
 
   -- a line that is longer than a block
@@ -165,8 +166,8 @@ module _ {S : Type 0} (left : S → Option (List ℕ)) (failed told : S → Bool
     never_held : 0 < line_feeds old_unread → ⊥
     never_held h = omega (arith, h, line_feeds-none old_unread clear)
 
-    pub long_line : (complete rest : List ℕ) → Fills left failed told old old_unread old_taken LineFeed new unread text taken → complete ≡ text → rest ≡ unread
-        → Buffers left failed told old old_unread old_taken LineFeed new complete rest taken
+    pub long_line : (complete rest : List ℕ) → Fills device old old_unread old_taken LineFeed new unread text taken → complete ≡ text → rest ≡ unread
+        → Buffers device old old_unread old_taken LineFeed new complete rest taken
     long_line complete rest fills lines same =
         let line = fills.stopped.0 in
         record {
@@ -183,11 +184,11 @@ module _ {S : Type 0} (left : S → Option (List ℕ)) (failed told : S → Bool
           );
         }
 
-    whole_text : (fills : Fills left failed told old old_unread old_taken End new unread text taken) → old_unread ++ fills.bytes ≡ text
+    whole_text : (fills : Fills device old old_unread old_taken End new unread text taken) → old_unread ++ fills.bytes ≡ text
     whole_text fills = fills.joined ∙ ap (λ l. text ++ l) fills.stopped.1 ∙ append-nil text
 
-    pub long_last : (complete rest : List ℕ) → Fills left failed told old old_unread old_taken End new unread text taken → complete ≡ text ++ 10 ∷ [] → rest ≡ unread
-        → Buffers left failed told old old_unread old_taken End new complete rest taken
+    pub long_last : (complete rest : List ℕ) → Fills device old old_unread old_taken End new unread text taken → complete ≡ text ++ 10 ∷ [] → rest ≡ unread
+        → Buffers device old old_unread old_taken End new complete rest taken
     long_last complete rest fills lines same =
         let all = whole_text fills in
         let size : 0 < length text = omega (arith, some, ap length all, length-append old_unread fills.bytes) in
@@ -201,8 +202,8 @@ module _ {S : Type 0} (left : S → Option (List ℕ)) (failed told : S → Bool
           stopped = (rw all fills.stopped.0, rw all (lines ∙ sym (closed_some text size)), same ∙ fills.stopped.2, fills.stopped.3, fills.stopped.4, fills.stopped.5);
         }
 
-    pub long_last_refused : (complete rest : List ℕ) → Fills left failed told old old_unread old_taken End new unread text taken → complete ≡ [] → rest ≡ unread
-        → Buffers left failed told old old_unread old_taken NoMemory new complete rest taken
+    pub long_last_refused : (complete rest : List ℕ) → Fills device old old_unread old_taken End new unread text taken → complete ≡ [] → rest ≡ unread
+        → Buffers device old old_unread old_taken NoMemory new complete rest taken
     long_last_refused complete rest fills none same = record {
       bytes = fills.bytes;
       consumed = fills.consumed;
@@ -213,8 +214,8 @@ module _ {S : Type 0} (left : S → Option (List ℕ)) (failed told : S → Bool
       stopped = ((text, fills.stopped.0, whole_text fills ∙ sym (append-nil text) ∙ ap (λ l. text ++ l) (sym (same ∙ fills.stopped.2))), none, fills.stopped.3);
     }
 
-    pub long_failed : (complete : List ℕ) → Fills left failed told old old_unread old_taken Failed new unread text taken → complete ≡ []
-        → Buffers left failed told old old_unread old_taken Failed new complete unread taken
+    pub long_failed : (complete : List ℕ) → Fills device old old_unread old_taken Failed new unread text taken → complete ≡ []
+        → Buffers device old old_unread old_taken Failed new complete unread taken
     long_failed complete fills none = record {
       bytes = fills.bytes;
       consumed = fills.consumed;
@@ -231,8 +232,8 @@ module _ {S : Type 0} (left : S → Option (List ℕ)) (failed told : S → Bool
       );
     }
 
-    pub long_too_long : (complete : List ℕ) → Fills left failed told old old_unread old_taken TooLong new unread text taken → complete ≡ []
-        → Buffers left failed told old old_unread old_taken TooLong new complete unread taken
+    pub long_too_long : (complete : List ℕ) → Fills device old old_unread old_taken TooLong new unread text taken → complete ≡ []
+        → Buffers device old old_unread old_taken TooLong new complete unread taken
     long_too_long complete fills none = record {
       bytes = fills.bytes;
       consumed = fills.consumed;
@@ -243,8 +244,8 @@ module _ {S : Type 0} (left : S → Option (List ℕ)) (failed told : S → Bool
       stopped = ((text, fills.behind, fills.stopped.0, fills.joined, fills.stopped.1), none, fills.stopped.2, fills.stopped.3);
     }
 
-    pub long_refused : (complete : List ℕ) → Fills left failed told old old_unread old_taken NoMemory new unread text taken → complete ≡ []
-        → Buffers left failed told old old_unread old_taken NoMemory new complete unread taken
+    pub long_refused : (complete : List ℕ) → Fills device old old_unread old_taken NoMemory new unread text taken → complete ≡ []
+        → Buffers device old old_unread old_taken NoMemory new complete unread taken
     long_refused complete fills none = record {
       bytes = fills.bytes;
       consumed = fills.consumed;

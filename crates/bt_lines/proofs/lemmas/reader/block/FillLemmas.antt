@@ -3,6 +3,7 @@ use Rattle.std.proofs.Common.{◌≡◌, ◌⊎◌, inl, inr, ℕ, suc, ◌-◌,
 use Rattle.std.specs.Prelude.{option_map, is_some, IfSome}
 use Rattle.std.proofs.lemmas.Bool.{false≢true}
 use Rattle.std.proofs.KnownBytes.{Consumes-nil}
+use Rattle.bt_lines.specs.declared.device.Source.{Ghosts as Source}
 use Rattle.bt_lines.proofs.lemmas.reader.lines.ReaderLemmas.{hands_both, hands_none}
 use Rattle.bt_lines.proofs.lemmas.reader.block.ReadsLemmas.{has_read_then}
 use Rattle.bt_lines.proofs.lemmas.reader.lines.StateLemmas.{some_state}
@@ -57,9 +58,9 @@ none_left_told : {S : Type 0} (left : S → Option (List ℕ)) (reader : LineRea
 unfolding bytes_left
 none_left_told left reader e none = none_left_at (end_told reader) (held reader) (suc (lines_given reader)) (left (source_of reader)) e none
 
-module _ {S : Type 0} (left : S → Option (List ℕ)) (failed end : S → Bool) where
+module _ {S : Type 0} (device : Source S) where
   -- a line is buffered already
-  pub fills_ready : (reader : LineReader S) → (length (complete reader.buffer) ≡ 0 → ⊥) → FillsLines left failed end reader (Ok true) reader
+  pub fills_ready : (reader : LineReader S) → (length (complete reader.buffer) ≡ 0 → ⊥) → FillsLines device reader (Ok true) reader
   unfolding buffered_bytes fault_kept has_ended bytes_taken
   fills_ready reader some =
       let lends : (lends_at reader.state ≡ false → ⊥) = λ e. some (ap length (reader.quiet e)) in
@@ -67,8 +68,8 @@ module _ {S : Type 0} (left : S → Option (List ℕ)) (failed end : S → Bool)
       record {
         answers = record {
           some = some_length (complete reader.buffer) some;
-          bytes = ([], hands_none left reader, sym (append-nil (held reader)));
-          same = same_lines (lines_left left reader);
+          bytes = ([], hands_none device.left reader, sym (append-nil (held reader)));
+          same = same_lines (lines_left device.left reader);
           counted = refl;
           ready = λ h. refl;
           served = refl;
@@ -82,7 +83,7 @@ module _ {S : Type 0} (left : S → Option (List ℕ)) (failed end : S → Bool)
 
   -- after the last line comes the end
   pub fills_after_last : (old new : LineReader S) → complete old.buffer ≡ [] → old.state ≡ LastLine → new.source ≡ old.source → new.buffer ≡ old.buffer → new.taken ≡ old.taken → new.lines ≡ old.lines
-      → new.input ≡ old.input → new.state ≡ Ended → FillsLines left failed end old (Ok false) new
+      → new.input ≡ old.input → new.state ≡ Ended → FillsLines device old (Ok false) new
   unfolding source_of input_of lines_given bytes_taken held fault_kept has_ended end_told feeds_taken buffered_bytes
   fills_after_last old new none was same_source same_buffer same_taken same_lines same_input ended =
       let gone : held_at (open_at old.state) (complete old.buffer) (unread old.buffer) ≡ [] = rw was (ap (λ l. take (length l - 1) l) none) in
@@ -90,14 +91,14 @@ module _ {S : Type 0} (left : S → Option (List ℕ)) (failed end : S → Bool)
       let now : held_at (open_at new.state) (complete new.buffer) (unread new.buffer) ≡ [] = rw (ended, same_buffer, none, no_more) refl in
       record {
         answers = record {
-          none_left = none_left_told left old (rw was refl) gone;
-          none_comes = none_left_told left new (rw ended refl) now;
+          none_left = none_left_told device.left old (rw was refl) gone;
+          none_comes = none_left_told device.left new (rw ended refl) now;
           nothing_held = now;
           counted = same_lines;
           bytes = (
             [],
             record {
-              left_over = rw same_source (Consumes-nil (left old.source));
+              left_over = rw same_source (Consumes-nil (device.left old.source));
               counted = rw (was, ended, same_taken, add-zero) refl;
               same_input = same_input;
               fed = λ t b. absurd (false≢true (sym t ∙ rw ended refl));
@@ -105,7 +106,7 @@ module _ {S : Type 0} (left : S → Option (List ℕ)) (failed end : S → Bool)
             },
             append-nil _ ∙ gone,
           );
-          served = ap failed same_source;
+          served = ap device.has_failed same_source;
           was_going = rw was refl;
           goes = rw ended refl;
           ends = rw ended refl;
@@ -119,18 +120,18 @@ module _ {S : Type 0} (left : S → Option (List ℕ)) (failed end : S → Bool)
         };
       }
 
-  pub fills_again : (old : LineReader S) → complete old.buffer ≡ [] → old.state ≡ Ended → FillsLines left failed end old (Ok false) old
+  pub fills_again : (old : LineReader S) → complete old.buffer ≡ [] → old.state ≡ Ended → FillsLines device old (Ok false) old
   unfolding source_of lines_given bytes_taken held fault_kept has_ended end_told buffered_bytes
   fills_again old none was =
       let no_more : unread old.buffer ≡ [] = old.last.none_behind (rw was refl) in
       let gone : held_at (open_at old.state) (complete old.buffer) (unread old.buffer) ≡ [] = rw (was, none, no_more) refl in
       record {
         answers = record {
-          none_left = none_left_told left old (rw was refl) gone;
-          none_comes = none_left_told left old (rw was refl) gone;
+          none_left = none_left_told device.left old (rw was refl) gone;
+          none_comes = none_left_told device.left old (rw was refl) gone;
           nothing_held = gone;
           counted = refl;
-          bytes = ([], hands_none left old, append-nil _ ∙ gone);
+          bytes = ([], hands_none device.left old, append-nil _ ∙ gone);
           served = refl;
           was_going = rw was refl;
           goes = rw was refl;
@@ -143,15 +144,15 @@ module _ {S : Type 0} (left : S → Option (List ℕ)) (failed end : S → Bool)
       }
 
   -- a line that was made buffered, and then given
-  gives_after : (old mid new : LineReader S) (line : TextLine) → MakesLine left failed old mid → GivesLine left failed mid line new → GivesLine left failed old line new
+  gives_after : (old mid new : LineReader S) (line : TextLine) → MakesLine device old mid → GivesLine device mid line new → GivesLine device old line new
   gives_after old mid new line made gives =
       let one = made.bytes in
       let two = gives.bytes in
       record {
-        first = first_after (lines_left left old) (lines_left left mid) line (lines_left left new) made.same gives.first;
+        first = first_after (lines_left device.left old) (lines_left device.left mid) line (lines_left device.left new) made.same gives.first;
         bytes = (
           one.0 ++ two.0,
-          hands_both left old mid new one.0 two.0 one.1 two.1,
+          hands_both device.left old mid new one.0 two.0 one.1 two.1,
           sym (append_assoc (held old) one.0 two.0) ∙ ap (λ l. l ++ two.0) (sym one.2) ∙ two.2,
         );
         ahead = gives.ahead;
@@ -166,13 +167,13 @@ module _ {S : Type 0} (left : S → Option (List ℕ)) (failed end : S → Bool)
         goes = gives.goes;
       }
 
-  pub steps_on : (old mid new : LineReader S) → FillsLines left failed end old (Ok true) mid → CutsFirst left failed end mid new → Stepped left failed end old (Ok (tt {0})) new
+  pub steps_on : (old mid new : LineReader S) → FillsLines device old (Ok true) mid → CutsFirst device mid new → Stepped device old (Ok (tt {0})) new
   steps_on old mid new fills cuts = record {
-    answers = subst (λ l. StepsTo left failed old l new) (sym cuts.at) (gives_after old mid new cuts.line fills.answers cuts.gives);
+    answers = subst (λ l. StepsTo device old l new) (sym cuts.at) (gives_after old mid new cuts.line fills.answers cuts.gives);
     sound = λ h. cuts.sound (fills.kept (record { end = h.end; within = h.within }));
   }
 
-  pub steps_to_fault : (old new : LineReader S) (fault : Fault) → FillsLines left failed end old (Err fault) new → Stepped {A = Unit {0}} left failed end old (Err fault) new
+  pub steps_to_fault : (old new : LineReader S) (fault : Fault) → FillsLines device old (Err fault) new → Stepped {A = Unit {0}} device old (Err fault) new
   steps_to_fault old new fault fills = record {
     answers = fills.answers;
     sound = λ h. let kept = fills.kept (record { end = h.end; within = h.within }) in
@@ -184,19 +185,19 @@ module _ {S : Type 0} (left : S → Option (List ℕ)) (failed end : S → Bool)
   cuts_by true mid some none = refl
   cuts_by false mid some none = absurd (omega (arith, some, ap length (none refl)))
 
-  filled : (old mid : LineReader S) (answer : Result Bool Fault) → answer ≡ Ok true → FillsLines left failed end old answer mid → FillsLines left failed end old (Ok true) mid
-  filled old mid answer e fills = subst (λ (r : Result Bool Fault). FillsLines left failed end old r mid) e fills
+  filled : (old mid : LineReader S) (answer : Result Bool Fault) → answer ≡ Ok true → FillsLines device old answer mid → FillsLines device old (Ok true) mid
+  filled old mid answer e fills = subst (λ (r : Result Bool Fault). FillsLines device old r mid) e fills
 
   -- when one is buffered, it is taken
-  pub is_cut : (old mid : LineReader S) (answer : Result Bool Fault) (b : Bool) → answer ≡ Ok true → FillsLines left failed end old answer mid → (b ≡ false → complete mid.buffer ≡ []) → b ≡ true
+  pub is_cut : (old mid : LineReader S) (answer : Result Bool Fault) (b : Bool) → answer ≡ Ok true → FillsLines device old answer mid → (b ≡ false → complete mid.buffer ≡ []) → b ≡ true
   is_cut old mid answer b e fills none = let made = (filled old mid answer e fills).answers in cuts_by b mid made.some none
 
-  pub steps_by : (old mid new : LineReader S) (answer : Result Bool Fault) (b : Bool) → answer ≡ Ok true → FillsLines left failed end old answer mid → (b ≡ false → complete mid.buffer ≡ [])
-      → (b ≡ true → CutsFirst left failed end mid new) → Stepped left failed end old (Ok (tt {0})) new
+  pub steps_by : (old mid new : LineReader S) (answer : Result Bool Fault) (b : Bool) → answer ≡ Ok true → FillsLines device old answer mid → (b ≡ false → complete mid.buffer ≡ [])
+      → (b ≡ true → CutsFirst device mid new) → Stepped device old (Ok (tt {0})) new
   steps_by old mid new answer b e fills none cuts = steps_on old mid new (filled old mid answer e fills) (cuts (is_cut old mid answer b e fills none))
 
-  pub reads_by : (IsRead : S → Option ℕ → S → Type 0) (old mid new : LineReader S) (answer : Result Bool Fault) (b : Bool) → answer ≡ Ok true → FillsLines left failed end old answer mid
-      → (b ≡ false → complete mid.buffer ≡ []) → TellsOwnFailure IsRead old answer mid → (b ≡ true → HasRead IsRead mid new) → HasRead IsRead old new
-  reads_by IsRead old mid new answer b e fills none read then =
-      let first : HasRead IsRead old mid = subst (λ (r : Result Bool Fault). TellsOwnFailure IsRead old r mid) e read in
-      has_read_then IsRead old mid new first (then (is_cut old mid answer b e fills none))
+  pub reads_by : (old mid new : LineReader S) (answer : Result Bool Fault) (b : Bool) → answer ≡ Ok true → FillsLines device old answer mid
+      → (b ≡ false → complete mid.buffer ≡ []) → TellsOwnFailure device.is_read old answer mid → (b ≡ true → HasRead device.is_read mid new) → HasRead device.is_read old new
+  reads_by old mid new answer b e fills none read then =
+      let first : HasRead device.is_read old mid = subst (λ (r : Result Bool Fault). TellsOwnFailure device.is_read old r mid) e read in
+      has_read_then device.is_read old mid new first (then (is_cut old mid answer b e fills none))

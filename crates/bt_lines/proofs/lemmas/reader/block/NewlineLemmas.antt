@@ -3,7 +3,8 @@ use Rattle.std.proofs.Common.{◌≡◌, ℕ, ◌+◌, ◌-◌, ◌<◌, ◌≤�
 use Rattle.std.proofs.Math.Seq.{take-add, take-length}
 use Rattle.std.proofs.lemmas.List.{take-append-drop, take_at, drop_at, length-take-le, length-drop, take_all}
 use Rattle.std.proofs.lemmas.List.Elements.{All-append}
-use Rattle.bt_lines.specs.inside.Newline.{IsBefore, IsFirstOf, Lacks}
+use Rattle.bt_lines.specs.calls.FirstByte.{IsBefore, Lacks}
+use Rattle.bt_lines.specs.inside.Newline.{IsFirstOf}
 
 -- bytes that are cut at one before which there is none
 pub feed_at : (value : ℕ) (text xs ys : List ℕ) (n : ℕ) → text ≡ xs ++ value ∷ ys → Lacks value xs → n ≡ length xs → IsFirstOf value text (Some n)

@@ -1,8 +1,9 @@
 -- Lemmas on a line that is longer than a block.
-use Rattle.std.proofs.Common.{◌≡◌, ℕ, ◌+◌, ◌^◌, ◌<◌, Bool, true, false, List, [], ◌∷◌, ◌++◌, length, Option, Result, Ok, Err, refl, sym, ap, ◌∙◌, append_assoc, append-nil, length-append, add-zero, arith, eqb}
+use Rattle.std.proofs.Common.{◌≡◌, ℕ, ◌+◌, ◌^◌, ◌<◌, Bool, true, false, List, [], ◌∷◌, ◌++◌, length, Result, Ok, Err, refl, sym, ap, ◌∙◌, append_assoc, append-nil, length-append, add-zero, arith, eqb}
 use Rattle.std.proofs.KnownBytes.{Consumes-nil, Consumes-trans}
 use Rattle.std.proofs.lemmas.List.Elements.{All-append, All-nil}
 use Rattle.std.specs.Io.KnownBytes.{Consumes}
+use Rattle.bt_lines.specs.declared.device.Source.{Ghosts as Source}
 use Rattle.bt_lines.specs.inside.ReadBuffer.{MovesPiece}
 use Rattle.bt_lines.specs.inside.Spill.{AsksMore, Fills}
 use Rattle.bt_lines.specs.calls.LentLine.{NoLineFeed}
@@ -10,22 +11,22 @@ use Rattle.bt_lines.specs.declared.reader.spill.More.TheVariants.{Bytes, NoBytes
 use Rattle.bt_lines.specs.declared.reader.spill.Stop.{Stop}
 use Rattle.bt_lines.specs.declared.reader.spill.Stop.TheVariants.{LineFeed, End, Failed, TooLong, NoMemory}
 
-module _ {S : Type 0} (left : S → Option (List ℕ)) (failed told : S → Bool) where
+module _ {S : Type 0} (device : Source S) where
   -- the bytes so far are in the line and in the block, and none in the line is a line feed
   pub record SoFar (old : S) (old_block : List ℕ) (old_taken : ℕ) (new : S) (block text : List ℕ) (taken : ℕ) : Type 0 where
     pub bytes : List ℕ
-    pub consumed : Consumes (left old) (left new) bytes
+    pub consumed : Consumes (device.left old) (device.left new) bytes
     pub counted : taken ≡ old_taken + length bytes
     pub within : taken < 2 ^ 63
     pub joined : old_block ++ bytes ≡ text ++ block
     pub clear : NoLineFeed text
-    pub served : failed new ≡ failed old
+    pub served : device.has_failed new ≡ device.has_failed old
 
   -- before the first read
   pub at_first : (old : S) (block text : List ℕ) (taken : ℕ) → text ≡ [] → taken < 2 ^ 63 → SoFar old block taken old block text taken
   at_first old block text taken empty within = record {
     bytes = [];
-    consumed = Consumes-nil (left old);
+    consumed = Consumes-nil (device.left old);
     counted = sym (add-zero taken);
     within = within;
     joined = rw empty (append-nil block);
@@ -36,7 +37,7 @@ module _ {S : Type 0} (left : S → Option (List ℕ)) (failed told : S → Bool
   module _ (old : S) (old_block : List ℕ) (old_taken : ℕ) (mid : S) (block text : List ℕ) (taken : ℕ) (so_far : SoFar old old_block old_taken mid block text taken)
       {E : Type 0} (moved : Result Bool E) (new_block new_text : List ℕ) (moves : MovesPiece block text moved new_block new_text) where
     -- the line feed was found
-    pub at_feed : moved ≡ Ok true → Fills left failed told old old_block old_taken LineFeed mid new_block new_text taken
+    pub at_feed : moved ≡ Ok true → Fills device old old_block old_taken LineFeed mid new_block new_text taken
     at_feed is =
         let moves = rw is at moves in
         record {
@@ -50,7 +51,7 @@ module _ {S : Type 0} (left : S → Option (List ℕ)) (failed told : S → Bool
         }
 
     -- the line couldn't grow
-    pub at_refusal : (e : E) → moved ≡ Err e → Fills left failed told old old_block old_taken NoMemory mid new_block new_text taken
+    pub at_refusal : (e : E) → moved ≡ Err e → Fills device old old_block old_taken NoMemory mid new_block new_text taken
     at_refusal e is =
         let moves = rw is at moves in
         record {
@@ -76,14 +77,14 @@ module _ {S : Type 0} (left : S → Option (List ℕ)) (failed told : S → Bool
       no_feed : NoLineFeed new_text
       no_feed = let moves = rw is at moves in rw moves.2 (All-append (λ b. eqb b 10 ≡ false) text block so_far.clear moves.0)
 
-      module _ (next : List ℕ) (consumed : Consumes (left mid) (left new) next) where
-        both : Consumes (left old) (left new) (so_far.bytes ++ next)
-        both = Consumes-trans (left old) (left mid) (left new) so_far.bytes next so_far.consumed consumed
+      module _ (next : List ℕ) (consumed : Consumes (device.left mid) (device.left new) next) where
+        both : Consumes (device.left old) (device.left new) (so_far.bytes ++ next)
+        both = Consumes-trans (device.left old) (device.left mid) (device.left new) so_far.bytes next so_far.consumed consumed
 
         count : length (so_far.bytes ++ next) ≡ length so_far.bytes + length next
         count = length-append so_far.bytes next
 
-      pub more_came : AsksMore left failed told mid new_block taken Bytes new next_block next_taken → SoFar old old_block old_taken new next_block new_text next_taken
+      pub more_came : AsksMore device mid new_block taken Bytes new next_block next_taken → SoFar old old_block old_taken new next_block new_text next_taken
       more_came asks = record {
         bytes = so_far.bytes ++ asks.bytes;
         consumed = both asks.bytes asks.consumed;
@@ -94,7 +95,7 @@ module _ {S : Type 0} (left : S → Option (List ℕ)) (failed told : S → Bool
         served = asks.came.2 ∙ so_far.served;
       }
 
-      pub none_came : AsksMore left failed told mid new_block taken NoBytes new next_block next_taken → Fills left failed told old old_block old_taken End new next_block new_text next_taken
+      pub none_came : AsksMore device mid new_block taken NoBytes new next_block next_taken → Fills device old old_block old_taken End new next_block new_text next_taken
       none_came asks = record {
         bytes = so_far.bytes ++ asks.bytes;
         consumed = both asks.bytes asks.consumed;
@@ -105,7 +106,7 @@ module _ {S : Type 0} (left : S → Option (List ℕ)) (failed told : S → Bool
         stopped = (no_feed, asks.came.0, asks.came.1 ∙ empty, asks.came.2 ∙ so_far.served, asks.came.3, asks.came.4);
       }
 
-      pub read_failed : AsksMore left failed told mid new_block taken BadRead new next_block next_taken → Fills left failed told old old_block old_taken Failed new next_block new_text next_taken
+      pub read_failed : AsksMore device mid new_block taken BadRead new next_block next_taken → Fills device old old_block old_taken Failed new next_block new_text next_taken
       read_failed asks = record {
         bytes = so_far.bytes ++ asks.bytes;
         consumed = both asks.bytes asks.consumed;
@@ -116,7 +117,7 @@ module _ {S : Type 0} (left : S → Option (List ℕ)) (failed told : S → Bool
         stopped = (no_feed, asks.came.0, asks.came.1 ∙ empty, asks.came.2);
       }
 
-      pub past_bound : AsksMore left failed told mid new_block taken PastBound new next_block next_taken → Fills left failed told old old_block old_taken TooLong new next_block new_text next_taken
+      pub past_bound : AsksMore device mid new_block taken PastBound new next_block next_taken → Fills device old old_block old_taken TooLong new next_block new_text next_taken
       past_bound asks = record {
         bytes = so_far.bytes ++ asks.bytes;
         consumed = both asks.bytes asks.consumed;
@@ -129,7 +130,7 @@ module _ {S : Type 0} (left : S → Option (List ℕ)) (failed told : S → Bool
 
   -- the line stays as it is while more is read
   pub text_fills : (old new : S) (old_unread unread text same : List ℕ) (old_taken taken : ℕ) (stop : Stop) → same ≡ text
-      → Fills left failed told old old_unread old_taken stop new unread text taken → Fills left failed told old old_unread old_taken stop new unread same taken
+      → Fills device old old_unread old_taken stop new unread text taken → Fills device old old_unread old_taken stop new unread same taken
   text_fills old new old_unread unread text same old_taken taken stop e fills = rw e fills
 
   pub text_so_far : (old new : S) (old_unread unread text same : List ℕ) (old_taken taken : ℕ) → same ≡ text

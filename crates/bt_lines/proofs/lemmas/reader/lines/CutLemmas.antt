@@ -8,6 +8,7 @@ use Rattle.std.proofs.lemmas.Bool.Decides.{nat_tests}
 use Rattle.std.proofs.lemmas.List.{length-take}
 use Rattle.std.proofs.KnownBytes.{Consumes-nil}
 use Rattle.std.specs.Io.KnownBytes.{Consumes}
+use Rattle.bt_lines.specs.declared.device.Source.{Ghosts as Source}
 use Rattle.bt_lines.proofs.lemmas.reader.block.BlockLemmas.{unread_fits}
 use Rattle.bt_lines.proofs.lemmas.reader.block.BufferLemmas.{fed_none}
 use Rattle.bt_lines.proofs.lemmas.reader.lines.StateLemmas.{some_state}
@@ -62,7 +63,7 @@ last_ending b piece e = rw e refl
 pub some_size : (n : ℕ) (piece : List ℕ) → n ≡ length piece + 1 → nat_eq n 1 ≡ false → 0 < length piece
 some_size n piece e one = grind (arith, nat_tests)
 
-module _ {S : Type 0} (left : S → Option (List ℕ)) (failed end : S → Bool) (old new : LineReader S) (line : Shown)
+module _ {S : Type 0} (device : Source S) (old new : LineReader S) (line : Shown)
     (same_state : new.state ≡ old.state) (same : new.input ≡ old.input) (same_source : new.source ≡ old.source) (same_taken : new.taken ≡ old.taken) (more : new.lines ≡ old.lines + 1)
     (cut : Cut (complete old.buffer) line) (lines : complete new.buffer ≡ drop line.size (complete old.buffer)) (behind : unread new.buffer ≡ unread old.buffer)
     (text : text_in new.buffer ≡ take (length line.text) (complete old.buffer)) (spilled : new.buffer.is_spilled ≡ old.buffer.is_spilled)
@@ -82,7 +83,7 @@ module _ {S : Type 0} (left : S → Option (List ℕ)) (failed end : S → Bool)
   some_lines : nat_lt 0 (suc old.lines) ≡ true
   some_lines = grind (arith, nat_tests)
 
-  cut_fed : old.state ≡ Reading → CutsFirst left failed end old new
+  cut_fed : old.state ≡ Reading → CutsFirst device old new
   unfolding source_of input_of lines_given line_at
   cut_fed is =
       let state : new.state ≡ Reading = same_state ∙ is in
@@ -94,15 +95,15 @@ module _ {S : Type 0} (left : S → Option (List ℕ)) (failed end : S → Bool)
       let end_is : new.ending ≡ cond (ends_with_byte 13 cut.piece) CrLf Lf = ending ∙ rw is (fed_ending _ cut.piece cut.returned) in
       let at : line_at new ≡ Some (fed_line (suc old.lines) cut.piece) = rw (state, number, end_is, text_is, some_lines) refl in
       let short : length (held new) ≤ block_size = rw now.holds near in
-      let none : Consumes (left old.source) (left new.source) [] = rw same_source (Consumes-nil (left old.source)) in
+      let none : Consumes (device.left old.source) (device.left new.source) [] = rw same_source (Consumes-nil (device.left old.source)) in
       record {
         line = fed_line (suc old.lines) cut.piece;
         at = at;
-        gives = gives_fed left failed end old new [] cut.piece was now same number none (same_taken ∙ sym (add-zero old.taken)) holds cut.clear at short (λ h. same_source) (ap failed same_source);
-        sound = sound_fed left failed end old new [] cut.piece was now same number none (same_taken ∙ sym (add-zero old.taken)) holds cut.clear at short (λ h. same_source) (ap failed same_source);
+        gives = gives_fed device old new [] cut.piece was now same number none (same_taken ∙ sym (add-zero old.taken)) holds cut.clear at short (λ h. same_source) (ap device.has_failed same_source);
+        sound = sound_fed device old new [] cut.piece was now same number none (same_taken ∙ sym (add-zero old.taken)) holds cut.clear at short (λ h. same_source) (ap device.has_failed same_source);
       }
 
-  cut_last : old.state ≡ LastLine → CutsFirst left failed end old new
+  cut_last : old.state ≡ LastLine → CutsFirst device old new
   unfolding source_of input_of lines_given line_at held has_ended
   cut_last is =
       let state : new.state ≡ LastLine = same_state ∙ is in
@@ -120,16 +121,16 @@ module _ {S : Type 0} (left : S → Option (List ℕ)) (failed end : S → Bool)
       record {
         line = last;
         at = at;
-        gives = gives_last left failed end old new cut.piece (told_last old is) (told_last new state) (rw is refl) same same_source same_taken holds left_none cut.clear number some at;
-        sound = sound_last left failed end old new cut.piece (told_last old is) (told_last new state) (rw is refl) same same_source same_taken holds left_none cut.clear number some at;
+        gives = gives_last device old new cut.piece (told_last old is) (told_last new state) (rw is refl) same same_source same_taken holds left_none cut.clear number some at;
+        sound = sound_last device old new cut.piece (told_last old is) (told_last new state) (rw is refl) same same_source same_taken holds left_none cut.clear number some at;
       }
 
-  by_state : (old.state ≡ Reading) ⊎ (old.state ≡ LastLine) → CutsFirst left failed end old new
+  by_state : (old.state ≡ Reading) ⊎ (old.state ≡ LastLine) → CutsFirst device old new
   by_state (inl is) = cut_fed is
   by_state (inr is) = cut_last is
 
   -- the first line that is buffered was taken
-  pub cuts_first : CutsFirst left failed end old new
+  pub cuts_first : CutsFirst device old new
   cuts_first = by_state (some_state old.state (λ e. absurd (omega (arith, ap length (old.quiet e), ap length parts, length-append cut.piece (10 ∷ complete new.buffer)))))
 
 -- what a reader keeps while a line is taken

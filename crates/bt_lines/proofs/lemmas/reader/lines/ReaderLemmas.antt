@@ -3,6 +3,7 @@ use Rattle.std.proofs.Common.{◌≡◌, ℕ, suc, ◌+◌, ◌≤◌, Bool, tru
 use Rattle.std.specs.Prelude.{option_map, IfSome}
 use Rattle.std.proofs.lemmas.Bool.{false≢true}
 use Rattle.std.proofs.KnownBytes.{Consumes-nil, Consumes-trans}
+use Rattle.bt_lines.specs.declared.device.Source.{Ghosts as Source}
 use Rattle.bt_lines.proofs.lemmas.reader.lines.TextLemmas.{line_feeds-append, bytes_in-lines}
 use Rattle.bt_lines.specs.model.Lines.{TextLine, lines_from, bytes_in}
 use Rattle.bt_lines.specs.calls.LentLine.{GivesFirst}
@@ -46,10 +47,10 @@ near_left true held n (Some rest) k short = omega (arith, bytes_in-lines n held,
 near_left false held n (Some rest) k short = omega (arith, bytes_in-lines n (held ++ rest), length-append held rest)
 
 -- of known bytes, those of the lines that are left are left at the source, except at most a block
-pub sound_near : {S : Type 0} (left : S → Option (List ℕ)) (told : S → Bool) (reader : LineReader S) → IsSound left told reader → fault_kept reader ≡ None
-    → IfSome (lines_left left reader) (λ lines. IfSome (left (source_of reader)) (λ rest. bytes_in lines ≤ length rest + block_size))
+pub sound_near : {S : Type 0} (device : Source S) (reader : LineReader S) → IsSound device reader → fault_kept reader ≡ None
+    → IfSome (lines_left device.left reader) (λ lines. IfSome (device.left (source_of reader)) (λ rest. bytes_in lines ≤ length rest + block_size))
 unfolding bytes_left
-sound_near left told reader sound going = near_left (end_told reader) (held reader) (suc (lines_given reader)) (left (source_of reader)) block_size (sound.near going)
+sound_near device reader sound going = near_left (end_told reader) (held reader) (suc (lines_given reader)) (device.left (source_of reader)) block_size (sound.near going)
 
 -- of known lines, those left after one was given are the others
 pub given_drops : (old : Option (List TextLine)) (line : TextLine) (new : Option (List TextLine)) → GivesFirst old line new → IfSome old (λ lines. new ≡ Some (drop 1 lines))

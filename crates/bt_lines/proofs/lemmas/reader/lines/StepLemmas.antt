@@ -1,5 +1,5 @@
 -- Lemmas on a step of the reader of lines.
-use Rattle.std.proofs.Common.{◌≡◌, ℕ, suc, ◌+◌, ◌-◌, ◌^◌, ◌<◌, ◌≤◌, ◌⊎◌, inl, inr, Bool, true, false, cond, List, [], ◌∷◌, ◌++◌, length, Option, None, Some, Ok, Err, take, drop, refl, sym, ap, ◌∙◌, subst, append_assoc, append-nil, add-zero, length-append, arith}
+use Rattle.std.proofs.Common.{◌≡◌, ℕ, suc, ◌+◌, ◌-◌, ◌^◌, ◌<◌, ◌≤◌, ◌⊎◌, inl, inr, true, false, cond, List, [], ◌∷◌, ◌++◌, length, Option, None, Some, Ok, Err, take, drop, refl, sym, ap, ◌∙◌, subst, append_assoc, append-nil, add-zero, length-append, arith}
 use Rattle.std.specs.Prelude.{option_map, is_some, IfSome, flat_map}
 use Rattle.std.proofs.lemmas.List.{nil_from_length, take_all}
 use Rattle.std.proofs.lemmas.Bool.{false≢true}
@@ -7,6 +7,7 @@ use Rattle.std.proofs.Math.Seq.{take-append-add, take-append_seam}
 use Rattle.std.proofs.KnownBytes.{Consumes-nil}
 use Rattle.std.specs.Io.KnownBytes.{Consumes, IsAtEnd, prepend_known}
 use Rattle.std.specs.Io.BufRead.{ends_with_byte, strip_last}
+use Rattle.bt_lines.specs.declared.device.Source.{Ghosts as Source}
 use Rattle.bt_lines.proofs.lemmas.reader.block.BlockLemmas.{unread_fits}
 use Rattle.bt_lines.proofs.lemmas.reader.lines.LinesLemmas.{lines_from-fed, lines_from-last, lines_from-nil, spelled-fed, spelled-last}
 use Rattle.bt_lines.proofs.lemmas.reader.lines.TextLemmas.{line_feeds-append, line_feeds-none, line_feeds-fed, bytes_behind_first}
@@ -132,10 +133,10 @@ last_line-some n (byte ∷ bytes) h = refl
 
 -- ---- a line with a line feed
 
-module _ {S : Type 0} (left : S → Option (List ℕ)) (failed end : S → Bool) (old new : LineReader S) (bytes piece : List ℕ) (was : Goes old) (is : Goes new)
-    (same : input_of new ≡ input_of old) (more : lines_given new ≡ suc (lines_given old)) (consumed : Consumes (left (source_of old)) (left (source_of new)) bytes)
+module _ {S : Type 0} (device : Source S) (old new : LineReader S) (bytes piece : List ℕ) (was : Goes old) (is : Goes new)
+    (same : input_of new ≡ input_of old) (more : lines_given new ≡ suc (lines_given old)) (consumed : Consumes (device.left (source_of old)) (device.left (source_of new)) bytes)
     (counted : new.taken ≡ old.taken + length bytes) (joined : held old ++ bytes ≡ piece ++ 10 ∷ held new) (clear : NoLineFeed piece)
-    (at : line_at new ≡ Some (fed_line (suc (lines_given old)) piece)) (near : length (held new) ≤ block_size) (ready : 0 < line_feeds (held old) → source_of new ≡ source_of old) (served : failed (source_of new) ≡ failed (source_of old)) where
+    (at : line_at new ≡ Some (fed_line (suc (lines_given old)) piece)) (near : length (held new) ≤ block_size) (ready : 0 < line_feeds (held old) → source_of new ≡ source_of old) (served : device.has_failed (source_of new) ≡ device.has_failed (source_of old)) where
   fed_first : (ys : List ℕ) → lines_from (suc (lines_given old)) ((held old ++ bytes) ++ ys)
       ≡ fed_line (suc (lines_given old)) piece ∷ lines_from (suc (suc (lines_given old))) (held new ++ ys)
   fed_first ys =
@@ -160,7 +161,7 @@ module _ {S : Type 0} (left : S → Option (List ℕ)) (failed end : S → Bool)
   unfolding lines_given
   fed_below = omega (arith, new.a_byte_each, new.counted)
 
-  fed_hands : Hands left old bytes new
+  fed_hands : Hands device.left old bytes new
   unfolding feeds_taken
   fed_hands = record {
     left_over = consumed;
@@ -174,11 +175,11 @@ module _ {S : Type 0} (left : S → Option (List ℕ)) (failed end : S → Bool)
   fed_held =
       rw (spelled-fed (suc (lines_given old)) piece) (joined ∙ sym (append_assoc piece (10 ∷ []) (held new)))
 
-  pub gives_fed : GivesLine left failed old (fed_line (suc (lines_given old)) piece) new
+  pub gives_fed : GivesLine device old (fed_line (suc (lines_given old)) piece) new
   unfolding bytes_left
   gives_fed = record {
     first = rw (was.untold, is.untold, more)
-        (first_of_known (suc (lines_given old)) (left (source_of old)) (left (source_of new)) (held old) bytes (held new) (fed_line (suc (lines_given old)) piece) consumed fed_first);
+        (first_of_known (suc (lines_given old)) (device.left (source_of old)) (device.left (source_of new)) (held old) bytes (held new) (fed_line (suc (lines_given old)) piece) consumed fed_first);
     bytes = (bytes, fed_hands, fed_held);
     ahead = near;
     ready = ready;
@@ -192,7 +193,7 @@ module _ {S : Type 0} (left : S → Option (List ℕ)) (failed end : S → Bool)
     goes = is.good;
   }
 
-  pub sound_fed : IsKept left end old → IsSound left end new
+  pub sound_fed : IsKept device old → IsSound device new
   sound_fed h = record {
     end = λ e. absurd (false≢true (sym is.untold ∙ e));
     within = λ e. within;
@@ -201,7 +202,7 @@ module _ {S : Type 0} (left : S → Option (List ℕ)) (failed end : S → Bool)
 
 -- ---- the last line, which has no line feed
 
-module _ {S : Type 0} (left : S → Option (List ℕ)) (failed end : S → Bool) (old new : LineReader S) (piece : List ℕ) (was : IsTold old) (is : IsTold new) (ended : has_ended old ≡ false)
+module _ {S : Type 0} (device : Source S) (old new : LineReader S) (piece : List ℕ) (was : IsTold old) (is : IsTold new) (ended : has_ended old ≡ false)
     (same : input_of new ≡ input_of old) (same_source : source_of new ≡ source_of old) (same_taken : new.taken ≡ old.taken)
     (holds : held old ≡ piece) (gone : held new ≡ []) (clear : NoLineFeed piece) (more : lines_given new ≡ suc (lines_given old)) (some : 0 < length piece) where
   abbrev pub line : TextLine
@@ -210,9 +211,9 @@ module _ {S : Type 0} (left : S → Option (List ℕ)) (failed end : S → Bool)
   one : last_line (suc (lines_given old)) piece ≡ line ∷ []
   one = last_line-some (suc (lines_given old)) piece some
 
-  last_hands : Hands left old [] new
+  last_hands : Hands device.left old [] new
   last_hands = record {
-    left_over = rw same_source (Consumes-nil (left (source_of old)));
+    left_over = rw same_source (Consumes-nil (device.left (source_of old)));
     counted = is.taken ∙ same_taken ∙ sym was.taken ∙ sym (add-zero (bytes_taken old));
     same_input = same;
     fed = λ t b. absurd (false≢true (sym t ∙ is.is_told));
@@ -232,11 +233,11 @@ module _ {S : Type 0} (left : S → Option (List ℕ)) (failed end : S → Bool)
   last_within = rw was.taken old.counted
 
   module _ (at : line_at new ≡ Some line) where
-    pub gives_last : GivesLine left failed old line new
+    pub gives_last : GivesLine device old line new
     unfolding bytes_left
     gives_last = record {
       first = rw (was.is_told, is.is_told, more, same_source)
-          (last_of_known (suc (lines_given old)) (left (source_of old)) (held old) (held new) line (ap (lines_from (suc (lines_given old))) holds ∙ lines_from-last (suc (lines_given old)) piece clear ∙ one) gone);
+          (last_of_known (suc (lines_given old)) (device.left (source_of old)) (held old) (held new) line (ap (lines_from (suc (lines_given old))) holds ∙ lines_from-last (suc (lines_given old)) piece clear ∙ one) gone);
       bytes = ([], last_hands, last_held);
       ahead = rw gone (omega arith);
       ready = λ h. same_source;
@@ -245,12 +246,12 @@ module _ {S : Type 0} (left : S → Option (List ℕ)) (failed end : S → Bool)
       counted = more;
       below = last_below;
       shrinks = rw gone (omega (arith, last_hands.counted, last_within, ap length holds, some));
-      served = ap failed same_source;
+      served = ap device.has_failed same_source;
       was_going = (was.good, ended);
       goes = is.good;
     }
 
-    pub sound_last : IsKept left end old → IsSound left end new
+    pub sound_last : IsKept device old → IsSound device new
     sound_last h = record {
       end = λ e. let before = h.end was.is_told in rw same_source before;
       within = λ e. rw is.taken new.counted;
@@ -259,12 +260,12 @@ module _ {S : Type 0} (left : S → Option (List ℕ)) (failed end : S → Bool)
 
 -- ---- a line that was made buffered
 
-module _ {S : Type 0} (left : S → Option (List ℕ)) (failed end : S → Bool) (old new : LineReader S) (bytes : List ℕ) (was : Goes old)
-    (same : input_of new ≡ input_of old) (same_lines : lines_given new ≡ lines_given old) (consumed : Consumes (left (source_of old)) (left (source_of new)) bytes)
+module _ {S : Type 0} (device : Source S) (old new : LineReader S) (bytes : List ℕ) (was : Goes old)
+    (same : input_of new ≡ input_of old) (same_lines : lines_given new ≡ lines_given old) (consumed : Consumes (device.left (source_of old)) (device.left (source_of new)) bytes)
     (taken : bytes_taken new ≡ bytes_taken old + length bytes) (holds : held new ≡ held old ++ bytes) (good : fault_kept new ≡ None)
-    (ready : 0 < line_feeds (held old) → source_of new ≡ source_of old) (served : failed (source_of new) ≡ failed (source_of old))
+    (ready : 0 < line_feeds (held old) → source_of new ≡ source_of old) (served : device.has_failed (source_of new) ≡ device.has_failed (source_of old))
     (some : 0 < length (buffered_bytes new)) (within : bytes_taken new < 2 ^ 63) (empty : buffered_bytes old ≡ []) where
-  made_hands : Hands left old bytes new
+  made_hands : Hands device.left old bytes new
   unfolding feeds_taken
   made_hands = record {
     left_over = consumed;
@@ -274,7 +275,7 @@ module _ {S : Type 0} (left : S → Option (List ℕ)) (failed end : S → Bool)
     told_stays = λ t. absurd (false≢true (sym was.untold ∙ t));
   }
 
-  made_by : SameLines (option_map (lines_from (suc (lines_given old))) (bytes_left left old)) (option_map (lines_from (suc (lines_given new))) (bytes_left left new)) → MakesLine left failed old new
+  made_by : SameLines (option_map (lines_from (suc (lines_given old))) (bytes_left device.left old)) (option_map (lines_from (suc (lines_given new))) (bytes_left device.left new)) → MakesLine device old new
   made_by kept = record {
     some = some;
     bytes = (bytes, made_hands, holds);
@@ -287,29 +288,29 @@ module _ {S : Type 0} (left : S → Option (List ℕ)) (failed end : S → Bool)
     within = within;
   }
 
-  pub makes_line : end_told new ≡ false → FillsLines left failed end old (Ok true) new
+  pub makes_line : end_told new ≡ false → FillsLines device old (Ok true) new
   unfolding bytes_left
   makes_line untold = record {
-    answers = made_by (rw (was.untold, untold, same_lines) (same_known (suc (lines_given old)) (left (source_of old)) (left (source_of new)) (held old) (held new) bytes consumed holds));
+    answers = made_by (rw (was.untold, untold, same_lines) (same_known (suc (lines_given old)) (device.left (source_of old)) (device.left (source_of new)) (held old) (held new) bytes consumed holds));
     unread = λ h. absurd (omega (arith, h, ap length empty));
     kept = λ h. record { end = λ e. absurd (false≢true (sym untold ∙ e)); within = λ e. within };
   }
 
-  pub makes_last : end_told new ≡ true → end (source_of new) ≡ true → IsAtEnd (left (source_of new)) → FillsLines left failed end old (Ok true) new
+  pub makes_last : end_told new ≡ true → device.end_told (source_of new) ≡ true → IsAtEnd (device.left (source_of new)) → FillsLines device old (Ok true) new
   unfolding bytes_left
   makes_last is_told told none = record {
-    answers = made_by (rw (was.untold, is_told, same_lines) (same_at_end (suc (lines_given old)) (left (source_of old)) (left (source_of new)) (held old) (held new) bytes consumed none holds));
+    answers = made_by (rw (was.untold, is_told, same_lines) (same_at_end (suc (lines_given old)) (device.left (source_of old)) (device.left (source_of new)) (held old) (held new) bytes consumed none holds));
     unread = λ h. absurd (omega (arith, h, ap length empty));
     kept = λ h. record { end = λ e. (told, none); within = λ e. within };
   }
 
 -- ---- the end of the text
 
-module _ {S : Type 0} (left : S → Option (List ℕ)) (failed end : S → Bool) (old new : LineReader S) (bytes : List ℕ) (was : Goes old) (is : IsTold new)
-    (same : input_of new ≡ input_of old) (same_lines : lines_given new ≡ lines_given old) (consumed : Consumes (left (source_of old)) (left (source_of new)) bytes)
+module _ {S : Type 0} (device : Source S) (old new : LineReader S) (bytes : List ℕ) (was : Goes old) (is : IsTold new)
+    (same : input_of new ≡ input_of old) (same_lines : lines_given new ≡ lines_given old) (consumed : Consumes (device.left (source_of old)) (device.left (source_of new)) bytes)
     (counted : new.taken ≡ old.taken + length bytes) (nothing : held old ++ bytes ≡ []) (gone : held new ≡ [])
-    (served : failed (source_of new) ≡ failed (source_of old)) (told : end (source_of new) ≡ true) (none : IsAtEnd (left (source_of new))) (ended : has_ended new ≡ true) (empty : buffered_bytes old ≡ []) where
-  end_hands : Hands left old bytes new
+    (served : device.has_failed (source_of new) ≡ device.has_failed (source_of old)) (told : device.end_told (source_of new) ≡ true) (none : IsAtEnd (device.left (source_of new))) (ended : has_ended new ≡ true) (empty : buffered_bytes old ≡ []) where
+  end_hands : Hands device.left old bytes new
   end_hands = record {
     left_over = consumed;
     counted = is.taken ∙ counted ∙ ap (λ n. n + length bytes) (sym was.taken);
@@ -318,12 +319,12 @@ module _ {S : Type 0} (left : S → Option (List ℕ)) (failed end : S → Bool)
     told_stays = λ t. is.is_told;
   }
 
-  pub fills_end : FillsLines left failed end old (Ok false) new
+  pub fills_end : FillsLines device old (Ok false) new
   unfolding bytes_left
   fills_end = record {
     answers = record {
-      none_left = rw was.untold (none_of_known (suc (lines_given old)) (left (source_of old)) (left (source_of new)) (held old) bytes consumed none nothing);
-      none_comes = rw is.is_told (none_told (suc (lines_given new)) (left (source_of new)) (held new) gone);
+      none_left = rw was.untold (none_of_known (suc (lines_given old)) (device.left (source_of old)) (device.left (source_of new)) (held old) bytes consumed none nothing);
+      none_comes = rw is.is_told (none_told (suc (lines_given new)) (device.left (source_of new)) (held new) gone);
       nothing_held = gone;
       counted = same_lines;
       bytes = (bytes, end_hands, nothing);
@@ -357,8 +358,8 @@ front_of_joined block bytes text behind e short =
     ∙ take-append-add block bytes (length bytes - length behind)
 
 -- what was taken of the line has no line feed, except in the bytes after it
-module _ {S : Type 0} (left : S → Option (List ℕ)) (failed end : S → Bool) (old new : LineReader S) (bytes text behind : List ℕ) (fault : Fault) (was : Goes old) (no_line : line_feeds (held old) ≡ 0)
-    (same : input_of new ≡ input_of old) (same_lines : lines_given new ≡ lines_given old) (consumed : Consumes (left (source_of old)) (left (source_of new)) bytes)
+module _ {S : Type 0} (device : Source S) (old new : LineReader S) (bytes text behind : List ℕ) (fault : Fault) (was : Goes old) (no_line : line_feeds (held old) ≡ 0)
+    (same : input_of new ≡ input_of old) (same_lines : lines_given new ≡ lines_given old) (consumed : Consumes (device.left (source_of old)) (device.left (source_of new)) bytes)
     (counted : bytes_taken new ≡ bytes_taken old + length bytes) (joined : held old ++ bytes ≡ text ++ behind) (clear : NoLineFeed text)
     (short : length behind ≤ block_size) (holds : bytes_taken new < 2 ^ 63 → lines_given old + line_feeds (held new) ≡ lines_given old + line_feeds (held old) + line_feeds bytes)
     (kept : fault_kept new ≡ Some (fault_value fault)) (untold : end_told new ≡ false) (empty : buffered_bytes old ≡ []) where
@@ -366,7 +367,7 @@ module _ {S : Type 0} (left : S → Option (List ℕ)) (failed end : S → Bool)
   cut_counts below =
       rw same_lines (holds below)
 
-  cut_hands : Hands left old bytes new
+  cut_hands : Hands device.left old bytes new
   unfolding feeds_taken
   cut_hands = record {
     left_over = consumed;
@@ -376,12 +377,12 @@ module _ {S : Type 0} (left : S → Option (List ℕ)) (failed end : S → Bool)
     told_stays = λ t. absurd (false≢true (sym was.untold ∙ t));
   }
 
-  cut_near : IsNear left old new
+  cut_near : IsNear device.left old new
   unfolding bytes_left
   cut_near =
       let one : suc (lines_given new) - lines_given old ≡ 1 = omega (arith, same_lines) in
       rw (one, was.untold)
-      (near_known (suc (lines_given old)) (left (source_of old)) (left (source_of new)) (held old) bytes text behind block_size clear short consumed joined)
+      (near_known (suc (lines_given old)) (device.left (source_of old)) (device.left (source_of new)) (held old) bytes text behind block_size clear short consumed joined)
 
   cut_given : text ≡ held old ++ take (2 ^ 63 - 1 - bytes_taken old) bytes
       → lines_given new ≡ feeds_taken old + line_feeds (take (2 ^ 63 - 1 - bytes_taken old) bytes)
@@ -390,8 +391,8 @@ module _ {S : Type 0} (left : S → Option (List ℕ)) (failed end : S → Bool)
       (omega (arith, same_lines, line_feeds-append (held old) (take (2 ^ 63 - 1 - bytes_taken old) bytes), ap line_feeds e, line_feeds-none text clear))
 
   pub stepped_cut : (fault_value fault ≡ read_failed (input_of old) (suc (lines_given old)) → text ≡ held old ++ take (2 ^ 63 - 1 - bytes_taken old) bytes)
-      → FailsToRead left failed old (fault_value fault) new ⊎ (fault_value fault ≡ no_memory) → (fault_value fault ≡ no_memory → failed (source_of new) ≡ failed (source_of old))
-      → FillsLines left failed end old (Err fault) new
+      → FailsToRead device old (fault_value fault) new ⊎ (fault_value fault ≡ no_memory) → (fault_value fault ≡ no_memory → device.has_failed (source_of new) ≡ device.has_failed (source_of old))
+      → FillsLines device old (Err fault) new
   stepped_cut cut cause served = record {
     answers = record {
       kept = kept;
@@ -447,9 +448,9 @@ closed_none : (xs : List ℕ) → closed xs ≡ [] → xs ≡ []
 closed_none [] e = refl
 closed_none (x ∷ xs) e = absurd (omega (arith, ap length e))
 
-module _ {S : Type 0} (left : S → Option (List ℕ)) (failed end : S → Bool) (old new : LineReader S) (going : is_going old ≡ true) (none : complete old.buffer ≡ [])
+module _ {S : Type 0} (device : Source S) (old new : LineReader S) (going : is_going old ≡ true) (none : complete old.buffer ≡ [])
     (same : new.input ≡ old.input) (same_lines : new.lines ≡ old.lines) (stop : Stop)
-    (buffers : Buffers left failed end old.source (unread old.buffer) old.taken stop new.source (complete new.buffer) (unread new.buffer) new.taken) where
+    (buffers : Buffers device old.source (unread old.buffer) old.taken stop new.source (complete new.buffer) (unread new.buffer) new.taken) where
   old_holds : held old ≡ unread old.buffer
   old_holds = (goes old going).holds ∙ ap (λ l. l ++ unread old.buffer) none
 
@@ -457,17 +458,17 @@ module _ {S : Type 0} (left : S → Option (List ℕ)) (failed end : S → Bool)
   unfolding buffered_bytes
   nothing_buffered = none
 
-  pub line_step : stop ≡ StopLineFeed → new.state ≡ Reading → FillsLines left failed end old (Ok true) new
+  pub line_step : stop ≡ StopLineFeed → new.state ≡ Reading → FillsLines device old (Ok true) new
   unfolding source_of input_of lines_given buffered_bytes
   line_step is state =
       let b = rw is at buffers in
       let was = goes old going in
       let now = goes new (rw state refl) in
       let counted : new.taken ≡ old.taken + length b.bytes = omega (arith, b.counted) in
-      makes_line left failed end old new b.bytes was same same_lines b.consumed (now.taken ∙ counted ∙ ap (λ n. n + length b.bytes) (sym was.taken))
+      makes_line device old new b.bytes was same same_lines b.consumed (now.taken ∙ counted ∙ ap (λ n. n + length b.bytes) (sym was.taken))
       (now.holds ∙ sym b.stopped.0 ∙ ap (λ l. l ++ b.bytes) (sym old_holds)) now.good (λ h. b.ready (rw old_holds at h)) b.stopped.2 b.stopped.1 (rw now.taken b.within) nothing_buffered now.untold
 
-  pub last_step : stop ≡ StopEnd → (length (complete new.buffer) ≡ 0 → ⊥) → new.state ≡ LastLine → FillsLines left failed end old (Ok true) new
+  pub last_step : stop ≡ StopEnd → (length (complete new.buffer) ≡ 0 → ⊥) → new.state ≡ LastLine → FillsLines device old (Ok true) new
   unfolding source_of input_of lines_given held buffered_bytes end_told
   last_step is some state =
       let b = rw is at buffers in
@@ -475,17 +476,17 @@ module _ {S : Type 0} (left : S → Option (List ℕ)) (failed end : S → Bool)
       let now = told_last new state in
       let counted : new.taken ≡ old.taken + length b.bytes = omega (arith, b.counted) in
       let holds : held new ≡ held old ++ b.bytes = rw state (held_closed (unread old.buffer ++ b.bytes) (complete new.buffer) (unread new.buffer) b.stopped.1) ∙ ap (λ l. l ++ b.bytes) (sym old_holds) in
-      makes_last left failed end old new b.bytes was same same_lines b.consumed (now.taken ∙ counted ∙ ap (λ n. n + length b.bytes) (sym was.taken))
+      makes_last device old new b.bytes was same same_lines b.consumed (now.taken ∙ counted ∙ ap (λ n. n + length b.bytes) (sym was.taken))
       holds now.good (λ h. b.ready (rw old_holds at h)) b.stopped.3 (some_length (complete new.buffer) some) (rw now.taken b.within) nothing_buffered now.is_told b.stopped.4 b.stopped.5
 
-  pub end_step : stop ≡ StopEnd → length (complete new.buffer) ≡ 0 → new.state ≡ Ended → FillsLines left failed end old (Ok false) new
+  pub end_step : stop ≡ StopEnd → length (complete new.buffer) ≡ 0 → new.state ≡ Ended → FillsLines device old (Ok false) new
   unfolding source_of input_of lines_given held has_ended
   end_step is empty state =
       let b = rw is at buffers in
       let was = goes old going in
       let lines : complete new.buffer ≡ [] = nil_from_length (complete new.buffer) empty in
       let all : unread old.buffer ++ b.bytes ≡ [] = closed_none (unread old.buffer ++ b.bytes) (sym b.stopped.1 ∙ lines) in
-      fills_end left failed end old new b.bytes was (told_ended new state) same same_lines b.consumed (omega (arith, b.counted))
+      fills_end device old new b.bytes was (told_ended new state) same same_lines b.consumed (omega (arith, b.counted))
       (ap (λ l. l ++ b.bytes) old_holds ∙ all) (rw (state, lines, b.stopped.2) refl) b.stopped.3 b.stopped.4 b.stopped.5 (rw state refl) nothing_buffered
 
   no_feeds : (stop ≡ StopLineFeed → ⊥) → line_feeds (held old) ≡ 0
@@ -500,7 +501,7 @@ module _ {S : Type 0} (left : S → Option (List ℕ)) (failed end : S → Bool)
     is_read_failed at = at ∙ ap (λ i. read_failed i (suc new.lines)) same ∙ ap (λ n. read_failed old.input (suc n)) same_lines
 
     -- the source failed
-    pub failed_step : stop ≡ Failed → fault_value fault ≡ read_failed (input_of new) (suc (lines_given new)) → new.state ≡ ReadFailed → FillsLines left failed end old (Err fault) new
+    pub failed_step : stop ≡ Failed → fault_value fault ≡ read_failed (input_of new) (suc (lines_given new)) → new.state ≡ ReadFailed → FillsLines device old (Err fault) new
     unfolding source_of input_of lines_given bytes_taken held fault_kept end_told
     failed_step is at state =
         let b = rw is at buffers in
@@ -512,7 +513,7 @@ module _ {S : Type 0} (left : S → Option (List ℕ)) (failed end : S → Bool)
         let clear : NoLineFeed (held old ++ b.bytes) = subst NoLineFeed (sym all) b.stopped.0 in
         let kept : held new ≡ unread new.buffer = rw (state, b.stopped.1) refl in
         let none : line_feeds (held new) ≡ 0 = rw kept (line_feeds-none (unread new.buffer) b.stopped.2) in
-        stepped_cut left failed end old new b.bytes (held old ++ b.bytes) [] fault was (no_feeds (λ e. failed_is_none (sym e ∙ is))) same same_lines b.consumed
+        stepped_cut device old new b.bytes (held old ++ b.bytes) [] fault was (no_feeds (λ e. failed_is_none (sym e ∙ is))) same same_lines b.consumed
         (rw (state, was.taken) counted) (sym (append-nil (held old ++ b.bytes))) clear (omega arith)
         (λ below. omega (arith, none, line_feeds-none (held old ++ b.bytes) clear, line_feeds-append (held old) b.bytes)) (rw (state, is_fault, same, same_lines) refl) (rw state refl) nothing_buffered
         (λ e. rw (was.taken, take_all (2 ^ 63 - 1 - old.taken) b.bytes room) refl)
@@ -520,7 +521,7 @@ module _ {S : Type 0} (left : S → Option (List ℕ)) (failed end : S → Bool)
         (λ e. absurd (some_place (sym is_fault ∙ e)))
 
     -- the text is too long
-    pub long_step : stop ≡ StopTooLong → fault_value fault ≡ read_failed (input_of new) (suc (lines_given new)) → new.state ≡ TooLong → FillsLines left failed end old (Err fault) new
+    pub long_step : stop ≡ StopTooLong → fault_value fault ≡ read_failed (input_of new) (suc (lines_given new)) → new.state ≡ TooLong → FillsLines device old (Err fault) new
     unfolding source_of input_of lines_given bytes_taken held fault_kept end_told
     long_step is at state =
         let b = rw is at buffers in
@@ -531,7 +532,7 @@ module _ {S : Type 0} (left : S → Option (List ℕ)) (failed end : S → Bool)
         let room : length b.bytes - length cut.1 ≡ 2 ^ 63 - 1 - old.taken = omega (arith, counted, cut.4, b.stopped.3) in
         let some : length cut.1 ≤ length b.bytes = omega (arith, counted, cut.4, b.stopped.3, old.counted) in
         let joined : held old ++ b.bytes ≡ cut.0 ++ cut.1 = joined_all (cut.0 ++ cut.1) b.bytes cut.3 in
-        stepped_cut left failed end old new b.bytes cut.0 cut.1 fault was (no_feeds (λ e. long_is_none (sym e ∙ is))) same same_lines b.consumed
+        stepped_cut device old new b.bytes cut.0 cut.1 fault was (no_feeds (λ e. long_is_none (sym e ∙ is))) same same_lines b.consumed
         (rw (state, was.taken) counted) joined cut.2 (omega (arith, cut.4))
         (λ below. absurd (omega (arith, b.stopped.3, rw state at below))) (rw (state, is_fault, same, same_lines) refl) (rw state refl) nothing_buffered
         (λ e. rw (was.taken, ← room) (front_of_joined (held old) b.bytes cut.0 cut.1 joined some))
@@ -539,7 +540,7 @@ module _ {S : Type 0} (left : S → Option (List ℕ)) (failed end : S → Bool)
         (λ e. absurd (some_place (sym is_fault ∙ e)))
 
     -- the line couldn't grow
-    pub refused_step : stop ≡ StopNoMemory → fault_value fault ≡ no_memory → new.state ≡ NoMemory → FillsLines left failed end old (Err fault) new
+    pub refused_step : stop ≡ StopNoMemory → fault_value fault ≡ no_memory → new.state ≡ NoMemory → FillsLines device old (Err fault) new
     unfolding source_of input_of lines_given bytes_taken held fault_kept end_told
     refused_step is is_fault state =
         let b = rw is at buffers in
@@ -548,7 +549,7 @@ module _ {S : Type 0} (left : S → Option (List ℕ)) (failed end : S → Bool)
         let counted : new.taken ≡ old.taken + length b.bytes = omega (arith, b.counted) in
         let joined : held old ++ b.bytes ≡ cut.0 ++ unread new.buffer = joined_all (cut.0 ++ unread new.buffer) b.bytes cut.2 in
         let kept : held new ≡ unread new.buffer = rw (state, b.stopped.1) refl in
-        stepped_cut left failed end old new b.bytes cut.0 (unread new.buffer) fault was (no_feeds (λ e. refused_is_none (sym e ∙ is))) same same_lines b.consumed
+        stepped_cut device old new b.bytes cut.0 (unread new.buffer) fault was (no_feeds (λ e. refused_is_none (sym e ∙ is))) same same_lines b.consumed
         (rw (state, was.taken) counted) joined cut.1 (unread_fits new.buffer)
         (λ below. omega (arith, ap line_feeds kept, ap line_feeds joined, line_feeds-append (held old) b.bytes, line_feeds-append cut.0 (unread new.buffer), line_feeds-none cut.0 cut.1))
         (rw (state, is_fault) refl) (rw state refl) nothing_buffered

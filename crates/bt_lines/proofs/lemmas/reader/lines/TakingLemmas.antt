@@ -7,6 +7,7 @@ use Rattle.std.proofs.lemmas.List.{drop_all, drop_at, take_all, take_at, length-
 use Rattle.std.proofs.lemmas.List.Sums.{count_by-le-length}
 use Rattle.std.proofs.KnownBytes.{Consumes-nil}
 use Rattle.std.specs.Io.KnownBytes.{Consumes}
+use Rattle.bt_lines.specs.declared.device.Source.{Ghosts as Source}
 use Rattle.bt_lines.proofs.lemmas.reader.block.BufferLemmas.{fed_clear, fed_drop, fed_last, fed_none}
 use Rattle.bt_lines.proofs.lemmas.reader.block.BlockLemmas.{unread_fits}
 use Rattle.bt_lines.proofs.lemmas.reader.lines.CutLemmas.{are_fed, lines_fit}
@@ -229,10 +230,10 @@ module _ {S : Type 0} (old new : LineReader S) (n : ℕ) (lines : complete new.b
   near_taken some =
       omega (arith, held_short (open_at new.state) (complete new.buffer) (unread new.buffer), near_behind old.buffer.is_spilled new.buffer (complete old.buffer) n spilled (are_fed old.buffer) lines within fed some)
 
-pub kept_taken : {S : Type 0} (left : S → Option (List ℕ)) (end : S → Bool) (old new : LineReader S) → new.state ≡ old.state → new.source ≡ old.source → new.input ≡ old.input → new.taken ≡ old.taken
-    → IsKept left end old → IsKept left end new
+pub kept_taken : {S : Type 0} (device : Source S) (old new : LineReader S) → new.state ≡ old.state → new.source ≡ old.source → new.input ≡ old.input → new.taken ≡ old.taken
+    → IsKept device old → IsKept device new
 unfolding end_told source_of fault_kept bytes_taken
-kept_taken left end old new state source input taken h = record {
+kept_taken device old new state source input taken h = record {
   end = λ e. let before = h.end (sym (ap told_at state) ∙ e) in rw source before;
   within = λ e. let before = h.within (no_fault old.state old.input old.lines new.lines (sym (ap (λ s. fault_at s new.input new.lines) state ∙ ap (λ i. fault_at old.state i new.lines) input) ∙ e)) in
       rw (state, taken) before;

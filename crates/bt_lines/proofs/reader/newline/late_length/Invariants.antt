@@ -1,5 +1,5 @@
 use Rattle.std.proofs.Common.{◌-◌, ◌≤◌, length, take}
-use Rattle.bt_lines.specs.inside.Newline.{Lacks}
+use Rattle.bt_lines.specs.calls.FirstByte.{Lacks}
 use Rattle.bt_lines.proofs.reader.newline.late_length.Given as goal
 
 -- it isn't in what was searched

@@ -5,7 +5,7 @@ use Rattle.bt_lines.proofs.lemmas.reader.block.ReadsLemmas.{counts_none, counts_
 use Rattle.bt_lines.proofs.reader.spill.read_lines.Goals as goal
 
 pub loop-buffer-init : goal.loop-buffer-init
-loop-buffer-init g c = (none_yet _ _ _ _ _ _ c.requires.counted, counts_none g.S.Source.is_read _ _ _ _ refl refl, c.requires.none)
+loop-buffer-init g c = (none_yet _ _ _ _ c.requires.counted, counts_none g.S.Source.is_read _ _ _ _ refl refl, c.requires.none)
 
 pub read_long-requires-clause-some : goal.read_long-requires-clause-some
 read_long-requires-clause-some g c = some_full _ c.if-is_full.ensures
@@ -13,7 +13,7 @@ read_long-requires-clause-some g c = some_full _ c.if-is_full.ensures
 pub returns-then-is_full-clause-buffers : goal.returns-then-is_full-clause-buffers
 returns-then-is_full-clause-buffers g c =
     let finds = c.loop-buffer-test.ensures.finds in
-    then_long _ _ _ _ _ _ _ _ _ c.loop-buffer.invariant.0 _ finds.1 finds.2 _ _ _ _ _ c.read_long.ensures.buffers
+    then_long _ _ _ _ _ _ _ c.loop-buffer.invariant.0 _ finds.1 finds.2 _ _ _ _ _ c.read_long.ensures.buffers
 
 pub returns-then-is_full-clause-counted : goal.returns-then-is_full-clause-counted
 returns-then-is_full-clause-counted g c = then_counted g.S.Source.is_read _ _ _ _ _ _ _ c.loop-buffer.invariant.1 c.read_long.ensures.counted
@@ -24,7 +24,7 @@ ask_more-requires-clause-room g c = not_full _ c.if-is_full.ensures (unread_fits
 pub loop-buffer-preserved : goal.loop-buffer-preserved
 loop-buffer-preserved g c =
     let finds = c.loop-buffer-test.ensures.finds in (
-      more_read _ _ _ _ _ _ _ _ _ c.loop-buffer.invariant.0 _ finds.1 finds.2 _ _ _ c.in-Bytes.ensures.asks,
+      more_read _ _ _ _ _ _ _ c.loop-buffer.invariant.0 _ finds.1 finds.2 _ _ _ c.in-Bytes.ensures.asks,
       counts_then g.S.Source.is_read _ _ _ _ _ _ c.loop-buffer.invariant.1 c.in-Bytes.ensures.counted,
       c.in-Bytes.ensures.none,
     )
@@ -37,7 +37,7 @@ end_text-requires-clause-room g c =
 pub returns-in-NoBytes-clause-buffers : goal.returns-in-NoBytes-clause-buffers
 returns-in-NoBytes-clause-buffers g c =
     let finds = c.loop-buffer-test.ensures.finds in
-    text_ended _ _ _ _ _ _ _ _ _ c.loop-buffer.invariant.0 _ finds.1 finds.2 _ _ _ _ _ c.in-NoBytes.ensures.asks c.end_text.ensures.lines c.end_text.ensures.unread
+    text_ended _ _ _ _ _ _ _ c.loop-buffer.invariant.0 _ finds.1 finds.2 _ _ _ _ _ c.in-NoBytes.ensures.asks c.end_text.ensures.lines c.end_text.ensures.unread
 
 pub returns-in-NoBytes-clause-counted : goal.returns-in-NoBytes-clause-counted
 returns-in-NoBytes-clause-counted g c = counts_then g.S.Source.is_read _ _ _ _ _ _ c.loop-buffer.invariant.1 c.in-NoBytes.ensures.counted
@@ -45,7 +45,7 @@ returns-in-NoBytes-clause-counted g c = counts_then g.S.Source.is_read _ _ _ _ _
 pub returns-in-BadRead-clause-buffers : goal.returns-in-BadRead-clause-buffers
 returns-in-BadRead-clause-buffers g c =
     let finds = c.loop-buffer-test.ensures.finds in
-    source_failed _ _ _ _ _ _ _ _ _ c.loop-buffer.invariant.0 _ finds.1 finds.2 _ _ _ _ c.in-BadRead.ensures.asks c.in-BadRead.ensures.none
+    source_failed _ _ _ _ _ _ _ c.loop-buffer.invariant.0 _ finds.1 finds.2 _ _ _ _ c.in-BadRead.ensures.asks c.in-BadRead.ensures.none
 
 pub returns-in-BadRead-clause-counted : goal.returns-in-BadRead-clause-counted
 returns-in-BadRead-clause-counted g c = fails_then g.S.Source.is_read _ _ _ _ _ c.loop-buffer.invariant.1 c.in-BadRead.ensures.counted
@@ -53,7 +53,7 @@ returns-in-BadRead-clause-counted g c = fails_then g.S.Source.is_read _ _ _ _ _ 
 pub returns-in-PastBound-clause-buffers : goal.returns-in-PastBound-clause-buffers
 returns-in-PastBound-clause-buffers g c =
     let finds = c.loop-buffer-test.ensures.finds in
-    text_too_long _ _ _ _ _ _ _ _ _ c.loop-buffer.invariant.0 _ finds.1 finds.2 _ _ _ _ c.in-PastBound.ensures.asks c.in-PastBound.ensures.none
+    text_too_long _ _ _ _ _ _ _ c.loop-buffer.invariant.0 _ finds.1 finds.2 _ _ _ _ c.in-PastBound.ensures.asks c.in-PastBound.ensures.none
 
 pub returns-in-PastBound-clause-counted : goal.returns-in-PastBound-clause-counted
 returns-in-PastBound-clause-counted g c = counts_then g.S.Source.is_read _ _ _ _ _ _ c.loop-buffer.invariant.1 c.in-PastBound.ensures.counted

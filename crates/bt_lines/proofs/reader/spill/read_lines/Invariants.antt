@@ -6,7 +6,7 @@ use Rattle.bt_lines.proofs.reader.spill.read_lines.Given as goal
 
 abbrev pub invariant-loop-buffer : goal.invariant-loop-buffer
 invariant-loop-buffer g l =
-    ReadSoFar g.S.Source.left g.S.Source.has_failed g.S.Source.end_told l.initial.source (unread l.initial.buffer) l.initial.taken l.source (unread l.buffer) l.taken
+    ReadSoFar g.S.Source l.initial.source (unread l.initial.buffer) l.initial.taken l.source (unread l.buffer) l.taken
     × ReadsCounted g.S.Source.is_read l.initial.source l.initial.taken l.source l.taken
     × (complete l.buffer ≡ [])
 

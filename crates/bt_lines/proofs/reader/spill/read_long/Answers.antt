@@ -17,29 +17,29 @@ use_spilled-requires-in-Ok-clause-one g c = one_line _ _ c.in-End.ensures.fills.
 pub returns-in-LineFeed-clause-buffers : goal.returns-in-LineFeed-clause-buffers
 returns-in-LineFeed-clause-buffers g c =
     let fills = rw c.begin_spill.ensures.unread at c.in-LineFeed.ensures.fills in
-    long_line _ _ _ _ _ _ _ _ _ _ c.requires.clear c.requires.some _ _ fills c.use_spilled.ensures.lines c.use_spilled.ensures.unread
+    long_line _ _ _ _ _ _ _ _ c.requires.clear c.requires.some _ _ fills c.use_spilled.ensures.lines c.use_spilled.ensures.unread
 
 pub returns-in-Ok-clause-buffers : goal.returns-in-Ok-clause-buffers
 returns-in-Ok-clause-buffers g c =
     let fills = rw c.begin_spill.ensures.unread at c.in-End.ensures.fills in
-    long_last _ _ _ _ _ _ _ _ _ _ c.requires.clear c.requires.some _ _ fills (c.use_spilled-in-Ok.ensures.lines ∙ c.in-Ok.ensures.ended) (c.use_spilled-in-Ok.ensures.unread ∙ c.end_spilled.ensures.unread)
+    long_last _ _ _ _ _ _ _ _ c.requires.clear c.requires.some _ _ fills (c.use_spilled-in-Ok.ensures.lines ∙ c.in-Ok.ensures.ended) (c.use_spilled-in-Ok.ensures.unread ∙ c.end_spilled.ensures.unread)
 
 pub returns-in-Err-clause-buffers : goal.returns-in-Err-clause-buffers
 returns-in-Err-clause-buffers g c =
     let fills = rw c.begin_spill.ensures.unread at c.in-End.ensures.fills in
-    long_last_refused _ _ _ _ _ _ _ _ _ _ c.requires.clear c.requires.some _ _ fills (c.end_spilled.ensures.lines ∙ c.in-End.ensures.none) c.end_spilled.ensures.unread
+    long_last_refused _ _ _ _ _ _ _ _ c.requires.clear c.requires.some _ _ fills (c.end_spilled.ensures.lines ∙ c.in-End.ensures.none) c.end_spilled.ensures.unread
 
 pub returns-in-Failed-clause-buffers : goal.returns-in-Failed-clause-buffers
 returns-in-Failed-clause-buffers g c =
     let fills = rw c.begin_spill.ensures.unread at c.in-Failed.ensures.fills in
-    long_failed _ _ _ _ _ _ _ _ _ _ c.requires.clear c.requires.some _ fills c.in-Failed.ensures.none
+    long_failed _ _ _ _ _ _ _ _ c.requires.clear c.requires.some _ fills c.in-Failed.ensures.none
 
 pub returns-in-TooLong-clause-buffers : goal.returns-in-TooLong-clause-buffers
 returns-in-TooLong-clause-buffers g c =
     let fills = rw c.begin_spill.ensures.unread at c.in-TooLong.ensures.fills in
-    long_too_long _ _ _ _ _ _ _ _ _ _ c.requires.clear c.requires.some _ fills c.in-TooLong.ensures.none
+    long_too_long _ _ _ _ _ _ _ _ c.requires.clear c.requires.some _ fills c.in-TooLong.ensures.none
 
 pub returns-in-NoMemory-clause-buffers : goal.returns-in-NoMemory-clause-buffers
 returns-in-NoMemory-clause-buffers g c =
     let fills = rw c.begin_spill.ensures.unread at c.in-NoMemory.ensures.fills in
-    long_refused _ _ _ _ _ _ _ _ _ _ c.requires.clear c.requires.some _ fills c.in-NoMemory.ensures.none
+    long_refused _ _ _ _ _ _ _ _ c.requires.clear c.requires.some _ fills c.in-NoMemory.ensures.none

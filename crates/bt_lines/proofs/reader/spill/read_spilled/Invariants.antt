@@ -6,7 +6,7 @@ use Rattle.bt_lines.proofs.reader.spill.read_spilled.Given as goal
 
 abbrev pub invariant-reads : goal.invariant-reads
 invariant-reads g l =
-    SoFar g.S.Source.left g.S.Source.has_failed g.S.Source.end_told l.initial.source (unread l.initial.buffer) l.initial.taken l.source (unread l.buffer) l.buffer.spilled.items l.taken
+    SoFar g.S.Source l.initial.source (unread l.initial.buffer) l.initial.taken l.source (unread l.buffer) l.buffer.spilled.items l.taken
     × ReadsCounted g.S.Source.is_read l.initial.source l.initial.taken l.source l.taken
     × (complete l.buffer ≡ []) × (l.buffer.is_spilled ≡ false)
 

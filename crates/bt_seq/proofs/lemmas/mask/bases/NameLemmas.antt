@@ -5,7 +5,7 @@ use Rattle.std.proofs.lemmas.Bool.Decides.{nat_tests}
 use Rattle.std.proofs.lemmas.List.{length-take-le, take-append-drop, take_all, take_at}
 use Rattle.std.proofs.lemmas.List.Elements.{All-head, All-tail, All-take}
 use Rattle.std.proofs.lemmas.List.Sums.{take_while-cons}
-use Rattle.bt_lines.specs.inside.Newline.{IsBefore, Lacks}
+use Rattle.bt_lines.specs.calls.FirstByte.{IsBefore, Lacks}
 use Rattle.bt_seq.specs.model.Sequences.{ends_name}
 
 abbrev in_name : ℕ → Bool

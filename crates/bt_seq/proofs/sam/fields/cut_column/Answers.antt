@@ -2,7 +2,7 @@ use Rattle.std.proofs.Common.{◌≡◌, ℕ, ◌+◌, ◌<◌, List, [], ◌∷
 use Rattle.std.proofs.lemmas.List.{take_all, take_rest}
 use Rattle.std.proofs.lemmas.List.Splits.{slice_split_at, slice_split_none}
 use Rattle.bt_lines.specs.model.Lines.{pieces}
-use Rattle.bt_lines.specs.inside.Newline.{IsBefore, Lacks}
+use Rattle.bt_lines.specs.calls.FirstByte.{IsBefore, Lacks}
 use Rattle.bt_seq.proofs.sam.fields.cut_column.Goals as goal
 
 cut_at : (text : List ℕ) (end : ℕ) → IsBefore 9 text end → end < length text → pieces 9 text ≡ take end text ∷ pieces 9 (drop (end + 1) text)

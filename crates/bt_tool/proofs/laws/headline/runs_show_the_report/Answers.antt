@@ -6,4 +6,4 @@ returns-clause-usage g c = usage_reported
 
 pub returns-clause-run : goal.returns-clause-run
 returns-clause-run g c =
-    shows_report g.G.Source.left g.G.Source.has_failed g.A.Source.left g.A.Source.has_failed g.A.Source.end_told g.B.Source.left g.B.Source.has_failed g.K.Sink.took g.K.Sink.has_failed
+    shows_report g.G.Source g.A.Source g.B.Source g.K.Sink

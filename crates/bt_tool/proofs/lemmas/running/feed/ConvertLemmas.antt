@@ -1,5 +1,5 @@
 -- Lemmas on writing the alignments of an input, line by line.
-use Rattle.std.proofs.Common.{◌≡◌, ℕ, Bool, true, List, [], ◌∷◌, ◌++◌, Option, None, Some, Ok, refl, sym, ap, ◌∙◌, subst, append-nil}
+use Rattle.std.proofs.Common.{◌≡◌, ℕ, Bool, List, [], ◌∷◌, ◌++◌, Option, None, Some, Ok, refl, sym, ap, ◌∙◌, subst, append-nil}
 use Rattle.std.specs.Prelude.{⊤, option_map}
 use Rattle.std.proofs.lemmas.Grind.{flat_map-append}
 use Rattle.std.proofs.lemmas.List.{map-append}
@@ -48,8 +48,8 @@ use Rattle.bt_tool.proofs.lemmas.running.feed.WritingLemmas.{alone_writes}
 abbrev member_on : TextLine → Alignment → Member Alignment
 member_on line a = record { line = line.number; item = a }
 
-kept_of : {S : Type 0} (left : S → Option (List ℕ)) (end : S → Bool) (reader : LineReader S) → IsSound left end reader → IsKept left end reader
-kept_of left end reader sound = record { end = sound.end; within = sound.within }
+kept_of : {S : Type 0} (device : Source S) (reader : LineReader S) → IsSound device reader → IsKept device reader
+kept_of device reader sound = record { end = sound.end; within = sound.within }
 
 module _ {S : Type 0} (split cigar : Bool) (device : Source S) where
   abbrev lines_of : List Alignment → List ℕ
@@ -62,27 +62,27 @@ module _ {S : Type 0} (split cigar : Bool) (device : Source S) where
   pub record Going (old : LineReader S) (out : Output) (now : LineReader S) (grown : Output) : Type 0 where
     pub past : List (Member Alignment)
     pub fed : Fed lines_of device (sam_reader old) out past (sam_reader now) grown
-    pub sound : IsSound device.left device.end_told now
+    pub sound : IsSound device now
 
   module _ (old : LineReader S) (out : Output) where
-    pub going_start : IsFresh device.left device.end_told (sam_reader old) → HoldsBlock out.took out.put → Going old out old out
+    pub going_start : IsFresh device (sam_reader old) → HoldsBlock out.took out.put → Going old out old out
     going_start fresh block = record { past = []; fed = fed_none lines_of device (sam_reader old) out fresh fresh.going refl block; sound = fresh.sound }
 
     module _ (now : LineReader S) (grown : Output) (g : Going old out now grown) where
       abbrev UpTo : FaultValue → MemberReader S Alignment ⊤ → Output → Type 0
       UpTo fault new later = FeedsUpTo lines_of (IsOneOf is_sam_kind) Any device (sam_reader old) out fault new later
 
-      abbrev steps : Steps device.left device.has_failed device.end_told (sam_reader now) (sam_reader now)
-      steps = steps_start device.left device.has_failed device.end_told (sam_reader now) refl refl
+      abbrev steps : Steps device (sam_reader now) (sam_reader now)
+      steps = steps_start device (sam_reader now) refl refl
 
       -- after the last line
-      pub converts_all : (new : LineReader S) → GivesEnd device.left device.has_failed now new → (IsSound device.left device.end_told now → IsSound device.left device.end_told new)
+      pub converts_all : (new : LineReader S) → GivesEnd device now new → (IsSound device now → IsSound device new)
           → FeedsAll lines_of (IsOneOf is_sam_kind) Any device Any (sam_reader old) out (sam_reader new) grown
       converts_all new ends sound =
           fed_all lines_of (IsOneOf is_sam_kind) Any device (sam_reader old) out g.past (sam_reader now) grown g.fed Any (sam_reader new)
           (record {
-            ends = going_end device.left device.has_failed device.end_told (sam_reader now) (sam_reader now) (sam_reader new) steps ends refl refl (record { state = refl; format = refl }) (λ same fault. ap sam_reader same);
-            kept = λ was. kept_of device.left device.end_told new (sound g.sound);
+            ends = going_end device (sam_reader now) (sam_reader now) (sam_reader new) steps ends refl refl (record { state = refl; format = refl }) (λ same fault. ap sam_reader same);
+            kept = λ was. kept_of device new (sound g.sound);
             clear = λ e. e;
           }) tt tt
 
@@ -91,17 +91,17 @@ module _ {S : Type 0} (split cigar : Bool) (device : Source S) where
           fed_up_to lines_of (IsOneOf is_sam_kind) Any device (sam_reader old) out g.past (sam_reader now) grown g.fed (λ state line kind says. wrong_kinds line.text kind says) new fault stopped tt
 
       -- the reader reported a fault
-      pub stops_reading : (new : LineReader S) (fault : FaultValue) → GivesFault device.left device.has_failed now fault new → (IsSound device.left device.end_told now → IsSound device.left device.end_told new) → UpTo fault (sam_reader new) grown
+      pub stops_reading : (new : LineReader S) (fault : FaultValue) → GivesFault device now fault new → (IsSound device now → IsSound device new) → UpTo fault (sam_reader new) grown
       stops_reading new fault gives sound =
           up_to (sam_reader new) fault (record {
-            answers = going_unread device.left device.has_failed device.end_told (sam_reader now) (sam_reader now) (sam_reader new) fault steps gives gives.kept refl (record { state = refl; format = refl }) (λ same fault. ap sam_reader same);
-            kept = λ was. kept_of device.left device.end_told new (sound g.sound);
+            answers = going_unread device (sam_reader now) (sam_reader now) (sam_reader new) fault steps gives gives.kept refl (record { state = refl; format = refl }) (λ same fault. ap sam_reader same);
+            kept = λ was. kept_of device new (sound g.sound);
           })
 
       -- a line was given
-      module _ (new : LineReader S) (line : TextLine) (gives : GivesLine device.left device.has_failed now line new) (sound : IsSound device.left device.end_told now → IsSound device.left device.end_told new) where
-        kept : IsKept device.left device.end_told now → IsKept device.left device.end_told new
-        kept was = kept_of device.left device.end_told new (sound g.sound)
+      module _ (new : LineReader S) (line : TextLine) (gives : GivesLine device now line new) (sound : IsSound device now → IsSound device new) where
+        kept : IsKept device now → IsKept device new
+        kept was = kept_of device new (sound g.sound)
 
         abbrev pub stopped_at : FaultValue → MemberReader S Alignment ⊤
         stopped_at fault = record { format = sam_format; below = new; state = tt; buffered = []; fault = Some fault }
@@ -112,7 +112,7 @@ module _ {S : Type 0} (split cigar : Bool) (device : Source S) where
             let of_sam = wrong_kinds line.text refused.kind refused.says in
             subst (λ o. UpTo fault (stopped_at fault) o) (sym refused.unchanged)
             (up_to (stopped_at fault) fault (record {
-              answers = going_wrong device.left device.has_failed device.end_told (sam_reader now) (sam_reader now) (stopped_at fault) line fault refused.kind steps (came device.left device.has_failed now new line gives) refl refl (record { state = refl; format = refl }) kept refused.says
+              answers = going_wrong device (sam_reader now) (sam_reader now) (stopped_at fault) line fault refused.kind steps (came device now new line gives) refl refl (record { state = refl; format = refl }) kept refused.says
                   (kinds_of_lines refused.kind of_sam) (refused.is ∙ ap (λ i. fault_at_line i line.number refused.kind) (sym g.fed.passes.bytes.1.same_input));
               kept = kept;
             }))
@@ -180,7 +180,7 @@ reported split cigar members (Some fault) = refl
 
 -- a reader that has given nothing yet, over the input of a run
 module _ {S : Type 0} (split cigar : Bool) (device : Source S) (first : S) (reader : LineReader S) (source : source_of reader ≡ first) (input : input_of reader ≡ First)
-    (taken : bytes_taken reader ≡ 0) (fed : feeds_taken reader ≡ 0) (given : lines_given reader ≡ 0) (going : fault_kept reader ≡ None) (lines : lines_left device.left reader ≡ option_map text_lines (device.left first)) (sound : IsSound device.left device.end_told reader) where
+    (taken : bytes_taken reader ≡ 0) (fed : feeds_taken reader ≡ 0) (given : lines_given reader ≡ 0) (going : fault_kept reader ≡ None) (lines : lines_left device.left reader ≡ option_map text_lines (device.left first)) (sound : IsSound device reader) where
   starts_reader : BeginsAt device.left sam_format First first (sam_reader reader)
   starts_reader = record {
     source = source;
@@ -188,7 +188,7 @@ module _ {S : Type 0} (split cigar : Bool) (device : Source S) (first : S) (read
     bytes = taken;
     feeds = fed;
     lines = lines;
-    good = good_at_first device.left device.has_failed device.end_told (sam_reader reader) going refl ∙ ap (λ i. option_map (good sam_format i) (lines_left device.left reader)) input ∙ ap (option_map (good sam_format First)) lines;
+    good = good_at_first device (sam_reader reader) going refl ∙ ap (λ i. option_map (good sam_format i) (lines_left device.left reader)) input ∙ ap (option_map (good sam_format First)) lines;
   }
 
   more_lines : (past more : List Alignment) → ⊤ → (rest : List ℕ) × (alignment_lines split cigar (past ++ more) ≡ alignment_lines split cigar past ++ rest)
@@ -196,11 +196,11 @@ module _ {S : Type 0} (split cigar : Bool) (device : Source S) (first : S) (read
 
   module _ (converting : Converting) (same : converting ≡ record { split = split; with_cigar = cigar; fault = None }) (out : Output) (new : MemberReader S Alignment ⊤) (last : S) (ended : source_of new.below ≡ last) (grown : Output) where
     abbrev Writes : Option FaultValue → Type 0
-    Writes fault = WritesAlone device.left device.has_failed (of_bamtobed split cigar) first out fault last grown
+    Writes fault = WritesAlone device (of_bamtobed split cigar) first out fault last grown
 
-    as_reported : (fault : Option FaultValue) → WritesAlone device.left device.has_failed (of_members (IsOneOf is_sam_kind) (bamtobed_written split cigar) sam_format) first out fault last grown → Writes fault
+    as_reported : (fault : Option FaultValue) → WritesAlone device (of_members (IsOneOf is_sam_kind) (bamtobed_written split cigar) sam_format) first out fault last grown → Writes fault
     as_reported fault =
-        alone_writes device.left device.has_failed (λ source. true) device.left device.has_failed (of_members (IsOneOf is_sam_kind) (bamtobed_written split cigar) sam_format) (of_bamtobed split cigar)
+        alone_writes device device (of_members (IsOneOf is_sam_kind) (bamtobed_written split cigar) sam_format) (of_bamtobed split cigar)
         (λ one two. reported split cigar _ _) (λ two lines. refl) first None out fault last grown (λ t tells. tells)
 
     -- all of the input was read

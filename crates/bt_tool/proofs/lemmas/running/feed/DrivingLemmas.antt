@@ -1,5 +1,5 @@
 -- Lemmas on driving an engine, from the records that it takes to the report on what its input hands over.
-use Rattle.std.proofs.Common.{◌≡◌, ℕ, suc, ◌-◌, Bool, true, List, [], ◌++◌, take, Option, None, Some, Ok, Err, refl, sym, ap, ◌∙◌, subst, append-nil, append_assoc, arith, inl, inr}
+use Rattle.std.proofs.Common.{◌≡◌, ℕ, suc, ◌-◌, true, List, [], ◌++◌, take, Option, None, Some, Ok, Err, refl, sym, ap, ◌∙◌, subst, append-nil, append_assoc, arith, inl, inr}
 use Rattle.std.specs.Prelude.{◌⊎◌, ◌≢◌, ⊤, IfSome}
 use Rattle.std.proofs.lemmas.List.{map-append}
 use Rattle.std.specs.Io.KnownBytes.{Appends, Consumes}
@@ -59,14 +59,14 @@ module _ {S O : Type 0} {ghosts : Ghosts O} where
   unfolding view_of view_with order_in
   sorted_start records = refl
 
-  pub fresh_start : (left : S → Option (List ℕ)) (end : S → Bool) (reader : LineReader S) (records : Records S O ghosts) → below records ≡ reader
-      → lines_given reader ≡ 0 → bytes_taken reader ≡ 0 → feeds_taken reader ≡ 0 → fault_kept records ≡ None → buffered_in records ≡ [] → IsSound left end reader
-      → IsFresh left end (view_of records)
-  fresh_start left end reader records is given taken fed going none sound = record {
+  pub fresh_start : (device : Source S) (reader : LineReader S) (records : Records S O ghosts) → below records ≡ reader
+      → lines_given reader ≡ 0 → bytes_taken reader ≡ 0 → feeds_taken reader ≡ 0 → fault_kept records ≡ None → buffered_in records ≡ [] → IsSound device reader
+      → IsFresh device (view_of records)
+  fresh_start device reader records is given taken fed going none sound = record {
     none_given = (ap lines_given is ∙ given, ap bytes_taken is ∙ taken, ap feeds_taken is ∙ fed);
     none_buffered = none;
     going = going;
-    sound = subst (IsSound left end) (sym is) sound;
+    sound = subst (IsSound device) (sym is) sound;
   }
 
 -- what the end of an engine did
@@ -141,7 +141,7 @@ module _ {S A State : Type 0} (written : Written A) (kinds : Kind → Type 0) (S
   near_by : (one : Handed) (before took : List ℕ) → Holds device.left first one → out.put ≡ Some before → out.took ≡ Some took → (bytes : List ℕ) × Hands device.left old.below bytes new.below
       → (past : List (Member A)) → IsReadFor device old past past new → (grown : Output) → TookButBlock out (written.settled (member_items past)) grown
       → (Stopped : Type 0) → (Stopped → PutsLines out (written.settled (member_items past)) grown)
-      → ReadsNoFurther (λ n. IsWithin true one.text n → ⊤) (members_settle written format) one.text (device.left last) before grown.took (grown.has_failed ≡ true) Stopped grown.put
+      → ReadsNoFurther (λ n. IsWithin (device.end_told last) one.text n → ⊤) (members_settle written format) one.text (device.left last) before grown.took (grown.has_failed ≡ true) Stopped grown.put
   near_by one before took holds put known hands past read grown kept Stopped exact =
       let text = holds.text in
       let e = holds.known in
@@ -155,7 +155,7 @@ module _ {S A State : Type 0} (written : Written A) (kinds : Kind → Type 0) (S
       (first_from format First count count 1 format.begin (text_lines text) past b.0 all.fault (omega arith) (lines_are_numbered 1 text) b.1 refl read.low b.2)) in
       let settled = subst (λ l. TookButBlock out l grown) on_lines kept in
       let less : suc count - 1 ≡ count = omega arith in
-      subst (λ (h : Handed). ReadsNoFurther (λ n. IsWithin true h.text n → ⊤) (members_settle written format) h.text (device.left last) before grown.took (grown.has_failed ≡ true) Stopped grown.put) (sym holds.is) (record {
+      subst (λ (h : Handed). ReadsNoFurther (λ n. IsWithin (device.end_told last) h.text n → ⊤) (members_settle written format) h.text (device.left last) before grown.took (grown.has_failed ≡ true) Stopped grown.put) (sym holds.is) (record {
         n = suc count;
         some = omega arith;
         handed = handed.0;
@@ -172,7 +172,7 @@ module _ {S A State : Type 0} (written : Written A) (kinds : Kind → Type 0) (S
     Cause past = StopCause written.settled kinds Sorted device old out past fault new grown
 
     -- the report, by what the fault of the input says of it
-    reported_by : (past : List (Member A)) (handed : Handed) (before : List ℕ) → Came device.left device.has_failed first last (Some fault) handed → out.put ≡ Some before
+    reported_by : (past : List (Member A)) (handed : Handed) (before : List ℕ) → Came device first last (Some fault) handed → out.put ≡ Some before
         → Some fault ≢ Some write_failed → Some fault ≢ Some no_memory → (bytes : List ℕ) × Hands device.left old.below bytes new.below → Cause past → IsReported (report handed) before (Some fault) grown
     reported_by past handed before came put write memory hands (inl reading) =
         let is = report_of handed past (Some fault) (says_fault device format First first old starts new last ended kinds past fault handed came hands reading.behind) in
@@ -195,15 +195,15 @@ module _ {S A State : Type 0} (written : Written A) (kinds : Kind → Type 0) (S
     cut_by past (inr (inr writing)) e = writing.cuts
 
     named_by : (past : List (Member A)) → (bytes : List ℕ) × Hands device.left old.below bytes new.below → Cause past
-        → TellsInput device.left device.has_failed kinds First first last fault ⊎ TellsDevice grown.sink_has_failed fault
+        → TellsInput device kinds First first last fault ⊎ TellsDevice grown.sink_has_failed fault
     named_by past hands (inl reading) = inl (tells_fault device format First first old starts new last ended kinds past fault hands reading.behind)
     named_by past hands (inr (inl growing)) = inr (inr growing.lacks.is)
     named_by past hands (inr (inr writing)) = inr (inl (writing.is, writing.cuts.sink_failed))
 
-    pub drives_fault : FeedsUpTo written.settled kinds Sorted device old out fault new grown → WritesAlone device.left device.has_failed (of_members kinds written format) first out (Some fault) last grown
+    pub drives_fault : FeedsUpTo written.settled kinds Sorted device old out fault new grown → WritesAlone device (of_members kinds written format) first out (Some fault) last grown
     drives_fault fed = record {
       whole = λ one two before reads others put write memory. reported_by fed.past one before (inl reads) put write memory fed.took.bytes fed.cause;
-      told = λ one two before holds others put is. reported_by fed.past one before (inr (is_whole device.left device.has_failed first last (Some fault) one holds is)) put is.no_write is.no_growth fed.took.bytes fed.cause;
+      told = λ one two before holds others put is. reported_by fed.past one before (inr (is_whole device first last (Some fault) one holds is)) put is.no_write is.no_growth fed.took.bytes fed.cause;
       cut = λ is one two before holds others put.
           let more = begins_output one fed.past holds fed.begins in
           (written.settled (member_items fed.past), more.0, more.1, (cut_by fed.past fed.cause (some_is fault write_failed is)).front before put);
@@ -215,15 +215,15 @@ module _ {S A State : Type 0} (written : Written A) (kinds : Kind → Type 0) (S
       served = λ e. cc;
       near = λ one two before taken holds others put known. near_by one before taken holds put known fed.took.bytes fed.took.before fed.took.read grown fed.took.kept
           (IsFaultButWrite (Some fault)) (λ stops. fed.exact (λ is. stops.1 (ap Some is)));
-      named = λ told e. named_alone (subst (λ t. TellsInput device.left device.has_failed kinds First first last t ⊎ TellsDevice grown.sink_has_failed t) (some_is fault told e) (named_by fed.past fed.took.bytes fed.cause));
+      named = λ told e. named_alone (subst (λ t. TellsInput device kinds First first last t ⊎ TellsDevice grown.sink_has_failed t) (some_is fault told e) (named_by fed.past fed.took.bytes fed.cause));
     }
 
   module _ (Stands : List A → Type 0) (grown : Output) (fed : FeedsAll written.settled kinds Sorted device Stands old out new grown) (finished : Output) (goes : GoesOn grown finished) where
     abbrev Ends : Option FaultValue → Type 0
-    Ends fault = WritesAlone device.left device.has_failed (of_members kinds written format) first out fault last finished
+    Ends fault = WritesAlone device (of_members kinds written format) first out fault last finished
 
     -- the report if all records were taken
-    report_all : (other : Option FaultValue) (handed : Handed) → Came device.left device.has_failed first last other handed → report handed ≡ report_by written (member_items fed.past) None
+    report_all : (other : Option FaultValue) (handed : Handed) → Came device first last other handed → report handed ≡ report_by written (member_items fed.past) None
     report_all other handed came =
         report_of handed fed.past None
         (came_whole device format First first old starts new last ended other handed came fed.took.bytes fed.served fed.within (λ good. (good.members ≡ fed.past) × (good.fault ≡ None)) fed.whole)
@@ -232,7 +232,7 @@ module _ {S A State : Type 0} (written : Written A) (kinds : Kind → Type 0) (S
     report_whole one holds = rw holds.is (report_of (whole_text holds.text) fed.past None (of_text holds.text holds.known (λ good. (good.members ≡ fed.past) × (good.fault ≡ None)) fed.whole))
 
     near_end : (fault : Option FaultValue) → (IsFaultButWrite fault → ⊥) → (one : Handed) (two : Option Handed) (before taken : List ℕ) → Holds device.left first one → HoldsIf device.left None two → out.put ≡ Some before → out.took ≡ Some taken
-        → ReadsNoFurther (λ n. IsWithin true one.text n → ⊤) (members_settle written format) one.text (device.left last) before finished.took (finished.has_failed ≡ true) (IsFaultButWrite fault) finished.put
+        → ReadsNoFurther (λ n. IsWithin (device.end_told last) one.text n → ⊤) (members_settle written format) one.text (device.left last) before finished.took (finished.has_failed ≡ true) (IsFaultButWrite fault) finished.put
     near_end fault never one two before taken holds others put known =
         near_by one before taken holds put known fed.took.bytes fed.took.before fed.took.read finished
         (took_later out grown finished (written.settled (member_items fed.took.before)) fed.took.grows goes fed.took.kept) (IsFaultButWrite fault) (λ stops. absurd (never stops))
@@ -241,13 +241,13 @@ module _ {S A State : Type 0} (written : Written A) (kinds : Kind → Type 0) (S
     drives_all rest is appends works =
         let put_all : (before : List ℕ) → out.put ≡ Some before → finished.put ≡ Some (before ++ written.whole (member_items fed.past)) =
         λ before put. text_grows grown.put finished.put before (written.settled (member_items fed.past)) rest (written.whole (member_items fed.past)) is appends (fed.puts before put) in
-        let ends : (other : Option FaultValue) (handed : Handed) (before : List ℕ) → Came device.left device.has_failed first last other handed → out.put ≡ Some before → IsReported (report handed) before None finished =
+        let ends : (other : Option FaultValue) (handed : Handed) (before : List ℕ) → Came device first last other handed → out.put ≡ Some before → IsReported (report handed) before None finished =
         λ other handed before came put.
         let all = report_all other handed came in
         (sym (ap (λ r. r.fault) all), put_all before put ∙ ap (λ r. Some (before ++ r.output)) (sym all)) in
         record {
           whole = λ one two before reads others put write memory. ends None one before (inl reads) put;
-          told = λ one two before holds others put is. ends None one before (inr (is_whole device.left device.has_failed first last None one holds is)) put;
+          told = λ one two before holds others put is. ends None one before (inr (is_whole device first last None one holds is)) put;
           cut = λ e. cc;
           kept = λ other one two before holds others put.
               (written.whole (member_items fed.past), [], ap (λ r. r.output) (report_whole one holds) ∙ sym (append-nil (written.whole (member_items fed.past))), put_all before put);

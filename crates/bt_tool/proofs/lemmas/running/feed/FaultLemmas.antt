@@ -1,6 +1,7 @@
 -- Lemmas that tell faults apart.
-use Rattle.std.proofs.Common.{◌≡◌, ℕ, Bool, true, List, Option, None, Some, ap, inl, inr, subst, sym}
+use Rattle.std.proofs.Common.{◌≡◌, ℕ, true, None, Some, ap, inl, inr, subst, sym}
 use Rattle.std.proofs.lemmas.Bool.{false≢true}
+use Rattle.bt_lines.specs.declared.device.Source.{Ghosts as Source}
 use Rattle.bt_lines.specs.model.Fault.{FaultValue, write_failed, no_memory, read_failed}
 use Rattle.bt_lines.specs.declared.fault.Input.{Input}
 use Rattle.bt_lines.specs.declared.fault.Kind.{Kind}
@@ -31,6 +32,6 @@ pub write_no_read : (input : Input) (line : ℕ) → write_failed ≡ read_faile
 write_no_read input line e = let apart : WriteFailed ≡ ReadFailed = ap (λ (f : FaultValue). f.kind) e in cc
 
 -- a fault of an input isn't a failed write
-pub tells_no_write : {S : Type 0} (left : S → Option (List ℕ)) (failed : S → Bool) (kinds : Kind → Type 0) (input : Input) (before after : S) → TellsInput left failed kinds input before after write_failed → ⊥
-tells_no_write left failed kinds input before after (inl line) = placed_no_write input line.line line.kind (sym line.is)
-tells_no_write left failed kinds input before after (inr read) = placed_no_write input read.line ReadFailed (sym read.is)
+pub tells_no_write : {S : Type 0} (device : Source S) (kinds : Kind → Type 0) (input : Input) (before after : S) → TellsInput device kinds input before after write_failed → ⊥
+tells_no_write device kinds input before after (inl line) = placed_no_write input line.line line.kind (sym line.is)
+tells_no_write device kinds input before after (inr read) = placed_no_write input read.line ReadFailed (sym read.is)

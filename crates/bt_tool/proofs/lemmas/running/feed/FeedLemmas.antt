@@ -134,7 +134,7 @@ pub record Fed {S A State : Type 0} (settled : List A → List ℕ) (device : So
   pub block : HoldsBlock grown.took grown.put
 
 -- none yet
-pub fed_none : {S A State : Type 0} (settled : List A → List ℕ) (device : Source S) (old : MemberReader S A State) (out : Output) → IsFresh device.left device.end_told old → line_fault old.below ≡ None → settled [] ≡ [] → HoldsBlock out.took out.put
+pub fed_none : {S A State : Type 0} (settled : List A → List ℕ) (device : Source S) (old : MemberReader S A State) (out : Output) → IsFresh device old → line_fault old.below ≡ None → settled [] ≡ [] → HoldsBlock out.took out.put
     → Fed settled device old out [] old out
 fed_none settled device old out fresh clear nothing block = record {
   passes = passes_start device old fresh clear;
@@ -325,7 +325,7 @@ module _ {S O E : Type 0} {ghosts : Ghosts O} (MayTake : E → List Feature → 
     pub stands : Stands first (member_items past) engine
 
   -- before the first record
-  pub going_start : IsFresh device.left device.end_told (view_of old) → Stands first [] first → settled first [] ≡ [] → HoldsBlock out.took out.put → Going old first out
+  pub going_start : IsFresh device (view_of old) → Stands first [] first → settled first [] ≡ [] → HoldsBlock out.took out.put → Going old first out
   going_start fresh stands nothing block = record {
     past = [];
     fed = fed_none (settled first) device (view_of old) out fresh (line_going old fresh.going) nothing block;

@@ -1,7 +1,8 @@
 -- Lemmas on the lines that an engine writes, from its intervals, and on the report that they make.
-use Rattle.std.proofs.Common.{◌≡◌, ℕ, Bool, true, List, [], Option, None, Some, refl, sym, ap, ◌∙◌}
+use Rattle.std.proofs.Common.{◌≡◌, ℕ, Bool, List, [], Option, None, Some, refl, sym, ap, ◌∙◌}
 use Rattle.std.proofs.lemmas.Grind.{flat_map-append}
 use Rattle.std.proofs.lemmas.List.{map-append}
+use Rattle.bt_lines.specs.declared.device.Source.{Ghosts as Source}
 use Rattle.bt_lines.specs.model.Fault.{FaultValue}
 use Rattle.bt_lines.specs.model.Handed.{Handed}
 use Rattle.bt_lines.specs.model.Lines.{TextLine}
@@ -122,12 +123,12 @@ module _ (order : Order) (total : IsTotal order) where
       settled_same d strand (items_in (good (bed_format (sorting_of order)) First lines)) (placed_lines First order lines total)
 
   -- a merge's records were written as the command says
-  pub merge_writes : {A : Type 0} (left : A → Option (List ℕ)) (failed : A → Bool) (d : ℕ) (strand : MergeStrand) (merge : Merging) → merge ≡ merge_begun d strand
+  pub merge_writes : {A : Type 0} (device : Source A) (d : ℕ) (strand : MergeStrand) (merge : Merging) → merge ≡ merge_begun d strand
       → (first : A) (out : Output) (fault : Option FaultValue) (new : A) (grown : Output)
-      → WritesRecords left failed (merge_as_they_come merge) order first out fault new grown
-      → WritesRecords left failed (merge_written order d strand) order first out fault new grown
-  merge_writes left failed d strand merge begun first out fault new grown =
-      alone_writes left failed (λ source. true) left failed (of_records order (merge_as_they_come merge)) (of_records order (merge_written order d strand))
+      → WritesRecords device (merge_as_they_come merge) order first out fault new grown
+      → WritesRecords device (merge_written order d strand) order first out fault new grown
+  merge_writes device d strand merge begun first out fault new grown =
+      alone_writes device device (of_records order (merge_as_they_come merge)) (of_records order (merge_written order d strand))
       (λ one two. ap (λ m. records_report (merge_as_they_come m) order one) begun ∙ merge_reports d strand one)
       (λ two lines. ap (λ m. records_settle (merge_as_they_come m) order lines) begun ∙ merge_settles d strand lines)
       first None out fault new grown (λ t tells. tells)

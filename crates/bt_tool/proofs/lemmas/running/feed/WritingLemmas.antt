@@ -2,6 +2,7 @@
 use Rattle.std.proofs.Common.{◌≡◌, ℕ, ◌+◌, ◌-◌, ◌≤◌, Bool, true, List, [], ◌++◌, length, Option, None, Some, take, refl, sym, ap, ◌∙◌, subst, arith, inl, inr}
 use Rattle.std.specs.Prelude.{◌⊎◌, IfSome}
 use Rattle.std.proofs.KnownBytes.{Consumes-nil}
+use Rattle.bt_lines.specs.declared.device.Source.{Ghosts as Source}
 use Rattle.bt_lines.specs.model.Fault.{FaultValue}
 use Rattle.bt_lines.specs.model.Handed.{Handed}
 use Rattle.bt_lines.specs.model.Lines.{TextLine, text_lines}
@@ -54,15 +55,15 @@ named_alone (inl tells) = inl (inl tells)
 named_alone (inr tells) = inr tells
 
 -- the whole text is known of an input of which no failed read is reported
-pub is_whole : {S : Type 0} (left : S → Option (List ℕ)) (failed : S → Bool) (first last : S) (fault : Option FaultValue) (handed : Handed) → Holds left first handed → IsOfInput fault → IsWhole left failed first last fault handed
-is_whole left failed first last fault handed holds of_input = record { text = holds.text; known = holds.known; is = holds.is; no_read = of_input.no_read }
+pub is_whole : {S : Type 0} (device : Source S) (first last : S) (fault : Option FaultValue) (handed : Handed) → Holds device.left first handed → IsOfInput fault → IsWhole device first last fault handed
+is_whole device first last fault handed holds of_input = record { text = holds.text; known = holds.known; is = holds.is; no_read = of_input.no_read }
 
-module _ {A B : Type 0} (a_left : A → Option (List ℕ)) (a_failed a_end : A → Bool) (b_left : B → Option (List ℕ)) (b_failed : B → Bool) where
+module _ {A B : Type 0} (source_a : Source A) (source_b : Source B) where
   -- what a command of one input writes, a second that isn't touched beside it, by a behaviour that says the same
   module _ (mine yours : Behaviour) (same : (one : Handed) (two : Option Handed) → mine.report one None ≡ yours.report one two) (same_settle : (two : Option Handed) (lines : List TextLine) → mine.settles None lines ≡ yours.settles two lines)
       (first : A) (second : Option B) (out : Output) (fault : Option FaultValue) (first_after : A) (grown : Output)
-      (same_kinds : (t : FaultValue) → TellsInput a_left a_failed mine.FirstKinds First first first_after t → TellsInput a_left a_failed yours.FirstKinds First first first_after t) (w : WritesAlone a_left a_failed mine first out fault first_after grown) where
-    pub alone_writes : WritesBy a_left a_failed a_end b_left b_failed yours first second out fault first_after second grown
+      (same_kinds : (t : FaultValue) → TellsInput source_a mine.FirstKinds First first first_after t → TellsInput source_a yours.FirstKinds First first first_after t) (w : WritesAlone source_a mine first out fault first_after grown) where
+    pub alone_writes : WritesBy source_a source_b yours first second out fault first_after second grown
     alone_writes = record {
       whole = λ one two before reads others put write memory. subst (λ r. IsReported r before fault grown) (same one two) (w.whole one None before reads tt put write memory);
       told = λ one two before holds others put is. subst (λ r. IsReported r before fault grown) (same one two) (w.told one None before holds tt put is);
@@ -75,11 +76,11 @@ module _ {A B : Type 0} (a_left : A → Option (List ℕ)) (a_failed a_end : A �
       grows = w.grows;
       served = λ none.
           let s = w.served none in
-          ((s.0.0, serves_none b_failed second), s.1);
+          ((s.0.0, serves_none source_b.has_failed second), s.1);
       near = λ one two before taken holds others put known.
-          near_as _ (λ n. IsWithin (a_end first_after) one.text n → HandsUpToIf b_left (yours.reaches two (take n (text_lines one.text)) + block_size) second second)
-          (λ n beside end. hands_none b_left second two (yours.reaches two (take n (text_lines one.text)) + block_size) others)
-          (mine.settles None) (yours.settles two) (same_settle two) one.text (a_left first_after) before grown.took grown.took (grown.has_failed ≡ true) (grown.has_failed ≡ true) (IsFaultButWrite fault) (IsFaultButWrite fault) grown.put grown.put
+          near_as _ (λ n. IsWithin (source_a.end_told first_after) one.text n → HandsUpToIf source_b.left (yours.reaches two (take n (text_lines one.text)) + block_size) second second)
+          (λ n beside end. hands_none source_b.left second two (yours.reaches two (take n (text_lines one.text)) + block_size) others)
+          (mine.settles None) (yours.settles two) (same_settle two) one.text (source_a.left first_after) before grown.took grown.took (grown.has_failed ≡ true) (grown.has_failed ≡ true) (IsFaultButWrite fault) (IsFaultButWrite fault) grown.put grown.put
           (λ size took. took) (λ size kept. kept) (λ bytes is stops. is stops) (w.near one None before taken holds tt put known);
       named = λ t e. elim (w.named t e) [
         | inl tells ↦ elim tells [ inl tells ↦ inl (inl (same_kinds t tells)) | inr none ↦ absurd none ]
@@ -92,9 +93,9 @@ module _ {A B : Type 0} (a_left : A → Option (List ℕ)) (a_failed a_end : A �
       → ((one : Handed) (two : Option Handed) → (behaviour_of command chromosomes).report one None ≡ (behaviour_of command chromosomes).report one two)
       → ((two : Option Handed) (lines : List TextLine) → (behaviour_of command chromosomes).settles None lines ≡ (behaviour_of command chromosomes).settles two lines)
       → (is : Command) → is ≡ command → (first : A) (second : Option B) (out : Output) (fault : Option FaultValue) (first_after : A) (grown : Output)
-      → WritesAlone a_left a_failed (behaviour_of command chromosomes) first out fault first_after grown
-      → WritesBy a_left a_failed a_end b_left b_failed (behaviour_of is chromosomes) first second out fault first_after second grown
+      → WritesAlone source_a (behaviour_of command chromosomes) first out fault first_after grown
+      → WritesBy source_a source_b (behaviour_of is chromosomes) first second out fault first_after second grown
   behaves_alone command chromosomes same same_settle is e first second out fault first_after grown w =
       let behaviour = behaviour_of command chromosomes in
-      subst (λ (command : Command). WritesBy a_left a_failed a_end b_left b_failed (behaviour_of command chromosomes) first second out fault first_after second grown) (sym e)
+      subst (λ (command : Command). WritesBy source_a source_b (behaviour_of command chromosomes) first second out fault first_after second grown) (sym e)
       (alone_writes behaviour behaviour same same_settle first second out fault first_after grown (λ t tells. tells) w)

@@ -85,7 +85,7 @@ module _ {A B : Type 0} (source_a : Source A) (source_b : Source B) (run : MaskR
   old_first = line_members run.full nothing_reached run.lines
 
   module _ (at : Reached) (lines : LineReader A) (second : MemberReader B Feature (Option Locus)) (mask : Masking) (grown : Output) (s : Going at lines second mask grown)
-      (new : LineReader A) (over : has_ended lines ≡ true → buffered_in lines ≡ []) (consumed : ConsumedLines) (takes : TakesLines source_a.left source_a.end_told lines consumed new)
+      (new : LineReader A) (over : has_ended lines ≡ true → buffered_in lines ≡ []) (consumed : ConsumedLines) (takes : TakesLines source_a lines consumed new)
       (taken : List Feature) (second_now : MemberReader B Feature (Option Locus)) (has : HasTaken source_b second taken second_now) where
     abbrev stage : MaskStage
     stage = s.stage

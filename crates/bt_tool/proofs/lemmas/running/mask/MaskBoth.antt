@@ -139,7 +139,7 @@ module _ {A B : Type 0} (source_a : Source A) (source_b : Source B) (run : MaskR
     (second : MemberReader B Feature (Option Locus)) (mask : Masking) (out : Output) (s : GoesOnAt source_a source_b run at lines second mask out)
     (first_lines last_lines : BufferedLines) (begins : BeginsLines (buffered_bytes lines) (lines_given lines) (is_open lines) first_lines) (texts : List TextLine) (parts : buffered_in lines ≡ texts ++ lines_in last_lines)
     (numbered : AreNumbered (suc (lines_given lines)) texts) (first_beds last_beds : Batch) (lent : left first_beds ≡ second.buffered) (lent_at : (cursor_in first_beds).lines ≡ lines_given second.below)
-    (taken : List Feature) (gave : Passes first_beds taken last_beds) (new : LineReader A) (over : has_ended lines ≡ true → buffered_in lines ≡ []) (consumed : ConsumedLines) (are : TakenLines lines consumed (length texts)) (takes : TakesLines source_a.left source_a.end_told lines consumed new)
+    (taken : List Feature) (gave : Passes first_beds taken last_beds) (new : LineReader A) (over : has_ended lines ≡ true → buffered_in lines ≡ []) (consumed : ConsumedLines) (are : TakenLines lines consumed (length texts)) (takes : TakesLines source_a lines consumed new)
     (second_now : MemberReader B Feature (Option Locus)) (has : HasTaken source_b second taken second_now) where
   abbrev EndsAt : Option FaultValue → Output → Type 0
   EndsAt fault grown = Ends source_a source_b run fault new second_now grown

@@ -54,17 +54,17 @@ turn_falls before filled after There (inr at) few some = omega (arith, at.0, som
 
 module _ {A B : Type 0} (source_a : Source A) (source_b : Source B) (run : MaskRun A B) (at : Reached) (lines : LineReader A)
     (second : MemberReader B Feature (Option Locus)) (mask : Masking) (out : Output) (s : GoesOnAt source_a source_b run at lines second mask out) where
-  module _ (wants : mask.want ≡ WantLine) (new : LineReader A) (kept : IsKept source_a.left source_a.end_told lines → IsKept source_a.left source_a.end_told new) where
-    pub line_filled : MakesLine source_a.left source_a.has_failed lines new → Fills source_a source_b run lines second mask (Ok true) new second mask out
+  module _ (wants : mask.want ≡ WantLine) (new : LineReader A) (kept : IsKept source_a lines → IsKept source_a new) where
+    pub line_filled : MakesLine source_a lines new → Fills source_a source_b run lines second mask (Ok true) new second mask out
     line_filled makes = (
       (at, line_made source_a source_b run at lines second mask out s wants new makes kept),
       inr (
-        omega (arith, same_room source_a.left source_a.has_failed source_a.end_told lines new new makes),
+        omega (arith, same_room source_a lines new new makes),
         subst (λ (w : MaskWant). IsThere w new second) (sym wants) makes.some,
       ),
     )
 
-    pub lines_ended : GivesEnd source_a.left source_a.has_failed lines new → (masked : Masking) → MaskStandsAt run.how run.full (with_lines_ended s.stage) masked → Fills source_a source_b run lines second mask (Ok true) new second masked out
+    pub lines_ended : GivesEnd source_a lines new → (masked : Masking) → MaskStandsAt run.how run.full (with_lines_ended s.stage) masked → Fills source_a source_b run lines second mask (Ok true) new second masked out
     lines_ended ends masked stands =
         let over = gives_over source_a run.full at lines new kept ends in
         let none = ap is_some (none_waits source_a source_b run at lines second mask out s wants) in (

@@ -1,5 +1,5 @@
 -- Lemmas on the beginning of masking over two readers.
-use Rattle.std.proofs.Common.{◌≡◌, ℕ, Bool, false, List, [], Option, None, Some, refl, sym, ap, ◌∙◌, subst}
+use Rattle.std.proofs.Common.{◌≡◌, Bool, [], Option, None, Some, refl, sym, ap, ◌∙◌, subst}
 use Rattle.std.specs.Prelude.{option_map}
 use Rattle.std.proofs.lemmas.Bool.{false≢true}
 use Rattle.bt_lines.specs.declared.device.Source.{Ghosts as Source}
@@ -32,20 +32,20 @@ use Rattle.bt_tool.proofs.lemmas.running.members.MemberLemmas.{passes_start}
 use Rattle.bt_tool.proofs.lemmas.running.pair.PairTurns.{comes_start}
 
 -- a reader of lines that has given nothing
-module _ {S : Type 0} (left : S → Option (List ℕ)) (end : S → Bool) (full : Bool) (first : S) (input : Input) (reader : LineReader S) (source : source_of reader ≡ first) (same : input_of reader ≡ input)
-    (taken : bytes_taken reader ≡ 0) (fed : feeds_taken reader ≡ 0) (given : lines_given reader ≡ 0) (going : line_fault reader ≡ None) (lines : lines_left left reader ≡ option_map text_lines (left first)) where
-  pub fresh_lines : IsSound left end reader → IsFresh left end (line_members full nothing_reached reader)
+module _ {S : Type 0} (device : Source S) (full : Bool) (first : S) (input : Input) (reader : LineReader S) (source : source_of reader ≡ first) (same : input_of reader ≡ input)
+    (taken : bytes_taken reader ≡ 0) (fed : feeds_taken reader ≡ 0) (given : lines_given reader ≡ 0) (going : line_fault reader ≡ None) (lines : lines_left device.left reader ≡ option_map text_lines (device.left first)) where
+  pub fresh_lines : IsSound device reader → IsFresh device (line_members full nothing_reached reader)
   fresh_lines sound = record { none_given = (given, taken, fed); none_buffered = refl; going = going; sound = sound }
 
-  pub begin_lines : BeginsAt left (sequence_format full) input first (line_members full nothing_reached reader)
+  pub begin_lines : BeginsAt device.left (sequence_format full) input first (line_members full nothing_reached reader)
   begin_lines = record {
     source = source;
     input_is = same;
     bytes = taken;
     feeds = fed;
     lines = lines;
-    good = good_at_first left (λ s. false) end (line_members full nothing_reached reader) going refl
-        ∙ ap (λ i. option_map (good (sequence_format full) i) (lines_left left reader)) same ∙ ap (option_map (good (sequence_format full) input)) lines;
+    good = good_at_first device (line_members full nothing_reached reader) going refl
+        ∙ ap (λ i. option_map (good (sequence_format full) i) (lines_left device.left reader)) same ∙ ap (option_map (good (sequence_format full) input)) lines;
   }
 
 pub blocks_format : {S : Type 0} (records : Blocks S) → (view_of records).format ≡ block_format
@@ -53,30 +53,30 @@ unfolding view_of view_with
 blocks_format records = refl
 
 -- a reader of records that has given nothing
-module _ {S : Type 0} (left : S → Option (List ℕ)) (end : S → Bool) (first : S) (input : Input) (reader : LineReader S) (records : Blocks S) (is : below records ≡ reader) (source : source_of reader ≡ first) (same : input_of reader ≡ input)
-    (taken : bytes_taken reader ≡ 0) (fed : feeds_taken reader ≡ 0) (given : lines_given reader ≡ 0) (going : line_fault reader ≡ None) (lines : lines_left left reader ≡ option_map text_lines (left first)) where
-  pub fresh_blocks : fault_kept records ≡ line_fault reader → buffered_in records ≡ [] → IsSound left end reader → IsFresh left end (view_of records)
+module _ {S : Type 0} (device : Source S) (first : S) (input : Input) (reader : LineReader S) (records : Blocks S) (is : below records ≡ reader) (source : source_of reader ≡ first) (same : input_of reader ≡ input)
+    (taken : bytes_taken reader ≡ 0) (fed : feeds_taken reader ≡ 0) (given : lines_given reader ≡ 0) (going : line_fault reader ≡ None) (lines : lines_left device.left reader ≡ option_map text_lines (device.left first)) where
+  pub fresh_blocks : fault_kept records ≡ line_fault reader → buffered_in records ≡ [] → IsSound device reader → IsFresh device (view_of records)
   fresh_blocks kept none sound = record {
     none_given = (ap lines_given is ∙ given, ap bytes_taken is ∙ taken, ap feeds_taken is ∙ fed);
     none_buffered = none;
     going = kept ∙ going;
-    sound = subst (IsSound left end) (sym is) sound;
+    sound = subst (IsSound device) (sym is) sound;
   }
 
-  pub begin_blocks : (line_fault reader ≡ None → good_left left records ≡ option_map (good block_format (input_of reader)) (lines_left left reader)) → BeginsAt left block_format input first (view_of records)
+  pub begin_blocks : (line_fault reader ≡ None → good_left device.left records ≡ option_map (good block_format (input_of reader)) (lines_left device.left reader)) → BeginsAt device.left block_format input first (view_of records)
   begin_blocks known = record {
     source = ap source_of is ∙ source;
     input_is = ap input_of is ∙ same;
     bytes = ap bytes_taken is ∙ taken;
     feeds = ap feeds_taken is ∙ fed;
-    lines = ap (lines_left left) is ∙ lines;
-    good = known going ∙ ap (λ i. option_map (good block_format i) (lines_left left reader)) same ∙ ap (option_map (good block_format input)) lines;
+    lines = ap (lines_left device.left) is ∙ lines;
+    good = known going ∙ ap (λ i. option_map (good block_format i) (lines_left device.left reader)) same ∙ ap (option_map (good block_format input)) lines;
   }
 
 module _ {A B : Type 0} (source_a : Source A) (source_b : Source B)
     (how : MaskHow) (full : Bool) (lines : LineReader A) (records : Blocks B) (out : Output) where
   -- nothing was given yet
-  pub masks_start : IsFresh source_a.left source_a.end_told (line_members full nothing_reached lines) → line_fault lines ≡ None → IsFresh source_b.left source_b.end_told (view_of records) → fault_kept records ≡ None
+  pub masks_start : IsFresh source_a (line_members full nothing_reached lines) → line_fault lines ≡ None → IsFresh source_b (view_of records) → fault_kept records ≡ None
       → HoldsBlock out.took out.put → (mask : Masking) → MaskStandsAt how full first_stage mask
       → Masks source_a source_b how full (line_members full nothing_reached lines) (view_of records) out (line_members full nothing_reached lines) (view_of records) mask out
   masks_start fresh going fresh_second kept block mask stands = record {
@@ -94,7 +94,7 @@ module _ {A B : Type 0} (source_a : Source A) (source_b : Source B)
 module _ {A B : Type 0} (source_a : Source A) (source_b : Source B) where
   -- the same by what the engine itself says that it wanted
   pub masks_as_new : (how : MaskHow) (full : Bool) (lines : LineReader A) (records : Blocks B) (out : Output) (own : Bool)
-      → IsFresh source_a.left source_a.end_told (line_members own nothing_reached lines) → line_fault lines ≡ None → IsFresh source_b.left source_b.end_told (view_of records) → fault_kept records ≡ None
+      → IsFresh source_a (line_members own nothing_reached lines) → line_fault lines ≡ None → IsFresh source_b (view_of records) → fault_kept records ≡ None
       → HoldsBlock out.took out.put → (mask : Masking) → MaskStandsAt how full first_stage mask
       → Masks source_a source_b mask.how mask.full (line_members mask.full nothing_reached lines) (view_of records) out (line_members mask.full nothing_reached lines) (view_of records) mask out
   masks_as_new how full lines records out own fresh going fresh_second kept block mask stands =

@@ -204,7 +204,7 @@ module _ {A B : Type 0} (source_a : Source A) (source_b : Source B) (run : MaskR
       all_done = sym s.comes.all_given ∙ ap (λ (o : Option SequenceLine). stage.written ++ option_to_list o) none_waits ∙ append-nil stage.written
 
       -- one is buffered now
-      pub line_made : (new : LineReader A) → MakesLine source_a.left source_a.has_failed lines new → (IsKept source_a.left source_a.end_told lines → IsKept source_a.left source_a.end_told new) → Going at new second mask grown
+      pub line_made : (new : LineReader A) → MakesLine source_a lines new → (IsKept source_a lines → IsKept source_a new) → Going at new second mask grown
       line_made new makes kept =
           let c = s.comes in
           let passes = passes_made source_a run.full (line_members run.full nothing_reached run.lines) s.past_first at lines new c.first_passes makes kept in
@@ -238,7 +238,7 @@ module _ {A B : Type 0} (source_a : Source A) (source_b : Source B) (run : MaskR
           }
 
       -- the end of the lines was given
-      pub ends_lines : (new : LineReader A) (masked : Masking) → GivesEnd source_a.left source_a.has_failed lines new → (IsKept source_a.left source_a.end_told lines → IsKept source_a.left source_a.end_told new) → MaskStandsAt run.how run.full (with_lines_ended stage) masked → Going at new second masked grown
+      pub ends_lines : (new : LineReader A) (masked : Masking) → GivesEnd source_a lines new → (IsKept source_a lines → IsKept source_a new) → MaskStandsAt run.how run.full (with_lines_ended stage) masked → Going at new second masked grown
       ends_lines new masked ends kept stands =
           let over = gives_over source_a run.full at lines new kept ends in
           record {
@@ -252,7 +252,7 @@ module _ {A B : Type 0} (source_a : Source A) (source_b : Source B) (run : MaskR
           }
 
       -- a line couldn't be read
-      pub stops_lines : (fault : FaultValue) (new : LineReader A) → GivesFault source_a.left source_a.has_failed lines fault new → (IsKept source_a.left source_a.end_told lines → IsKept source_a.left source_a.end_told new) → EndsAt (Some fault) new second grown
+      pub stops_lines : (fault : FaultValue) (new : LineReader A) → GivesFault source_a lines fault new → (IsKept source_a lines → IsKept source_a new) → EndsAt (Some fault) new second grown
       stops_lines fault new gives kept = (
         line_members run.full at new,
         refl,

@@ -60,20 +60,20 @@ unfolding view_of view_with
 lent_at records batch lends = lends.given
 
 module _ {S : Type 0} (device : Source S) (now new : Blocks S) where
-  pub block_filled : FillsBlocks device.left device.has_failed device.end_told device.is_read now (Ok true) new → IsFilled device (view_of now) (view_of new)
+  pub block_filled : FillsBlocks device now (Ok true) new → IsFilled device (view_of now) (view_of new)
   block_filled fills = record { m = record { line = fills.answers.1.line; item = fills.answers.0 }; gives = fills.answers.1.read; kept = fills.kept; clear = blocks_going new }
 
-  pub block_over : FillsBlocks device.left device.has_failed device.end_told device.is_read now (Ok false) new → IsOver device (view_of now) (view_of new)
+  pub block_over : FillsBlocks device now (Ok false) new → IsOver device (view_of now) (view_of new)
   block_over fills = record { ends = fills.answers; kept = fills.kept; clear = blocks_going new }
 
-  pub block_stopped : (fault : Fault) → FillsBlocks device.left device.has_failed device.end_told device.is_read now (Err fault) new → IsStopped device (view_of now) (fault_value fault) (view_of new)
+  pub block_stopped : (fault : Fault) → FillsBlocks device now (Err fault) new → IsStopped device (view_of now) (fault_value fault) (view_of new)
   block_stopped fault fills = record { answers = fills.answers; kept = fills.kept }
 
 module _ {S : Type 0} (device : Source S) (now new : Blocks S) (count : ℕ) (records : List Feature) (are : take count (records_in now) ≡ records) where
   -- records were consumed of those that are buffered
-  pub blocks_taken : BeginsComing device.left (view_of now) → TakesBlocks device.left device.end_told now count new → HasTaken device (view_of now) records (view_of new)
+  pub blocks_taken : BeginsComing device.left (view_of now) → TakesBlocks device now count new → HasTaken device (view_of now) records (view_of new)
   blocks_taken comes takes =
-      let t = subst (λ (l : List Feature). Takes device.left device.end_told (view_of now) l (view_of new)) are takes.takes in
+      let t = subst (λ (l : List Feature). Takes device (view_of now) l (view_of new)) are takes.takes in
       record {
         takes = t;
         clear = blocks_going new;

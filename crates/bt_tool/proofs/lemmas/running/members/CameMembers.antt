@@ -56,25 +56,25 @@ module _ {S A State : Type 0} (device : Source S) (format : Format A State) (inp
   pub at_whole : (text : List ℕ) → device.left first ≡ Some text → (P : Good A → Type 0) → IfSome (good_coming device.left old) P → P (good_handed format input (whole_text text))
   at_whole text e P h = subst P (sym (good_whole format input text)) (some_of (good_coming device.left old) (good format input (text_lines text)) P (good_known text e) h)
 
-  pub text_known : (fault : Option FaultValue) (handed : Handed) → Came device.left device.has_failed first last fault handed → (text : List ℕ) × (device.left first ≡ Some text)
+  pub text_known : (fault : Option FaultValue) (handed : Handed) → Came device first last fault handed → (text : List ℕ) × (device.left first ≡ Some text)
   text_known fault handed (inl reads) = (reads.text, reads.known)
   text_known fault handed (inr whole) = (whole.text, whole.known)
 
   -- an input that worked
-  pub came_whole : (fault : Option FaultValue) (handed : Handed) → Came device.left device.has_failed first last fault handed → (bytes : List ℕ) × Hands device.left old.below bytes new.below
+  pub came_whole : (fault : Option FaultValue) (handed : Handed) → Came device first last fault handed → (bytes : List ℕ) × Hands device.left old.below bytes new.below
       → device.has_failed (source_of new.below) ≡ device.has_failed (source_of old.below) → bytes_taken new.below < 2 ^ 63
       → (P : Good A → Type 0) → IfSome (good_coming device.left old) P → P (good_handed format input handed)
   came_whole fault handed (inl reads) hands served within P h =
-      subst (λ t. P (good_handed format input t)) (sym (handed_all device.left device.has_failed first last old.below new.below begins.source ended begins.bytes handed reads hands served within)) (at_whole reads.text reads.known P h)
+      subst (λ t. P (good_handed format input t)) (sym (handed_all device first last old.below new.below begins.source ended begins.bytes handed reads hands served within)) (at_whole reads.text reads.known P h)
   came_whole fault handed (inr whole) hands served within P h = subst (λ t. P (good_handed format input t)) (sym whole.is) (at_whole whole.text whole.known P h)
 
   -- one that failed to be read
-  pub came_cut : (past : List (Member A)) (fault : FaultValue) (handed : Handed) → Came device.left device.has_failed first last (Some fault) handed → IsUnreadBehind device old past fault new
+  pub came_cut : (past : List (Member A)) (fault : FaultValue) (handed : Handed) → Came device first last (Some fault) handed → IsUnreadBehind device old past fault new
       → good_handed format input handed ≡ record { members = past; fault = Some fault }
   came_cut past fault handed (inr whole) unread = absurd (whole.no_read (input_of old.below) (suc (lines_given new.below)) (ap Some unread.is))
   came_cut past fault handed (inl reads) unread =
       let cut = unread.cut in
-      let texts = cut_text device.left device.has_failed first last old.below new.below begins.source ended begins.bytes handed reads begins.feeds cut in
+      let texts = cut_text device first last old.below new.below begins.source ended begins.bytes handed reads begins.feeds cut in
       let front = take (2 ^ 63 - 1) reads.bytes in
       let more = texts.more in
       let text = texts.text in
@@ -83,7 +83,7 @@ module _ {S A State : Type 0} (device : Source S) (format : Format A State) (inp
       (good_known reads.text reads.known) unread.members in
       let told : Some (read_failed input (suc (line_feeds front))) ≡ Some fault =
       ap Some (sym (unread.is ∙ ap (λ i. read_failed i (suc (lines_given new.below))) begins.input_is ∙ ap (λ n. read_failed input (suc n)) given)) in
-      ap (good_handed format input) (handed_part device.left device.has_failed first last old.below new.below begins.source ended begins.bytes handed reads (cut.bytes, cut.hands) unread.cause)
+      ap (good_handed format input) (handed_part device first last old.below new.below begins.source ended begins.bytes handed reads (cut.bytes, cut.hands) unread.cause)
       ∙ cut_good format input front more past members.0 (good format input (text_lines (front ++ more))).fault
       (subst (λ t. (good format input (text_lines t)).members ≡ past ++ members.0) (sym text) members.1) refl
       (subst (λ n. All (λ m. m.line ≤ n) past) given unread.behind)
@@ -91,7 +91,7 @@ module _ {S A State : Type 0} (device : Source S) (format : Format A State) (inp
       ∙ ap (λ f. record { members = past; fault = f }) told
 
   -- one with a fault
-  pub says_fault : (Kinds : Kind → Type 0) (past : List (Member A)) (fault : FaultValue) (handed : Handed) → Came device.left device.has_failed first last (Some fault) handed → (bytes : List ℕ) × Hands device.left old.below bytes new.below
+  pub says_fault : (Kinds : Kind → Type 0) (past : List (Member A)) (fault : FaultValue) (handed : Handed) → Came device first last (Some fault) handed → (bytes : List ℕ) × Hands device.left old.below bytes new.below
       → HasFaultBehind device old Kinds past fault new → ((good_handed format input handed).members ≡ past) × ((good_handed format input handed).fault ≡ Some fault)
   says_fault Kinds past fault handed came hands (inl wrong) =
       came_whole (Some fault) handed came hands wrong.served wrong.within (λ good. (good.members ≡ past) × (good.fault ≡ Some fault)) wrong.whole
@@ -101,12 +101,12 @@ module _ {S A State : Type 0} (device : Source S) (format : Format A State) (inp
 
   -- what the fault tells
   pub tells_fault : (Kinds : Kind → Type 0) (past : List (Member A)) (fault : FaultValue) → (bytes : List ℕ) × Hands device.left old.below bytes new.below
-      → HasFaultBehind device old Kinds past fault new → TellsInput device.left device.has_failed Kinds input first last fault
+      → HasFaultBehind device old Kinds past fault new → TellsInput device Kinds input first last fault
   tells_fault Kinds past fault hands (inl wrong) = inl (record { line = wrong.line; kind = wrong.kind; of_kind = wrong.of_kind; is = wrong.is ∙ ap (λ i. fault_at_line i wrong.line wrong.kind) begins.input_is })
   tells_fault Kinds past fault hands (inr unread) = inr (record {
     line = suc (lines_given new.below);
     is = unread.is ∙ ap (λ i. read_failed i (suc (lines_given new.below))) begins.input_is;
-    cause = ⊎_elim (λ fails. inl (ap device.has_failed (sym ended) ∙ fails)) (λ bound. inr (passes_by device.left device.has_failed first last old.below new.below begins.source ended begins.bytes hands bound)) unread.cause;
+    cause = ⊎_elim (λ fails. inl (ap device.has_failed (sym ended) ∙ fails)) (λ bound. inr (passes_by device first last old.below new.below begins.source ended begins.bytes hands bound)) unread.cause;
   })
 
   -- what was handed over, by how many lines were read
@@ -115,7 +115,7 @@ module _ {S A State : Type 0} (device : Source S) (format : Format A State) (inp
       → (bytes : List ℕ) × Hands device.left old.below bytes new.below
       → (handed : List ℕ) × Consumes (device.left first) (device.left last) handed × (length handed ≤ bytes_in (take (suc count) (text_lines text)) + block_size)
   handed_to count text e near hands =
-      let handed = consumed_by device.left device.has_failed first last old.below new.below begins.source ended begins.bytes hands.0 hands.1 in
+      let handed = consumed_by device first last old.below new.below begins.source ended begins.bytes hands.0 hands.1 in
       let parts = consumes_parts (device.left first) (device.left last) hands.0 text e handed in
       let rest : device.left (source_of new.below) ≡ Some parts.0 = ap device.left ended ∙ parts.1 in
       let lines : lines_left device.left old.below ≡ Some (text_lines text) = begins.lines ∙ ap (option_map text_lines) e in

@@ -1,9 +1,10 @@
 -- Lemmas on what an input handed over, by the reader of lines that took it.
-use Rattle.std.proofs.Common.{◌≡◌, ℕ, ◌+◌, ◌-◌, ◌^◌, ◌<◌, ◌≤◌, Bool, true, false, List, ◌++◌, length, take, drop, Option, None, Some, refl, sym, ap, ◌∙◌, subst, append_assoc, arith, inl, inr}
+use Rattle.std.proofs.Common.{◌≡◌, ℕ, ◌+◌, ◌-◌, ◌^◌, ◌<◌, ◌≤◌, true, false, List, ◌++◌, length, take, drop, Option, None, Some, refl, sym, ap, ◌∙◌, subst, append_assoc, arith, inl, inr}
 use Rattle.std.specs.Prelude.{◌⊎◌, nat_le}
 use Rattle.std.proofs.lemmas.Bool.Decides.{nat_tests}
 use Rattle.std.proofs.lemmas.List.{append_cancel_right, take-append-drop}
 use Rattle.std.specs.Io.KnownBytes.{Consumes}
+use Rattle.bt_lines.specs.declared.device.Source.{Ghosts as Source}
 use Rattle.bt_lines.specs.model.Handed.{Handed, whole_text}
 use Rattle.bt_lines.specs.model.Lines.{line_feeds}
 use Rattle.bt_lines.specs.calls.Reader.{CutsOff, Hands, source_of, bytes_taken, feeds_taken, lines_given}
@@ -35,49 +36,49 @@ zero_first : (n : ℕ) → 0 + n ≡ n
 zero_first n = omega arith
 
 -- a reader that had taken nothing, and what it has become; its source before and after
-module _ {S : Type 0} (left : S → Option (List ℕ)) (failed : S → Bool) (first last : S) (old new : LineReader S) (source : source_of old ≡ first) (ended : source_of new ≡ last) (fresh : bytes_taken old ≡ 0) where
-  pub consumed_by : (bytes : List ℕ) → Hands left old bytes new → Consumes (left first) (left last) bytes
-  consumed_by bytes hands = subst (λ s. Consumes (left first) (left s) bytes) ended (subst (λ s. Consumes (left s) (left (source_of new)) bytes) source hands.left_over)
+module _ {S : Type 0} (device : Source S) (first last : S) (old new : LineReader S) (source : source_of old ≡ first) (ended : source_of new ≡ last) (fresh : bytes_taken old ≡ 0) where
+  pub consumed_by : (bytes : List ℕ) → Hands device.left old bytes new → Consumes (device.left first) (device.left last) bytes
+  consumed_by bytes hands = subst (λ s. Consumes (device.left first) (device.left s) bytes) ended (subst (λ s. Consumes (device.left s) (device.left (source_of new)) bytes) source hands.left_over)
 
-  pub passes_by : (bytes : List ℕ) × Hands left old bytes new → 2 ^ 63 ≤ bytes_taken new → PassesBound (left first) (left last)
+  pub passes_by : (bytes : List ℕ) × Hands device.left old bytes new → 2 ^ 63 ≤ bytes_taken new → PassesBound (device.left first) (device.left last)
   passes_by hands past = (hands.0, consumed_by hands.0 hands.1, omega (arith, past, hands.1.counted, fresh))
 
   -- the bytes that a run was handed are those that the reader took
-  pub taken_by : (handed : Handed) (reads : Reads left failed first last handed) (bytes : List ℕ) → Hands left old bytes new → (reads.bytes ≡ bytes) × (length reads.bytes ≡ bytes_taken new)
+  pub taken_by : (handed : Handed) (reads : Reads device first last handed) (bytes : List ℕ) → Hands device.left old bytes new → (reads.bytes ≡ bytes) × (length reads.bytes ≡ bytes_taken new)
   taken_by handed reads bytes hands =
-      let same = consumes_same (left first) (left last) reads.bytes bytes reads.text reads.known reads.consumed (consumed_by bytes hands) in
+      let same = consumes_same (device.left first) (device.left last) reads.bytes bytes reads.text reads.known reads.consumed (consumed_by bytes hands) in
       (same, ap length same ∙ sym (hands.counted ∙ ap (λ n. n + length bytes) fresh ∙ zero_first (length bytes)))
 
   -- an input that worked and passed no bound was handed over completely
-  pub handed_all : (handed : Handed) (reads : Reads left failed first last handed) → (bytes : List ℕ) × Hands left old bytes new
-      → failed (source_of new) ≡ failed (source_of old) → bytes_taken new < 2 ^ 63 → handed ≡ whole_text reads.text
+  pub handed_all : (handed : Handed) (reads : Reads device first last handed) → (bytes : List ℕ) × Hands device.left old bytes new
+      → device.has_failed (source_of new) ≡ device.has_failed (source_of old) → bytes_taken new < 2 ^ 63 → handed ≡ whole_text reads.text
   handed_all handed reads hands served within =
       let taken = taken_by handed reads hands.0 hands.1 in
-      let works : failed last ≡ false = ap failed (sym ended) ∙ served ∙ ap failed source ∙ reads.worked in
-      reads.is ∙ handed_whole (failed last) (nat_le (2 ^ 63) (length reads.bytes)) reads.text reads.bytes works
+      let works : device.has_failed last ≡ false = ap device.has_failed (sym ended) ∙ served ∙ ap device.has_failed source ∙ reads.worked in
+      reads.is ∙ handed_whole (device.has_failed last) (nat_le (2 ^ 63) (length reads.bytes)) reads.text reads.bytes works
       (below_bound (length reads.bytes) (omega (arith, taken.1, within)))
 
   -- one that failed or passed the bound was cut off
-  pub handed_part : (handed : Handed) (reads : Reads left failed first last handed) → (bytes : List ℕ) × Hands left old bytes new
-      → (failed (source_of new) ≡ true) ⊎ (2 ^ 63 ≤ bytes_taken new)
+  pub handed_part : (handed : Handed) (reads : Reads device first last handed) → (bytes : List ℕ) × Hands device.left old bytes new
+      → (device.has_failed (source_of new) ≡ true) ⊎ (2 ^ 63 ≤ bytes_taken new)
       → handed ≡ record { text = take (2 ^ 63 - 1) reads.bytes; is_cut = true }
   handed_part handed reads hands (inl fails) =
-      reads.is ∙ handed_cut (failed last) (nat_le (2 ^ 63) (length reads.bytes)) reads.text reads.bytes (ap failed (sym ended) ∙ fails)
+      reads.is ∙ handed_cut (device.has_failed last) (nat_le (2 ^ 63) (length reads.bytes)) reads.text reads.bytes (ap device.has_failed (sym ended) ∙ fails)
   handed_part handed reads hands (inr past) =
       let taken = taken_by handed reads hands.0 hands.1 in
-      reads.is ∙ handed_past (failed last) (nat_le (2 ^ 63) (length reads.bytes)) reads.text reads.bytes
+      reads.is ∙ handed_past (device.has_failed last) (nat_le (2 ^ 63) (length reads.bytes)) reads.text reads.bytes
       (past_bound (length reads.bytes) (omega (arith, taken.1, past)))
 
   -- the rest of the text comes after what was cut off, and the lines given are as many as its line feeds
-  pub record CutText (handed : Handed) (reads : Reads left failed first last handed) : Type 0 where
+  pub record CutText (handed : Handed) (reads : Reads device first last handed) : Type 0 where
     pub more : List ℕ
     pub text : take (2 ^ 63 - 1) reads.bytes ++ more ≡ reads.text
     pub given : lines_given new ≡ line_feeds (take (2 ^ 63 - 1) reads.bytes)
 
-  pub cut_text : (handed : Handed) (reads : Reads left failed first last handed) → feeds_taken old ≡ 0 → CutsOff left old new → CutText handed reads
+  pub cut_text : (handed : Handed) (reads : Reads device first last handed) → feeds_taken old ≡ 0 → CutsOff device.left old new → CutText handed reads
   cut_text handed reads fed cut =
       let taken = taken_by handed reads cut.bytes cut.hands in
-      let parts = consumes_parts (left first) (left last) reads.bytes reads.text reads.known reads.consumed in
+      let parts = consumes_parts (device.left first) (device.left last) reads.bytes reads.text reads.known reads.consumed in
       let front = take (2 ^ 63 - 1) reads.bytes in
       let same : line_feeds (take (2 ^ 63 - 1 - bytes_taken old) cut.bytes) ≡ line_feeds front =
       ap (λ n. line_feeds (take (2 ^ 63 - 1 - n) cut.bytes)) fresh ∙ ap (λ l. line_feeds (take (2 ^ 63 - 1) l)) (sym taken.0) in

@@ -138,7 +138,7 @@ module _ {S : Type 0} (device : Source S) (full : Bool) where
 
   -- a line was made buffered
   module _ (old : MemberReader S SequenceLine Reached) (past : List (Member SequenceLine)) (reached : Reached) (lines new : LineReader S) (g : Passes device old past (line_members full reached lines)) where
-    pub passes_made : MakesLine device.left device.has_failed lines new → (IsKept device.left device.end_told lines → IsKept device.left device.end_told new) → Passes device old past (line_members full reached new)
+    pub passes_made : MakesLine device lines new → (IsKept device lines → IsKept device new) → Passes device old past (line_members full reached new)
     passes_made makes kept =
         let lines_now = lines_same (lines_left device.left old.below) (lines_left device.left lines) (lines_left device.left new) (lines_given lines) (lines_given new) makes.counted g.lines makes.same in
         record {
@@ -161,29 +161,29 @@ module _ {S : Type 0} (device : Source S) (full : Bool) where
         }
 
   -- the lines have ended
-  module _ (reached : Reached) (lines new : LineReader S) (kept : IsKept device.left device.end_told lines → IsKept device.left device.end_told new) where
-    start : Going device.left device.has_failed device.end_told (line_members full reached lines) (line_members full reached lines)
-    start = going_start device.left device.has_failed device.end_told (line_members full reached lines) refl refl
+  module _ (reached : Reached) (lines new : LineReader S) (kept : IsKept device lines → IsKept device new) where
+    start : Going device (line_members full reached lines) (line_members full reached lines)
+    start = going_start device (line_members full reached lines) refl refl
 
-    pub gives_over : GivesEnd device.left device.has_failed lines new → IsOver device (line_members full reached lines) (line_members full reached new)
+    pub gives_over : GivesEnd device lines new → IsOver device (line_members full reached lines) (line_members full reached new)
     gives_over ends = record {
-      ends = going_end device.left device.has_failed device.end_told (line_members full reached lines) (line_members full reached lines) (line_members full reached new) start ends refl refl (record { state = refl; format = refl })
+      ends = going_end device (line_members full reached lines) (line_members full reached lines) (line_members full reached new) start ends refl refl (record { state = refl; format = refl })
           (λ same was. ap (line_members full reached) same);
       kept = kept;
       clear = λ e. e;
     }
 
     -- or couldn't be read
-    pub gives_unread : (fault : FaultValue) → GivesFault device.left device.has_failed lines fault new → IsStopped device (line_members full reached lines) fault (line_members full reached new)
+    pub gives_unread : (fault : FaultValue) → GivesFault device lines fault new → IsStopped device (line_members full reached lines) fault (line_members full reached new)
     gives_unread fault gives = record {
-      answers = going_unread device.left device.has_failed device.end_told (line_members full reached lines) (line_members full reached lines) (line_members full reached new) fault start gives gives.kept refl (record { state = refl; format = refl })
+      answers = going_unread device (line_members full reached lines) (line_members full reached lines) (line_members full reached new) fault start gives gives.kept refl (record { state = refl; format = refl })
           (λ same was. ap (line_members full reached) same);
       kept = kept;
     }
 
   -- lines were taken
   module _ (reached : Reached) (lines new : LineReader S) (going : line_fault lines ≡ None) (texts more : List TextLine) (items : List SequenceLine) (say : SayEach full reached texts items)
-      (parts : buffered_in lines ≡ texts ++ more) (numbered : AreNumbered (suc (lines_given lines)) texts) (consumed : ConsumedLines) (count : ℕ) (are : TakenLines lines consumed count) (takes : TakesLines device.left device.end_told lines consumed new) where
+      (parts : buffered_in lines ≡ texts ++ more) (numbered : AreNumbered (suc (lines_given lines)) texts) (consumed : ConsumedLines) (count : ℕ) (are : TakenLines lines consumed count) (takes : TakesLines device lines consumed new) where
     abbrev pub reached_then : Reached
     reached_then = state_behind (sequence_format full) reached items
 
@@ -211,7 +211,7 @@ module _ {S : Type 0} (device : Source S) (full : Bool) where
       good_then =
           ap (option_map (with_members (members_from (suc (lines_given lines)) items)))
           (good_lines reached_then [] new goes ∙ ap (λ input. option_map (good_from (sequence_format full) input reached_then) (lines_left device.left new)) takes.input_is)
-          ∙ good_by (lines_left device.left lines) (lines_left device.left new) (left_numbered device.left device.end_told lines) say_known (still_unknown device.left lines new takes.source_is)
+          ∙ good_by (lines_left device.left lines) (lines_left device.left new) (left_numbered device lines) say_known (still_unknown device.left lines new takes.source_is)
           (subst (λ k. DropsLines (lines_left device.left lines) k (lines_left device.left new)) (are.feeds ∙ all) takes.left_is)
           ∙ sym (good_lines reached items lines going)
 
@@ -269,7 +269,7 @@ module _ {S : Type 0} (device : Source S) (full : Bool) where
   module _ (old : MemberReader S SequenceLine Reached) (past : List (Member SequenceLine)) (reached : Reached) (lines new : LineReader S) (g : Passes device old past (line_members full reached lines))
       (before : List TextLine) (line : TextLine) (more : List TextLine) (items : List SequenceLine) (say : SayEach full reached before items) (kind : Kind) (says : line_says full (state_behind (sequence_format full) reached items) line ≡ Err kind)
       (parts : buffered_in lines ≡ (before ++ line ∷ []) ++ more) (numbered : AreNumbered (suc (lines_given lines)) (before ++ line ∷ [])) (consumed : ConsumedLines) (are : TakenLines lines consumed (length (before ++ line ∷ [])))
-      (takes : TakesLines device.left device.end_told lines consumed new) (fault : FaultValue) (is : fault ≡ fault_at_line (input_of old.below) line.number kind) where
+      (takes : TakesLines device lines consumed new) (fault : FaultValue) (is : fault ≡ fault_at_line (input_of old.below) line.number kind) where
     abbrev pub refused : MemberReader S SequenceLine Reached
     refused = record {
       format = sequence_format full;
@@ -327,7 +327,7 @@ module _ {S : Type 0} (device : Source S) (full : Bool) where
 
     whole : IfSome (good_coming device.left old) (λ good. (good.members ≡ past ++ members) × (good.fault ≡ Some fault))
     whole =
-        whole_by (good_coming device.left old) (lines_left device.left lines) (is_prefix device.left lines) (left_numbered device.left device.end_told lines)
+        whole_by (good_coming device.left old) (lines_left device.left lines) (is_prefix device.left lines) (left_numbered device lines)
         (subst (ComeFirst (good_coming device.left old) past) (good_lines reached [] lines g.clear) g.come)
 
     clear : line_fault new ≡ None
@@ -385,7 +385,7 @@ module _ {S : Type 0} (device : Source S) (full : Bool) where
       to = record {
         count = count;
         near = near_all (lines_left device.left old.below) (lines_left device.left new) (device.left (source_of new)) (lines_given new) (suc count) given_is lines_then
-            (sound_near device.left device.end_told new (record { end = (takes.kept g.kept).end; within = (takes.kept g.kept).within; near = λ none. held_block }) clear);
+            (sound_near device new (record { end = (takes.kept g.kept).end; within = (takes.kept g.kept).within; near = λ none. held_block }) clear);
         behind = behind_by (good_coming device.left old) whole;
       };
       low = low_then;

@@ -1,5 +1,5 @@
 -- Lemmas on a reader of members that is given the next line: it says a member, or none.
-use Rattle.std.proofs.Common.{◌≡◌, ℕ, suc, ◌+◌, ◌-◌, ◌≤◌, Bool, List, [], ◌∷◌, ◌++◌, length, drop, Option, None, Some, Ok, refl, sym, ap, ◌∙◌, subst, arith}
+use Rattle.std.proofs.Common.{◌≡◌, ℕ, suc, ◌+◌, ◌-◌, ◌≤◌, List, [], ◌∷◌, ◌++◌, length, drop, Option, None, Some, Ok, refl, sym, ap, ◌∙◌, subst, arith}
 use Rattle.std.specs.Prelude.{All, IfSome, option_map}
 use Rattle.std.proofs.lemmas.List.{map-append}
 use Rattle.std.proofs.lemmas.List.Elements.{All-push}
@@ -20,8 +20,8 @@ use Rattle.bt_tool.proofs.lemmas.running.members.MemberLemmas.{behind_last, come
 use Rattle.bt_tool.proofs.lemmas.running.pair.StopLemmas.{coming_is}
 
 -- a line that was given came
-pub came : {S : Type 0} (left : S → Option (List ℕ)) (failed : S → Bool) (old new : LineReader S) (line : TextLine) → GivesLine left failed old line new → LineCame left failed old line new
-came left failed old new line gives = record {
+pub came : {S : Type 0} (device : Source S) (old new : LineReader S) (line : TextLine) → GivesLine device old line new → LineCame device old line new
+came device old new line gives = record {
   first = gives.first;
   bytes = (gives.bytes.0, gives.bytes.1);
   number = gives.number;
@@ -61,7 +61,7 @@ one_given None new given more e h = tt
 one_given (Some lines) new given more e h = let one : more - given ≡ 1 = omega (arith, e) in rw one h
 
 module _ {S A State : Type 0} (device : Source S) (old now : MemberReader S A State) (past : List (Member A)) (g : Passes device old past now) (new : MemberReader S A State) (line : TextLine)
-    (gives : GivesLine device.left device.has_failed now.below line new.below) (kept : IsKept device.left device.end_told now.below → IsKept device.left device.end_told new.below) (format : new.format ≡ now.format) (none : new.buffered ≡ []) (going : new.fault ≡ None) where
+    (gives : GivesLine device now.below line new.below) (kept : IsKept device now.below → IsKept device new.below) (format : new.format ≡ now.format) (none : new.buffered ≡ []) (going : new.fault ≡ None) where
   lines_pass : LinesPass device.left now.below new.below
   lines_pass = one_given (lines_left device.left now.below) (lines_left device.left new.below) (lines_given now.below) (lines_given new.below) gives.counted (given_drops (lines_left device.left now.below) line (lines_left device.left new.below) gives.first)
 
@@ -76,7 +76,7 @@ module _ {S A State : Type 0} (device : Source S) (old now : MemberReader S A St
   near_line =
       let was = kept g.kept in
       near_given (lines_left device.left old.below) (lines_left device.left new.below) (device.left (source_of new.below)) (lines_given new.below) lines
-      (sound_near device.left device.end_told new.below (record { end = was.end; within = was.within; near = λ fine. gives.ahead }) gives.goes)
+      (sound_near device new.below (record { end = was.end; within = was.within; near = λ fine. gives.ahead }) gives.goes)
 
   coming_before : good_coming device.left now ≡ option_map (good_from now.format (input_of now.below) now.state) (lines_left device.left now.below)
   coming_before = coming_is device.left now g.going

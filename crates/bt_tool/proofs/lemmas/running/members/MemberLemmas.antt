@@ -267,7 +267,7 @@ behind_last {A} count (Some good) past m at b =
 
 module _ {S A State : Type 0} (device : Source S) (old : MemberReader S A State) where
   -- before the first record
-  pub passes_start : IsFresh device.left device.end_told old → line_fault old.below ≡ None → Passes device old [] old
+  pub passes_start : IsFresh device old → line_fault old.below ≡ None → Passes device old [] old
   passes_start fresh clear = record {
     format = refl;
     bytes = ([], hands_none device.left old.below);
@@ -281,7 +281,7 @@ module _ {S A State : Type 0} (device : Source S) (old : MemberReader S A State)
     kept = record { end = fresh.sound.end; within = fresh.sound.within };
     served = refl;
     ahead = λ known m is. absurd (nothing_ahead old m fresh.none_buffered is);
-    near = near_start (lines_left device.left old.below) (device.left (source_of old.below)) (lines_given old.below) fresh.none_given.0 (sound_near device.left device.end_told old.below fresh.sound clear);
+    near = near_start (lines_left device.left old.below) (device.left (source_of old.below)) (lines_given old.below) fresh.none_given.0 (sound_near device old.below fresh.sound clear);
   }
 
   module _ (past : List (Member A)) (now : MemberReader S A State) (g : Passes device old past now) where
@@ -377,8 +377,8 @@ module _ {S A State : Type 0} (device : Source S) (old : MemberReader S A State)
     same_input = g.bytes.1.same_input
 
     module _ (kinds : Kind → Type 0) (of_format : (state : State) (line : TextLine) (kind : Kind) → old.format.says state line ≡ Err kind → kinds kind) where
-      cause_of : (new : MemberReader S A State) (fault : FaultValue) → IsKept device.left device.end_told new.below → AnswersFault device.left device.has_failed device.end_told now fault new
-          → Cause device.left device.has_failed device.end_told now fault new
+      cause_of : (new : MemberReader S A State) (fault : FaultValue) → IsKept device new.below → AnswersFault device now fault new
+          → Cause device now fault new
           → IsWrongBehind device old kinds past fault new ⊎ (IsUnreadBehind device old past fault new ⊎ LacksMemory device old fault new)
       cause_of new fault kept answers (inl at) = inl (record {
         whole = whole_with (good_coming device.left old) (good_coming device.left now) past (Some fault) g.come at.none_left;
@@ -460,7 +460,7 @@ module _ {S A State : Type 0} (device : Source S) (old : MemberReader S A State)
         let size = length-append xs (a ∷ []) in
         let count = lines_given now.below + length xs in
         let given : suc count ≡ lines_given new.below = omega (arith, has.takes.given, size) in
-        let near = sound_near device.left device.end_told new.below (record { end = p.kept.end; within = p.kept.within; near = λ none. has.takes.near (omega (arith, size)) }) p.clear in
+        let near = sound_near device new.below (record { end = p.kept.end; within = p.kept.within; near = λ none. has.takes.near (omega (arith, size)) }) p.clear in
         record {
           to = record {
             count = count;

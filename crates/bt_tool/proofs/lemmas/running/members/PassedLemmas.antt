@@ -70,20 +70,20 @@ comes_next {A} from given (Some n) (Some x) taken left m at b e f =
 -- ---- what a reader of records does, as a reader of members
 
 module _ {S O : Type 0} {ghosts : Ghosts O} (device : Source S) (now new : Records S O ghosts) where
-  pub is_filled : FillsRecords device.left device.has_failed device.end_told device.is_read now (Ok true) new → IsFilled device (view_of now) (view_of new)
+  pub is_filled : FillsRecords device now (Ok true) new → IsFilled device (view_of now) (view_of new)
   is_filled fills = record { m = record { line = fills.answers.1.line; item = fills.answers.0 }; gives = fills.answers.1.read; kept = fills.kept; clear = line_going new }
 
-  pub is_over : FillsRecords device.left device.has_failed device.end_told device.is_read now (Ok false) new → IsOver device (view_of now) (view_of new)
+  pub is_over : FillsRecords device now (Ok false) new → IsOver device (view_of now) (view_of new)
   is_over fills = record { ends = fills.answers; kept = fills.kept; clear = line_going new }
 
-  pub is_stopped : (fault : Fault) → FillsRecords device.left device.has_failed device.end_told device.is_read now (Err fault) new → IsStopped device (view_of now) (fault_value fault) (view_of new)
+  pub is_stopped : (fault : Fault) → FillsRecords device now (Err fault) new → IsStopped device (view_of now) (fault_value fault) (view_of new)
   is_stopped fault fills = record { answers = fills.answers; kept = fills.kept }
 
 module _ {S O : Type 0} {ghosts : Ghosts O} (device : Source S) (now new : Records S O ghosts) (count : ℕ) (records : List Feature) (are : take count (buffered_in now) ≡ records) where
   -- records were consumed of those that are buffered
-  pub has_taken : BeginsComing device.left (view_of now) → TakesRecords device.left device.end_told now count new → HasTaken device (view_of now) records (view_of new)
+  pub has_taken : BeginsComing device.left (view_of now) → TakesRecords device now count new → HasTaken device (view_of now) records (view_of new)
   has_taken comes takes =
-      let t = subst (λ (l : List Feature). Takes device.left device.end_told (view_of now) l (view_of new)) are takes.takes in
+      let t = subst (λ (l : List Feature). Takes device (view_of now) l (view_of new)) are takes.takes in
       record {
         takes = t;
         clear = line_going new;

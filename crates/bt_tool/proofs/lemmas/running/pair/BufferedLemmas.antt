@@ -36,7 +36,7 @@ module _ {S O E : Type 0} {g : Ghosts O} (device : Source S) (MayTake : E → Li
   pub token : {A : Type 0} (result : Result A Fault) (fed : E) (last : Batch) (grown : Output) (consumed : Consumed) → Feeding result fed last grown → IsWhere last consumed → IsTaken old consumed
   token result fed last grown consumed f is = let given = given_by result fed last grown f in token_is old.sorted first last given.0 consumed lends given.1 is
 
-  module _ (comes : BeginsComing device.left (view_of old)) (last : Batch) (consumed : Consumed) (is : IsWhere last consumed) (new : Records S O g) (takes : TakesRecords device.left device.end_told old (count_in old consumed) new) where
+  module _ (comes : BeginsComing device.left (view_of old)) (last : Batch) (consumed : Consumed) (is : IsWhere last consumed) (new : Records S O g) (takes : TakesRecords device old (count_in old consumed) new) where
     taken : (records : List Feature) → Passes first records last → HasTaken device (view_of old) records (view_of new)
     unfolding view_of view_with
     taken records passes = has_taken device old new (count_in old consumed) records (taken_are old.sorted first last records consumed lends passes is) comes takes

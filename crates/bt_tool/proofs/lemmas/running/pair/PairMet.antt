@@ -6,6 +6,7 @@ use Rattle.std.specs.Option.{option_or}
 use Rattle.std.proofs.lemmas.Bool.{false≢true, or_from}
 use Rattle.std.proofs.lemmas.List.{map-append}
 use Rattle.std.proofs.lemmas.List.Elements.{All-head, All-tail}
+use Rattle.bt_lines.specs.declared.device.Source.{Ghosts as Source}
 use Rattle.bt_lines.proofs.lemmas.reader.block.ReadsLemmas.{some_is}
 use Rattle.bt_lines.specs.model.Fault.{FaultValue, no_memory, write_failed}
 use Rattle.bt_lines.specs.model.Handed.{Handed, whole_text}
@@ -34,14 +35,14 @@ use Rattle.bt_tool.proofs.lemmas.running.members.SeenLemmas.{puts_front}
 use Rattle.bt_tool.proofs.lemmas.running.feed.WritingLemmas.{is_whole}
 
 -- an input that is there
-module _ {S : Type 0} (left : S → Option (List ℕ)) where
-  held_if : (source : S) (handed : Option Handed) → HoldsIf left (Some source) handed → Holds left source (or_empty handed)
+module _ {S : Type 0} (device : Source S) where
+  held_if : (source : S) (handed : Option Handed) → HoldsIf device.left (Some source) handed → Holds device.left source (or_empty handed)
   held_if source None h = absurd h
   held_if source (Some handed) h = h
 
-  read_if : (failed : S → Bool) (before after : S) (handed : Option Handed) → ReadsIf left failed (Some before) (Some after) handed → Reads left failed before after (or_empty handed)
-  read_if failed before after None h = absurd h
-  read_if failed before after (Some handed) h = h
+  read_if : (before after : S) (handed : Option Handed) → ReadsIf device (Some before) (Some after) handed → Reads device before after (or_empty handed)
+  read_if before after None h = absurd h
+  read_if before after (Some handed) h = h
 
 module _ {X Y : Type 0} (join : JoinDef X Y) where
   -- what the lines and the fault of a meeting are
@@ -143,10 +144,10 @@ module _ {A B X Y U V : Type 0} (join : JoinDef X Y) (pair : Pair A B X Y U V) (
   good_two two = good_handed second_format Second two
 
   abbrev CameOne : Option FaultValue → Handed → Type 0
-  CameOne = Came pair.source_a.left pair.source_a.has_failed one_before one_after
+  CameOne = Came pair.source_a one_before one_after
 
   abbrev CameTwo : Option FaultValue → Handed → Type 0
-  CameTwo = Came pair.source_b.left pair.source_b.has_failed two_before two_after
+  CameTwo = Came pair.source_b two_before two_after
 
   -- what the first meets of the second
   abbrev limit : Handed → Handed → Good Y
@@ -387,11 +388,11 @@ module _ {A B X Y U V : Type 0} (join : JoinDef X Y) (pair : Pair A B X Y U V) (
       let rest = at_whole pair.source_a first_format First one_before pair.first begins first one_after ended one e (λ good. (rest : List X) × (items_in good ≡ w.written ++ rest)) w.wrote.first_begins in
       rw (holds.is, others.is) (meets_front join (good_one (whole_text one)) (limit (whole_text one) (whole_text two)) w.written w.bytes (here_by (whole_text one) (whole_text two) (known_by two f) may) rest.0 rest.1)
 
-  first_named : (past : List (Member X)) (other : FaultValue) → FirstFails join pair out past first other → TellsInput pair.source_a.left pair.source_a.has_failed join.first_kinds First one_before one_after other
+  first_named : (past : List (Member X)) (other : FaultValue) → FirstFails join pair out past first other → TellsInput pair.source_a join.first_kinds First one_before one_after other
   first_named past other fails =
       tells_fault pair.source_a first_format First one_before pair.first begins first one_after ended join.first_kinds past other w.wrote.first_bytes fails
 
-  second_named : (past : List (Member Y)) (other : FaultValue) → SecondFails join pair out w.wrote.ended past second other → TellsInput pair.source_b.left pair.source_b.has_failed join.second_kinds Second two_before two_after other
+  second_named : (past : List (Member Y)) (other : FaultValue) → SecondFails join pair out w.wrote.ended past second other → TellsInput pair.source_b join.second_kinds Second two_before two_after other
   second_named past other fails =
       tells_fault pair.source_b second_format Second two_before pair.second begins_second second two_after ended_second join.second_kinds past other w.wrote.second_bytes fails.cause
 
@@ -399,7 +400,7 @@ module _ {A B X Y U V : Type 0} (join : JoinDef X Y) (pair : Pair A B X Y U V) (
   Because = Why join pair out w.written w.bytes w.wrote.given w.wrote.ended first second fault grown
 
   abbrev TellsBoth : FaultValue → Type 0
-  TellsBoth told = TellsInput pair.source_a.left pair.source_a.has_failed join.first_kinds First one_before one_after told ⊎ TellsInput pair.source_b.left pair.source_b.has_failed join.second_kinds Second two_before two_after told
+  TellsBoth told = TellsInput pair.source_a join.first_kinds First one_before one_after told ⊎ TellsInput pair.source_b join.second_kinds Second two_before two_after told
 
   -- what the inputs tell
   tells_by : (told : FaultValue) → fault ≡ Some told → InputsEnd join pair out w.written w.wrote.given w.wrote.ended first second fault → TellsBoth told
@@ -419,8 +420,8 @@ module _ {A B X Y U V : Type 0} (join : JoinDef X Y) (pair : Pair A B X Y U V) (
   inputs_no_write : InputsEnd join pair out w.written w.wrote.given w.wrote.ended first second fault → fault ≡ Some write_failed → ⊥
   inputs_no_write end e =
       elim (tells_by write_failed e end) [
-        | inl tells ↦ tells_no_write pair.source_a.left pair.source_a.has_failed join.first_kinds First one_before one_after tells
-        | inr tells ↦ tells_no_write pair.source_b.left pair.source_b.has_failed join.second_kinds Second two_before two_after tells
+        | inl tells ↦ tells_no_write pair.source_a join.first_kinds First one_before one_after tells
+        | inr tells ↦ tells_no_write pair.source_b join.second_kinds Second two_before two_after tells
       ]
 
   named_by : (told : FaultValue) → fault ≡ Some told → Because → TellsBoth told ⊎ TellsDevice grown.sink_has_failed told
@@ -479,23 +480,23 @@ module _ {A B X Y U V : Type 0} (join : JoinDef X Y) (pair : Pair A B X Y U V) (
     }
 
     -- the report on how the inputs meet, by how far they were read
-    pub writes_both : NearBoth → WritesBy pair.source_a.left pair.source_a.has_failed pair.source_a.end_told pair.source_b.left pair.source_b.has_failed behaviour one_before (Some two_before) out fault one_after (Some two_after) grown
+    pub writes_both : NearBoth → WritesBy pair.source_a pair.source_b behaviour one_before (Some two_before) out fault one_after (Some two_after) grown
     writes_both near = record {
-      whole = λ one two before reads others put write memory. whole_by one (or_empty two) before (inl reads) (inl (read_if pair.source_b.left pair.source_b.has_failed two_before two_after two others)) put write memory w.why;
+      whole = λ one two before reads others put write memory. whole_by one (or_empty two) before (inl reads) (inl (read_if pair.source_b two_before two_after two others)) put write memory w.why;
       told = λ one two before holds others put is.
-          whole_by one (or_empty two) before (inr (is_whole pair.source_a.left pair.source_a.has_failed one_before one_after fault one holds is))
-          (inr (is_whole pair.source_b.left pair.source_b.has_failed two_before two_after fault (or_empty two) (held_if pair.source_b.left two_before two others) is)) put is.no_write is.no_growth w.why;
+          whole_by one (or_empty two) before (inr (is_whole pair.source_a one_before one_after fault one holds is))
+          (inr (is_whole pair.source_b two_before two_after fault (or_empty two) (held_if pair.source_b two_before two others) is)) put is.no_write is.no_growth w.why;
       cut = λ is one two before holds others put.
-          let more = front_of one (or_empty two) holds (held_if pair.source_b.left two_before two others) in
+          let more = front_of one (or_empty two) holds (held_if pair.source_b two_before two others) in
           (w.bytes, more.0, more.1, cut_by is before put w.why);
       kept = λ other one two before holds others put.
-          let more = front_of one (or_empty two) holds (held_if pair.source_b.left two_before two others) in
+          let more = front_of one (or_empty two) holds (held_if pair.source_b two_before two others) in
           let part = kept_by other w.why in
           (part.front, part.rest ++ more.0, more.1 ∙ ap (λ l. l ++ more.0) part.parts ∙ append_assoc part.front part.rest more.0, part.puts before put);
       grows = w.wrote.grows;
       served = λ e. served_by e w.why;
       near = λ one two before taken holds others put took.
-          let held = held_if pair.source_b.left two_before two others in
+          let held = held_if pair.source_b two_before two others in
           rw (holds.is, held.is) (near holds.text held.text before taken holds.known held.known put took);
       named = λ told e. named_by told e w.why;
     }

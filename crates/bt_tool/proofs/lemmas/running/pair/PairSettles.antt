@@ -5,6 +5,7 @@ use Rattle.std.specs.List.{list_all}
 use Rattle.std.proofs.lemmas.Bool.{false≢true, and_from, or_left, or_right}
 use Rattle.std.proofs.lemmas.Grind.{flat_map-append}
 use Rattle.std.proofs.lemmas.List.Folds.{list_all-append}
+use Rattle.bt_lines.specs.declared.device.Source.{Ghosts as Source}
 use Rattle.bt_bed.specs.model.input.Good.{Member}
 use Rattle.bt_bed.specs.calls.Reading.{GivesMember, MemberReader, ahead_in}
 use Rattle.bt_lines.specs.model.Fault.{FaultValue}
@@ -75,12 +76,12 @@ module _ {X Y : Type 0} (join : JoinDef X Y) where
   }
 
   -- the member ahead is seen
-  pub seen_by : {S State : Type 0} (left : S → Option (List ℕ)) (failed : S → Bool) (now new : MemberReader S Y State) (m : Member Y) (o : Option (Member Y)) → ahead_in now ≡ o → GivesMember left failed now m new
+  pub seen_by : {S State : Type 0} (device : Source S) (now new : MemberReader S Y State) (m : Member Y) (o : Option (Member Y)) → ahead_in now ≡ o → GivesMember device now m new
       → (written : List X) (bytes : List ℕ) (taken : List Y) → Settles join written bytes (taken ++ option_to_list (option_map (λ m. m.item) o)) false
       → Settles join written bytes (taken ++ m.item ∷ []) false
-  seen_by left failed now new m None e gives written bytes taken s =
+  seen_by device now new m None e gives written bytes taken s =
       settles_seen written bytes taken (m.item ∷ []) (subst (λ (l : List Y). Settles join written bytes l false) (append-nil taken) s)
-  seen_by {S} {State} left failed now new m (Some x) e gives written bytes taken s =
+  seen_by {S} {State} device now new m (Some x) e gives written bytes taken s =
       let same : new ≡ now = gives.again (subst IsSome (sym e) refl) in
       let is : Some x ≡ Some m = sym e ∙ ap (λ (r : MemberReader S Y State). ahead_in r) (sym same) ∙ gives.ahead in
       let eq : x ≡ m = cc in

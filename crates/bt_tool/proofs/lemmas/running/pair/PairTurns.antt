@@ -177,7 +177,7 @@ module _ {A B X Y U V : Type 0} (join : JoinDef X Y) (pair : Pair A B X Y U V) (
       bytes = s.bytes;
       settles = λ known.
           rw going (subst (λ (o : Option (Member Y)). Settles join stage.written s.bytes (stage.taken ++ option_to_list (option_map (λ m. m.item) o)) false) (sym filled.gives.ahead)
-          (seen_by join pair.source_b.left pair.source_b.has_failed second second_now filled.m _ refl filled.gives stage.written s.bytes stage.taken
+          (seen_by join pair.source_b second second_now filled.m _ refl filled.gives stage.written s.bytes stage.taken
           (subst (λ (b : Bool). Settles join stage.written s.bytes (stage.taken ++ option_to_list (item_ahead second)) b) going (s.settles known))));
       first_all = s.first_all;
       second_all = λ e. absurd (false≢true (sym going ∙ e));

@@ -28,7 +28,7 @@ use Rattle.bt_tool.proofs.lemmas.running.sweep.SweepLimits.{within_start}
 module _ {A B O : Type 0} {g : Ghosts O} (source_a : Source A) (source_b : Source B)
     (config : SweepConfig) (first : Records A O g) (second : Records B O g) (out : Output) where
   -- nothing was given yet
-  pub sweeps_start : IsFresh source_a.left source_a.end_told (view_of first) → last_locus first ≡ None → IsFresh source_b.left source_b.end_told (view_of second) → last_locus second ≡ None
+  pub sweeps_start : IsFresh source_a (view_of first) → last_locus first ≡ None → IsFresh source_b (view_of second) → last_locus second ≡ None
       → HoldsBlock out.took out.put → (sweep : Sweeping) → StandsBy (order_in first) config first_stage sweep
       → Sweeps source_a source_b (order_in first) config first second out first second sweep out
   sweeps_start fresh none fresh_second none_second block sweep stands = record {

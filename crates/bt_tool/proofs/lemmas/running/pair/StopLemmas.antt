@@ -159,25 +159,25 @@ beyond_end : {A : Type 0} (count : ℕ) (fault : Option FaultValue) (good : Opti
 beyond_end count fault None h e = tt
 beyond_end {A} count fault (Some good) h e = subst (IsBeyond count) (sym e) (record { members = All-nil (λ (m : Member A). count < m.line); fault = h })
 
-module _ {S A State : Type 0} (device : Source S) (old : MemberReader S A State) (going : old.fault ≡ None) (kept : IsKept device.left device.end_told old.below) where
+module _ {S A State : Type 0} (device : Source S) (old : MemberReader S A State) (going : old.fault ≡ None) (kept : IsKept device old.below) where
   -- before a line that is the last one given
   before_line : (new : LineReader S) → (count : ℕ) → suc count ≡ lines_given new → lines_given old.below ≤ count → IfSome (good_coming device.left old) (IsBeyond count)
-      → LinesPass device.left old.below new → IsKept device.left device.end_told new → line_fault new ≡ None → length (held new) ≤ block_size
+      → LinesPass device.left old.below new → IsKept device new → line_fault new ≡ None → length (held new) ≤ block_size
       → StopsBehind device.left old count new
   before_line new count at from passed lines next clear near = record {
     passed = passed;
     from = from;
     near = near_passed (lines_left device.left old.below) (lines_left device.left new) (device.left (source_of new)) (lines_given new - lines_given old.below) (suc count - lines_given old.below) (omega (arith, at)) lines
-        (sound_near device.left device.end_told new (record { end = next.end; within = next.within; near = λ none. near }) clear);
+        (sound_near device new (record { end = next.end; within = next.within; near = λ none. near }) clear);
   }
 
   -- at a line that wasn't given
-  stops_unread : (new : MemberReader S A State) (fault : FaultValue) → AnswersFault device.left device.has_failed device.end_told old fault new → IfSome (good_coming device.left old) (IsBeyond (lines_given new.below))
+  stops_unread : (new : MemberReader S A State) (fault : FaultValue) → AnswersFault device old fault new → IfSome (good_coming device.left old) (IsBeyond (lines_given new.below))
       → (count : ℕ) × StopsBehind device.left old count new.below
   stops_unread new fault answers passed = (lines_given new.below, record { passed = passed; from = answers.rises; near = answers.near going kept })
 
   -- at a line that was given and is at fault
-  stops_wrong : (new : MemberReader S A State) (fault : FaultValue) → AnswersFault device.left device.has_failed device.end_told old fault new → IsKept device.left device.end_told new.below → LineIsWrong device.left device.has_failed old fault new
+  stops_wrong : (new : MemberReader S A State) (fault : FaultValue) → AnswersFault device old fault new → IsKept device new.below → LineIsWrong device old fault new
       → (count : ℕ) × StopsBehind device.left old count new.below
   stops_wrong new fault answers next wrong =
       let count = lines_given new.below - 1 in
@@ -190,7 +190,7 @@ module _ {S A State : Type 0} (device : Source S) (old : MemberReader S A State)
             (answers.lines wrong.going) next wrong.going wrong.near,
       )
 
-  stops_out : (new : MemberReader S A State) (fault : FaultValue) → AnswersFault device.left device.has_failed device.end_told old fault new → IsKept device.left device.end_told new.below
+  stops_out : (new : MemberReader S A State) (fault : FaultValue) → AnswersFault device old fault new → IsKept device new.below
       → ((line_fault new.below ≡ Some no_memory) × SaidNothing device.left old new) ⊎ LastUnkept device.left old new
       → (count : ℕ) × StopsBehind device.left old count new.below
   stops_out new fault answers next (inl unread) = stops_unread new fault answers unread.1
@@ -204,13 +204,13 @@ module _ {S A State : Type 0} (device : Source S) (old : MemberReader S A State)
             (answers.lines unkept.going) next unkept.going unkept.near,
       )
 
-  stops_by : (new : MemberReader S A State) (fault : FaultValue) → AnswersFault device.left device.has_failed device.end_told old fault new → IsKept device.left device.end_told new.below
-      → Cause device.left device.has_failed device.end_told old fault new → (count : ℕ) × StopsBehind device.left old count new.below
+  stops_by : (new : MemberReader S A State) (fault : FaultValue) → AnswersFault device old fault new → IsKept device new.below
+      → Cause device old fault new → (count : ℕ) × StopsBehind device.left old count new.below
   stops_by new fault answers next (inl wrong) = stops_wrong new fault answers next wrong
   stops_by new fault answers next (inr (inl unread)) = stops_unread new fault answers unread.passed
   stops_by new fault answers next (inr (inr ran)) = stops_out new fault answers next ran.checked
 
   -- at a fault
-  pub stops_faulty : (new : MemberReader S A State) (fault : FaultValue) → AnswersFault device.left device.has_failed device.end_told old fault new → IsKept device.left device.end_told new.below
+  pub stops_faulty : (new : MemberReader S A State) (fault : FaultValue) → AnswersFault device old fault new → IsKept device new.below
       → (count : ℕ) × StopsBehind device.left old count new.below
   stops_faulty new fault answers next = stops_by new fault answers next (answers.first going)

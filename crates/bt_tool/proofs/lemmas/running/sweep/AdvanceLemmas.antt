@@ -82,7 +82,7 @@ module _ {S O : Type 0} {g : Ghosts O} (now : Records S O g) (batch : Batch) (le
     unfolding view_of view_with
     records_are = taken_are now.sorted batch last records consumed lends passes is
 
-    module _ (device : Source S) (comes : BeginsComing device.left (view_of now)) (new : Records S O g) (takes : TakesRecords device.left device.end_told now (count_in now consumed) new) where
+    module _ (device : Source S) (comes : BeginsComing device.left (view_of now)) (new : Records S O g) (takes : TakesRecords device now (count_in now consumed) new) where
       pub taken_of : HasTaken device (view_of now) records (view_of new)
       taken_of = has_taken device now new (count_in now consumed) records records_are comes takes
 
@@ -172,9 +172,9 @@ settles_seen order phase newly seconds (Some b) ahead is all = subst (λ (o : Op
 module _ {A B O : Type 0} {g : Ghosts O} (source_a : Source A) (source_b : Source B)
     (order : Order) (first new_first : Records A O g) (second new_second : Records B O g) (sweep : Sweeping) (out : Output)
     (firsts last_firsts : Batch) (lends : Lends first firsts) (comes : BeginsComing source_a.left (view_of first)) (first_consumed : Consumed) (first_is : IsWhere last_firsts first_consumed)
-    (first_takes : TakesRecords source_a.left source_a.end_told first (count_in first first_consumed) new_first)
+    (first_takes : TakesRecords source_a first (count_in first first_consumed) new_first)
     (seconds last_seconds : Batch) (lends_second : Lends second seconds) (comes_second : BeginsComing source_b.left (view_of second)) (second_consumed : Consumed) (second_is : IsWhere last_seconds second_consumed)
-    (second_takes : TakesRecords source_b.left source_b.end_told second (count_in second second_consumed) new_second) where
+    (second_takes : TakesRecords source_b second (count_in second second_consumed) new_second) where
   takes_both : (fs ss : List Feature) → Passes firsts fs last_firsts → Passes seconds ss last_seconds → TakesBoth source_a source_b order first second sweep out fs ss new_first new_second
   takes_both fs ss passes passes_second = record {
     first_taken = taken_of first firsts lends last_firsts fs passes first_consumed first_is source_a comes new_first first_takes;

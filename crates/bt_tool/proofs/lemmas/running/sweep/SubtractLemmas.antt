@@ -1,5 +1,6 @@
 -- What subtract writes is what intersect would in the shapes of what is left.
 use Rattle.std.proofs.Common.{◌≡◌, ℕ, Bool, true, List, Option, None, sym, ◌∙◌}
+use Rattle.bt_lines.specs.declared.device.Source.{Ghosts as Source}
 use Rattle.bt_lines.specs.model.Fault.{FaultValue}
 use Rattle.bt_lines.specs.model.Handed.{Handed}
 use Rattle.bt_lines.specs.model.Lines.{TextLine}
@@ -26,10 +27,10 @@ settles_left order whole rule second lines =
     let others = items_in (bed_good Second order second) in
     sym (faultless_all order (subtract_shape whole) rule first others None) ∙ subtract_met order whole rule first others None
 
-module _ {A B : Type 0} (a_left : A → Option (List ℕ)) (a_failed a_end : A → Bool) (b_left : B → Option (List ℕ)) (b_failed : B → Bool)
+module _ {A B : Type 0} (source_a : Source A) (source_b : Source B)
     (order : Order) (whole : Bool) (rule : HitRule) (limit : Option ℕ) (first : A) (second : Option B) (out : Output) (fault : Option FaultValue) (first_after : A) (second_after : Option B) (grown : Output) where
-  pub subtract_writes : WritesBy a_left a_failed a_end b_left b_failed (of_intersect order (subtract_shape whole) rule limit) first second out fault first_after second_after grown
-      → WritesBy a_left a_failed a_end b_left b_failed (of_subtract order whole rule limit) first second out fault first_after second_after grown
+  pub subtract_writes : WritesBy source_a source_b (of_intersect order (subtract_shape whole) rule limit) first second out fault first_after second_after grown
+      → WritesBy source_a source_b (of_subtract order whole rule limit) first second out fault first_after second_after grown
   subtract_writes w = record {
     whole = w.whole;
     told = w.told;
@@ -38,7 +39,7 @@ module _ {A B : Type 0} (a_left : A → Option (List ℕ)) (a_failed a_end : A �
     grows = w.grows;
     served = w.served;
     near = λ one two before taken holds holds_second put took.
-        near_as _ _ (λ n beside. beside) _ _ (settles_left order whole rule (or_empty two)) one.text (a_left first_after) before grown.took grown.took (grown.has_failed ≡ true) (grown.has_failed ≡ true) (IsFaultButWrite fault) (IsFaultButWrite fault) grown.put grown.put
+        near_as _ _ (λ n beside. beside) _ _ (settles_left order whole rule (or_empty two)) one.text (source_a.left first_after) before grown.took grown.took (grown.has_failed ≡ true) (grown.has_failed ≡ true) (IsFaultButWrite fault) (IsFaultButWrite fault) grown.put grown.put
         (λ size took. took) (λ size kept. kept) (λ bytes is stops. is stops) (w.near one two before taken holds holds_second put took);
     named = w.named;
   }

@@ -206,7 +206,7 @@ module _ {A B O : Type 0} {g : Ghosts O} (source_a : Source A) (source_b : Sourc
     pub ready : IsReady new_first new_second swept
 
   filled_first : (answer : Bool) (new_first : Records A O g) (new_second : Records B O g) (swept : Sweeping) (later : Output)
-      → want_in sweep ≡ WantA → FillsRecords source_a.left source_a.has_failed source_a.end_told source_a.is_read first (Ok answer) new_first → EndsFirst source_a source_b (order_in old_first) first second sweep grown answer swept
+      → want_in sweep ≡ WantA → FillsRecords source_a first (Ok answer) new_first → EndsFirst source_a source_b (order_in old_first) first second sweep grown answer swept
       → new_second ≡ second → later ≡ grown → Filled new_first new_second swept later
   filled_first true new_first new_second swept later wants fills ends same same_output =
       rw (same, same_output, ends) (record {
@@ -228,7 +228,7 @@ module _ {A B O : Type 0} {g : Ghosts O} (source_a : Source A) (source_b : Sourc
       })
 
   filled_second : (answer : Bool) (new_first : Records A O g) (new_second : Records B O g) (swept : Sweeping) (later : Output)
-      → want_in sweep ≡ WantB → FillsRecords source_b.left source_b.has_failed source_b.end_told source_b.is_read second (Ok answer) new_second → EndsSecond source_a source_b (order_in old_first) first second sweep grown answer swept later
+      → want_in sweep ≡ WantB → FillsRecords source_b second (Ok answer) new_second → EndsSecond source_a source_b (order_in old_first) first second sweep grown answer swept later
       → new_first ≡ first → Filled new_first new_second swept later
   filled_second true new_first new_second swept later wants fills ends same =
       rw (same, ends.0, ends.1) (record {

@@ -252,7 +252,7 @@ module _ {A B O : Type 0} {g : Ghosts O} (source_a : Source A) (source_b : Sourc
       not_ended : stage.a_ended ≡ false
       not_ended = sym (over_is stage.a_ended stage.b_ended) ∙ ap is_done (sym s.stands.phase_is) ∙ going_by sweep.current (is_done sweep.phase) wants
 
-      pub fills_first : (first_now : Records A O g) → FillsRecords source_a.left source_a.has_failed source_a.end_told source_a.is_read first (Ok true) first_now → Going first_now second sweep grown
+      pub fills_first : (first_now : Records A O g) → FillsRecords source_a first (Ok true) first_now → Going first_now second sweep grown
       fills_first first_now fills = record {
         past_first = s.past_first;
         past_second = s.past_second;
@@ -266,7 +266,7 @@ module _ {A B O : Type 0} {g : Ghosts O} (source_a : Source A) (source_b : Sourc
         fits = s.fits;
       }
 
-      pub ends_first : (first_now : Records A O g) (swept : Sweeping) → FillsRecords source_a.left source_a.has_failed source_a.end_told source_a.is_read first (Ok false) first_now
+      pub ends_first : (first_now : Records A O g) (swept : Sweeping) → FillsRecords source_a first (Ok false) first_now
           → StandsBy order config (with_a_ended stage) swept → Going first_now second swept grown
       ends_first first_now swept fills stands = record {
         past_first = s.past_first;
@@ -281,7 +281,7 @@ module _ {A B O : Type 0} {g : Ghosts O} (source_a : Source A) (source_b : Sourc
         fits = s.fits;
       }
 
-      pub stops_first : (fault : Fault) (first_now : Records A O g) → FillsRecords source_a.left source_a.has_failed source_a.end_told source_a.is_read first (Err fault) first_now → Ends (Some (fault_value fault)) first_now second grown
+      pub stops_first : (fault : Fault) (first_now : Records A O g) → FillsRecords source_a first (Err fault) first_now → Ends (Some (fault_value fault)) first_now second grown
       stops_first fault first_now fills =
           stop.stops_first join pair out (stage_of stage) s.past_first s.past_second (view_of first) (view_of second) grown s.comes asks_here s.fits wrong none_waits not_ended (fault_value fault) (view_of first_now)
           (is_stopped source_a first first_now fault fills)
@@ -298,7 +298,7 @@ module _ {A B O : Type 0} {g : Ghosts O} (source_a : Source A) (source_b : Sourc
       goes : stage.b_ended ≡ false
       goes = (s.stands.unended (ap is_some waiting.1)).1
 
-      pub fills_second : (second_now : Records B O g) → FillsRecords source_b.left source_b.has_failed source_b.end_told source_b.is_read second (Ok true) second_now → Going first second_now sweep grown
+      pub fills_second : (second_now : Records B O g) → FillsRecords source_b second (Ok true) second_now → Going first second_now sweep grown
       fills_second second_now fills = record {
         past_first = s.past_first;
         past_second = s.past_second;
@@ -312,7 +312,7 @@ module _ {A B O : Type 0} {g : Ghosts O} (source_a : Source A) (source_b : Sourc
         fits = s.fits;
       }
 
-      pub ends_second : (second_now : Records B O g) (swept : Sweeping) (now : Output) → FillsRecords source_b.left source_b.has_failed source_b.end_told source_b.is_read second (Ok false) second_now
+      pub ends_second : (second_now : Records B O g) (swept : Sweeping) (now : Output) → FillsRecords source_b second (Ok false) second_now
           → StandsBy order config (with_b_ended stage) swept → Grown grown (lines_for config.shape config.rule a stage.taken) now → Going first second_now swept now
       ends_second second_now swept now fills stands adds = record {
         past_first = s.past_first;
@@ -336,12 +336,12 @@ module _ {A B O : Type 0} {g : Ghosts O} (source_a : Source A) (source_b : Sourc
           open_last order total stage.taken stage.written a placed_taken (subst (λ (l : List Feature). ArePlaced order (intervals_of l)) parts placed_given) all
           (subst (λ (l : List Feature). IsTrue (list_all (leaves_some order l) stage.taken)) parts asked)
 
-      pub stops_second : (fault : Fault) (second_now : Records B O g) → FillsRecords source_b.left source_b.has_failed source_b.end_told source_b.is_read second (Err fault) second_now → Ends (Some (fault_value fault)) first second_now grown
+      pub stops_second : (fault : Fault) (second_now : Records B O g) → FillsRecords source_b second (Err fault) second_now → Ends (Some (fault_value fault)) first second_now grown
       stops_second fault second_now fills =
           stop.stops_second join pair out (stage_of stage) s.past_first s.past_second (view_of first) (view_of second) grown s.comes asks_here s.fits a waiting.1 wrong_second asked goes opens (fault_value fault) (view_of second_now)
           (is_stopped source_b second second_now fault fills)
 
-      pub fails_at_end : (fault : FaultValue) (second_now : Records B O g) (now : Output) → FillsRecords source_b.left source_b.has_failed source_b.end_told source_b.is_read second (Ok false) second_now → FailsToAdd grown (lines_for config.shape config.rule a stage.taken) fault now
+      pub fails_at_end : (fault : FaultValue) (second_now : Records B O g) (now : Output) → FillsRecords source_b second (Ok false) second_now → FailsToAdd grown (lines_for config.shape config.rule a stage.taken) fault now
           → Ends (Some fault) first second_now now
       fails_at_end fault second_now now fills fails =
           stop.fails_at_end join pair out (stage_of stage) s.past_first s.past_second (view_of first) (view_of second) grown s.comes asks_here s.fits a waiting.1 asked goes fault (view_of second_now) now

@@ -1,5 +1,5 @@
 -- Lemmas on failed reads that are reported: each is of a read that failed in the run, whatever its source did before.
-use Rattle.std.proofs.Common.{◌≡◌, ℕ, Option, None, Some, Err, Bool, List, ap, sym, subst, ◌∙◌, inl, inr, arith}
+use Rattle.std.proofs.Common.{◌≡◌, ℕ, Option, None, Some, Err, List, ap, sym, subst, ◌∙◌, inl, inr, arith}
 use Rattle.std.specs.Prelude.{◌⊎◌, ◌≢◌, ⊤, MatchResult, Ok, Result}
 use Rattle.std.proofs.lemmas.Bool.{false≢true}
 use Rattle.bt_lines.specs.declared.device.Source.{Ghosts as Source}
@@ -236,10 +236,10 @@ flushed_no_read old new fault answer flush no_write never input line e = elim fl
 ]
 
 -- the genome file was read, or its fault reported, and then the other inputs
-module _ {A B : Type 0} (a_left : A → Option (List ℕ)) (a_failed a_end : A → Bool) (b_left : B → Option (List ℕ)) (b_failed : B → Bool) (command : Command) (first : A) (second : Option B) (out : Output) (fault : Option FaultValue) (first_after : A)
+module _ {A B : Type 0} (source_a : Source A) (source_b : Source B) (command : Command) (first : A) (second : Option B) (out : Output) (fault : Option FaultValue) (first_after : A)
     (second_after : Option B) (grown : Output) where
   pub all_own : (G F S : Type 0) (chromosomes : Result (Option GenomeTable) Fault) → MatchResult chromosomes (λ _. ⊤) (λ fault. TellsOwnReads G ⊥ ⊥ (Some (fault_value fault)))
-      → WritesOutput a_left a_failed a_end b_left b_failed command chromosomes first second out fault first_after second_after grown
+      → WritesOutput source_a source_b command chromosomes first second out fault first_after second_after grown
       → MatchResult chromosomes (λ _. TellsOwnReads ⊥ F S fault) (λ _. ⊤) → TellsOwnReads G F S fault
   all_own G F S (Ok table) read written own = record { genome_file = λ line e. absurd (own.genome_file line e); first_input = own.first_input; second_input = own.second_input }
   all_own G F S (Err wrong) read written own = record {
@@ -249,6 +249,6 @@ module _ {A B : Type 0} (a_left : A → Option (List ℕ)) (a_failed a_end : A �
   }
 
   -- if no failed read is reported, the genome file has none
-  pub genome_no_read : (chromosomes : Result (Option GenomeTable) Fault) → WritesOutput a_left a_failed a_end b_left b_failed command chromosomes first second out fault first_after second_after grown → TellsNoRead fault → AnswersNoRead chromosomes
+  pub genome_no_read : (chromosomes : Result (Option GenomeTable) Fault) → WritesOutput source_a source_b command chromosomes first second out fault first_after second_after grown → TellsNoRead fault → AnswersNoRead chromosomes
   genome_no_read (Ok table) written never = tt
   genome_no_read (Err wrong) written never = λ input line e. never input line (written.is ∙ e)

@@ -5,6 +5,8 @@ use Rattle.std.proofs.lemmas.Bool.{false≢true}
 use Rattle.std.proofs.lemmas.List.{append_cancel_left}
 use Rattle.std.specs.Io.KnownBytes.{Consumes, Keeps}
 use Rattle.std.proofs.KnownBytes.{Appends-nil, Consumes-nil}
+use Rattle.bt_lines.specs.declared.device.Sink.{Ghosts as Sink}
+use Rattle.bt_lines.specs.declared.device.Source.{Ghosts as Source}
 use Rattle.bt_lines.proofs.lemmas.reader.block.ReadsLemmas.{some_is}
 use Rattle.bt_tool.proofs.lemmas.running.feed.FeedLemmas.{took_more_than}
 use Rattle.bt_lines.proofs.lemmas.writer.OutputLemmas.{grows_both}
@@ -160,23 +162,23 @@ taken_all (Some taken) before e =
 line_elsewhere : (kinds : Kind → Type 0) (input : Input) (t : FaultValue) → is_of_genome input ≡ false → TellsLine kinds input t → lies_in_genome t.place ≡ true → ⊥
 line_elsewhere kinds input t other tells lies = false≢true (sym other ∙ sym (ap (λ (f : FaultValue). lies_in_genome f.place) tells.is) ∙ lies)
 
-read_elsewhere : {A : Type 0} (left : A → Option (List ℕ)) (failed : A → Bool) (input : Input) (before after : A) (t : FaultValue) → is_of_genome input ≡ false → TellsRead left failed input before after t → lies_in_genome t.place ≡ true → ⊥
-read_elsewhere left failed input before after t other tells lies = false≢true (sym other ∙ sym (ap (λ (f : FaultValue). lies_in_genome f.place) tells.is) ∙ lies)
+read_elsewhere : {A : Type 0} (device : Source A) (input : Input) (before after : A) (t : FaultValue) → is_of_genome input ≡ false → TellsRead device input before after t → lies_in_genome t.place ≡ true → ⊥
+read_elsewhere device input before after t other tells lies = false≢true (sym other ∙ sym (ap (λ (f : FaultValue). lies_in_genome f.place) tells.is) ∙ lies)
 
 device_elsewhere : (b : Bool) (t : FaultValue) → TellsDevice b t → lies_in_genome t.place ≡ true → ⊥
 device_elsewhere b t (inl write) lies = false≢true (sym (ap (λ (f : FaultValue). lies_in_genome f.place) write.0) ∙ lies)
 device_elsewhere b t (inr memory) lies = false≢true (sym (ap (λ (f : FaultValue). lies_in_genome f.place) memory) ∙ lies)
 
-input_elsewhere : {A : Type 0} (left : A → Option (List ℕ)) (failed : A → Bool) (kinds : Kind → Type 0) (input : Input) (before after : A) (t : FaultValue) → is_of_genome input ≡ false
-    → TellsInput left failed kinds input before after t → lies_in_genome t.place ≡ true → ⊥
-input_elsewhere left failed kinds input before after t other (inl tells) lies = line_elsewhere kinds input t other tells lies
-input_elsewhere left failed kinds input before after t other (inr tells) lies = read_elsewhere left failed input before after t other tells lies
+input_elsewhere : {A : Type 0} (device : Source A) (kinds : Kind → Type 0) (input : Input) (before after : A) (t : FaultValue) → is_of_genome input ≡ false
+    → TellsInput device kinds input before after t → lies_in_genome t.place ≡ true → ⊥
+input_elsewhere device kinds input before after t other (inl tells) lies = line_elsewhere kinds input t other tells lies
+input_elsewhere device kinds input before after t other (inr tells) lies = read_elsewhere device input before after t other tells lies
 
-if_elsewhere : {B : Type 0} (left : B → Option (List ℕ)) (failed : B → Bool) (kinds : Kind → Type 0) (input : Input) (before after : Option B) (t : FaultValue) → is_of_genome input ≡ false
-    → TellsInputIf left failed kinds input before after t → lies_in_genome t.place ≡ true → ⊥
-if_elsewhere left failed kinds input None after t other tells lies = absurd tells
-if_elsewhere left failed kinds input (Some before) None t other tells lies = absurd tells
-if_elsewhere left failed kinds input (Some before) (Some after) t other tells lies = input_elsewhere left failed kinds input before after t other tells lies
+if_elsewhere : {B : Type 0} (device : Source B) (kinds : Kind → Type 0) (input : Input) (before after : Option B) (t : FaultValue) → is_of_genome input ≡ false
+    → TellsInputIf device kinds input before after t → lies_in_genome t.place ≡ true → ⊥
+if_elsewhere device kinds input None after t other tells lies = absurd tells
+if_elsewhere device kinds input (Some before) None t other tells lies = absurd tells
+if_elsewhere device kinds input (Some before) (Some after) t other tells lies = input_elsewhere device kinds input before after t other tells lies
 
 -- chromosomes that were read aren't at fault
 same_is_some : (table : Option Genome) → is_some (option_map entries table) ≡ is_some table
@@ -192,10 +194,10 @@ write_by b other (inl p) = absurd (other p)
 write_by b other (inr (inl write)) = write.1
 write_by b other (inr (inr memory)) = absurd (memory_no_write (sym memory))
 
-write_of_if : {B : Type 0} (left : B → Option (List ℕ)) (failed : B → Bool) (kinds : Kind → Type 0) (input : Input) (before after : Option B) → TellsInputIf left failed kinds input before after write_failed → ⊥
-write_of_if left failed kinds input None after tells = absurd tells
-write_of_if left failed kinds input (Some before) None tells = absurd tells
-write_of_if left failed kinds input (Some before) (Some after) tells = tells_no_write left failed kinds input before after tells
+write_of_if : {B : Type 0} (device : Source B) (kinds : Kind → Type 0) (input : Input) (before after : Option B) → TellsInputIf device kinds input before after write_failed → ⊥
+write_of_if device kinds input None after tells = absurd tells
+write_of_if device kinds input (Some before) None tells = absurd tells
+write_of_if device kinds input (Some before) (Some after) tells = tells_no_write device kinds input before after tells
 
 -- an input that wasn't touched was read at most up to its first line
 near_untouched : (Beside : ℕ → Type 0) → ((n : ℕ) → Beside n) → (command : Command) (chromosomes : Result (Option (List Entry)) FaultValue) (second : Option Handed) (text before : List ℕ) (left took more : Option (List ℕ)) → left ≡ Some text → took ≡ Some before → Grows took more
@@ -213,25 +215,25 @@ near_untouched Beside has command chromosomes second text before left took more 
   exact = rw (none_settle_on command chromosomes second) exact;
 }
 
-module _ {G A B K : Type 0} (g_left : G → Option (List ℕ)) (g_failed : G → Bool) (a_left : A → Option (List ℕ)) (a_failed a_end : A → Bool) (b_left : B → Option (List ℕ)) (b_failed : B → Bool) (k_took : K → Option (List ℕ)) (k_failed : K → Bool)
-    (command : Command) (genome genome_after : Option G) (first first_after : A) (second second_after : Option B) (out out_after : K) (begun mid new : Output) (put : begun.put ≡ k_took out) (took : begun.took ≡ k_took out) (served : begun.sink_has_failed ≡ k_failed out)
-    (took_after : k_took out_after ≡ new.took) (failed_after : k_failed out_after ≡ new.sink_has_failed) (fault answer : Option FaultValue) (flushes : Flushes mid fault answer new) where
+module _ {G A B K : Type 0} (source_g : Source G) (source_a : Source A) (source_b : Source B) (sink : Sink K)
+    (command : Command) (genome genome_after : Option G) (first first_after : A) (second second_after : Option B) (out out_after : K) (begun mid new : Output) (put : begun.put ≡ sink.took out) (took : begun.took ≡ sink.took out) (served : begun.sink_has_failed ≡ sink.has_failed out)
+    (took_after : sink.took out_after ≡ new.took) (failed_after : sink.has_failed out_after ≡ new.sink_has_failed) (fault answer : Option FaultValue) (flushes : Flushes mid fault answer new) where
   abbrev RunsSo : Type 0
-  RunsSo = Runs g_left g_failed a_left a_failed a_end b_left b_failed k_took k_failed command genome first second out answer genome_after first_after second_after out_after
+  RunsSo = Runs source_g source_a source_b sink command genome first second out answer genome_after first_after second_after out_after
 
   abbrev GenomeTells : FaultValue → Type 0
-  GenomeTells t = TellsInputIf g_left g_failed (IsOneOf is_genome_kind) FromGenome genome genome_after t
+  GenomeTells t = TellsInputIf source_g (IsOneOf is_genome_kind) FromGenome genome genome_after t
 
   abbrev OthersTell : FaultValue → Type 0
-  OthersTell t = TellsOther g_left g_failed a_left a_failed a_end b_left b_failed k_took k_failed command genome first first_after second second_after t
+  OthersTell t = TellsOther source_g source_a source_b sink command genome first first_after second second_after t
 
   -- how far the second input was read by the time that this many lines of the first were
   abbrev Beside : Inputs → ℕ → Type 0
-  Beside inputs n = IsWithin (a_end first_after) inputs.first.text n
-      → HandsUpToIf b_left (reaches_on command (chromosomes_of inputs.genome) inputs.second (take n (text_lines inputs.first.text)) + block_size) second second_after
+  Beside inputs n = IsWithin (source_a.end_told first_after) inputs.first.text n
+      → HandsUpToIf source_b.left (reaches_on command (chromosomes_of inputs.genome) inputs.second (take n (text_lines inputs.first.text)) + block_size) second second_after
 
   -- the chromosomes were read, and the output written by them
-  module _ (table : Option Genome) (knows : KnowsChromosomes g_left g_failed genome genome_after table) (writes : WritesBy a_left a_failed a_end b_left b_failed (behaviour_of command (option_map entries table)) first second begun fault first_after second_after mid) where
+  module _ (table : Option Genome) (knows : KnowsChromosomes source_g genome genome_after table) (writes : WritesBy source_a source_b (behaviour_of command (option_map entries table)) first second begun fault first_after second_after mid) where
     abbrev chromosomes : Option (List Entry)
     chromosomes = option_map entries table
 
@@ -239,15 +241,15 @@ module _ {G A B K : Type 0} (g_left : G → Option (List ℕ)) (g_failed : G →
     reported inputs = (behaviour_of command chromosomes).report inputs.first inputs.second
 
     abbrev Tells : FaultValue → Type 0
-    Tells t = TellsInput a_left a_failed (behaviour_of command chromosomes).FirstKinds First first first_after t ⊎ TellsInputIf b_left b_failed (behaviour_of command chromosomes).SecondKinds Second second second_after t
+    Tells t = TellsInput source_a (behaviour_of command chromosomes).FirstKinds First first first_after t ⊎ TellsInputIf source_b (behaviour_of command chromosomes).SecondKinds Second second second_after t
 
     write_of_others : Tells write_failed → ⊥
-    write_of_others (inl tells) = tells_no_write a_left a_failed (behaviour_of command chromosomes).FirstKinds First first first_after tells
-    write_of_others (inr tells) = write_of_if b_left b_failed (behaviour_of command chromosomes).SecondKinds Second second second_after tells
+    write_of_others (inl tells) = tells_no_write source_a (behaviour_of command chromosomes).FirstKinds First first first_after tells
+    write_of_others (inr tells) = write_of_if source_b (behaviour_of command chromosomes).SecondKinds Second second second_after tells
 
     others_elsewhere : (t : FaultValue) → Tells t ⊎ TellsDevice mid.sink_has_failed t → lies_in_genome t.place ≡ true → ⊥
-    others_elsewhere t (inl (inl tells)) lies = input_elsewhere a_left a_failed (behaviour_of command chromosomes).FirstKinds First first first_after t refl tells lies
-    others_elsewhere t (inl (inr tells)) lies = if_elsewhere b_left b_failed (behaviour_of command chromosomes).SecondKinds Second second second_after t refl tells lies
+    others_elsewhere t (inl (inl tells)) lies = input_elsewhere source_a (behaviour_of command chromosomes).FirstKinds First first first_after t refl tells lies
+    others_elsewhere t (inl (inr tells)) lies = if_elsewhere source_b (behaviour_of command chromosomes).SecondKinds Second second second_after t refl tells lies
     others_elsewhere t (inr tells) lies = device_elsewhere mid.sink_has_failed t tells lies
 
     sink_failed : fault ≡ Some write_failed → mid.sink_has_failed ≡ true
@@ -268,12 +270,12 @@ module _ {G A B K : Type 0} (g_left : G → Option (List ℕ)) (g_failed : G →
           let w = whole_by begun mid new fault answer (reported inputs).fault (before ++ (reported inputs).output)
           (λ write growth. writes.whole inputs.first inputs.second before reads.first_input reads.second_input (put ∙ known) write growth)
           sink_failed (sym failed_after ∙ served) memory flushes.ends in
-          subst (λ (r : Report). (answer ≡ r.fault) × (k_took out_after ≡ Some (before ++ r.output))) (sym same) (w.0, took_after ∙ w.1);
+          subst (λ (r : Report). (answer ≡ r.fault) × (sink.took out_after ≡ Some (before ++ r.output))) (sym same) (w.0, took_after ∙ w.1);
       told = λ inputs before holds known is.
           let same = report_is inputs (knows.told inputs.genome holds.genome_file) in
           let w = told_by begun mid new fault answer (reported inputs).fault (before ++ (reported inputs).output)
           (λ of_input. writes.told inputs.first inputs.second before holds.first_input holds.second_input (put ∙ known) of_input) is flushes.ends in
-          subst (λ (r : Report). (answer ≡ r.fault) × (k_took out_after ≡ Some (before ++ r.output))) (sym same) (w.0, took_after ∙ w.1);
+          subst (λ (r : Report). (answer ≡ r.fault) × (sink.took out_after ≡ Some (before ++ r.output))) (sym same) (w.0, took_after ∙ w.1);
       front = λ inputs before holds known.
           let same = report_is inputs (knows.told inputs.genome holds.genome_file) in
           let f = front_by begun mid new fault answer before (reported inputs).output (took ∙ known) writes.grows flushes.grows
@@ -282,7 +284,7 @@ module _ {G A B K : Type 0} (g_left : G → Option (List ℕ)) (g_failed : G →
       near = λ inputs before holds known.
           let near = writes.near inputs.first inputs.second before before holds.first_input holds.second_input (put ∙ known) (took ∙ known) in
           rw (knows.told inputs.genome holds.genome_file, took_after)
-          (near_as _ _ (λ n beside. beside) ((behaviour_of command chromosomes).settles inputs.second) ((behaviour_of command chromosomes).settles inputs.second) (λ lines. refl) inputs.first.text (a_left first_after) before mid.took new.took (mid.has_failed ≡ true)
+          (near_as _ _ (λ n beside. beside) ((behaviour_of command chromosomes).settles inputs.second) ((behaviour_of command chromosomes).settles inputs.second) (λ lines. refl) inputs.first.text (source_a.left first_after) before mid.took new.took (mid.has_failed ≡ true)
           (answer ≡ Some write_failed) (IsFaultButWrite fault) (IsFaultButWrite answer) mid.put new.took (λ size. took_more_than begun.took mid.took new.took before size (took ∙ known) writes.grows flushes.grows) (λ size kept. kept_by begun mid new fault answer size kept flushes.ends)
           (λ bytes is stops. exact_by begun mid new fault answer bytes is stops flushes.ends) near);
       served = λ none.
@@ -296,12 +298,12 @@ module _ {G A B K : Type 0} (g_left : G → Option (List ℕ)) (g_failed : G →
     }
 
   -- the genome file is at fault, and nothing else was touched
-  module _ (wrong : FaultValue) (lacks : LacksChromosomes g_left g_failed genome genome_after wrong) (stops : StopsAtGenome first second begun wrong fault first_after second_after mid) where
+  module _ (wrong : FaultValue) (lacks : LacksChromosomes source_g genome genome_after wrong) (stops : StopsAtGenome first second begun wrong fault first_after second_after mid) where
     report_wrong : (inputs : Inputs) → chromosomes_of inputs.genome ≡ Err wrong → report_of command inputs ≡ record { output = []; fault = Some wrong }
     unfolding report_of
     report_wrong inputs e = ap (λ c. report_on command c inputs.first inputs.second) e
 
-    begun_put : (before : List ℕ) → k_took out ≡ Some before → mid.put ≡ Some (before ++ [])
+    begun_put : (before : List ℕ) → sink.took out ≡ Some before → mid.put ≡ Some (before ++ [])
     begun_put before known = ap (λ (o : Output). o.put) stops.unchanged ∙ put ∙ known ∙ ap Some (sym (append-nil before))
 
     mid_grows : Grows begun.took mid.took
@@ -310,9 +312,9 @@ module _ {G A B K : Type 0} (g_left : G → Option (List ℕ)) (g_failed : G →
     no_write : fault ≡ Some write_failed → ⊥
     no_write e = lacks.no_write (some_is wrong write_failed (sym stops.is ∙ e))
 
-    genome_named : (t : FaultValue) → TellsInputIf g_left g_failed (IsOneOf is_genome_kind) FromGenome genome genome_after wrong ⊎ (wrong ≡ no_memory) → wrong ≡ t
+    genome_named : (t : FaultValue) → TellsInputIf source_g (IsOneOf is_genome_kind) FromGenome genome genome_after wrong ⊎ (wrong ≡ no_memory) → wrong ≡ t
         → (GenomeTells t ⊎ OthersTell t) ⊎ TellsDevice mid.sink_has_failed t
-    genome_named t (inl tells) e = inl (inl (subst (TellsInputIf g_left g_failed (IsOneOf is_genome_kind) FromGenome genome genome_after) e tells))
+    genome_named t (inl tells) e = inl (inl (subst (TellsInputIf source_g (IsOneOf is_genome_kind) FromGenome genome genome_after) e tells))
     genome_named t (inr memory) e = inr (inr (sym e ∙ memory))
 
     pub runs_wrong : RunsSo
@@ -321,11 +323,11 @@ module _ {G A B K : Type 0} (g_left : G → Option (List ℕ)) (g_failed : G →
           let w = whole_by begun mid new fault answer (Some wrong) (before ++ [])
           (λ write growth. (stops.is, begun_put before known)) (λ e. absurd (no_write e)) (sym failed_after ∙ served) memory flushes.ends in
           let same = report_wrong inputs (lacks.whole inputs.genome reads.genome_file (λ e. memory (w.0 ∙ ap Some e))) in
-          subst (λ (r : Report). (answer ≡ r.fault) × (k_took out_after ≡ Some (before ++ r.output))) (sym same) (w.0, took_after ∙ w.1);
+          subst (λ (r : Report). (answer ≡ r.fault) × (sink.took out_after ≡ Some (before ++ r.output))) (sym same) (w.0, took_after ∙ w.1);
       told = λ inputs before holds known is.
           let w = told_by begun mid new fault answer (Some wrong) (before ++ []) (λ of_input. (stops.is, begun_put before known)) is flushes.ends in
           let same = report_wrong inputs (lacks.told inputs.genome holds.genome_file (subst IsOfInput w.0 is)) in
-          subst (λ (r : Report). (answer ≡ r.fault) × (k_took out_after ≡ Some (before ++ r.output))) (sym same) (w.0, took_after ∙ w.1);
+          subst (λ (r : Report). (answer ≡ r.fault) × (sink.took out_after ≡ Some (before ++ r.output))) (sym same) (w.0, took_after ∙ w.1);
       front = λ inputs before holds known.
           let f = front_by begun mid new fault answer before (report_of command inputs).output (took ∙ known) mid_grows flushes.grows
           (λ other. ([], (report_of command inputs).output, refl, begun_put before known)) (λ is. absurd (no_write is)) flushes.ends in
@@ -333,8 +335,8 @@ module _ {G A B K : Type 0} (g_left : G → Option (List ℕ)) (g_failed : G →
       near = λ inputs before holds known.
           let text = holds.first_input in
           rw (text.is, stops.untouched, stops.other_untouched, took_after)
-          (near_untouched _ (λ n within. hands_none b_left second inputs.second _ holds.second_input)
-          command (chromosomes_of inputs.genome) inputs.second text.text before (a_left first) begun.took new.took text.known (took ∙ known) (grows_both begun.took mid.took new.took mid_grows flushes.grows)
+          (near_untouched _ (λ n within. hands_none source_b.left second inputs.second _ holds.second_input)
+          command (chromosomes_of inputs.genome) inputs.second text.text before (source_a.left first) begun.took new.took text.known (took ∙ known) (grows_both begun.took mid.took new.took mid_grows flushes.grows)
           (answer ≡ Some write_failed) (IsFaultButWrite answer) new.took (kept_by begun mid new fault answer (length (before ++ [])) (inr (before ++ [], begun_put before known, omega arith)) flushes.ends)
           (λ other. exact_by begun mid new fault answer (before ++ []) (λ was. begun_put before known) other flushes.ends));
       served = λ none.
@@ -346,6 +348,6 @@ module _ {G A B K : Type 0} (g_left : G → Option (List ℕ)) (g_failed : G →
           rw failed_after (named_by begun mid new fault answer (λ t e. genome_named t lacks.named (some_is wrong t (sym stops.is ∙ e))) flushes.ends t e);
     }
 
-  pub runs_by : (chromosomes : Result (Option Genome) Fault) → ReadsChromosomes g_left g_failed genome chromosomes genome_after → WritesOutput a_left a_failed a_end b_left b_failed command chromosomes first second begun fault first_after second_after mid → RunsSo
+  pub runs_by : (chromosomes : Result (Option Genome) Fault) → ReadsChromosomes source_g genome chromosomes genome_after → WritesOutput source_a source_b command chromosomes first second begun fault first_after second_after mid → RunsSo
   runs_by (Ok table) knows writes = runs_written table knows writes
   runs_by (Err wrong) lacks stops = runs_wrong (fault_value wrong) lacks stops

@@ -25,8 +25,8 @@ mask_all-masked-requires-clause-starts g c =
     let reader_2 = c.new.ensures in
     let records = c.new-records.ensures in
     masks_as_new g.A.Source g.B.Source c.args.how c.args.full c.new-lines.result c.new-records.result c.args.out.now.output c.new-mask.result.full
-    (fresh_lines g.A.Source.left g.A.Source.end_told c.new-mask.result.full c.args.sources.first First c.new-lines.result reader.source reader.input reader.none_taken.0 reader.none_fed reader.none_given reader.going.0 reader.lines reader.sound) reader.going.0
-    (fresh_blocks g.B.Source.left g.B.Source.end_told c.args.sources.second Second c.new.result c.new-records.result records.below reader_2.source reader_2.input reader_2.none_taken.0 reader_2.none_fed reader_2.none_given reader_2.going.0 reader_2.lines records.fault records.none_buffered reader_2.sound)
+    (fresh_lines g.A.Source c.new-mask.result.full c.args.sources.first First c.new-lines.result reader.source reader.input reader.none_taken.0 reader.none_fed reader.none_given reader.going.0 reader.lines reader.sound) reader.going.0
+    (fresh_blocks g.B.Source c.args.sources.second Second c.new.result c.new-records.result records.below reader_2.source reader_2.input reader_2.none_taken.0 reader_2.none_fed reader_2.none_given reader_2.going.0 reader_2.lines records.fault records.none_buffered reader_2.sound)
     (records.fault ∙ reader_2.going.0) c.requires c.new-mask.result c.new-mask.ensures.stands
 
 pub returns-in-Ok-clause-written : goal.returns-in-Ok-clause-written
@@ -38,8 +38,8 @@ returns-in-Ok-clause-written g c =
     let fault = None in
     let ends = as_asked g.A.Source g.B.Source c.new-lines.result (view_of c.new-records.result) c.args.out.now.output fault c.mask_all-masked.new.lines (view_of c.mask_all-masked.new.records) c.mask_all-masked.new.out.output
     c.new-mask.result.how c.new-mask.result.full c.args.how c.args.full stands.how_is stands.full_is c.in-Ok.ensures.finishes in
-    let begins = begin_lines g.A.Source.left g.A.Source.end_told c.args.full c.args.sources.first First c.new-lines.result reader.source reader.input reader.none_taken.0 reader.none_fed reader.none_given reader.going.0 reader.lines in
-    let begins_second = begin_blocks g.B.Source.left g.B.Source.end_told c.args.sources.second Second c.new.result c.new-records.result records.below reader_2.source reader_2.input reader_2.none_taken.0 reader_2.none_fed reader_2.none_given reader_2.going.0 reader_2.lines records.good in
+    let begins = begin_lines g.A.Source c.args.full c.args.sources.first First c.new-lines.result reader.source reader.input reader.none_taken.0 reader.none_fed reader.none_given reader.going.0 reader.lines in
+    let begins_second = begin_blocks g.B.Source c.args.sources.second Second c.new.result c.new-records.result records.below reader_2.source reader_2.input reader_2.none_taken.0 reader_2.none_fed reader_2.none_given reader_2.going.0 reader_2.lines records.good in
     let ended = ap source_of ends.1 ∙ sym c.into_source-first.ensures in
     let ended_second = sym (c.into_source-second.ensures ∙ ap source_of c.into_reader.ensures) in
     let join = mask_join c.args.how in
@@ -59,8 +59,8 @@ returns-clause-written g c =
     let fault = Some (fault_value c.in-Err.fault) in
     let ends = as_asked g.A.Source g.B.Source c.new-lines.result (view_of c.new-records.result) c.args.out.now.output fault c.mask_all-masked.new.lines (view_of c.mask_all-masked.new.records) c.mask_all-masked.new.out.output
     c.new-mask.result.how c.new-mask.result.full c.args.how c.args.full stands.how_is stands.full_is c.in-Err.ensures.finishes in
-    let begins = begin_lines g.A.Source.left g.A.Source.end_told c.args.full c.args.sources.first First c.new-lines.result reader.source reader.input reader.none_taken.0 reader.none_fed reader.none_given reader.going.0 reader.lines in
-    let begins_second = begin_blocks g.B.Source.left g.B.Source.end_told c.args.sources.second Second c.new.result c.new-records.result records.below reader_2.source reader_2.input reader_2.none_taken.0 reader_2.none_fed reader_2.none_given reader_2.going.0 reader_2.lines records.good in
+    let begins = begin_lines g.A.Source c.args.full c.args.sources.first First c.new-lines.result reader.source reader.input reader.none_taken.0 reader.none_fed reader.none_given reader.going.0 reader.lines in
+    let begins_second = begin_blocks g.B.Source c.args.sources.second Second c.new.result c.new-records.result records.below reader_2.source reader_2.input reader_2.none_taken.0 reader_2.none_fed reader_2.none_given reader_2.going.0 reader_2.lines records.good in
     let ended = ap source_of ends.1 ∙ sym c.into_source-first.ensures in
     let ended_second = sym (c.into_source-second.ensures ∙ ap source_of c.into_reader.ensures) in
     let join = mask_join c.args.how in
@@ -83,8 +83,8 @@ returns-clause-own_failure g c =
     let fault = Some (fault_value c.in-Err.fault) in
     let ends = as_asked g.A.Source g.B.Source c.new-lines.result (view_of c.new-records.result) c.args.out.now.output fault c.mask_all-masked.new.lines (view_of c.mask_all-masked.new.records) c.mask_all-masked.new.out.output
     c.new-mask.result.how c.new-mask.result.full c.args.how c.args.full stands.how_is stands.full_is c.in-Err.ensures.finishes in
-    let begins = begin_lines g.A.Source.left g.A.Source.end_told c.args.full c.args.sources.first First c.new-lines.result reader.source reader.input reader.none_taken.0 reader.none_fed reader.none_given reader.going.0 reader.lines in
-    let begins_second = begin_blocks g.B.Source.left g.B.Source.end_told c.args.sources.second Second c.new.result c.new-records.result records.below reader_2.source reader_2.input reader_2.none_taken.0 reader_2.none_fed reader_2.none_given reader_2.going.0 reader_2.lines records.good in
+    let begins = begin_lines g.A.Source c.args.full c.args.sources.first First c.new-lines.result reader.source reader.input reader.none_taken.0 reader.none_fed reader.none_given reader.going.0 reader.lines in
+    let begins_second = begin_blocks g.B.Source c.args.sources.second Second c.new.result c.new-records.result records.below reader_2.source reader_2.input reader_2.none_taken.0 reader_2.none_fed reader_2.none_given reader_2.going.0 reader_2.lines records.good in
     let ended = ap source_of ends.1 ∙ sym c.into_source-first.ensures in
     let ended_second = sym (c.into_source-second.ensures ∙ ap source_of c.into_reader.ensures) in
     let join = mask_join c.args.how in

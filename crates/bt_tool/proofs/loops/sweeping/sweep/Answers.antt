@@ -32,8 +32,8 @@ read_both-swept-requires-clause-starts g c =
     let records_2 = c.new-seconds.ensures in
     let stands = c.new-sweep.ensures.stands in
     sweeps_start g.A.Source g.B.Source (config_of (state_of c.new-sweep.result)) c.new-firsts.result c.new-seconds.result c.args.out.now.output
-    (fresh_start _ _ c.new.result c.new-firsts.result records.below reader.none_given reader.none_taken.0 reader.none_fed (records.fault ∙ reader.going.0) records.none_buffered reader.sound) records.none_last
-    (fresh_start _ _ c.new-2.result c.new-seconds.result records_2.below reader_2.none_given reader_2.none_taken.0 reader_2.none_fed (records_2.fault ∙ reader_2.going.0) records_2.none_buffered reader_2.sound) records_2.none_last
+    (fresh_start _ c.new.result c.new-firsts.result records.below reader.none_given reader.none_taken.0 reader.none_fed (records.fault ∙ reader.going.0) records.none_buffered reader.sound) records.none_last
+    (fresh_start _ c.new-2.result c.new-seconds.result records_2.below reader_2.none_given reader_2.none_taken.0 reader_2.none_fed (records_2.fault ∙ reader_2.going.0) records_2.none_buffered reader_2.sound) records_2.none_last
     c.requires.block (state_of c.new-sweep.result)
     (rw (← records.order, ← stands.shape_is, ← stands.rule_is, ← stands.limit_is) at stands)
 

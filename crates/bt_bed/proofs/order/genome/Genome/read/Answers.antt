@@ -13,12 +13,12 @@ use Rattle.bt_bed.specs.declared.order.genome.Genome.{Genome}
 use Rattle.bt_bed.proofs.order.genome.Genome.read.Goals as goal
 
 pub loop-genome-init : goal.loop-genome-init
-loop-genome-init g c = (going_start _ _ _ c.args.reader.now _ c.new-genome.ensures, search rules, reads_same g.S.Source.is_read c.args.reader.now c.args.reader.now refl)
+loop-genome-init g c = (going_start _ c.args.reader.now _ c.new-genome.ensures, search rules, reads_same g.S.Source.is_read c.args.reader.now c.args.reader.now refl)
 
 pub loop-genome-preserved : goal.loop-genome-preserved
 loop-genome-preserved g c =
     let gives = rw (c.in_ok-line.was, c.in-Some.is) at c.next.follows.holds-at-none in (
-      going_line _ _ _ c.args.reader.now c.loop-genome.reader c.next.follows.lender-at-none (line_seen c.in-Some.line) c.loop-genome.genome c.add_line.new.self c.loop-genome.invariant.0 gives.answers gives.sound c.in_ok-add_line.ensures.added,
+      going_line _ c.args.reader.now c.loop-genome.reader c.next.follows.lender-at-none (line_seen c.in-Some.line) c.loop-genome.genome c.add_line.new.self c.loop-genome.invariant.0 gives.answers gives.sound c.in_ok-add_line.ensures.added,
       c.loop-genome.invariant.1,
       has_read_then g.S.Source.is_read c.args.reader.now c.loop-genome.reader c.next.follows.lender-at-none c.loop-genome.invariant.2 gives.own_failure,
     )
@@ -28,10 +28,10 @@ returns-in_err-add_line g c =
     let gives = rw (c.in_ok-line.was, c.in-Some.is) at c.next.follows.holds-at-none in
     let at : ◌≡◌ {A = Place} (record { input = c.input-input.result; line = c.in-Some.line.number }) (record { input = input_of c.args.reader.now; line = c.in-Some.line.number }) =
     ap (λ (i : Input). record { input = i; line = c.in-Some.line.number }) c.loop-genome.invariant.1 in
-    passed_on (λ r. ReadsGenome g.S.Source.left g.S.Source.has_failed g.S.Source.end_told g.S.Source.is_read c.args.reader.now r c.next.follows.lender-at-none) c.from_residual-in_err-add_line.result c.in_err-add_line.field-0.0
+    passed_on (λ r. ReadsGenome g.S.Source c.args.reader.now r c.next.follows.lender-at-none) c.from_residual-in_err-add_line.result c.in_err-add_line.field-0.0
     c.from_residual-in_err-add_line.ensures.1
     (record {
-      answers = going_err _ _ _ c.args.reader.now c.loop-genome.reader c.next.follows.lender-at-none (line_seen c.in-Some.line) c.loop-genome.genome _ (fault_value c.in_err-add_line.field-0.0) c.loop-genome.invariant.0 gives.answers gives.sound at c.in_err-add_line.ensures.refused;
+      answers = going_err _ c.args.reader.now c.loop-genome.reader c.next.follows.lender-at-none (line_seen c.in-Some.line) c.loop-genome.genome _ (fault_value c.in_err-add_line.field-0.0) c.loop-genome.invariant.0 gives.answers gives.sound at c.in_err-add_line.ensures.refused;
       own_failure = refused_is_own Genome g.S.Source.is_read (fault_kept c.args.reader.now) c.args.reader.now c.next.follows.lender-at-none c.in_err-add_line.field-0.0
           (has_read_then g.S.Source.is_read c.args.reader.now c.loop-genome.reader c.next.follows.lender-at-none c.loop-genome.invariant.2 gives.own_failure) _ _ _ c.in_err-add_line.ensures.refused;
       sound = λ was. gives.sound (c.loop-genome.invariant.0.passed.sound was);
@@ -40,10 +40,10 @@ returns-in_err-add_line g c =
 pub returns-in_err-line : goal.returns-in_err-line
 returns-in_err-line g c =
     let gives = rw c.in_err-line.was at c.next.follows.holds-at-none in
-    passed_on (λ r. ReadsGenome g.S.Source.left g.S.Source.has_failed g.S.Source.end_told g.S.Source.is_read c.args.reader.now r c.next.follows.lender-at-none) c.from_residual.result c.in_err-line.field-0.0
+    passed_on (λ r. ReadsGenome g.S.Source c.args.reader.now r c.next.follows.lender-at-none) c.from_residual.result c.in_err-line.field-0.0
     c.from_residual.ensures.1
     (record {
-      answers = going_fault _ _ _ c.args.reader.now c.loop-genome.reader c.next.follows.lender-at-none c.loop-genome.genome (fault_value c.in_err-line.field-0.0) c.loop-genome.invariant.0 gives.answers;
+      answers = going_fault _ c.args.reader.now c.loop-genome.reader c.next.follows.lender-at-none c.loop-genome.genome (fault_value c.in_err-line.field-0.0) c.loop-genome.invariant.0 gives.answers;
       own_failure = read_is_own Genome g.S.Source.is_read (fault_kept c.args.reader.now) c.args.reader.now c.next.follows.lender-at-none c.in_err-line.field-0.0 c.loop-genome.reader c.loop-genome.invariant.2 c.loop-genome.invariant.0.going gives.own_failure;
       sound = λ was. gives.sound (c.loop-genome.invariant.0.passed.sound was);
     })
@@ -52,7 +52,7 @@ pub returns : goal.returns
 returns g c =
     let gives = rw (c.in_ok-line.was, c.in_default.is) at c.next.follows.holds-at-none in
     record {
-      answers = going_end _ _ _ c.args.reader.now c.loop-genome.reader c.next.follows.lender-at-none c.loop-genome.genome c.loop-genome.invariant.0 gives.answers;
+      answers = going_end _ c.args.reader.now c.loop-genome.reader c.next.follows.lender-at-none c.loop-genome.genome c.loop-genome.invariant.0 gives.answers;
       own_failure = has_read_then g.S.Source.is_read c.args.reader.now c.loop-genome.reader c.next.follows.lender-at-none c.loop-genome.invariant.2 gives.own_failure;
       sound = λ was. gives.sound (c.loop-genome.invariant.0.passed.sound was);
     }

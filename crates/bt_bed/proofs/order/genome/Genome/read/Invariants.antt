@@ -6,7 +6,7 @@ use Rattle.bt_bed.proofs.order.genome.Genome.read.Given as goal
 -- the table has the entries of the lines given
 abbrev pub invariant-loop-genome : goal.invariant-loop-genome
 invariant-loop-genome g l =
-    Going g.S.Source.left g.S.Source.has_failed g.S.Source.end_told l.initial.reader l.reader l.genome
+    Going g.S.Source l.initial.reader l.reader l.genome
     × (l.input ≡ input_of l.initial.reader) × HasRead g.S.Source.is_read l.initial.reader l.reader
 
 abbrev pub decreases-loop-genome : goal.decreases-loop-genome

@@ -1,4 +1,4 @@
-use Rattle.std.proofs.Common.{◌∙◌, ◌++◌, ap, arith, length, sym, take}
+use Rattle.std.proofs.Common.{◌∙◌, ◌++◌, ap, arith, sym, take}
 use Rattle.std.proofs.lemmas.List.{length-take-le}
 use Rattle.bt_bed.specs.calls.Batch.{consumed_in}
 use Rattle.bt_bed.proofs.lemmas.read.batch.ConsumedLemmas.{bytes_between}

@@ -12,4 +12,4 @@ pub returns : goal.returns
 unfolding view_of view_with
 returns g c =
     let first = some_first _ _ c.requires in
-    passes_blocks g.S.Source.left g.S.Source.end_told c.args.self.now _ first.0 first.1 first.2 c.advance.ensures.takes
+    passes_blocks g.S.Source c.args.self.now _ first.0 first.1 first.2 c.advance.ensures.takes

@@ -14,4 +14,4 @@ pub returns : goal.returns
 unfolding view_of view_with
 returns g c =
     let first = some_first _ _ c.requires in
-    passes_record g.S.Source.left g.S.Source.has_failed g.S.Source.end_told c.args.self.now _ c.advance.ensures.rule first.0 first.1 first.2 c.advance.ensures.takes
+    passes_record g.S.Source c.args.self.now _ c.advance.ensures.rule first.0 first.1 first.2 c.advance.ensures.takes

@@ -5,4 +5,4 @@ pub invariant_of-self : goal.invariant_of-self
 invariant_of-self g c = record { placed = placed_by g.O.ChromOrder c.args.self.now.sorted c.consume.new.self c.consume.ensures.rule c.consume.ensures.placed }
 
 pub returns : goal.returns
-returns g c = takes_records g.S.Source.left g.S.Source.has_failed g.S.Source.end_told c.args.self.now _ c.consume.ensures.rule _ c.consume.ensures.takes
+returns g c = takes_records g.S.Source c.args.self.now _ c.consume.ensures.rule _ c.consume.ensures.takes

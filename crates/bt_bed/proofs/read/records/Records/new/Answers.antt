@@ -10,10 +10,10 @@ use Rattle.bt_bed.specs.declared.read.sorted.ByOrder.{ByOrder}
 use Rattle.bt_bed.proofs.read.records.Records.new.Goals as goal
 
 pub invariant_of-result : goal.invariant_of-result
-invariant_of-result g c = record { placed = placed_at_start g.S.Source.left g.S.Source.has_failed g.S.Source.end_told _ c.new.result c.new.ensures.none c.new.ensures.last }
+invariant_of-result g c = record { placed = placed_at_start g.S.Source _ c.new.result c.new.ensures.none c.new.ensures.last }
 
 pub returns-clause-good : goal.returns-clause-good
 unfolding view_of
 returns-clause-good g c = λ going.
-    good_at_start g.S.Source.left g.S.Source.has_failed g.S.Source.end_told _ c.new.result c.args.reader c.new.ensures.reader c.new.ensures.fault c.new.ensures.last going
+    good_at_start g.S.Source _ c.new.result c.args.reader c.new.ensures.reader c.new.ensures.fault c.new.ensures.last going
     ∙ ap (λ (by : ByOrder _). option_map (good (bed_format (sorting_of (g.O.ChromOrder.order by.order.now))) (input_of c.args.reader)) (lines_left g.S.Source.left c.args.reader)) c.new.ensures.rule

@@ -10,17 +10,17 @@ pub returns-then-consumed-eq0-clause-takes : goal.returns-then-consumed-eq0-clau
 returns-then-consumed-eq0-clause-takes g c =
     let none : count_in c.args.self.now c.args.consumed ≡ 0 = no_lines c.args.self.now.reader c.args.consumed.lines (count_in c.args.self.now c.args.consumed) c.requires.taken.lines c.if-consumed-eq0.true in
     let view = view_in (g.Q.Sorted.sorting c.args.self.now.lookahead.rule) c.args.self.now in
-    subst (λ n. Takes g.S.Source.left g.S.Source.end_told view (take n (buffered_in c.args.self.now)) view) (sym none) (takes_none g.S.Source.left g.S.Source.end_told view)
+    subst (λ n. Takes g.S.Source view (take n (buffered_in c.args.self.now)) view) (sym none) (takes_none g.S.Source view)
 
 pub invariant_of-self : goal.invariant_of-self
 invariant_of-self g c =
     let some = some_lines c.args.self.now.reader c.args.consumed.lines (count_in c.args.self.now c.args.consumed) c.requires.taken.lines c.if-consumed-eq0.false in
     record {
-      ahead = sorted_ahead g.S.Source.left g.S.Source.end_told (g.Q.Sorted.sorting c.args.self.now.lookahead.rule) c.args.self.now c.consume.new.self c.advance.new.self c.args.consumed.is_ahead c.args.consumed c.requires.taken some
+      ahead = sorted_ahead g.S.Source (g.Q.Sorted.sorting c.args.self.now.lookahead.rule) c.args.self.now c.consume.new.self c.advance.new.self c.args.consumed.is_ahead c.args.consumed c.requires.taken some
           c.requires.placed c.consume.ensures c.advance.ensures refl;
       going = λ e.
           c.args.self.now.going
-          (was_ahead g.S.Source.left g.S.Source.end_told (g.Q.Sorted.sorting c.args.self.now.lookahead.rule) c.args.self.now c.consume.new.self c.advance.new.self c.args.consumed.is_ahead c.args.consumed c.requires.taken some
+          (was_ahead g.S.Source (g.Q.Sorted.sorting c.args.self.now.lookahead.rule) c.args.self.now c.consume.new.self c.advance.new.self c.args.consumed.is_ahead c.args.consumed c.requires.taken some
           c.requires.placed c.consume.ensures c.advance.ensures refl);
     }
 
@@ -28,12 +28,12 @@ pub returns-clause-takes : goal.returns-clause-takes
 unfolding buffered_in
 returns-clause-takes g c =
     let some = some_lines c.args.self.now.reader c.args.consumed.lines (count_in c.args.self.now c.args.consumed) c.requires.taken.lines c.if-consumed-eq0.false in
-    sorted_takes g.S.Source.left g.S.Source.end_told (g.Q.Sorted.sorting c.args.self.now.lookahead.rule) c.args.self.now c.consume.new.self c.advance.new.self c.args.consumed.is_ahead c.args.consumed c.requires.taken some
+    sorted_takes g.S.Source (g.Q.Sorted.sorting c.args.self.now.lookahead.rule) c.args.self.now c.consume.new.self c.advance.new.self c.args.consumed.is_ahead c.args.consumed c.requires.taken some
     c.requires.placed c.consume.ensures c.advance.ensures refl
 
 pub returns-clause-placed : goal.returns-clause-placed
 unfolding buffered_in
 returns-clause-placed g c =
     let some = some_lines c.args.self.now.reader c.args.consumed.lines (count_in c.args.self.now c.args.consumed) c.requires.taken.lines c.if-consumed-eq0.false in
-    sorted_placed g.S.Source.left g.S.Source.end_told (g.Q.Sorted.sorting c.args.self.now.lookahead.rule) c.args.self.now c.consume.new.self c.advance.new.self c.args.consumed.is_ahead c.args.consumed c.requires.taken some
+    sorted_placed g.S.Source (g.Q.Sorted.sorting c.args.self.now.lookahead.rule) c.args.self.now c.consume.new.self c.advance.new.self c.args.consumed.is_ahead c.args.consumed c.requires.taken some
     c.requires.placed c.consume.ensures c.advance.ensures refl

@@ -9,7 +9,7 @@ use Rattle.bt_bed.proofs.read.sorted_reader.SortedReader.read_record.Goals as go
 
 pub loop-self-init : goal.loop-self-init
 loop-self-init g c = record {
-  going = sorted_start g.S.Source.left g.S.Source.has_failed g.S.Source.end_told (g.Q.Sorted.sorting c.args.self.now.lookahead.rule) c.args.self.now.reader c.args.self.now.lookahead;
+  going = sorted_start g.S.Source (g.Q.Sorted.sorting c.args.self.now.lookahead.rule) c.args.self.now.reader c.args.self.now.lookahead;
   none = c.requires.none;
   rule = refl;
   last = refl;
@@ -21,13 +21,13 @@ pub returns-in-Ok-true-take_line-clause-fills : goal.returns-in-Ok-true-take_lin
 returns-in-Ok-true-take_line-clause-fills g c =
     let fills = rw c.in-Ok-true.field-0-test at c.in-Ok-true.ensures.fills in
     let taken = rw c.in-Ok-true-take_line.field-0-test at c.in-Ok-true-take_line.ensures.takes in
-    rw (view_before g.S.Source.left g.S.Source.has_failed g.S.Source.end_told (g.Q.Sorted.sorting c.args.self.now.lookahead.rule) c.args.self.now c.requires.none c.requires.going)
-    (taken_record g.S.Source.left g.S.Source.has_failed g.S.Source.end_told (g.Q.Sorted.sorting c.args.self.now.lookahead.rule) _ (ap g.Q.Sorted.sorting c.loop-self.invariant.rule) _ c.loop-self.self.reader fills.answers fills.kept c.loop-self.invariant.going taken)
+    rw (view_before g.S.Source (g.Q.Sorted.sorting c.args.self.now.lookahead.rule) c.args.self.now c.requires.none c.requires.going)
+    (taken_record g.S.Source (g.Q.Sorted.sorting c.args.self.now.lookahead.rule) _ (ap g.Q.Sorted.sorting c.loop-self.invariant.rule) _ c.loop-self.self.reader fills.answers fills.kept c.loop-self.invariant.going taken)
 
 pub returns-in-Ok-true-take_line-clause-own_failure : goal.returns-in-Ok-true-take_line-clause-own_failure
 returns-in-Ok-true-take_line-clause-own_failure g c =
     let taken = rw c.in-Ok-true-take_line.field-0-test at c.in-Ok-true-take_line.ensures.takes in
-    read_record g.S.Source.left g.S.Source.has_failed g.S.Source.end_told (g.Q.Sorted.sorting c.args.self.now.lookahead.rule) _ g.S.Source.is_read c.args.self.now.reader
+    read_record g.S.Source (g.Q.Sorted.sorting c.args.self.now.lookahead.rule) _ c.args.self.now.reader
     (has_read_then g.S.Source.is_read c.args.self.now.reader c.loop-self.self.reader c.fill.new.self c.loop-self.invariant.read c.in-Ok-true.ensures.own_failure) taken
 
 pub loop-self-preserved : goal.loop-self-preserved
@@ -35,25 +35,25 @@ loop-self-preserved g c =
     let fills = rw c.in-Ok-true.field-0-test at c.in-Ok-true.ensures.fills in
     let taken = rw c.in-Ok-false-take_line.field-0-test at c.in-Ok-false-take_line.ensures.takes in
     record {
-      going = taken_nothing g.S.Source.left g.S.Source.has_failed g.S.Source.end_told (g.Q.Sorted.sorting c.args.self.now.lookahead.rule) _ (ap g.Q.Sorted.sorting c.loop-self.invariant.rule) _ c.loop-self.self.reader fills.answers fills.kept c.loop-self.invariant.going taken;
+      going = taken_nothing g.S.Source (g.Q.Sorted.sorting c.args.self.now.lookahead.rule) _ (ap g.Q.Sorted.sorting c.loop-self.invariant.rule) _ c.loop-self.self.reader fills.answers fills.kept c.loop-self.invariant.going taken;
       none = taken.takes.none;
       rule = c.in-Ok-false-take_line.ensures.rule ∙ c.loop-self.invariant.rule;
       last = taken.keeps.last ∙ c.loop-self.invariant.last;
       fault = c.in-Ok-false-take_line.ensures.fault;
-      read = read_nothing g.S.Source.left g.S.Source.has_failed g.S.Source.end_told (g.Q.Sorted.sorting c.args.self.now.lookahead.rule) _ g.S.Source.is_read c.args.self.now.reader
+      read = read_nothing g.S.Source (g.Q.Sorted.sorting c.args.self.now.lookahead.rule) _ c.args.self.now.reader
           (has_read_then g.S.Source.is_read c.args.self.now.reader c.loop-self.self.reader c.fill.new.self c.loop-self.invariant.read c.in-Ok-true.ensures.own_failure) taken;
     }
 
 pub returns-in-Err-take_line-clause-fills : goal.returns-in-Err-take_line-clause-fills
 returns-in-Err-take_line-clause-fills g c =
     let fills = rw c.in-Ok-true.field-0-test at c.in-Ok-true.ensures.fills in
-    rw (view_before g.S.Source.left g.S.Source.has_failed g.S.Source.end_told (g.Q.Sorted.sorting c.args.self.now.lookahead.rule) c.args.self.now c.requires.none c.requires.going)
-    (taken_fault g.S.Source.left g.S.Source.has_failed g.S.Source.end_told (g.Q.Sorted.sorting c.args.self.now.lookahead.rule) _ (ap g.Q.Sorted.sorting c.loop-self.invariant.rule) _ c.loop-self.self.reader fills.answers fills.kept c.loop-self.invariant.going c.in-Err-take_line.fault
+    rw (view_before g.S.Source (g.Q.Sorted.sorting c.args.self.now.lookahead.rule) c.args.self.now c.requires.none c.requires.going)
+    (taken_fault g.S.Source (g.Q.Sorted.sorting c.args.self.now.lookahead.rule) _ (ap g.Q.Sorted.sorting c.loop-self.invariant.rule) _ c.loop-self.self.reader fills.answers fills.kept c.loop-self.invariant.going c.in-Err-take_line.fault
     c.in-Err-take_line.ensures.takes)
 
 pub returns-in-Err-take_line-clause-own_failure : goal.returns-in-Err-take_line-clause-own_failure
 returns-in-Err-take_line-clause-own_failure g c =
-    read_fault g.S.Source.left g.S.Source.has_failed g.S.Source.end_told (g.Q.Sorted.sorting c.args.self.now.lookahead.rule) _ g.S.Source.is_read c.args.self.now.reader
+    read_fault g.S.Source (g.Q.Sorted.sorting c.args.self.now.lookahead.rule) _ c.args.self.now.reader
     (has_read_then g.S.Source.is_read c.args.self.now.reader c.loop-self.self.reader c.fill.new.self c.loop-self.invariant.read c.in-Ok-true.ensures.own_failure) (line_fault c.args.self.now.reader) c.in-Err-take_line.fault
     c.in-Err-take_line.ensures.takes
 
@@ -62,7 +62,7 @@ unfolding buffered_in
 returns-in-Ok-false-clause-fills g c =
     let fills = rw c.in-Ok-false.field-0-test at c.in-Ok-false.ensures.fills in
     rw (c.requires.none, c.requires.going, c.loop-self.invariant.none)
-    (sorted_end g.S.Source.left g.S.Source.has_failed g.S.Source.end_told (g.Q.Sorted.sorting c.args.self.now.lookahead.rule) _ c.loop-self.self.reader c.fill.new.self c.loop-self.self.lookahead fills.kept c.loop-self.invariant.going fills.answers)
+    (sorted_end g.S.Source (g.Q.Sorted.sorting c.args.self.now.lookahead.rule) _ c.loop-self.self.reader c.fill.new.self c.loop-self.self.lookahead fills.kept c.loop-self.invariant.going fills.answers)
 
 pub returns-in-Ok-false-clause-own_failure : goal.returns-in-Ok-false-clause-own_failure
 returns-in-Ok-false-clause-own_failure g c = has_read_then g.S.Source.is_read c.args.self.now.reader c.loop-self.self.reader c.fill.new.self c.loop-self.invariant.read c.in-Ok-false.ensures.own_failure
@@ -71,11 +71,11 @@ pub returns-in-Err-clause-fills : goal.returns-in-Err-clause-fills
 unfolding buffered_in
 returns-in-Err-clause-fills g c =
     rw (c.requires.none, c.requires.going, c.loop-self.invariant.none)
-    (sorted_unread g.S.Source.left g.S.Source.has_failed g.S.Source.end_told (g.Q.Sorted.sorting c.args.self.now.lookahead.rule) _ c.loop-self.self.reader c.fill.new.self c.loop-self.self.lookahead c.in-Err.ensures.fills.kept c.loop-self.invariant.going c.in-Err.fault
+    (sorted_unread g.S.Source (g.Q.Sorted.sorting c.args.self.now.lookahead.rule) _ c.loop-self.self.reader c.fill.new.self c.loop-self.self.lookahead c.in-Err.ensures.fills.kept c.loop-self.invariant.going c.in-Err.fault
     c.in-Err.ensures.fills.answers)
 
 pub returns-in-Err-clause-own_failure : goal.returns-in-Err-clause-own_failure
 returns-in-Err-clause-own_failure g c =
     read_is_own Bool g.S.Source.is_read (line_fault c.args.self.now.reader) c.args.self.now.reader c.fill.new.self c.in-Err.fault c.loop-self.self.reader c.loop-self.invariant.read
-    (still_going g.S.Source.left g.S.Source.has_failed g.S.Source.end_told (g.Q.Sorted.sorting c.args.self.now.lookahead.rule) c.args.self.now.reader c.loop-self.self.reader c.args.self.now.lookahead c.loop-self.self.lookahead c.loop-self.invariant.going)
+    (still_going g.S.Source (g.Q.Sorted.sorting c.args.self.now.lookahead.rule) c.args.self.now.reader c.loop-self.self.reader c.args.self.now.lookahead c.loop-self.self.lookahead c.loop-self.invariant.going)
     c.in-Err.ensures.own_failure

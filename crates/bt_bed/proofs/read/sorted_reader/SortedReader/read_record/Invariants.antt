@@ -8,7 +8,7 @@ use Rattle.bt_bed.proofs.read.sorted_reader.SortedReader.read_record.Given as go
 -- no record has come yet
 abbrev pub invariant-loop-self : goal.invariant-loop-self
 invariant-loop-self g l = record {
-  going : Going g.S.Source.left g.S.Source.has_failed g.S.Source.end_told (view_with (g.Q.Sorted.sorting l.initial.self.lookahead.rule) None l.initial.self.reader l.initial.self.lookahead [])
+  going : Going g.S.Source (view_with (g.Q.Sorted.sorting l.initial.self.lookahead.rule) None l.initial.self.reader l.initial.self.lookahead [])
       (view_with (g.Q.Sorted.sorting l.initial.self.lookahead.rule) None l.self.reader l.self.lookahead []);
   none : l.self.is_ahead ≡ false;
   rule : l.self.lookahead.rule ≡ l.initial.self.lookahead.rule;

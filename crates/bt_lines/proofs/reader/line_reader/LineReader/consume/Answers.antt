@@ -31,7 +31,7 @@ returns g c =
     let fed = (are_fed old.buffer).fed in
     let spaced = spaced_taken old.state (complete old.buffer) (unread old.buffer) old.lines old.taken c.args.consumed.bytes c.requires.within fed c.requires.fed old.last old.quiet old.a_byte_each in
     record {
-      kept = kept_taken g.S.Source.left g.S.Source.end_told old _ refl refl refl refl;
+      kept = kept_taken g.S.Source old _ refl refl refl refl;
       near = near_taken old _ c.args.consumed.bytes c.consume.ensures.lines c.consume.ensures.spilled c.requires.within c.requires.fed;
       left_is = all_taken g.S.Source.left old _ c.args.consumed.bytes refl refl c.requires.lines c.consume.ensures.lines c.consume.ensures.unread c.requires.within c.requires.fed;
       bytes = c.consume.ensures.lines;

@@ -10,13 +10,13 @@ use Rattle.bt_lines.proofs.reader.line_reader.LineReader.cuts_line.Goals as goal
 
 pub returns-clause-cut : goal.returns-clause-cut
 returns-clause-cut g c = λ e.
-    cuts_first _ _ _ c.args.self.now _ (line_shown c.in-Some.field-0) refl refl refl refl refl (rw c.lines.ensures at c.in-Some.ensures)
+    cuts_first _ c.args.self.now _ (line_shown c.in-Some.field-0) refl refl refl refl refl (rw c.lines.ensures at c.in-Some.ensures)
     (c.take_line.ensures.lines) c.take_line.ensures.unread c.take_line.ensures.text c.take_line.ensures.spilled
     (c.ending_of-self.ensures ∙ ap (λ b. ending_at b (nat_lt (length c.in-Some.field-0.text.now + 1) c.in-Some.field-0.size)) c.is_open.ensures)
 
 pub returns-clause-at : goal.returns-clause-at
 returns-clause-at g c = λ e.
-    let cuts = cuts_first g.S.Source.left g.S.Source.has_failed g.S.Source.end_told c.args.self.now _ (line_shown c.in-Some.field-0) refl refl refl refl refl (rw c.lines.ensures at c.in-Some.ensures)
+    let cuts = cuts_first g.S.Source c.args.self.now _ (line_shown c.in-Some.field-0) refl refl refl refl refl (rw c.lines.ensures at c.in-Some.ensures)
     (c.take_line.ensures.lines) c.take_line.ensures.unread c.take_line.ensures.text c.take_line.ensures.spilled
     (c.ending_of-self.ensures ∙ ap (λ b. ending_at b (nat_lt (length c.in-Some.field-0.text.now + 1) c.in-Some.field-0.size)) c.is_open.ensures) in
     some_at _ cuts.line cuts.at

@@ -52,29 +52,29 @@ invariant_of-self-in-NoMemory g c =
 
 pub returns-in-LineFeed-clause-fills : goal.returns-in-LineFeed-clause-fills
 returns-in-LineFeed-clause-fills g c =
-    line_step _ _ _ c.args.self.now _ c.requires.going c.requires.none refl refl _ c.in-LineFeed.ensures.buffers refl (reading_of c.args.self.now.state c.requires.going)
+    line_step _ c.args.self.now _ c.requires.going c.requires.none refl refl _ c.in-LineFeed.ensures.buffers refl (reading_of c.args.self.now.state c.requires.going)
 
 pub returns-in-End-clause-fills : goal.returns-in-End-clause-fills
 returns-in-End-clause-fills g c =
-    end_step _ _ _ c.args.self.now _ c.requires.going c.requires.none refl refl _ c.in-End.ensures.buffers refl
+    end_step _ c.args.self.now _ c.requires.going c.requires.none refl refl _ c.in-End.ensures.buffers refl
     (ap length (sym c.lines.ensures) ∙ eqb-true _ _ (sym c.if-is_empty.ensures)) refl
 
 pub returns-in-End-2-clause-fills : goal.returns-in-End-2-clause-fills
 returns-in-End-2-clause-fills g c =
-    last_step _ _ _ c.args.self.now _ c.requires.going c.requires.none refl refl _ c.in-End.ensures.buffers refl
+    last_step _ c.args.self.now _ c.requires.going c.requires.none refl refl _ c.in-End.ensures.buffers refl
     (λ e. false≢true (c.if-is_empty.ensures ∙ ap (λ n. eqb n 0) (ap length c.lines.ensures ∙ e))) refl
 
 pub returns-in-Failed-clause-fills : goal.returns-in-Failed-clause-fills
 returns-in-Failed-clause-fills g c =
-    failed_step _ _ _ c.args.self.now _ c.requires.going c.requires.none refl refl _ c.in-Failed.ensures.buffers c.read_failed.result refl c.read_failed.ensures refl
+    failed_step _ c.args.self.now _ c.requires.going c.requires.none refl refl _ c.in-Failed.ensures.buffers c.read_failed.result refl c.read_failed.ensures refl
 
 pub returns-in-TooLong-clause-fills : goal.returns-in-TooLong-clause-fills
 returns-in-TooLong-clause-fills g c =
-    long_step _ _ _ c.args.self.now _ c.requires.going c.requires.none refl refl _ c.in-TooLong.ensures.buffers c.read_failed-in-TooLong.result refl c.read_failed-in-TooLong.ensures refl
+    long_step _ c.args.self.now _ c.requires.going c.requires.none refl refl _ c.in-TooLong.ensures.buffers c.read_failed-in-TooLong.result refl c.read_failed-in-TooLong.ensures refl
 
 pub returns-in-NoMemory-clause-fills : goal.returns-in-NoMemory-clause-fills
 returns-in-NoMemory-clause-fills g c =
-    refused_step _ _ _ c.args.self.now _ c.requires.going c.requires.none refl refl _ c.in-NoMemory.ensures.buffers c.no_memory.result refl c.no_memory.ensures refl
+    refused_step _ c.args.self.now _ c.requires.going c.requires.none refl refl _ c.in-NoMemory.ensures.buffers c.no_memory.result refl c.no_memory.ensures refl
 
 pub returns-in-Failed-clause-own_failure : goal.returns-in-Failed-clause-own_failure
 returns-in-Failed-clause-own_failure g c = λ was.

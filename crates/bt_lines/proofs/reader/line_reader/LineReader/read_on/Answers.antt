@@ -5,10 +5,10 @@ use Rattle.bt_lines.proofs.lemmas.reader.lines.StepLemmas.{told_ended, told_last
 use Rattle.bt_lines.proofs.reader.line_reader.LineReader.read_on.Goals as goal
 
 pub returns-in-LastLine-clause-fills : goal.returns-in-LastLine-clause-fills
-returns-in-LastLine-clause-fills g c = fills_after_last _ _ _ c.args.self.now _ c.requires c.in-LastLine.is refl refl refl refl refl refl
+returns-in-LastLine-clause-fills g c = fills_after_last _ c.args.self.now _ c.requires c.in-LastLine.is refl refl refl refl refl refl
 
 pub returns-in-Ended-clause-fills : goal.returns-in-Ended-clause-fills
-returns-in-Ended-clause-fills g c = fills_again _ _ _ c.args.self.now c.requires c.in-Ended.is
+returns-in-Ended-clause-fills g c = fills_again _ c.args.self.now c.requires c.in-Ended.is
 
 pub returns-in-LastLine-clause-own_failure : goal.returns-in-LastLine-clause-own_failure
 returns-in-LastLine-clause-own_failure g c =

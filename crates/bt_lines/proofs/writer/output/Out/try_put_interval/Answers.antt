@@ -1,6 +1,6 @@
 use Rattle.std.proofs.Common.{◌++◌, ◌≤◌, ◌∙◌, ap, append_assoc, arith, length, length-append, refl, sym}
 use Rattle.bt_lines.specs.calls.Output.{block_size}
-use Rattle.bt_lines.specs.inside.Span.{span_text}
+use Rattle.bt_lines.specs.calls.Putting.{span_text}
 use Rattle.bt_lines.proofs.lemmas.writer.SpanLemmas.{span_short}
 use Rattle.bt_lines.proofs.lemmas.writer.PuttingLemmas.{puts_held}
 use Rattle.bt_lines.proofs.writer.output.Out.try_put_interval.Goals as goal
