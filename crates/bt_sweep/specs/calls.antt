@@ -3,9 +3,9 @@ pub mod Advancing
 pub mod Held
 pub mod HeldIndex
 pub mod HeldList
-pub mod Joining
 pub mod Standing
 pub mod Steps
 pub mod SweepState
 pub mod SweepView
+pub mod Taking
 pub mod Worked

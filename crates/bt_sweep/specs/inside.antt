@@ -4,7 +4,6 @@ pub mod HeldList
 pub mod Joining
 pub mod Pending
 pub mod PlainPieces
-pub mod Reaching
 pub mod Relating
 pub mod StateSteps
 pub mod Walking

@@ -9,7 +9,7 @@ ghost use Rattle.bt_sweep.specs.calls.Standing.{taken_are_first};
 ghost use Rattle.bt_sweep.specs.calls.Steps.{quiet_are_taken};
 ghost use Rattle.bt_sweep.specs.model.Subtract.{left_are_lines, subtract_is_met};
 ghost use Rattle.bt_sweep.specs.calls.Worked.{decided_before_the_limit, fault_behind_undecided, fault_of_first, fault_within_the_limit, first_is_too_many, half_is_taken, limit_before_the_fault, none_is_held, parts_are_left, third_is_too_many, three_are_enough, whole_is_left};
-ghost use Rattle.bt_sweep.specs.model.SweepMeeting.{faultless_are_all, written_are_a_front};
+ghost use Rattle.bt_sweep.specs.model.SweepMeeting.{faultless_are_all, written_are_a_prefix};
 
 /// What is decided stays decided, and its lines stay as they are, whatever comes after in order: the
 /// record that decides it included.
@@ -48,8 +48,8 @@ pub fn faultless_inputs_give_all_pairs()
 {}
 
 /// What is written after a prefix of both inputs is a prefix of what is written for the whole.
-pub fn fronts_write_fronts()
-    ensures { written_are_a_front }
+pub fn prefixes_write_prefixes()
+    ensures { written_are_a_prefix }
 {}
 
 /// The records that were taken are those before the first that decides all that was given.

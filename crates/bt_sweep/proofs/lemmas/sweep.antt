@@ -7,6 +7,7 @@ pub mod KeepLemmas
 pub mod KnownLemmas
 pub mod PendingLemmas
 pub mod RelateLemmas
+pub mod SingleLemmas
 pub mod StandLemmas
 pub mod StateLemmas
 pub mod WriteLemmas

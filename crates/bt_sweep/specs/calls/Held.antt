@@ -16,12 +16,12 @@ abbrev pub CanHit : Feature → Feature → Type 0
 CanHit a b = CanHitAt a.chrom a.start b
 
 -- the records have a base, and lie on one chromosome
-abbrev pub AreContiguous : List Feature → Type 0
-AreContiguous held = All (λ b. (b.start < b.stop) × All (λ r. r.chrom ≡ b.chrom) held) held
+abbrev pub AreOnOne : List Feature → Type 0
+AreOnOne held = All (λ b. (b.start < b.stop) × All (λ r. r.chrom ≡ b.chrom) held) held
 
 -- the same, and they can hit the one that waits, if one does
 pub record AreReady (current : Option Feature) (held : List Feature) : Type 0 where
-  pub together : AreContiguous held
+  pub on_one : AreOnOne held
   pub hits : ForSome current (λ a. All (CanHit a) held)
 
 -- each starts at this position or after it, and at the start of the one before it or after that

@@ -22,11 +22,11 @@ use Rattle.bt_bed.specs.declared.record.taken.Taken.{Taken}
 use Rattle.bt_bed.specs.declared.record.taken.Taken.TheVariants.{Yes, No}
 use Rattle.bt_sweep.specs.declared.sweep.want.Want.TheVariants.{Nothing}
 
--- Why a call didn't put its lines. They couldn't be written, only if the sink failed, and a
--- prefix of them was. Or memory ran out before any of them was put.
-abbrev pub Fails : Output → List ℕ → FaultValue → Output → Type 0
-Fails out lines fault grown =
-    FailsToAdd out lines fault grown ⊎ ((fault ≡ no_memory) × (grown ≡ out))
+-- the second input goes on, so that the record given is to be kept, and there is no memory for it
+pub record FailsToKeepA (stage : Stage) (fault : FaultValue) (out grown : Output) : Type 0 where
+  pub goes_on : stage.b_ended ≡ false
+  pub is : fault ≡ no_memory
+  pub same_output : grown ≡ out
 
 -- the lines that are written when a is given: its own if the second input has ended,
 -- and else none
@@ -40,7 +40,9 @@ GivesA order shape rule limit stage a out (Ok done) new grown =
     StandsAt order shape rule limit (with_a stage a) new
     × Grown out (lines_with shape rule stage a) grown
 GivesA order shape rule limit stage a out (Err fault) new grown =
-    (want_in new ≡ Nothing) × Fails out (lines_with shape rule stage a) (fault_value fault) grown
+    (want_in new ≡ Nothing)
+    × (FailsToAdd out (lines_with shape rule stage a) (fault_value fault) grown
+    ⊎ FailsToKeepA stage (fault_value fault) out grown)
 
 -- what the end of the second input does, while a waits
 abbrev pub EndsB : {A : Type 0} → Order → Shape → HitRule → Option ℕ → Stage → Feature → Output

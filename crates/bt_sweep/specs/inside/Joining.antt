@@ -11,7 +11,7 @@ use Rattle.bt_bed.specs.model.feature.Feature.{Feature, intervals_of}
 use Rattle.bt_bed.specs.model.order.Locus.{ArePlaced}
 use Rattle.bt_bed.specs.model.order.Order.{Order, IsTotal}
 use Rattle.bt_sweep.specs.calls.Held.{CanHit}
-use Rattle.bt_sweep.specs.calls.Joining.{AreDecided, CannotBeHeld, ComesNext, LeavesLast, TakenEach}
+use Rattle.bt_sweep.specs.calls.Taking.{AreDecided, CannotBeHeld, ComesNext, LeavesLast, TakenEach}
 use Rattle.bt_sweep.specs.model.IntersectLines.{intersect}
 use Rattle.bt_sweep.specs.calls.Standing.{HoldsFor}
 use Rattle.bt_sweep.specs.calls.SweepState.{Sweeping}
@@ -27,7 +27,7 @@ pub record Keeps (order : Order) (shape : Shape) (rule : HitRule) (limit : Optio
   pub holds : HoldsFor order as_given taken sweep.held
   pub within : IfSome limit (λ most. length sweep.held ≤ most)
 
--- these lines were put after those that were pending, but not the ones that are left pending
+-- these lines were put after those that were pending, except the ones that are left pending
 pub record GrownWith (pending : List ℕ) (out : Output) (lines left : List ℕ) (grown : Output) : Type 0 where
   pub bytes : List ℕ
   pub parts : pending ++ lines ≡ bytes ++ left
@@ -55,7 +55,7 @@ GoesToFor For first firsts seconds old new =
     BehindFor For first firsts seconds old
     (λ order shape rule limit as_given taken. Keeps order shape rule limit as_given taken new)
 
--- the lines of these were written after those that were pending, but for the ones that are left pending
+-- the lines of these were written after those that were pending, except the ones that are left pending
 abbrev pub WritesFor : (Order → Type 0) → Feature → List Feature → List Feature → Sweeping
     → List Feature → List ℕ → Output → List ℕ → Output → Type 0
 WritesFor For first firsts seconds old newly pending out left grown =
@@ -112,7 +112,7 @@ WaitsOn name held waiting = IfSome waiting (λ a. (a.chrom ≡ name) × All (Can
 -- records of the first input alone, from `first` on
 module _ {A : Type 0} (gives : A → List Feature → A → Type 0) (has_ended : A → Type 0) (place : ℕ)
     (old : Sweeping) (first : Feature) (from : A) (pending : List ℕ) (out : Output) where
-  -- their lines were written or are left pending, but for the last one, where that waits
+  -- their lines were written or are left pending, except the last one, if that waits
   pub record WritesSo (waiting : Option Feature) (new : Sweeping) (to : A) (left : List ℕ)
       (grown : Output) : Type 0 where
     pub firsts : List Feature
@@ -161,7 +161,7 @@ module _ {A B : Type 0} (a_gives : A → List Feature → A → Type 0) (a_ended
     (b_gives : B → List Feature → B → Type 0) (b_ended : B → Type 0) (b_line : B → ℕ)
     (For : Order → Type 0) (Settles : List Feature → List Feature → Type 0)
     (old : Sweeping) (first : Feature) (from_a : A) (from_b : B) (pending : List ℕ) (out : Output) where
-  -- the lines of those of the first were written or are left pending, but for the last one, where that waits
+  -- the lines of those of the first were written or are left pending, except the last one, if that waits
   pub record JoinsSo (waiting : Option Feature) (new : Sweeping) (to_a : A) (to_b : B) (left : List ℕ)
       (grown : Output) : Type 0 where
     pub firsts : List Feature

@@ -40,8 +40,8 @@ faultless_are_all =
 
 -- the bytes that are decided by a prefix of each input, and so are written, begin what is written for all of both,
 -- whatever their faults
-abbrev pub written_are_a_front : Type 0
-written_are_a_front =
+abbrev pub written_are_a_prefix : Type 0
+written_are_a_prefix =
     (order : Order) (shape : Shape) (rule : HitRule)
     (first more_first second more_second : List Feature)
     (first_fault second_fault : Option FaultValue)

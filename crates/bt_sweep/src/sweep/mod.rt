@@ -2,7 +2,6 @@
 
 pub(crate) mod pending;
 pub(crate) mod phase;
-pub(crate) mod reach;
 pub(crate) mod relation;
 pub(crate) mod state;
 pub(crate) mod want;
@@ -15,7 +14,6 @@ use crate::hits::hit_rule::HitRule;
 use crate::output::shape::Shape;
 use crate::sweep::pending::Pending;
 use crate::sweep::phase::Phase;
-use crate::sweep::reach::{Reach, reach_of};
 use crate::sweep::relation::{Relation, relation_of};
 use crate::sweep::state::{State, skip};
 use crate::sweep::want::Want;
@@ -42,17 +40,14 @@ pub struct Sweep<'o, H: Held, O: ChromOrder> {
 impl<'o, H: Held, O: ChromOrder> Sweep<'o, H, O> {
     ghost use Rattle.std.specs.Prelude.{◌≡◌, ℕ, All, List, [], IsTrue, None, OnErr, OnOk, Option, Some};
     ghost use Rattle.bt_bed.specs.calls.Bed.{feature_lent};
-    ghost use Rattle.bt_bed.specs.model.feature.Feature.{intervals_of};
-    ghost use Rattle.bt_bed.specs.model.order.Locus.{ArePlaced};
     ghost use Rattle.bt_bed.specs.model.order.Order.{Order};
-    ghost use Rattle.bt_sweep.specs.calls.Standing.{IsInOrder, Stage, StandsAt, first_stage, given, held_for, last_given, want_at, with_a, with_a_ended};
+    ghost use Rattle.bt_sweep.specs.calls.Standing.{IsInOrder, Stage, StandsAt, first_stage, given, held_for, last_given, want_at, with_a, with_a_ended, with_b};
     ghost use Rattle.bt_sweep.specs.calls.Steps.{EndsB, GivesA, GivesB};
     ghost use Rattle.bt_sweep.specs.calls.Advancing.{Advances, AdvancesOn, DecidesCurrent, IsIdle, IsThis, Settles};
     ghost use Rattle.bt_sweep.specs.calls.Held.{CanHit};
-    ghost use Rattle.bt_sweep.specs.calls.Joining.{LeavesLast};
     ghost use Rattle.bt_sweep.specs.inside.Joining.{Joins};
     ghost use Rattle.bt_sweep.specs.inside.Pending.{line_in, pending_in};
-    ghost use Rattle.bt_sweep.specs.calls.Joining.{GivesKnown};
+    ghost use Rattle.bt_sweep.specs.calls.Taking.{GivesKnown, LeavesLast};
     ghost use Rattle.bt_sweep.specs.inside.Relating.{EndsWhile};
     ghost use Rattle.bt_sweep.specs.calls.SweepView.{order_of, state_of};
     ghost use Rattle.bt_sweep.specs.calls.SweepState.{want_in};
@@ -122,9 +117,8 @@ impl<'o, H: Held, O: ChromOrder> Sweep<'o, H, O> {
     }
 
     /// Takes the next record of the first input. If the second has ended its lines are written at
-    /// once, and else nothing is. For those the records of the second input have to be in order too, since
-    /// pieces are found by their starts. It fails with `NoMemory` if the record can't be kept, and with
-    /// `WriteFailed` if the lines can't be written.
+    /// once, and else nothing is. It fails with `NoMemory` if the record can't be kept, and with `WriteFailed` if the
+    /// lines can't be written.
     pub fn give_a<K: Sink>(&mut self, a: &BedRef<'_>, out: &mut Out<K>) -> Result<(), Fault>
         requires want { want_in (state_of self.old) ≡ Want.A }
         requires known { IsTrue ((order_of self.old).knows a.now.chrom.now) }
@@ -135,11 +129,7 @@ impl<'o, H: Held, O: ChromOrder> Sweep<'o, H, O> {
         ensures stops { OnErr result (want_in (state_of self.new) ≡ Want.Nothing) }
         ensures order { order_of self.new ≡ order_of self.old }
     {
-        self.state.enter(a);
-        if let Phase::First = self.state.phase() {
-            return self.state.put(a, out);
-        }
-        self.state.keep(a)
+        self.advance(&mut Single::new(*a, 0), &mut Single::none(a.chrom), out)
     }
 
     /// Takes the end of the first input. Nothing is written, and nothing more is wanted.
@@ -168,30 +158,18 @@ impl<'o, H: Held, O: ChromOrder> Sweep<'o, H, O> {
         requires known { IsTrue ((order_of self.old).knows b.now.chrom.now) }
         ensures gives { (shape : Shape) (rule : HitRule) (limit : Option ℕ) (stage : Stage) (a : Feature)
             → StandsAt (order_of self.old) shape rule limit stage (state_of self.old) → stage.waiting ≡ Some a
-            → ArePlaced (order_of self.old) (intervals_of stage.taken)
+            → IsInOrder (order_of self.old) (with_b stage (feature_lent b.now))
             → GivesB (order_of self.old) shape rule limit stage a (feature_lent b.now) line out.old.output result
             (state_of self.new) out.new.output }
         ensures stops { OnErr result (want_in (state_of self.new) ≡ Want.Nothing) }
         ensures order { order_of self.new ≡ order_of self.old }
     {
-        let Some(current) = self.state.take_current() else {
-            return Ok(Taken::Yes);
-        };
-        let a = current.as_bed();
-        match reach_of(self.order, &a, b) {
-            Reach::Before => {
-                self.state.put_back(current);
-                Ok(Taken::Yes)
-            }
-            Reach::Within => {
-                self.state.take(&a, b, line)?;
-                self.state.put_back(current);
-                Ok(Taken::Yes)
-            }
-            Reach::Past => {
-                self.state.put(&a, out)?;
-                Ok(Taken::No)
-            }
+        let mut given = Single::new(*b, line);
+        self.advance(&mut Single::none(b.chrom), &mut given, out)?;
+        if given.is_empty() {
+            Ok(Taken::Yes)
+        } else {
+            Ok(Taken::No)
         }
     }
 
@@ -201,7 +179,7 @@ impl<'o, H: Held, O: ChromOrder> Sweep<'o, H, O> {
         requires { want_in (state_of self.old) ≡ Want.B }
         ensures gives { (shape : Shape) (rule : HitRule) (limit : Option ℕ) (stage : Stage) (a : Feature)
             → StandsAt (order_of self.old) shape rule limit stage (state_of self.old) → stage.waiting ≡ Some a
-            → ArePlaced (order_of self.old) (intervals_of stage.taken)
+            → IsInOrder (order_of self.old) stage
             → EndsB (order_of self.old) shape rule limit stage a out.old.output result (state_of self.new) out.new.output }
         ensures stops { OnErr result (want_in (state_of self.new) ≡ Want.Nothing) }
         ensures order { order_of self.new ≡ order_of self.old }
@@ -210,10 +188,13 @@ impl<'o, H: Held, O: ChromOrder> Sweep<'o, H, O> {
             return Ok(());
         };
         self.state.end_b();
-        self.state.put(&current.as_bed(), out)
+        let bed = current.as_bed();
+        let mut none = Pending::new(Single::none(bed.chrom));
+        self.decide(bed, &mut none, &mut Single::none(bed.chrom), out)?;
+        Ok(())
     }
 
-    // Writes the record that waits if one of these of the second input decides it. Those before that one are taken.
+    // Writes the record that waits if one of these of the second input decides it. The records before that one are taken.
     fn decide_current<B: Cursor, K: Sink>(
         &mut self,
         b: &mut B,

@@ -1,14 +1,14 @@
 //! Where the records of the second input lie beside those of the first.
 
 ghost use Rattle.std.specs.Prelude.{IsTrue};
-ghost use Rattle.bt_sweep.specs.calls.Joining.{GivesKnown};
+ghost use Rattle.bt_sweep.specs.calls.Taking.{GivesKnown};
 ghost use Rattle.bt_sweep.specs.inside.Relating.{Relates};
 
 use crate::sweep::phase::Phase;
 use bt_bed::{ChromOrder, Cursor};
 use std::cmp::Ordering;
 
-// Where the records that come next of the second input lie, for records of the first on one chromosome.
+// Where the next records of the second input lie beside records of the first, by their chromosomes.
 #[derive(Clone, Copy)]
 pub(crate) enum Relation {
     // There are none as yet.

@@ -188,7 +188,7 @@ impl<H: Held> State<H> {
 
     // Writes the lines of a record against what is held.
     #[inline(always)]
-    pub(crate) fn put<R: Record, K: Sink>(&mut self, a: &R, out: &mut Out<K>) -> Result<(), Fault>
+    fn put<R: Record, K: Sink>(&mut self, a: &R, out: &mut Out<K>) -> Result<(), Fault>
         requires filled { (R.feature a.now).start < (R.feature a.now).stop }
         requires hits { All (CanHit (R.feature a.now)) self.old.held }
         ensures same { OnOk result (self.new ≡ self.old) }
@@ -203,8 +203,8 @@ impl<H: Held> State<H> {
         put
     }
 
-    // Takes a record of the second input, which is on a line and leaves this one of the first undecided: it is held
-    // where it can hit that or a later one. Whether there is room for it is asked before it is copied.
+    // Takes a record of the second input, from a line, that leaves this one of the first undecided. It is held if it can
+    // hit that or a later one. The limit is tested before the record is copied.
     #[inline(always)]
     pub(crate) fn take<A: Record, B: Record>(
         &mut self,

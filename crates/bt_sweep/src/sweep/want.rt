@@ -1,4 +1,4 @@
-//! What a sweep wants, and what it returns for a record of the second input.
+//! What a sweep wants.
 
 /// What a sweep wants next: a record of an input or its end.
 #[derive(Clone, Copy, Debug, PartialEq, Eq)]

@@ -13,7 +13,7 @@ use Rattle.bt_sweep.specs.model.Deciding.{decided}
 use Rattle.bt_sweep.specs.model.Hits.{hits_among}
 use Rattle.bt_sweep.specs.model.IntersectLines.{intersect, lines_for, lines_of}
 use Rattle.bt_sweep.specs.model.Subtract.{left_are_lines, left_lines, subtract, subtract_is_met, subtract_shape}
-use Rattle.bt_sweep.specs.model.SweepMeeting.{early_rule, faultless_are_all, sweep_rule, written_are_a_front}
+use Rattle.bt_sweep.specs.model.SweepMeeting.{early_rule, faultless_are_all, sweep_rule, written_are_a_prefix}
 use Rattle.bt_sweep.specs.declared.hits.hit_rule.HitRule.{HitRule}
 use Rattle.bt_sweep.specs.declared.output.shape.Shape.{Shape}
 use Rattle.bt_sweep.specs.declared.output.shape.Shape.TheVariants.{Whole}
@@ -28,7 +28,7 @@ all_stay order shape rule (a ∷ first) second more fault total known placed = (
   all_stay order shape rule first second more fault total known.2 placed,
 )
 
-pub written_front : written_are_a_front
+pub written_front : written_are_a_prefix
 written_front order shape rule first more_first second more_second first_fault second_fault total known placed =
     written_begins (early_rule order shape rule second) (sweep_rule order shape rule (second ++ more_second) second_fault) first more_first first_fault (all_stay order shape rule first second more_second second_fault total known placed)
 

@@ -15,7 +15,7 @@ use Rattle.bt_bed.specs.model.order.Order.{Order, IsTotal}
 use Rattle.bt_sweep.specs.model.Deciding.{decided, decides}
 use Rattle.bt_sweep.specs.calls.Held.{CanHit}
 use Rattle.bt_sweep.specs.model.IntersectLines.{intersect}
-use Rattle.bt_sweep.specs.calls.Joining.{AreDecided, CannotBeHeld, GivesKnown, LeavesLast, TakenEach, TakenFor}
+use Rattle.bt_sweep.specs.calls.Taking.{AreDecided, CannotBeHeld, GivesKnown, LeavesLast, TakenEach, TakenFor}
 use Rattle.bt_sweep.specs.inside.Joining.{AreDecidedOn, Behind, Breaks, Cuts, CutsLines, CutsOff, EndUpTo, GoesTo, GrownWith, Joins, JoinsSo, Keeps, LacksRoom, LeavesOn, LieOn, WaitsOn, Writes, WritesSo}
 use Rattle.bt_sweep.specs.calls.Standing.{held_for, is_held, last_given}
 use Rattle.bt_sweep.specs.inside.StateSteps.{CannotHold, has_room_in, holding}

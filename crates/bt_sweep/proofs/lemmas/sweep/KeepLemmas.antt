@@ -17,7 +17,7 @@ use Rattle.bt_bed.proofs.lemmas.parse.NameLemmas.{name_eq}
 use Rattle.bt_sweep.specs.model.Deciding.{decided, decides}
 use Rattle.bt_sweep.specs.calls.Held.{AreRising}
 use Rattle.bt_sweep.specs.model.IntersectLines.{intersect, lines_for}
-use Rattle.bt_sweep.specs.calls.Joining.{AreDecided}
+use Rattle.bt_sweep.specs.calls.Taking.{AreDecided}
 use Rattle.bt_sweep.specs.inside.Joining.{GrownWith, Keeps}
 use Rattle.bt_sweep.specs.calls.Standing.{HoldsFor, held_for, is_held, last_given}
 use Rattle.bt_sweep.specs.inside.StateSteps.{has_room_in, held_with, holding}

@@ -16,7 +16,7 @@ use Rattle.bt_bed.specs.declared.read.batch.Batch.{Batch}
 use Rattle.bt_bed.specs.declared.read.cursor.Single.{Single}
 use Rattle.bt_bed.specs.declared.order.ChromOrder.{Ghosts}
 use Rattle.bt_bed.specs.declared.read.records.Records.{Records}
-use Rattle.bt_sweep.specs.calls.Joining.{GivesKnown}
+use Rattle.bt_sweep.specs.calls.Taking.{GivesKnown}
 
 -- after some of them
 pub known_later : {A : Type 0} (gives : A → List Feature → A → Type 0) (gives_more : (old mid new : A) (xs ys : List Feature) → gives old xs mid → gives mid ys new → gives old (xs ++ ys) new)

@@ -54,14 +54,6 @@ module _ {T : Type 0} (a : Feature) (lines : List ℕ) (out grown : Output) (r :
 pub with_none : (pending : List ℕ) (out : Output) → GrownWith pending out [] pending out
 with_none pending out = record { bytes = []; parts = append-nil pending; puts = grown_none out }
 
--- all were put
-pub with_all : (pending lines : List ℕ) (out grown : Output) → Grown out (pending ++ lines) grown → GrownWith pending out lines [] grown
-with_all pending lines out grown puts = record { bytes = pending ++ lines; parts = sym (append-nil (pending ++ lines)); puts = puts }
-
--- none was
-pub with_left : (pending lines : List ℕ) (out : Output) → GrownWith pending out lines (pending ++ lines) out
-with_left pending lines out = record { bytes = []; parts = refl; puts = grown_none out }
-
 -- none was pending, and none is
 pub with_no_pending : (out grown : Output) (lines : List ℕ) → GrownWith [] out lines [] grown → Grown out lines grown
 with_no_pending out grown lines w = subst (λ (l : List ℕ). Grown out l grown) (sym (w.parts ∙ append-nil w.bytes)) w.puts

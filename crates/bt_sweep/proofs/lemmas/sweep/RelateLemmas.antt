@@ -18,7 +18,7 @@ use Rattle.bt_sweep.specs.calls.Advancing.{IsThis, Settles}
 use Rattle.bt_sweep.specs.model.Deciding.{decided, decides}
 use Rattle.bt_sweep.specs.calls.Held.{CanHit}
 use Rattle.bt_sweep.specs.model.IntersectLines.{intersect}
-use Rattle.bt_sweep.specs.calls.Joining.{AreDecided, CannotBeHeld, ComesNext, LeavesLast, TakenEach}
+use Rattle.bt_sweep.specs.calls.Taking.{AreDecided, CannotBeHeld, ComesNext, LeavesLast, TakenEach}
 use Rattle.bt_sweep.specs.inside.Joining.{AreDecidedOn, Behind, BehindFor, GoesToFor, GrownWith, StopsAt, EndUpTo, Joins, Keeps, LeavesOn, LieOn, WaitsOn, SkipsAll, WritesUpTo}
 use Rattle.bt_sweep.specs.inside.Relating.{Compares, EndsWhile, Relates}
 use Rattle.bt_sweep.specs.calls.Standing.{HoldsFor, is_held}

@@ -14,7 +14,7 @@ use Rattle.bt_bed.specs.calls.Single.{GivesSingle, single_left}
 use Rattle.bt_bed.specs.declared.read.cursor.Single.{Single}
 use Rattle.bt_sweep.specs.calls.Advancing.{Advances, AdvancesSo, AtEach, FailsAt, IsThis, PutsEach, Settles, StopsFor, stage_after}
 use Rattle.bt_sweep.specs.model.IntersectLines.{intersect}
-use Rattle.bt_sweep.specs.calls.Joining.{CannotBeHeld, LeavesLast, TakenEach}
+use Rattle.bt_sweep.specs.calls.Taking.{CannotBeHeld, LeavesLast, TakenEach}
 use Rattle.bt_sweep.specs.inside.Joining.{BehindFor, Breaks, JoinsSo, Keeps, TakesEachFor, WritesFor}
 use Rattle.bt_sweep.specs.calls.Standing.{HoldsFor, Stage, StandsAt, given, phase_of}
 use Rattle.bt_sweep.specs.inside.StateSteps.{KeepsOne, held_with}
@@ -105,9 +105,6 @@ one_waits s e = some_at (is_some s.current) (is_over s.phase) e
 
 pub want_a : (s : Sweeping) → s.current ≡ None → (s.phase ≡ Over → ⊥) → want_in s ≡ WantA
 want_a s none going = want_none s.current s.phase none going
-
-pub want_over : (s : Sweeping) → s.current ≡ None → s.phase ≡ Over → want_in s ≡ Nothing
-want_over s none over = ap (λ (o : Option Feature). want_of (is_some o) (is_over s.phase)) none ∙ ap (λ (p : Phase). want_of false (is_over p)) over
 
 pub want_b : (s : Sweeping) (a : Feature) → s.current ≡ Some a → want_in s ≡ WantB
 want_b s a some = ap (λ (o : Option Feature). want_of (is_some o) (is_over s.phase)) some

@@ -7,29 +7,25 @@ use Rattle.std.proofs.lemmas.Bool.{false≢true, ltb-true}
 use Rattle.std.proofs.lemmas.List.Elements.{All-filter, All-push, All-from_recursion, recursion_from_All}
 use Rattle.bt_bed.specs.model.feature.Feature.{Feature}
 use Rattle.bt_bed.proofs.lemmas.parse.NameLemmas.{same_name}
-use Rattle.bt_sweep.specs.calls.Held.{AreReady, AreContiguous, CanHit, CanHitAt}
+use Rattle.bt_sweep.specs.calls.Held.{AreReady, AreOnOne, CanHit, CanHitAt}
 use Rattle.bt_sweep.specs.model.IntersectLines.{lines_for, lines_of}
 use Rattle.bt_sweep.specs.inside.StateSteps.{are_on}
 use Rattle.bt_sweep.specs.declared.hits.hit_rule.HitRule.{HitRule}
 use Rattle.bt_sweep.specs.declared.output.shape.Shape.{Shape}
 
 -- if none waits
-pub ready_none : (current : Option Feature) (held : List Feature) → current ≡ None → AreContiguous held → AreReady current held
-ready_none current held none together = record { together = together; hits = λ x e. absurd (let apart : None ≡ Some x = sym none ∙ e in cc) }
-
--- if those that are held can hit the one that waits
-pub ready_some : (a : Feature) (held : List Feature) → AreContiguous held → All (CanHit a) held → AreReady (Some a) held
-ready_some a held together on = record { together = together; hits = λ x e. subst (λ (f : Feature). All (CanHit f) held) (let same : a ≡ x = cc in same) on }
+pub ready_none : (current : Option Feature) (held : List Feature) → current ≡ None → AreOnOne held → AreReady current held
+ready_none current held none on_one = record { on_one = on_one; hits = λ x e. absurd (let apart : None ≡ Some x = sym none ∙ e in cc) }
 
 pub hits_of : (current : Option Feature) (held : List Feature) → AreReady current held → IfSome current (λ a. All (CanHit a) held)
 hits_of None held ready = tt
 hits_of (Some a) held ready = ready.hits a refl
 
-pub together_from : (name : List ℕ) (start : ℕ) (held : List Feature) → All (CanHitAt name start) held → AreContiguous held
-together_from name start held on = λ k d h. ((on k d h).2, λ i e l. (on i e l).0 ∙ sym (on k d h).0)
+pub on_one_from : (name : List ℕ) (start : ℕ) (held : List Feature) → All (CanHitAt name start) held → AreOnOne held
+on_one_from name start held on = λ k d h. ((on k d h).2, λ i e l. (on i e l).0 ∙ sym (on k d h).0)
 
-pub together_filter : (p : Feature → Bool) (held : List Feature) → AreContiguous held → AreContiguous (filter p held)
-together_filter p held on =
+pub on_one_filter : (p : Feature → Bool) (held : List Feature) → AreOnOne held → AreOnOne (filter p held)
+on_one_filter p held on =
     All-filter p (λ (b : Feature). (b.start < b.stop) × All (λ (r : Feature). r.chrom ≡ b.chrom) (filter p held)) held
     (λ k d h. ((on k d h).0, All-filter p (λ (r : Feature). r.chrom ≡ (slice_index_or held k d).chrom) held (on k d h).1))
 
@@ -44,7 +40,7 @@ module _ (name : List ℕ) (start : ℕ) where
   kept_rec (b ∷ bs) all = kept_at b bs (ltb start b.stop) refl all.0 (kept_rec bs all.1)
 
   -- those that end after the start, if the first lies on the chromosome
-  pub hits_kept : (held : List Feature) → AreContiguous held → are_on held name ≡ true → All (CanHitAt name start) (filter (λ b. ltb start b.stop) held)
+  pub hits_kept : (held : List Feature) → AreOnOne held → are_on held name ≡ true → All (CanHitAt name start) (filter (λ b. ltb start b.stop) held)
   hits_kept [] on e = absurd (false≢true e)
   hits_kept (b ∷ more) on e =
       let first = (on 0 b (let some : 0 < length (b ∷ more) = omega arith in some)).1 in
@@ -58,9 +54,9 @@ hits_pushed name start held new b same ends filled on is = subst (All (CanHitAt 
 
 -- whether one was held or not
 pub pushed_or_not : {T E : Type 0} (r : Result T E) (start : ℕ) (b : Feature) (held new : List Feature) → start < b.stop → b.start < b.stop → All (CanHitAt b.chrom start) held
-    → OnOk r (new ≡ held ++ b ∷ []) → OnErr r (new ≡ held) → AreContiguous new
-pushed_or_not (Ok done) start b held new ends filled on is none = together_from b.chrom start new (hits_pushed b.chrom start held new b refl ends filled on is)
-pushed_or_not (Err f) start b held new ends filled on is none = subst AreContiguous (sym none) (together_from b.chrom start held on)
+    → OnOk r (new ≡ held ++ b ∷ []) → OnErr r (new ≡ held) → AreOnOne new
+pushed_or_not (Ok done) start b held new ends filled on is none = on_one_from b.chrom start new (hits_pushed b.chrom start held new b refl ends filled on is)
+pushed_or_not (Err f) start b held new ends filled on is none = subst AreOnOne (sym none) (on_one_from b.chrom start held on)
 
 pub on_ok_of : {T E : Type 0} {P : Type 0} (r : Result T E) → is_err r ≡ false → OnOk r P → P
 on_ok_of (Ok done) e h = h

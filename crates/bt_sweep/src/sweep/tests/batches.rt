@@ -1,7 +1,9 @@
+//! Tests with batches of both inputs.
+
 ghost use Rattle.std.specs.Prelude.{◌≡◌, IfSome};
 ghost use Rattle.bt_bed.specs.calls.Records.{order_in};
 ghost use Rattle.bt_bed.specs.calls.Single.{GivesSingle};
-ghost use Rattle.bt_sweep.specs.calls.Joining.{GivesKnown};
+ghost use Rattle.bt_sweep.specs.calls.Taking.{GivesKnown};
 ghost use Rattle.bt_sweep.specs.calls.SweepView.{order_of};
 
 use super::*;

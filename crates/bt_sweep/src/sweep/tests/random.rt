@@ -1,3 +1,5 @@
+//! Tests with random inputs.
+
 use super::*;
 
 // Numbers that look random, by a linear congruence.

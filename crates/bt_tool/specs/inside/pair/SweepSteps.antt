@@ -18,7 +18,7 @@ use Rattle.bt_bed.specs.declared.order.ChromOrder.{Ghosts}
 use Rattle.bt_bed.specs.declared.read.records.Records.{Records}
 use Rattle.bt_sweep.specs.calls.Advancing.{AtEach, PutsEach, Settles, stage_after}
 use Rattle.bt_sweep.specs.model.IntersectLines.{intersect, lines_for}
-use Rattle.bt_sweep.specs.calls.Joining.{CannotBeHeld, TakenEach}
+use Rattle.bt_sweep.specs.calls.Taking.{CannotBeHeld, TakenEach}
 use Rattle.bt_sweep.specs.calls.Standing.{Stage, StandsAt, with_a_ended, with_b_ended}
 use Rattle.bt_sweep.specs.calls.SweepState.{Sweeping, want_in}
 use Rattle.bt_sweep.specs.declared.sweep.phase.Phase.TheVariants.{Both}

@@ -1,15 +1,38 @@
-use Rattle.std.proofs.Common.{◌≡◌, Some, ap, ◌∙◌}
+use Rattle.std.proofs.Common.{◌≡◌, Some, Ok, Err, ap, subst, sym, ◌∙◌}
+use Rattle.std.proofs.lemmas.Result.{err_from_is_err_and}
+use Rattle.bt_lines.specs.declared.fault.Fault.{Fault}
 use Rattle.bt_bed.specs.calls.Bed.{feature_lent}
+use Rattle.bt_bed.specs.calls.Single.{single_left}
+use Rattle.bt_bed.specs.model.feature.Feature.{Feature}
+use Rattle.bt_sweep.specs.calls.Steps.{EndsB}
 use Rattle.bt_sweep.specs.calls.SweepState.{Sweeping}
 use Rattle.bt_sweep.specs.calls.SweepView.{order_of, state_of}
 use Rattle.bt_sweep.specs.declared.sweep.phase.Phase.TheVariants.{First}
-use Rattle.bt_sweep.proofs.lemmas.sweep.GiveLemmas.{ends_b, same_one, stop_wants}
+use Rattle.bt_sweep.proofs.lemmas.sweep.SingleLemmas.{ends_b, known_none, same_some, stops_end}
 use Rattle.bt_sweep.proofs.sweep.Sweep.end_b.Goals as goal
 
-pub returns-clause-gives : goal.returns-clause-gives
-returns-clause-gives g c = λ shape rule limit stage a st waits placed.
+pub decide-requires-clause-known_b : goal.decide-requires-clause-known_b
+decide-requires-clause-known_b g c = known_none (order_of c.args.self.now) c.none-2.result c.none-2.ensures.left
+
+pub returns-in_err-decide-clause-gives : goal.returns-in_err-decide-clause-gives
+returns-in_err-decide-clause-gives g c = λ shape rule limit stage a st waits ordered.
+    let order = order_of c.args.self.now in
     let old = state_of c.args.self.now in
-    let cur : Some c.in-Some.current ≡ Some a = c.in-Some.ensures.is ∙ st.current_is ∙ waits in
-    ends_b (order_of c.args.self.now) (g.met.O.ChromOrder.total c.args.self.now.order.now) shape rule limit stage a old st waits c.put.result c.end_b.new.self c.put.new.self (feature_lent c.as_bed.result) c.args.out.now.output c.put.new.out.output placed
-    (c.end_b.ensures ∙ ap (λ (s : Sweeping). record s { phase = First }) c.take_current.ensures.taken) (c.as_bed.ensures ∙ same_one c.in-Some.current a cur) c.put.ensures.same
-    (stop_wants c.put.result c.end_b.new.self c.put.new.self (ap (λ (s : Sweeping). s.current) (c.end_b.ensures ∙ ap (λ (s : Sweeping). record s { phase = First }) c.take_current.ensures.taken)) c.put.ensures.stops) c.put.ensures.puts
+    let first = feature_lent c.as_bed-bed.result in
+    let some : old.current ≡ Some first = sym c.in-Some.ensures.is ∙ ap (λ (f : Feature). Some f) (sym c.as_bed-bed.ensures) in
+    let e = err_from_is_err_and c.from_residual.result c.from_residual.ensures.1 in
+    rw (e.1, e.2)
+    (subst (λ (f : Feature). EndsB {A = Unit {0}} order shape rule limit stage f c.args.out.now.output (Err c.in_err-decide.field-0.0) (state_of c.decide.new.self) c.decide.new.out.output) (same_some first a (sym some ∙ st.current_is ∙ waits))
+    (stops_end order shape rule limit stage first old st (sym st.current_is ∙ some) ordered c.end_b.new.self (c.end_b.ensures ∙ ap (λ (s : Sweeping). record s { phase = First }) c.take_current.ensures.taken) c.new-none.result.cursor c.none-2.result
+    (ap single_left c.new-none.ensures.cursor ∙ c.none.ensures.left) c.none-2.ensures.left c.args.out.now.output (state_of c.decide.new.self) c.decide.new.a.cursor c.decide.new.b c.decide.new.out.output c.in_err-decide.field-0.0 c.in_err-decide.ensures.joins c.in_err-decide.ensures.stops))
+
+pub returns-clause-gives : goal.returns-clause-gives
+returns-clause-gives g c = λ shape rule limit stage a st waits ordered.
+    let order = order_of c.args.self.now in
+    let old = state_of c.args.self.now in
+    let first = feature_lent c.as_bed-bed.result in
+    let some : old.current ≡ Some first = sym c.in-Some.ensures.is ∙ ap (λ (f : Feature). Some f) (sym c.as_bed-bed.ensures) in
+    let j = c.in_ok-decide.ensures.joins in
+    subst (λ (f : Feature). EndsB {A = Unit {0}} order shape rule limit stage f c.args.out.now.output (Ok tt) (state_of c.decide.new.self) c.decide.new.out.output) (same_some first a (sym some ∙ st.current_is ∙ waits))
+    (ends_b order shape rule limit stage first old st (sym st.current_is ∙ some) ordered c.end_b.new.self (c.end_b.ensures ∙ ap (λ (s : Sweeping). record s { phase = First }) c.take_current.ensures.taken) c.new-none.result.cursor c.none-2.result
+    (ap single_left c.new-none.ensures.cursor ∙ c.none.ensures.left) c.none-2.ensures.left c.args.out.now.output (state_of c.decide.new.self) c.decide.new.a.cursor c.decide.new.b c.decide.new.out.output _ j.0 j.1 c.decide.ensures.none c.in_ok-decide.ensures.phase)

@@ -30,7 +30,7 @@ use Rattle.bt_bed.proofs.lemmas.order.TogetherLemmas.{grows_placed, last_of-push
 use Rattle.bt_bed.proofs.lemmas.read.good.TokenLemmas.{taken_are, token_is}
 use Rattle.bt_sweep.specs.calls.Advancing.{AdvancesOn, Settles, StopsFor}
 use Rattle.bt_sweep.specs.model.Deciding.{decided}
-use Rattle.bt_sweep.specs.calls.Joining.{CannotBeHeld, ComesNext, GivesKnown}
+use Rattle.bt_sweep.specs.calls.Taking.{CannotBeHeld, ComesNext, GivesKnown}
 use Rattle.bt_sweep.specs.calls.SweepState.{Sweeping, want_in}
 use Rattle.bt_sweep.specs.declared.sweep.phase.Phase.{Phase}
 use Rattle.bt_sweep.specs.declared.sweep.want.Want.{Want}

@@ -14,7 +14,7 @@ use Rattle.bt_bed.specs.calls.Reading.{members_from}
 use Rattle.bt_sweep.specs.calls.Advancing.{Settles as SettlesEach}
 use Rattle.bt_sweep.specs.model.Deciding.{decided, decides}
 use Rattle.bt_sweep.specs.model.IntersectLines.{intersect}
-use Rattle.bt_sweep.specs.calls.Joining.{AreDecided, TakenEach}
+use Rattle.bt_sweep.specs.calls.Taking.{AreDecided, TakenEach}
 use Rattle.bt_sweep.specs.model.Limit.{are_too_many}
 use Rattle.bt_sweep.specs.calls.Standing.{leaves_some}
 use Rattle.bt_sweep.specs.declared.hits.hit_rule.HitRule.{HitRule}

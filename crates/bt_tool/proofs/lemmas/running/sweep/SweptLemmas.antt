@@ -33,7 +33,7 @@ use Rattle.bt_bed.proofs.lemmas.read.batch.NeighbourLemmas.{wrong_of_bed}
 use Rattle.bt_sweep.specs.calls.Advancing.{PutsEach, Settles as SettlesEach, stage_after}
 use Rattle.bt_sweep.specs.model.Deciding.{decided}
 use Rattle.bt_sweep.specs.model.IntersectLines.{intersect, lines_for}
-use Rattle.bt_sweep.specs.calls.Joining.{AreDecided, TakenEach}
+use Rattle.bt_sweep.specs.calls.Taking.{AreDecided, TakenEach}
 use Rattle.bt_sweep.specs.model.Limit.{held_for, is_held}
 use Rattle.bt_sweep.specs.calls.Standing.{Stage, given, leaves_some, phase_of, with_a_ended, with_b_ended}
 use Rattle.bt_sweep.specs.calls.Steps.{has_room}

@@ -4,18 +4,18 @@ use Rattle.bt_bed.specs.model.feature.Feature.{Feature}
 use Rattle.bt_sweep.specs.calls.Held.{CanHit}
 use Rattle.bt_sweep.specs.inside.StateSteps.{are_on}
 use Rattle.bt_sweep.specs.calls.SweepState.{Sweeping}
-use Rattle.bt_sweep.proofs.lemmas.sweep.StateLemmas.{hits_kept, ready_none, together_filter}
+use Rattle.bt_sweep.proofs.lemmas.sweep.StateLemmas.{hits_kept, ready_none, on_one_filter}
 use Rattle.bt_sweep.proofs.sweep.state.State.enter.Goals as goal
 
 pub invariant_of-self : goal.invariant_of-self
 invariant_of-self g c =
     ready_none c.self.inside.current _ (ap (λ (s : Sweeping). s.current) c.self.view_is ∙ c.requires)
-    (rw c.drop_ended.ensures (together_filter _ (g.H.Held.records c.self.inside.held) c.self.invariant.together))
+    (rw c.drop_ended.ensures (on_one_filter _ (g.H.Held.records c.self.inside.held) c.self.invariant.on_one))
 
 pub returns-then-are_on-clause-hits : goal.returns-then-are_on-clause-hits
 returns-then-are_on-clause-hits g c =
     let a = g.R.Record.feature c.args.a.now in
     let held = g.H.Held.records c.self.inside.held in
     subst (All (CanHit a)) (sym (c.drop_ended.ensures ∙ ap (λ (n : ℕ). filter (λ (r : Feature). nat_lt n r.stop) held) c.start.ensures))
-    (hits_kept a.chrom a.start held c.self.invariant.together
+    (hits_kept a.chrom a.start held c.self.invariant.on_one
     (ap (λ (name : List ℕ). are_on held name) (ap (λ (f : Feature). f.chrom) (sym c.bed.ensures)) ∙ sym c.are_on.ensures ∙ c.if-are_on.true))

@@ -1,0 +1,605 @@
+-- Lemmas on calls with one record: they are calls with cursors over one record, or over none.
+use Rattle.std.proofs.Common.{◌≡◌, ◌⊎◌, inl, inr, ℕ, Bool, true, false, cond, ◌&&◌, ◌||◌, List, [], ◌∷◌, ◌++◌, Option, Some, None, Ok, Err, Result, refl, sym, ap, ◌∙◌, subst, append-nil, length, option_to_list, bytes_eq, ltb, ◌<◌}
+use Rattle.std.specs.Prelude.{OnErr, OnOk, IfSome, is_some, ⊤}
+use Rattle.std.specs.List.{list_all}
+use Rattle.std.proofs.lemmas.Bool.{and_from, false≢true, lt-ltb}
+use Rattle.bt_lines.specs.model.Fault.{FaultValue}
+use Rattle.bt_lines.specs.calls.Names.{fault_value}
+use Rattle.bt_lines.specs.calls.Output.{Output}
+use Rattle.bt_lines.specs.calls.Putting.{FailsToAdd, Grown}
+use Rattle.bt_lines.specs.declared.fault.Fault.{Fault}
+use Rattle.bt_lines.specs.declared.fault.Input.TheVariants.{Second}
+use Rattle.bt_lines.specs.declared.fault.Kind.TheVariants.{TooManyHeld}
+use Rattle.bt_bed.specs.model.feature.Feature.{Feature, intervals_of}
+use Rattle.bt_bed.specs.model.feature.LineKind.{fault_at_line}
+use Rattle.bt_bed.specs.model.order.Locus.{ArePlaced}
+use Rattle.bt_bed.specs.model.order.Order.{Order, IsTotal}
+use Rattle.bt_bed.specs.calls.Single.{GivesSingle, HasNone, single_left, single_line}
+use Rattle.bt_bed.specs.declared.read.cursor.Single.{Single}
+use Rattle.bt_bed.specs.declared.record.taken.Taken.{Taken}
+use Rattle.bt_bed.specs.declared.record.taken.Taken.TheVariants.{Yes, No}
+use Rattle.bt_bed.proofs.lemmas.parse.NameLemmas.{name_eq}
+use Rattle.bt_sweep.specs.calls.Advancing.{AdvancesOn, AdvancesSo, FailsAt, FailsToKeep, FailsToTake, HasWritten, IsThis, Settles, StopsFor, stage_after}
+use Rattle.bt_sweep.specs.calls.Taking.{AreDecided, ComesNext, GivesKnown, TakenEach, TakenFor}
+use Rattle.bt_sweep.specs.model.Deciding.{decided, decides}
+use Rattle.bt_sweep.specs.model.IntersectLines.{intersect, lines_for}
+use Rattle.bt_sweep.specs.inside.Joining.{Breaks, JoinsSo, Keeps, StopsAt}
+use Rattle.bt_sweep.specs.inside.Relating.{EndsWhile}
+use Rattle.bt_sweep.specs.calls.Standing.{HoldsFor, IsInOrder, Stage, StandsAt, given, held_for, is_held, phase_of, with_a, with_b, with_b_ended, with_lines}
+use Rattle.bt_sweep.specs.calls.Steps.{EndsB, FailsToHold, FailsToKeepA, FailsToWriteA, GivesA, GivesB, PassesLimit, has_room}
+use Rattle.bt_sweep.specs.calls.SweepState.{Sweeping, want_in, want_of, is_over}
+use Rattle.bt_sweep.specs.declared.hits.hit_rule.HitRule.{HitRule}
+use Rattle.bt_sweep.specs.declared.sweep.phase.Phase.{Phase}
+use Rattle.bt_sweep.specs.declared.sweep.phase.Phase.TheVariants.{Both, First, Over}
+use Rattle.bt_sweep.specs.declared.output.shape.Shape.{Shape}
+use Rattle.bt_sweep.specs.declared.sweep.want.Want.{Want}
+use Rattle.bt_sweep.specs.declared.sweep.want.Want.TheVariants.{A as WantA, B as WantB, Nothing}
+use Rattle.bt_sweep.proofs.lemmas.laws.HitLemmas.{before_lines}
+use Rattle.bt_sweep.proofs.lemmas.laws.PlacedLemmas.{front_placed}
+use Rattle.bt_sweep.proofs.lemmas.sweep.KeepLemmas.{undecided_beside}
+use Rattle.bt_sweep.proofs.lemmas.sweep.PendingLemmas.{with_no_pending}
+use Rattle.bt_sweep.proofs.lemmas.sweep.StandLemmas.{keeps_of, none_waits, not_over, single_none, want_a, want_b}
+
+-- ---- what such a cursor gives
+
+heads : (a b : Feature) (xs ys : List Feature) → a ∷ xs ≡ b ∷ ys → (a ≡ b) × (xs ≡ ys)
+heads a b xs ys e = (let same : a ≡ b = cc in same, let rest : xs ≡ ys = cc in rest)
+
+nothing_left : (fs left : List Feature) → [] ≡ fs ++ left → (fs ≡ []) × (left ≡ [])
+nothing_left [] left e = (refl, sym e)
+nothing_left (f ∷ fs) left e = absurd (let apart : [] ≡ f ∷ (fs ++ left) = e in cc)
+
+-- one record lies among the first of them or among the others
+one_of : (fs left : List Feature) (a : Feature) → a ∷ [] ≡ fs ++ left → ((fs ≡ []) × (left ≡ a ∷ [])) ⊎ ((fs ≡ a ∷ []) × (left ≡ []))
+one_of [] left a e = inl (refl, sym e)
+one_of (f ∷ fs) left a e =
+    let h = heads a f [] (fs ++ left) e in
+    let rest = nothing_left fs left h.1 in
+    inr (ap (λ (l : List Feature). f ∷ l) rest.0 ∙ ap (λ (x : Feature). x ∷ []) (sym h.0), rest.1)
+
+none_of : (newly : List Feature) (o : Option Feature) → [] ≡ newly ++ option_to_list o → (newly ≡ []) × (o ≡ None)
+none_of newly None e = ((nothing_left newly [] e).0, refl)
+none_of newly (Some w) e = absurd (let apart : w ∷ [] ≡ [] = (nothing_left newly (w ∷ []) e).1 in cc)
+
+-- it is written or waits
+one_written : (newly : List Feature) (o : Option Feature) (a : Feature) → a ∷ [] ≡ newly ++ option_to_list o → ((newly ≡ []) × (o ≡ Some a)) ⊎ ((newly ≡ a ∷ []) × (o ≡ None))
+one_written newly None a e = inr (sym (append-nil newly) ∙ sym e, refl)
+one_written newly (Some w) a e = elim (one_of newly (w ∷ []) a e) [
+  | inl waits ↦ inl (waits.0, ap (λ (x : Feature). Some x) (heads w a [] [] waits.1).0)
+  | inr gone ↦ absurd (let apart : w ∷ [] ≡ [] = gone.1 in cc)
+]
+
+pub same_some : (a b : Feature) → Some a ≡ Some b → a ≡ b
+same_some a b e = cc
+
+-- none comes of a cursor that is empty
+none_next : (to : Single) → single_left to ≡ [] → (next : Option Feature) → ComesNext GivesSingle to next → next ≡ None
+none_next to empty None comes = refl
+none_next to empty (Some b) comes = absurd (let apart : [] ≡ b ∷ single_left comes.0 = sym empty ∙ comes.1.left in cc)
+
+-- and only its record of one that isn't
+next_is : (to : Single) (b : Feature) → single_left to ≡ b ∷ [] → (r : Feature) (after : Single) → GivesSingle to (r ∷ []) after → b ≡ r
+next_is to b one r after gives = (heads b r [] (single_left after) (sym one ∙ gives.left)).0
+
+pub known_none : (order : Order) (one : Single) → single_left one ≡ [] → GivesKnown GivesSingle order one
+known_none order one empty records to gives =
+    let none = single_none one to records empty gives in
+    ap (λ (l : List Feature). list_all (λ (r : Feature). order.knows r.chrom) l) none
+
+-- ---- what decides one record
+
+undecided_by_none : (order : Order) (a : Feature) → AreDecided order (a ∷ []) [] → ⊥
+undecided_by_none order a e = false≢true e
+
+one_true : (d : Bool) → ((d || false) && true) ≡ true → d ≡ true
+one_true true e = refl
+one_true false e = e
+
+decides_one : (order : Order) (a b : Feature) → AreDecided order (a ∷ []) (b ∷ []) → decides order a b ≡ true
+decides_one order a b e = one_true (decides order a b) e
+
+-- ---- by what a sweep stands at
+
+over_or_not : (a b : Bool) (phase : Phase) → phase ≡ phase_of a b → (phase ≡ Over → ⊥) → a ≡ false
+over_or_not true b phase e going = absurd (going e)
+over_or_not false b phase e going = refl
+
+ended_by : (a b : Bool) (phase : Phase) → phase ≡ phase_of a b → a ≡ false → phase ≡ First → b ≡ true
+ended_by a true phase e going first = refl
+ended_by true false phase e going first = absurd (false≢true (sym going))
+ended_by false false phase e going first = absurd (let apart : Both ≡ First = sym e ∙ first in cc)
+
+goes_by : (a b : Bool) (phase : Phase) → phase ≡ phase_of a b → a ≡ false → phase ≡ Both → b ≡ false
+goes_by a false phase e going both = refl
+goes_by true true phase e going both = absurd (false≢true (sym going))
+goes_by false true phase e going both = absurd (let apart : First ≡ Both = sym e ∙ both in cc)
+
+not_over_by : (a b : Bool) (phase : Phase) → phase ≡ phase_of a b → a ≡ false → phase ≡ Over → ⊥
+not_over_by true b phase e going over = false≢true (sym going)
+not_over_by false true phase e going over = let apart : First ≡ Over = sym e ∙ over in cc
+not_over_by false false phase e going over = let apart : Both ≡ Over = sym e ∙ over in cc
+
+not_first_by : (a b : Bool) (phase : Phase) → phase ≡ phase_of a b → b ≡ false → phase ≡ First → ⊥
+not_first_by true b phase e none first = let apart : Over ≡ First = sym e ∙ first in cc
+not_first_by false true phase e none first = false≢true (sym none)
+not_first_by false false phase e none first = let apart : Both ≡ First = sym e ∙ first in cc
+
+-- the lines of one record
+module _ (shape : Shape) (rule : HitRule) (a : Feature) where
+  one_line : (newly taken now : List Feature) → newly ≡ a ∷ [] → now ≡ taken → intersect shape rule newly now ≡ lines_for shape rule a taken
+  one_line newly taken now n t =
+      ap (λ (l : List Feature). intersect shape rule l now) n ∙ ap (λ (l : List Feature). intersect shape rule (a ∷ []) l) t ∙ append-nil (lines_for shape rule a taken)
+
+no_lines : (shape : Shape) (rule : HitRule) (newly now : List Feature) → newly ≡ [] → intersect shape rule newly now ≡ []
+no_lines shape rule newly now n = ap (λ (l : List Feature). intersect shape rule l now) n
+
+same_output : (shape : Shape) (rule : HitRule) (newly now : List Feature) (out grown : Output) → newly ≡ [] → Grown out (intersect shape rule newly now) grown → grown ≡ out
+same_output shape rule newly now out grown n puts = puts.nothing (no_lines shape rule newly now n)
+
+module _ (order : Order) (shape : Shape) (rule : HitRule) (limit : Option ℕ) (stage : Stage) (old : Sweeping) (st : StandsAt order shape rule limit stage old) (from_a from_b : Single) (out : Output) where
+  abbrev Done : Sweeping → Single → Single → Output → Type 0
+  Done new to_a to_b grown = AdvancesSo GivesSingle HasNone GivesSingle HasNone single_line order old from_a from_b out new to_a to_b grown
+
+  abbrev Stops : Sweeping → Single → Single → Type 0
+  Stops new to_a to_b = StopsFor GivesSingle HasNone GivesSingle HasNone single_line order old from_a from_b out (want_in new) to_a to_b
+
+  abbrev Failed : FaultValue → Single → Single → Output → Type 0
+  Failed fault to_a to_b grown = FailsAt GivesSingle HasNone GivesSingle HasNone single_line order old from_a from_b out fault to_a to_b grown
+
+  abbrev Writes : Sweeping → Type 0
+  Writes new = HasWritten GivesSingle HasNone GivesSingle HasNone single_line order old from_a from_b out new
+
+  stops_for : (new : Sweeping) (to_a to_b : Single) (want : Want) → want_in new ≡ want → Stops new to_a to_b → StopsFor GivesSingle HasNone GivesSingle HasNone single_line order old from_a from_b out want to_a to_b
+  stops_for new to_a to_b want e stops = subst (λ (w : Want). StopsFor GivesSingle HasNone GivesSingle HasNone single_line order old from_a from_b out w to_a to_b) e stops
+
+  -- ---- a record of the first input
+
+  module _ (a : Feature) (wants : want_in old ≡ WantA) (ordered : IsInOrder order (with_a stage a)) (one : single_left from_a ≡ a ∷ []) (empty : single_left from_b ≡ []) where
+    none : old.current ≡ None
+    none = none_waits old wants
+
+    not_waiting : stage.waiting ≡ None
+    not_waiting = sym st.current_is ∙ none
+
+    goes : stage.a_ended ≡ false
+    goes = over_or_not stage.a_ended stage.b_ended old.phase st.phase_is (not_over old wants)
+
+    abbrev at : Bool → Stage
+    at b = cond b (record stage { written = stage.written ++ a ∷ [] }) (record stage { waiting = Some a })
+
+    given_at : (b : Bool) → given (at b) ≡ stage.written ++ a ∷ []
+    given_at true = ap (λ (o : Option Feature). (stage.written ++ a ∷ []) ++ option_to_list o) not_waiting ∙ append-nil (stage.written ++ a ∷ [])
+    given_at false = refl
+
+    taken_at : (b : Bool) → (at b).taken ≡ stage.taken
+    taken_at true = refl
+    taken_at false = refl
+
+    placed : ArePlaced order (intervals_of (stage.written ++ a ∷ []))
+    placed = subst (λ (l : List Feature). ArePlaced order (intervals_of l)) (given_at stage.b_ended) ordered.first
+
+    taken_placed : (seconds : List Feature) → seconds ≡ [] → ArePlaced order (intervals_of (stage.taken ++ seconds))
+    taken_placed seconds e =
+        subst (λ (l : List Feature). ArePlaced order (intervals_of l)) (taken_at stage.b_ended ∙ sym (append-nil stage.taken) ∙ ap (λ (l : List Feature). stage.taken ++ l) (sym e)) ordered.second
+
+    given_is : given stage ≡ stage.written
+    given_is = ap (λ (o : Option Feature). stage.written ++ option_to_list o) not_waiting ∙ append-nil stage.written
+
+    given_placed : (firsts : List Feature) → (firsts ≡ []) ⊎ (firsts ≡ a ∷ []) → ArePlaced order (intervals_of (given stage ++ firsts))
+    given_placed firsts (inl e) =
+        subst (λ (l : List Feature). ArePlaced order (intervals_of l)) (sym (append-nil stage.written) ∙ ap (λ (l : List Feature). l ++ []) (sym given_is) ∙ ap (λ (l : List Feature). given stage ++ l) (sym e)) (front_placed order stage.written (a ∷ []) placed)
+    given_placed firsts (inr e) =
+        subst (λ (l : List Feature). ArePlaced order (intervals_of l)) (ap (λ (l : List Feature). l ++ a ∷ []) (sym given_is) ∙ ap (λ (l : List Feature). given stage ++ l) (sym e)) placed
+
+    firsts_are : (to_a : Single) (firsts : List Feature) → GivesSingle from_a firsts to_a → ((firsts ≡ []) × (single_left to_a ≡ a ∷ [])) ⊎ ((firsts ≡ a ∷ []) × (single_left to_a ≡ []))
+    firsts_are to_a firsts gives = one_of firsts (single_left to_a) a (sym one ∙ gives.left)
+
+    either : (to_a : Single) (firsts : List Feature) → GivesSingle from_a firsts to_a → (firsts ≡ []) ⊎ (firsts ≡ a ∷ [])
+    either to_a firsts gives = elim (firsts_are to_a firsts gives) [
+      | inl kept ↦ inl kept.0
+      | inr came ↦ inr came.0
+    ]
+
+    seconds_none : (to_b : Single) (seconds : List Feature) → GivesSingle from_b seconds to_b → (seconds ≡ []) × (single_left to_b ≡ [])
+    seconds_none to_b seconds gives = nothing_left seconds (single_left to_b) (sym empty ∙ gives.left)
+
+    -- what is written before the second input has ended is decided by one of its records
+    first_by : (to_b : Single) (newly seconds : List Feature) (next : Option Feature) → newly ≡ a ∷ [] → GivesSingle from_b seconds to_b → ComesNext GivesSingle to_b next → Settles order old.phase newly (seconds ++ option_to_list next) → old.phase ≡ First
+    first_by to_b newly seconds next n gives comes settles = elim settles [
+      | inl first ↦ first
+      | inr all ↦ absurd (
+        let gone = seconds_none to_b seconds gives in
+        let bs : seconds ++ option_to_list next ≡ [] = ap (λ (o : Option Feature). seconds ++ option_to_list o) (none_next to_b gone.1 next comes) ∙ append-nil seconds ∙ gone.0 in
+        undecided_by_none order a (subst (λ (l : List Feature). AreDecided order l []) n (subst (AreDecided order newly) bs all)))
+    ]
+
+    ended : old.phase ≡ First → stage.b_ended ≡ true
+    ended first = ended_by stage.a_ended stage.b_ended old.phase st.phase_is goes first
+
+    module _ (new : Sweeping) (to_a to_b : Single) (grown : Output) where
+      module _ (d : Done new to_a to_b grown) where
+        no_seconds : d.seconds ≡ []
+        no_seconds = (seconds_none to_b d.seconds d.gives_seconds).0
+
+        stands_now : StandsAt order shape rule limit (stage_after stage d.newly new.current d.seconds) new
+        stands_now = d.stands shape rule limit stage st (given_placed d.firsts (either to_a d.firsts d.gives_firsts)) (taken_placed d.seconds no_seconds)
+
+        puts_now : Grown out (intersect shape rule d.newly (stage.taken ++ d.seconds)) grown
+        puts_now = d.puts shape rule limit stage st (given_placed d.firsts (either to_a d.firsts d.gives_firsts)) (taken_placed d.seconds no_seconds)
+
+        all_are : d.firsts ≡ d.newly ++ option_to_list new.current
+        all_are = ap (λ (o : Option Feature). option_to_list o ++ d.firsts) (sym none) ∙ d.are
+
+        same_taken : stage.taken ++ d.seconds ≡ stage.taken
+        same_taken = ap (λ (l : List Feature). stage.taken ++ l) no_seconds ∙ append-nil stage.taken
+
+        -- it was given
+        was_given : Stops new to_a to_b ⊎ Writes new → d.firsts ≡ a ∷ []
+        was_given stops = elim (firsts_are to_a d.firsts d.gives_firsts) [
+          | inr came ↦ came.0
+          | inl kept ↦ absurd (elim stops [
+            | inr wrote ↦ false≢true (ap is_some (sym none) ∙ wrote.0)
+            | inl stop ↦
+              let gone = none_of d.newly new.current (sym kept.0 ∙ all_are) in
+              let wants_a = want_a new gone.1 (not_over_by stage.a_ended stage.b_ended new.phase stands_now.phase_is goes) in
+              let spent : HasNone to_a = stops_for new to_a to_b WantA wants_a stop in
+              let apart : [] ≡ a ∷ [] = sym spent.none ∙ kept.1 in cc
+          ])
+        ]
+
+        abbrev Given : Type 0
+        Given = StandsAt order shape rule limit (with_a stage a) new × Grown out (cond stage.b_ended (lines_for shape rule a stage.taken) []) grown
+
+        gives_written : d.newly ≡ a ∷ [] → new.current ≡ None → Given
+        gives_written n w =
+            let e = ended (first_by to_b d.newly d.seconds d.next n d.gives_seconds d.comes d.settles) in
+            let is : stage_after stage d.newly new.current d.seconds ≡ with_a stage a =
+            ap (λ (l : List Feature). stage_after stage l new.current d.seconds) n ∙ ap (λ (o : Option Feature). stage_after stage (a ∷ []) o d.seconds) (w ∙ sym not_waiting)
+            ∙ ap (λ (l : List Feature). record stage { written = stage.written ++ a ∷ []; taken = l }) same_taken ∙ ap at (sym e) in (
+              subst (λ (s : Stage). StandsAt order shape rule limit s new) is stands_now,
+              subst (λ (l : List ℕ). Grown out l grown) (one_line shape rule a d.newly stage.taken (stage.taken ++ d.seconds) n same_taken ∙ ap (λ (c : Bool). cond c (lines_for shape rule a stage.taken) []) (sym e)) puts_now,
+            )
+
+        gives_waiting : d.newly ≡ [] → new.current ≡ Some a → Given
+        gives_waiting n w =
+            let e = (stands_now.unended (ap is_some w)).1 in
+            let is : stage_after stage d.newly new.current d.seconds ≡ with_a stage a =
+            ap (λ (l : List Feature). stage_after stage l new.current d.seconds) n ∙ ap (λ (o : Option Feature). stage_after stage [] o d.seconds) w
+            ∙ ap (λ (l : List Feature). record stage { written = l; waiting = Some a; taken = stage.taken ++ d.seconds }) (append-nil stage.written)
+            ∙ ap (λ (l : List Feature). record stage { waiting = Some a; taken = l }) same_taken ∙ ap at (sym e) in (
+              subst (λ (s : Stage). StandsAt order shape rule limit s new) is stands_now,
+              subst (λ (l : List ℕ). Grown out l grown) (no_lines shape rule d.newly (stage.taken ++ d.seconds) n ∙ ap (λ (c : Bool). cond c (lines_for shape rule a stage.taken) []) (sym e)) puts_now,
+            )
+
+      done_a : (d : Done new to_a to_b grown) → Stops new to_a to_b ⊎ Writes new → Given d
+      done_a d stops = elim (one_written d.newly new.current a (sym (was_given d stops) ∙ all_are d)) [
+        | inl waits ↦ gives_waiting d waits.0 waits.1
+        | inr gone ↦ gives_written d gone.0 gone.1
+      ]
+
+      module _ (fault : FaultValue) (b : Failed fault to_a to_b grown) where
+        none_taken : b.seconds ≡ []
+        none_taken = (seconds_none to_b b.seconds b.gives_seconds).0
+
+        taken_same : stage.taken ++ b.seconds ≡ stage.taken
+        taken_same = ap (λ (l : List Feature). stage.taken ++ l) none_taken ∙ append-nil stage.taken
+
+        are_all : b.firsts ≡ b.newly ++ option_to_list b.waiting
+        are_all = ap (λ (o : Option Feature). option_to_list o ++ b.firsts) (sym none) ∙ b.are
+
+        newly_are : (b.newly ≡ []) ⊎ (b.newly ≡ a ∷ [])
+        newly_are = elim (firsts_are to_a b.firsts b.gives_firsts) [
+          | inl kept ↦ inl (none_of b.newly b.waiting (sym kept.0 ∙ are_all)).0
+          | inr came ↦ elim (one_written b.newly b.waiting a (sym came.0 ∙ are_all)) [
+            | inl waits ↦ inl waits.0
+            | inr gone ↦ inr gone.0
+          ]
+        ]
+
+        cuts_lines : FailsToAdd out (intersect shape rule b.newly (stage.taken ++ b.seconds)) fault grown → FailsToAdd out (cond stage.b_ended (lines_for shape rule a stage.taken) []) fault grown
+        cuts_lines cut = elim newly_are [
+          | inl kept ↦ absurd (cut.some (no_lines shape rule b.newly (stage.taken ++ b.seconds) kept))
+          | inr n ↦
+            let e = ended (first_by to_b b.newly b.seconds b.next n b.gives_seconds b.comes b.settles) in
+            subst (λ (l : List ℕ). FailsToAdd out l fault grown) (one_line shape rule a b.newly stage.taken (stage.taken ++ b.seconds) n taken_same ∙ ap (λ (c : Bool). cond c (lines_for shape rule a stage.taken) []) (sym e)) cut
+        ]
+
+        fails_a : FailsToAdd out (cond stage.b_ended (lines_for shape rule a stage.taken) []) fault grown ⊎ FailsToKeepA stage fault out grown
+        fails_a = elim b.cause [
+          | inl cut ↦ inl (cuts_lines (cut.cuts shape rule limit stage st (given_placed b.firsts (either to_a b.firsts b.gives_firsts)) (taken_placed b.seconds none_taken)))
+          | inr rest ↦ elim rest [
+            | inl lack ↦ absurd (let apart : [] ≡ lack.b ∷ single_left lack.after = sym (seconds_none to_b b.seconds b.gives_seconds).1 ∙ lack.gives.left in cc)
+            | inr lost ↦ inr (record {
+              goes_on = goes_by stage.a_ended stage.b_ended old.phase st.phase_is goes lost.both;
+              is = lost.is;
+              same_output = elim newly_are [
+                | inl kept ↦ same_output shape rule b.newly (stage.taken ++ b.seconds) out grown kept (lost.puts shape rule limit stage st (given_placed b.firsts (either to_a b.firsts b.gives_firsts)) (taken_placed b.seconds none_taken))
+                | inr n ↦ absurd (elim (firsts_are to_a b.firsts b.gives_firsts) [
+                  | inl kept ↦ (let apart : [] ≡ a ∷ [] = sym (none_of b.newly b.waiting (sym kept.0 ∙ are_all)).0 ∙ n in cc)
+                  | inr came ↦ elim (one_written b.newly b.waiting a (sym came.0 ∙ are_all)) [
+                    | inl waits ↦ (let apart : [] ≡ a ∷ [] = sym waits.0 ∙ n in cc)
+                    | inr gone ↦ (let apart : None ≡ Some lost.last = sym gone.1 ∙ lost.waits in cc)
+                  ]
+                ])
+              ];
+            })
+          ]
+        ]
+
+    pub gives_a : {T : Type 0} (result : Result T Fault) (new : Sweeping) (to_a to_b : Single) (grown : Output) → OnErr result (want_in new ≡ Nothing)
+        → AdvancesOn GivesSingle HasNone GivesSingle HasNone single_line order old from_a from_b out result new to_a to_b grown → GivesA order shape rule limit stage a out result new grown
+    gives_a (Ok done) new to_a to_b grown stops d = done_a new to_a to_b grown d.0 d.1
+    gives_a (Err fault) new to_a to_b grown stops b = (stops, fails_a new to_a to_b grown (fault_value fault) b)
+
+  -- ---- a record of the second input
+
+  module _ (total : IsTotal order) (a b : Feature) (line : ℕ) (waits : stage.waiting ≡ Some a) (known : order.knows a.chrom ≡ true) (ordered : IsInOrder order (with_b stage b)) (empty : single_left from_a ≡ []) (one : single_left from_b ≡ b ∷ []) (at_line : single_line from_b ≡ line) where
+    some : old.current ≡ Some a
+    some = st.current_is ∙ waits
+
+    both : (stage.a_ended ≡ false) × (stage.b_ended ≡ false)
+    both = st.unended (ap is_some waits)
+
+    no_firsts : (to_a : Single) (firsts : List Feature) → GivesSingle from_a firsts to_a → firsts ≡ []
+    no_firsts to_a firsts gives = single_none from_a to_a firsts empty gives
+
+    seconds_are : (to_b : Single) (seconds : List Feature) → GivesSingle from_b seconds to_b → ((seconds ≡ []) × (single_left to_b ≡ b ∷ [])) ⊎ ((seconds ≡ b ∷ []) × (single_left to_b ≡ []))
+    seconds_are to_b seconds gives = one_of seconds (single_left to_b) b (sym one ∙ gives.left)
+
+    given_placed_b : (firsts : List Feature) → firsts ≡ [] → ArePlaced order (intervals_of (given stage ++ firsts))
+    given_placed_b firsts e = subst (λ (l : List Feature). ArePlaced order (intervals_of l)) (sym (append-nil (given stage)) ∙ ap (λ (l : List Feature). given stage ++ l) (sym e)) ordered.first
+
+    taken_placed_b : (to_b : Single) (seconds : List Feature) → GivesSingle from_b seconds to_b → ArePlaced order (intervals_of (stage.taken ++ seconds))
+    taken_placed_b to_b seconds gives = elim (seconds_are to_b seconds gives) [
+      | inl kept ↦ subst (λ (l : List Feature). ArePlaced order (intervals_of l)) (sym (append-nil stage.taken) ∙ ap (λ (l : List Feature). stage.taken ++ l) (sym kept.0)) (front_placed order stage.taken (b ∷ []) ordered.second)
+      | inr came ↦ subst (λ (l : List Feature). ArePlaced order (intervals_of (stage.taken ++ l))) (sym came.0) ordered.second
+    ]
+
+    given_all : (firsts newly : List Feature) (waiting : Option Feature) → firsts ≡ [] → option_to_list old.current ++ firsts ≡ newly ++ option_to_list waiting → ((newly ≡ []) × (waiting ≡ Some a)) ⊎ ((newly ≡ a ∷ []) × (waiting ≡ None))
+    given_all firsts newly waiting e are = one_written newly waiting a (ap (λ (l : List Feature). a ∷ l) (sym e) ∙ ap (λ (o : Option Feature). option_to_list o ++ firsts) (sym some) ∙ are)
+
+    -- it was taken, so it leaves that one undecided
+    undecided_by : (firsts seconds : List Feature) → firsts ≡ [] → seconds ≡ b ∷ [] → TakenEach order limit (option_to_list old.current ++ firsts) stage.taken seconds → decides order a b ≡ false
+    undecided_by firsts seconds e s each =
+        let all : option_to_list old.current ++ firsts ≡ a ∷ [] = ap (λ (o : Option Feature). option_to_list o ++ firsts) some ∙ ap (λ (l : List Feature). a ∷ l) e in
+        let at = subst (λ (l : List Feature). TakenEach order limit l stage.taken (b ∷ [])) all (subst (TakenEach order limit (option_to_list old.current ++ firsts) stage.taken) s each) in
+        elim (one_of at.0.before (at.0.a ∷ at.0.after) a at.0.parts) [
+          | inl here ↦ subst (λ (x : Feature). decides order x b ≡ false) (heads at.0.a a at.0.after [] here.1).0 at.0.undecided
+          | inr gone ↦ absurd (let apart : at.0.a ∷ at.0.after ≡ [] = gone.1 in cc)
+        ]
+
+    -- if that one is written, it decides it
+    decided_all : (to_b : Single) (seconds : List Feature) → GivesSingle from_b seconds to_b → (next : Option Feature) → ComesNext GivesSingle to_b next → AreDecided order (a ∷ []) (seconds ++ option_to_list next) → decides order a b ≡ true
+    decided_all to_b seconds gives None comes all = elim (seconds_are to_b seconds gives) [
+      | inl kept ↦ absurd (undecided_by_none order a (subst (AreDecided order (a ∷ [])) (append-nil seconds ∙ kept.0) all))
+      | inr came ↦ decides_one order a b (subst (AreDecided order (a ∷ [])) (append-nil seconds ∙ came.0) all)
+    ]
+    decided_all to_b seconds gives (Some r) comes all = elim (seconds_are to_b seconds gives) [
+      | inl kept ↦ decides_one order a b (subst (AreDecided order (a ∷ [])) (ap (λ (l : List Feature). l ++ r ∷ []) kept.0 ∙ ap (λ (x : Feature). x ∷ []) (sym (next_is to_b b kept.1 r comes.0 comes.1))) all)
+      | inr came ↦ absurd (let apart : [] ≡ r ∷ single_left comes.0 = sym came.1 ∙ comes.1.left in cc)
+    ]
+
+    decided_by : (to_b : Single) (newly seconds : List Feature) (next : Option Feature) → newly ≡ a ∷ [] → GivesSingle from_b seconds to_b → ComesNext GivesSingle to_b next → Settles order old.phase newly (seconds ++ option_to_list next) → decides order a b ≡ true
+    decided_by to_b newly seconds next n gives comes settles = elim settles [
+      | inl first ↦ absurd (not_first_by stage.a_ended stage.b_ended old.phase st.phase_is both.1 first)
+      | inr all ↦ decided_all to_b seconds gives next comes (subst (λ (l : List Feature). AreDecided order l (seconds ++ option_to_list next)) n all)
+    ]
+
+    -- so it can't be both
+    not_both : {T : Type 0} → decides order a b ≡ true → decides order a b ≡ false → T
+    not_both told undecided = absurd (false≢true (sym undecided ∙ told))
+
+    module _ (new : Sweeping) (to_a to_b : Single) (grown : Output) where
+      module _ (d : Done new to_a to_b grown) where
+        no_more : d.firsts ≡ []
+        no_more = no_firsts to_a d.firsts d.gives_firsts
+
+        stands_then : StandsAt order shape rule limit (stage_after stage d.newly new.current d.seconds) new
+        stands_then = d.stands shape rule limit stage st (given_placed_b d.firsts no_more) (taken_placed_b to_b d.seconds d.gives_seconds)
+
+        puts_then : Grown out (intersect shape rule d.newly (stage.taken ++ d.seconds)) grown
+        puts_then = d.puts shape rule limit stage st (given_placed_b d.firsts no_more) (taken_placed_b to_b d.seconds d.gives_seconds)
+
+        split : ((d.newly ≡ []) × (new.current ≡ Some a)) ⊎ ((d.newly ≡ a ∷ []) × (new.current ≡ None))
+        split = given_all d.firsts d.newly new.current no_more d.are
+
+        each_then : TakenEach order limit (option_to_list old.current ++ d.firsts) stage.taken d.seconds
+        each_then = d.each shape rule limit stage st (given_placed_b d.firsts no_more) (taken_placed_b to_b d.seconds d.gives_seconds)
+
+      taken_now : (d : Done new to_a to_b grown) → single_left to_b ≡ [] → GivesB order shape rule limit stage a b line out (Ok Yes) new grown
+      taken_now d gone = elim (seconds_are to_b d.seconds d.gives_seconds) [
+        | inl kept ↦ absurd (let apart : [] ≡ b ∷ [] = sym gone ∙ kept.1 in cc)
+        | inr came ↦
+          let undecided = undecided_by d.firsts d.seconds (no_more d) came.0 (each_then d) in
+          elim (split d) [
+            | inr written ↦ not_both (decided_by to_b d.newly d.seconds d.next written.0 d.gives_seconds d.comes d.settles) undecided
+            | inl still ↦
+              let is : stage_after stage d.newly new.current d.seconds ≡ with_b stage b =
+              ap (λ (l : List Feature). stage_after stage l new.current d.seconds) still.0 ∙ ap (λ (o : Option Feature). stage_after stage [] o d.seconds) (still.1 ∙ sym waits)
+              ∙ ap (λ (l : List Feature). record stage { written = l; taken = stage.taken ++ d.seconds }) (append-nil stage.written) ∙ ap (λ (l : List Feature). record stage { taken = stage.taken ++ l }) came.0 in
+              record {
+                undecided = undecided;
+                stands = subst (λ (s : Stage). StandsAt order shape rule limit s new) is (stands_then d);
+                same_output = same_output shape rule d.newly (stage.taken ++ d.seconds) out grown still.0 (puts_then d);
+              }
+          ]
+      ]
+
+      -- it is still there, so it decides that one
+      not_taken : (d : Done new to_a to_b grown) (r : Feature) → Stops new to_a to_b ⊎ Writes new → single_left to_b ≡ r ∷ [] → GivesB order shape rule limit stage a b line out (Ok No) new grown
+      not_taken d r stops still = elim (split d) [
+        | inl left ↦ absurd (elim stops [
+          | inl stop ↦
+            let spent : HasNone to_b = stops_for new to_a to_b WantB (want_b new a left.1) stop in
+            (let apart : [] ≡ r ∷ [] = sym spent.none ∙ still in cc)
+          | inr wrote ↦ (let apart : None ≡ Some a = sym wrote.1 ∙ left.1 in cc)
+        ])
+        | inr written ↦ elim (seconds_are to_b d.seconds d.gives_seconds) [
+          | inr came ↦ absurd (let apart : [] ≡ r ∷ [] = sym came.1 ∙ still in cc)
+          | inl kept ↦
+            let told = decided_by to_b d.newly d.seconds d.next written.0 d.gives_seconds d.comes d.settles in
+            let same : stage.taken ++ d.seconds ≡ stage.taken = ap (λ (l : List Feature). stage.taken ++ l) kept.0 ∙ append-nil stage.taken in
+            let is : stage_after stage d.newly new.current d.seconds ≡ with_lines stage =
+            ap (λ (l : List Feature). stage_after stage l new.current d.seconds) written.0 ∙ ap (λ (o : Option Feature). stage_after stage (a ∷ []) o d.seconds) written.1
+            ∙ ap (λ (l : List Feature). record stage { written = stage.written ++ a ∷ []; waiting = None; taken = l }) same
+            ∙ ap (λ (o : Option Feature). record stage { written = stage.written ++ option_to_list o; waiting = None }) (sym waits) in
+            record {
+              decides = told;
+              stands = subst (λ (s : Stage). StandsAt order shape rule limit s new) is (stands_then d);
+              puts = subst (λ (l : List ℕ). Grown out l grown) (one_line shape rule a d.newly stage.taken (stage.taken ++ d.seconds) written.0 same) (puts_then d);
+              settled = before_lines order shape rule a b stage.taken total known told;
+            }
+        ]
+      ]
+
+      module _ (fault : FaultValue) (f : Failed fault to_a to_b grown) where
+        none_more : f.firsts ≡ []
+        none_more = no_firsts to_a f.firsts f.gives_firsts
+
+        parts : ((f.newly ≡ []) × (f.waiting ≡ Some a)) ⊎ ((f.newly ≡ a ∷ []) × (f.waiting ≡ None))
+        parts = given_all f.firsts f.newly f.waiting none_more f.are
+
+        each_f : TakenEach order limit (option_to_list old.current ++ f.firsts) stage.taken f.seconds
+        each_f = f.each shape rule limit stage st (given_placed_b f.firsts none_more) (taken_placed_b to_b f.seconds f.gives_seconds)
+
+        abbrev FailsB : Type 0
+        FailsB = FailsToWriteA order shape rule limit stage a b line out fault grown ⊎ (PassesLimit order shape rule limit stage a b line out fault grown ⊎ FailsToHold order shape rule limit stage a b line out fault grown)
+
+        cut_b : FailsToAdd out (intersect shape rule f.newly (stage.taken ++ f.seconds)) fault grown → FailsB
+        cut_b cut = elim parts [
+          | inl still ↦ absurd (cut.some (no_lines shape rule f.newly (stage.taken ++ f.seconds) still.0))
+          | inr written ↦
+            let told = decided_by to_b f.newly f.seconds f.next written.0 f.gives_seconds f.comes f.settles in
+            elim (seconds_are to_b f.seconds f.gives_seconds) [
+              | inr came ↦ not_both told (undecided_by f.firsts f.seconds none_more came.0 each_f)
+              | inl kept ↦
+                let same : stage.taken ++ f.seconds ≡ stage.taken = ap (λ (l : List Feature). stage.taken ++ l) kept.0 ∙ append-nil stage.taken in
+                inl (record { decides = told; fails = subst (λ (l : List ℕ). FailsToAdd out l fault grown) (one_line shape rule a f.newly stage.taken (stage.taken ++ f.seconds) written.0 same) cut })
+            ]
+        ]
+
+        lack_b : FailsToTake GivesSingle HasNone GivesSingle HasNone single_line order old from_a from_b out f.firsts f.seconds f.newly f.waiting to_b fault grown → FailsB
+        lack_b lack = elim parts [
+          | inr written ↦ absurd (let apart : None ≡ Some lack.last = sym written.1 ∙ lack.waits in cc)
+          | inl still ↦ elim (seconds_are to_b f.seconds f.gives_seconds) [
+            | inr came ↦ absurd (let apart : [] ≡ lack.b ∷ single_left lack.after = sym came.1 ∙ lack.gives.left in cc)
+            | inl kept ↦
+              let is_a : lack.last ≡ a = same_some lack.last a (sym lack.waits ∙ still.1) in
+              let is_b : b ≡ lack.b = next_is to_b b kept.1 lack.b lack.after lack.gives in
+              let chrom : b.chrom ≡ a.chrom = ap (λ (x : Feature). x.chrom) is_b ∙ lack.chrom ∙ ap (λ (x : Feature). x.chrom) is_a in
+              let starts : b.start < a.stop = subst (λ (x : Feature). b.start < x.stop) is_a (subst (λ (x : Feature). x.start < lack.last.stop) (sym is_b) lack.starts) in
+              let ends : a.start < b.stop = subst (λ (x : Feature). x.start < b.stop) is_a (subst (λ (x : Feature). lack.last.start < x.stop) (sym is_b) lack.ends) in
+              let undecided = undecided_beside order total a b known chrom starts in
+              let held : is_held a b ≡ true = and_from (bytes_eq a.chrom b.chrom) (ltb a.start b.stop) (name_eq a.chrom b.chrom (sym chrom)) (lt-ltb a.start b.stop ends) in
+              let same : stage.taken ++ f.seconds ≡ stage.taken = ap (λ (l : List Feature). stage.taken ++ l) kept.0 ∙ append-nil stage.taken in
+              let room_is : has_room limit (length (held_for (Some lack.last) (stage.taken ++ f.seconds))) ≡ has_room limit (length (held_for (Some a) stage.taken)) =
+              ap (λ (l : List Feature). has_room limit (length (held_for (Some lack.last) l))) same ∙ ap (λ (x : Feature). has_room limit (length (held_for (Some x) stage.taken))) is_a in
+              let output = same_output shape rule f.newly (stage.taken ++ f.seconds) out grown still.0 (lack.puts shape rule limit stage st (given_placed_b f.firsts none_more) (taken_placed_b to_b f.seconds f.gives_seconds)) in
+              let on_line : single_line lack.after ≡ line = lack.gives.line ∙ f.gives_seconds.line ∙ at_line in
+              elim (lack.lacks shape rule limit stage st (given_placed_b f.firsts none_more) (taken_placed_b to_b f.seconds f.gives_seconds)) [
+                | inl full ↦ inr (inl (record {
+                  undecided = undecided;
+                  to_hold = held;
+                  is_full = sym room_is ∙ full.0;
+                  is = full.1 ∙ ap (λ (n : ℕ). fault_at_line Second n TooManyHeld) on_line;
+                  same_output = output;
+                }))
+                | inr lost ↦ inr (inr (record { undecided = undecided; to_hold = held; room = sym room_is ∙ lost.0; is = lost.1; same_output = output }))
+              ]
+          ]
+        ]
+
+        fails_b : FailsB
+        fails_b = elim f.cause [
+          | inl cut ↦ cut_b (cut.cuts shape rule limit stage st (given_placed_b f.firsts none_more) (taken_placed_b to_b f.seconds f.gives_seconds))
+          | inr rest ↦ elim rest [
+            | inl lack ↦ lack_b lack
+            | inr lost ↦ absurd (let apart : None ≡ Some a = sym lost.none ∙ some in cc)
+          ]
+        ]
+
+    pub takes_b : {T : Type 0} (done : T) (new : Sweeping) (to_a to_b : Single) (grown : Output) → AdvancesOn GivesSingle HasNone GivesSingle HasNone single_line order old from_a from_b out (Ok done) new to_a to_b grown → single_left to_b ≡ []
+        → GivesB order shape rule limit stage a b line out (Ok Yes) new grown
+    takes_b done new to_a to_b grown d gone = taken_now new to_a to_b grown d.0 gone
+
+    pub decides_a : {T : Type 0} (done : T) (new : Sweeping) (to_a to_b : Single) (grown : Output) (r : Feature) → AdvancesOn GivesSingle HasNone GivesSingle HasNone single_line order old from_a from_b out (Ok done) new to_a to_b grown → single_left to_b ≡ r ∷ []
+        → GivesB order shape rule limit stage a b line out (Ok No) new grown
+    decides_a done new to_a to_b grown r d still = not_taken new to_a to_b grown d.0 r d.1 still
+
+    pub stops_b : (new : Sweeping) (to_a to_b : Single) (grown : Output) (fault : Fault) → want_in new ≡ Nothing → FailsAt GivesSingle HasNone GivesSingle HasNone single_line order old from_a from_b out (fault_value fault) to_a to_b grown
+        → GivesB order shape rule limit stage a b line out (Err fault) new grown
+    stops_b new to_a to_b grown fault stops f = (stops, fails_b new to_a to_b grown (fault_value fault) f)
+
+-- ---- the end of the second input
+
+module _ (order : Order) (shape : Shape) (rule : HitRule) (limit : Option ℕ) (stage : Stage) (a : Feature) (old : Sweeping) (st : StandsAt order shape rule limit stage old) (waits : stage.waiting ≡ Some a) (ordered : IsInOrder order stage)
+    (mid : Sweeping) (mid_is : mid ≡ record old { current = None; phase = First }) (from_a from_b : Single) (empty_a : single_left from_a ≡ []) (empty_b : single_left from_b ≡ []) (out : Output) where
+  given_last : given stage ≡ stage.written ++ a ∷ []
+  given_last = ap (λ (o : Option Feature). stage.written ++ option_to_list o) waits
+
+  keeps_last : Keeps order shape rule limit (stage.written ++ a ∷ []) stage.taken mid
+  keeps_last =
+      let k = subst (λ (g : List Feature). Keeps order shape rule limit g stage.taken old) given_last (keeps_of order shape rule limit stage old st) in
+      let here : Keeps order shape rule limit (stage.written ++ a ∷ []) stage.taken (record old { current = None; phase = First }) = record { shape_is = k.shape_is; rule_is = k.rule_is; limit_is = k.limit_is; holds = k.holds; within = k.within } in
+      subst (λ (n : Sweeping). Keeps order shape rule limit (stage.written ++ a ∷ []) stage.taken n) (sym mid_is) here
+
+  last_placed : (firsts : List Feature) → firsts ≡ [] → ArePlaced order (intervals_of (stage.written ++ a ∷ firsts))
+  last_placed firsts e = subst (λ (l : List Feature). ArePlaced order (intervals_of l)) (given_last ∙ ap (λ (l : List Feature). stage.written ++ a ∷ l) (sym e)) ordered.first
+
+  all_placed : (seconds : List Feature) → seconds ≡ [] → ArePlaced order (intervals_of (stage.taken ++ seconds))
+  all_placed seconds e = subst (λ (l : List Feature). ArePlaced order (intervals_of l)) (sym (append-nil stage.taken) ∙ ap (λ (l : List Feature). stage.taken ++ l) (sym e)) ordered.second
+
+  same_seconds : (seconds : List Feature) → seconds ≡ [] → stage.taken ++ seconds ≡ stage.taken
+  same_seconds seconds e = ap (λ (l : List Feature). stage.taken ++ l) e ∙ append-nil stage.taken
+
+  module _ (final : Sweeping) (to_a to_b : Single) (grown : Output) where
+    abbrev Joined : Option Feature → Type 0
+    Joined waiting = JoinsSo GivesSingle HasNone GivesSingle (EndsWhile HasNone mid.phase) single_line (IsThis order) (Settles order mid.phase) mid a from_a from_b [] out waiting final to_a to_b [] grown
+
+    abbrev Broken : FaultValue → Type 0
+    Broken fault = Breaks GivesSingle HasNone GivesSingle (EndsWhile HasNone mid.phase) single_line (IsThis order) (Settles order mid.phase) mid a from_a from_b [] out fault to_a to_b [] grown
+
+    -- none is left
+    all_decided : (waiting : Option Feature) → StopsAt GivesSingle HasNone GivesSingle (EndsWhile HasNone mid.phase) single_line (IsThis order) (Settles order mid.phase) mid a from_a from_b [] out waiting to_a to_b → waiting ≡ None
+    all_decided None stops = refl
+    all_decided (Some w) stops = absurd (stops.1 (ap (λ (s : Sweeping). s.phase) mid_is))
+
+    written_is : (newly firsts : List Feature) (waiting : Option Feature) → firsts ≡ [] → waiting ≡ None → a ∷ firsts ≡ newly ++ option_to_list waiting → newly ≡ a ∷ []
+    written_is newly firsts waiting e w are = sym (append-nil newly) ∙ ap (λ (o : Option Feature). newly ++ option_to_list o) (sym w) ∙ sym are ∙ ap (λ (l : List Feature). a ∷ l) e
+
+    pub ends_b : (waiting : Option Feature) (j : Joined waiting) → StopsAt GivesSingle HasNone GivesSingle (EndsWhile HasNone mid.phase) single_line (IsThis order) (Settles order mid.phase) mid a from_a from_b [] out waiting to_a to_b
+        → final.current ≡ None → final.phase ≡ mid.phase → EndsB {A = Unit {0}} order shape rule limit stage a out (Ok tt) final grown
+    ends_b waiting j stops gone phase =
+        let no_firsts = single_none from_a to_a j.firsts empty_a j.gives_firsts in
+        let no_seconds = single_none from_b to_b j.seconds empty_b j.gives_seconds in
+        let newly = written_is j.newly j.firsts waiting no_firsts (all_decided waiting stops) j.are in
+        let k = j.goes order shape rule limit stage.written stage.taken refl keeps_last (last_placed j.firsts no_firsts) (all_placed j.seconds no_seconds) in
+        let puts = with_no_pending out grown (intersect shape rule j.newly (stage.taken ++ j.seconds)) (j.writes order shape rule limit stage.written stage.taken refl keeps_last (last_placed j.firsts no_firsts) (all_placed j.seconds no_seconds)) in
+        let same_given : stage.written ++ a ∷ j.firsts ≡ given stage ++ [] = ap (λ (l : List Feature). stage.written ++ a ∷ l) no_firsts ∙ sym given_last ∙ sym (append-nil (given stage)) in
+        let stands : StandsAt order shape rule limit (with_b_ended stage) final = record {
+          shape_is = k.shape_is;
+          rule_is = k.rule_is;
+          limit_is = k.limit_is;
+          current_is = gone;
+          phase_is = phase ∙ ap (λ (s : Sweeping). s.phase) mid_is ∙ ap (λ (e : Bool). phase_of e true) (sym (st.unended (ap is_some waits)).0);
+          holds = subst (λ (g : List Feature). HoldsFor order g stage.taken final.held) same_given (subst (λ (t : List Feature). HoldsFor order (stage.written ++ a ∷ j.firsts) t final.held) (same_seconds j.seconds no_seconds) k.holds);
+          within = k.within;
+          unended = λ some. absurd (false≢true some);
+        } in
+        (stands, subst (λ (l : List ℕ). Grown out l grown) (one_line shape rule a j.newly stage.taken (stage.taken ++ j.seconds) newly (same_seconds j.seconds no_seconds)) puts)
+
+    pub stops_end : (fault : Fault) → Broken (fault_value fault) → want_in final ≡ Nothing → EndsB {A = Unit {0}} order shape rule limit stage a out (Err fault) final grown
+    stops_end fault b stops =
+        let no_firsts = single_none from_a to_a b.firsts empty_a b.gives_firsts in
+        let none_taken = nothing_left b.seconds (single_left to_b) (sym empty_b ∙ b.gives_seconds.left) in (
+          stops,
+          elim b.cause [
+            | inr lack ↦ absurd (let apart : [] ≡ lack.b ∷ single_left lack.after = sym none_taken.1 ∙ lack.gives.left in cc)
+            | inl cut ↦
+              let lines = cut.cuts order shape rule limit stage.written stage.taken refl keeps_last (last_placed b.firsts no_firsts) (all_placed b.seconds none_taken.0) in
+              elim (one_written b.newly b.waiting a (ap (λ (l : List Feature). a ∷ l) (sym no_firsts) ∙ b.are)) [
+                | inl still ↦ absurd (lines.some (no_lines shape rule b.newly (stage.taken ++ b.seconds) still.0))
+                | inr written ↦ subst (λ (l : List ℕ). FailsToAdd out l (fault_value fault) grown) (one_line shape rule a b.newly stage.taken (stage.taken ++ b.seconds) written.0 (same_seconds b.seconds none_taken.0)) lines
+              ]
+          ],
+        )
