@@ -11,12 +11,10 @@ use Rattle.bt_bed.specs.model.order.Locus.{ArePlaced}
 use Rattle.bt_bed.specs.model.order.Order.{Order}
 use Rattle.bt_sweep.specs.model.IntersectLines.{intersect}
 use Rattle.bt_sweep.specs.calls.Taking.{AreDecided, CannotBeHeld, ComesNext, LeavesLast, TakenEach}
-use Rattle.bt_sweep.specs.calls.Standing.{Stage, StandsAt, given}
+use Rattle.bt_sweep.specs.calls.Standing.{MovesTo, Stage, StandsAt, given}
 use Rattle.bt_sweep.specs.calls.SweepState.{Sweeping, want_in}
-use Rattle.bt_sweep.specs.declared.hits.hit_rule.HitRule.{HitRule}
 use Rattle.bt_sweep.specs.declared.sweep.phase.Phase.{Phase}
 use Rattle.bt_sweep.specs.declared.sweep.phase.Phase.TheVariants.{Both, First}
-use Rattle.bt_sweep.specs.declared.output.shape.Shape.{Shape}
 use Rattle.bt_sweep.specs.declared.sweep.want.Want.{Want}
 use Rattle.bt_sweep.specs.declared.sweep.want.Want.TheVariants.{A, B, Nothing}
 
@@ -35,21 +33,19 @@ abbrev pub IsThis : Order → Order → Type 0
 IsThis order other = other ≡ order
 
 -- Wherever it stands: with these given and taken, where they are in order.
-abbrev pub AtEach : Order → Sweeping → List Feature → List Feature
-    → (Shape → HitRule → Option ℕ → Stage → Type 0) → Type 0
+abbrev pub AtEach : Order → Sweeping → List Feature → List Feature → (Stage → Type 0) → Type 0
 AtEach order old firsts seconds P =
-    (shape : Shape) (rule : HitRule) (limit : Option ℕ) (stage : Stage)
-    → StandsAt order shape rule limit stage old
+    (stage : Stage) → StandsAt order stage old
     → ArePlaced order (intervals_of (given stage ++ firsts))
     → ArePlaced order (intervals_of (stage.taken ++ seconds))
-    → P shape rule limit stage
+    → P stage
 
 -- the lines of these were written
 abbrev pub PutsEach : Order → Sweeping → List Feature → List Feature → List Feature → Output → Output
     → Type 0
 PutsEach order old firsts seconds newly out grown =
     AtEach order old firsts seconds
-    (λ shape rule limit stage. Grown out (intersect shape rule newly (stage.taken ++ seconds)) grown)
+    (λ stage. Grown out (intersect old.shape old.rule newly (stage.taken ++ seconds)) grown)
 
 module _ {U V : Type 0} (a_gives : U → List Feature → U → Type 0) (a_ended : U → Type 0)
     (b_gives : V → List Feature → V → Type 0) (b_ended : V → Type 0) (b_line : V → ℕ) (order : Order)
@@ -68,12 +64,12 @@ module _ {U V : Type 0} (a_gives : U → List Feature → U → Type 0) (a_ended
     pub settles : Settles order old.phase newly (seconds ++ option_to_list next)
     -- each was taken for one that those taken leave undecided, within the limit
     pub each : AtEach order old firsts seconds
-        (λ shape rule limit stage. TakenEach order limit (option_to_list old.current ++ firsts)
+        (λ stage. TakenEach order old.limit (option_to_list old.current ++ firsts)
         stage.taken seconds)
     -- the record of the second input that was taken last leaves the one that waits undecided
     pub leaves : IfSome new.current (LeavesLast order seconds)
     pub stands : AtEach order old firsts seconds
-        (λ shape rule limit stage. StandsAt order shape rule limit
+        (λ stage. MovesTo order old
         (stage_after stage newly new.current seconds) new)
     pub puts : PutsEach order old firsts seconds newly out grown
 
@@ -88,8 +84,8 @@ module _ {U V : Type 0} (a_gives : U → List Feature → U → Type 0) (a_ended
     -- the lines couldn't all be written
     pub record FailsToWrite : Type 0 where
       pub cuts : AtEach order old firsts seconds
-          (λ shape rule limit stage. FailsToAdd out
-          (intersect shape rule newly (stage.taken ++ seconds)) fault grown)
+          (λ stage. FailsToAdd out
+          (intersect old.shape old.rule newly (stage.taken ++ seconds)) fault grown)
 
     -- they were written; the next record of the second input shares a base with the one that waits, and
     -- can't be held
@@ -104,7 +100,7 @@ module _ {U V : Type 0} (a_gives : U → List Feature → U → Type 0) (a_ended
       pub ends : last.start < b.stop
       pub puts : PutsEach order old firsts seconds newly out grown
       pub lacks : AtEach order old firsts seconds
-          (λ shape rule limit stage. CannotBeHeld limit last (stage.taken ++ seconds) (b_line after) fault)
+          (λ stage. CannotBeHeld old.limit last (stage.taken ++ seconds) (b_line after) fault)
 
     -- they were written; neither input has ended, none waited before, all records of the second input that
     -- there are were taken, and the one of the first that waits can't be kept
@@ -131,7 +127,7 @@ module _ {U V : Type 0} (a_gives : U → List Feature → U → Type 0) (a_ended
     pub settles : Settles order old.phase newly (seconds ++ option_to_list next)
     -- each was taken for one that those taken leave undecided, within the limit
     pub each : AtEach order old firsts seconds
-        (λ shape rule limit stage. TakenEach order limit (option_to_list old.current ++ firsts)
+        (λ stage. TakenEach order old.limit (option_to_list old.current ++ firsts)
         stage.taken seconds)
     pub cause : FailsToWrite firsts seconds newly waiting to_b fault grown
         ⊎ (FailsToTake firsts seconds newly waiting to_b fault grown

@@ -7,11 +7,9 @@ use Rattle.bt_bed.specs.model.order.Locus.{ArePlaced}
 use Rattle.bt_bed.specs.model.order.Order.{Order, IsTotal}
 use Rattle.bt_sweep.specs.model.Deciding.{decides, decided}
 pub use Rattle.bt_sweep.specs.model.Limit.{is_held, held_for}
-use Rattle.bt_sweep.specs.calls.SweepState.{Sweeping, want_of}
-use Rattle.bt_sweep.specs.declared.hits.hit_rule.HitRule.{HitRule}
+use Rattle.bt_sweep.specs.calls.SweepState.{SameConfig, Sweeping, want_of}
 use Rattle.bt_sweep.specs.declared.sweep.phase.Phase.{Phase}
 use Rattle.bt_sweep.specs.declared.sweep.phase.Phase.TheVariants.{Both, First, Over}
-use Rattle.bt_sweep.specs.declared.output.shape.Shape.{Shape}
 use Rattle.bt_sweep.specs.declared.sweep.want.Want.{Want}
 
 -- How far a sweep has come: the records of the first input whose lines are written, the one whose
@@ -67,18 +65,19 @@ phase_of false true = First
 phase_of false false = Both
 
 -- the sweep is after these
-pub record StandsAt (order : Order) (shape : Shape) (rule : HitRule) (limit : Option ℕ)
-    (stage : Stage) (sweep : Sweeping) : Type 0 where
-  pub shape_is : sweep.shape ≡ shape
-  pub rule_is : sweep.rule ≡ rule
-  pub limit_is : sweep.limit ≡ limit
+pub record StandsAt (order : Order) (stage : Stage) (sweep : Sweeping) : Type 0 where
   pub current_is : sweep.current ≡ stage.waiting
   pub phase_is : sweep.phase ≡ phase_of stage.a_ended stage.b_ended
   pub holds : HoldsFor order (given stage) stage.taken sweep.held
   -- no more records are held than the limit allows
-  pub within : IfSome limit (λ most. length sweep.held ≤ most)
+  pub within : IfSome sweep.limit (λ most. length sweep.held ≤ most)
   -- a record waits only while neither input has ended
   pub unended : is_some stage.waiting ≡ true → (stage.a_ended ≡ false) × (stage.b_ended ≡ false)
+
+-- it is after these, and writes and holds by the same rules as before
+pub record MovesTo (order : Order) (old : Sweeping) (stage : Stage) (new : Sweeping) : Type 0 where
+  pub stands : StandsAt order stage new
+  pub same : SameConfig old new
 
 -- the stage with one more record of the first input: its lines are written at once if the second
 -- input has ended

@@ -13,11 +13,9 @@ use Rattle.bt_bed.specs.model.feature.LineKind.{fault_at_line}
 use Rattle.bt_bed.specs.model.order.Order.{Order}
 use Rattle.bt_sweep.specs.model.Deciding.{decides}
 use Rattle.bt_sweep.specs.model.IntersectLines.{LinesBefore, lines_for}
-use Rattle.bt_sweep.specs.calls.Standing.{Stage, StandsAt, held_for, is_held, with_a, with_b}
+use Rattle.bt_sweep.specs.calls.Standing.{MovesTo, Stage, held_for, is_held, with_a, with_b}
 use Rattle.bt_sweep.specs.calls.Standing.{with_b_ended, with_lines}
 use Rattle.bt_sweep.specs.calls.SweepState.{Sweeping, want_in}
-use Rattle.bt_sweep.specs.declared.hits.hit_rule.HitRule.{HitRule}
-use Rattle.bt_sweep.specs.declared.output.shape.Shape.{Shape}
 use Rattle.bt_bed.specs.declared.record.taken.Taken.{Taken}
 use Rattle.bt_bed.specs.declared.record.taken.Taken.TheVariants.{Yes, No}
 use Rattle.bt_sweep.specs.declared.sweep.want.Want.TheVariants.{Nothing}
@@ -30,28 +28,28 @@ pub record FailsToKeepA (stage : Stage) (fault : FaultValue) (out grown : Output
 
 -- the lines that are written when a is given: its own if the second input has ended,
 -- and else none
-abbrev pub lines_with : Shape → HitRule → Stage → Feature → List ℕ
-lines_with shape rule stage a = cond stage.b_ended (lines_for shape rule a stage.taken) []
+abbrev pub lines_with : Sweeping → Stage → Feature → List ℕ
+lines_with sweep stage a = cond stage.b_ended (lines_for sweep.shape sweep.rule a stage.taken) []
 
 -- what a call with the next record of the first input does; after a fault nothing is wanted
-abbrev pub GivesA : {A : Type 0} → Order → Shape → HitRule → Option ℕ → Stage → Feature → Output
-    → Result A Fault → Sweeping → Output → Type 0
-GivesA order shape rule limit stage a out (Ok done) new grown =
-    StandsAt order shape rule limit (with_a stage a) new
-    × Grown out (lines_with shape rule stage a) grown
-GivesA order shape rule limit stage a out (Err fault) new grown =
+abbrev pub GivesA : {A : Type 0} → Order → Stage → Feature → Sweeping → Output → Result A Fault → Sweeping
+    → Output → Type 0
+GivesA order stage a old out (Ok done) new grown =
+    MovesTo order old (with_a stage a) new × Grown out (lines_with old stage a) grown
+GivesA order stage a old out (Err fault) new grown =
     (want_in new ≡ Nothing)
-    × (FailsToAdd out (lines_with shape rule stage a) (fault_value fault) grown
+    × (FailsToAdd out (lines_with old stage a) (fault_value fault) grown
     ⊎ FailsToKeepA stage (fault_value fault) out grown)
 
 -- what the end of the second input does, while a waits
-abbrev pub EndsB : {A : Type 0} → Order → Shape → HitRule → Option ℕ → Stage → Feature → Output
-    → Result A Fault → Sweeping → Output → Type 0
-EndsB order shape rule limit stage a out (Ok done) new grown =
-    StandsAt order shape rule limit (with_b_ended stage) new
-    × Grown out (lines_for shape rule a stage.taken) grown
-EndsB order shape rule limit stage a out (Err fault) new grown =
-    (want_in new ≡ Nothing) × FailsToAdd out (lines_for shape rule a stage.taken) (fault_value fault) grown
+abbrev pub EndsB : {A : Type 0} → Order → Stage → Feature → Sweeping → Output → Result A Fault → Sweeping
+    → Output → Type 0
+EndsB order stage a old out (Ok done) new grown =
+    MovesTo order old (with_b_ended stage) new
+    × Grown out (lines_for old.shape old.rule a stage.taken) grown
+EndsB order stage a old out (Err fault) new grown =
+    (want_in new ≡ Nothing)
+    × FailsToAdd out (lines_for old.shape old.rule a stage.taken) (fault_value fault) grown
 
 -- whether one more record may be held beside `count`
 abbrev pub has_room : Option ℕ → ℕ → Bool
@@ -59,31 +57,30 @@ has_room None count = true
 has_room (Some most) count = nat_lt count most
 
 -- one more record of the second input, at a line, while a waits
-module _ (order : Order) (shape : Shape) (rule : HitRule) (limit : Option ℕ) (stage : Stage)
-    (a b : Feature) (line : ℕ) (out : Output) where
+module _ (order : Order) (stage : Stage) (a b : Feature) (line : ℕ) (old : Sweeping) (out : Output) where
   -- it leaves a undecided, and is taken
   pub record TakesB (new : Sweeping) (grown : Output) : Type 0 where
     pub undecided : decides order a b ≡ false
-    pub stands : StandsAt order shape rule limit (with_b stage b) new
+    pub stands : MovesTo order old (with_b stage b) new
     pub same_output : grown ≡ out
 
   -- it decides a: the lines of a are written, which stay whatever follows in order
   pub record WritesA (new : Sweeping) (grown : Output) : Type 0 where
     pub decides : decides order a b ≡ true
-    pub stands : StandsAt order shape rule limit (with_lines stage) new
-    pub puts : Grown out (lines_for shape rule a stage.taken) grown
-    pub settled : LinesBefore order shape rule a stage.taken b
+    pub stands : MovesTo order old (with_lines stage) new
+    pub puts : Grown out (lines_for old.shape old.rule a stage.taken) grown
+    pub settled : LinesBefore order old.shape old.rule a stage.taken b
 
   -- it decides a, whose lines couldn't be written
   pub record FailsToWriteA (fault : FaultValue) (grown : Output) : Type 0 where
     pub decides : decides order a b ≡ true
-    pub fails : FailsToAdd out (lines_for shape rule a stage.taken) fault grown
+    pub fails : FailsToAdd out (lines_for old.shape old.rule a stage.taken) fault grown
 
   -- it leaves a undecided and has to be held, for which the limit leaves no room
   pub record PassesLimit (fault : FaultValue) (grown : Output) : Type 0 where
     pub undecided : decides order a b ≡ false
     pub to_hold : is_held a b ≡ true
-    pub is_full : has_room limit (length (held_for (Some a) stage.taken)) ≡ false
+    pub is_full : has_room old.limit (length (held_for (Some a) stage.taken)) ≡ false
     pub is : fault ≡ fault_at_line Second line TooManyHeld
     pub same_output : grown ≡ out
 
@@ -92,7 +89,7 @@ module _ (order : Order) (shape : Shape) (rule : HitRule) (limit : Option ℕ) (
   pub record FailsToHold (fault : FaultValue) (grown : Output) : Type 0 where
     pub undecided : decides order a b ≡ false
     pub to_hold : is_held a b ≡ true
-    pub room : has_room limit (length (held_for (Some a) stage.taken)) ≡ true
+    pub room : has_room old.limit (length (held_for (Some a) stage.taken)) ≡ true
     pub is : fault ≡ no_memory
     pub same_output : grown ≡ out
 
@@ -109,9 +106,8 @@ module _ (order : Order) (shape : Shape) (rule : HitRule) (limit : Option ℕ) (
 -- and nothing is written
 abbrev pub quiet_are_taken : Type 0
 quiet_are_taken =
-    (order : Order) (shape : Shape) (rule : HitRule) (limit : Option ℕ) (stage : Stage)
-    (a b : Feature) (line : ℕ) (out : Output)
+    (order : Order) (stage : Stage) (a b : Feature) (line : ℕ) (old : Sweeping) (out : Output)
     (answer : Result Taken Fault) (new : Sweeping) (grown : Output)
-    → GivesB order shape rule limit stage a b line out answer new grown → decides order a b ≡ false
+    → GivesB order stage a b line old out answer new grown → decides order a b ≡ false
     → is_held a b ≡ false
     → (answer ≡ Ok Yes) × (grown ≡ out)

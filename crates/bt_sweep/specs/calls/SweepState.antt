@@ -1,5 +1,5 @@
 -- What a sweep holds between calls.
-use Rattle.std.specs.Prelude.{ℕ, Bool, true, false, List, Option, is_some}
+use Rattle.std.specs.Prelude.{◌≡◌, ℕ, Bool, true, false, List, Option, is_some}
 use Rattle.bt_bed.specs.model.feature.Feature.{Feature}
 use Rattle.bt_sweep.specs.declared.hits.hit_rule.HitRule.{HitRule}
 use Rattle.bt_sweep.specs.declared.sweep.phase.Phase.{Phase}
@@ -18,6 +18,12 @@ pub record Sweeping : Type 0 where
   pub current : Option Feature
   pub held : List Feature
   pub phase : Phase
+
+-- its lines have the same shape, by the same rule, and no more records may be held
+pub record SameConfig (old new : Sweeping) : Type 0 where
+  pub shape_is : new.shape ≡ old.shape
+  pub rule_is : new.rule ≡ old.rule
+  pub limit_is : new.limit ≡ old.limit
 
 -- what is wanted: the second input while lines are to be written, then the first, and nothing at
 -- the end or after a fault

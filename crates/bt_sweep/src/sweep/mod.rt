@@ -41,7 +41,7 @@ impl<'o, H: Held, O: ChromOrder> Sweep<'o, H, O> {
     ghost use Rattle.std.specs.Prelude.{◌≡◌, ℕ, All, List, [], IsTrue, None, OnErr, OnOk, Option, Some};
     ghost use Rattle.bt_bed.specs.calls.Bed.{feature_lent};
     ghost use Rattle.bt_bed.specs.model.order.Order.{Order};
-    ghost use Rattle.bt_sweep.specs.calls.Standing.{IsInOrder, Stage, StandsAt, first_stage, given, held_for, last_given, want_at, with_a, with_a_ended, with_b};
+    ghost use Rattle.bt_sweep.specs.calls.Standing.{IsInOrder, MovesTo, Stage, StandsAt, first_stage, given, held_for, last_given, want_at, with_a, with_a_ended, with_b};
     ghost use Rattle.bt_sweep.specs.calls.Steps.{EndsB, GivesA, GivesB};
     ghost use Rattle.bt_sweep.specs.calls.Advancing.{Advances, AdvancesOn, DecidesCurrent, IsIdle, IsThis, Settles};
     ghost use Rattle.bt_sweep.specs.calls.Held.{CanHit};
@@ -63,7 +63,10 @@ impl<'o, H: Held, O: ChromOrder> Sweep<'o, H, O> {
         order: &'o O,
     ) -> Sweep<'o, H, O>
         requires { H.records held ≡ [] }
-        ensures stands { StandsAt (O.order order.now) shape rule limit first_stage (state_of result) }
+        ensures stands { StandsAt (O.order order.now) first_stage (state_of result) }
+        ensures shape { (state_of result).shape ≡ shape }
+        ensures rule { (state_of result).rule ≡ rule }
+        ensures limit { (state_of result).limit ≡ limit }
         ensures order { order_of result ≡ O.order order.now }
     {
         Sweep {
@@ -75,8 +78,7 @@ impl<'o, H: Held, O: ChromOrder> Sweep<'o, H, O> {
     /// What it wants next.
     pub fn want(&self) -> Want
         ensures is { result ≡ want_in (state_of self.now) }
-        ensures stage { (order : Order) (shape : Shape) (rule : HitRule) (limit : Option ℕ) (stage : Stage)
-            → StandsAt order shape rule limit stage (state_of self.now) → result ≡ want_at stage }
+        ensures stage { (order : Order) (stage : Stage) → StandsAt order stage (state_of self.now) → result ≡ want_at stage }
     {
         self.state.want()
     }
@@ -84,8 +86,7 @@ impl<'o, H: Held, O: ChromOrder> Sweep<'o, H, O> {
     /// The records of the second input that it holds.
     pub fn held(&self) -> &H
         ensures is { H.records result.now ≡ (state_of self.now).held }
-        ensures stage { (order : Order) (shape : Shape) (rule : HitRule) (limit : Option ℕ) (stage : Stage)
-            → StandsAt order shape rule limit stage (state_of self.now)
+        ensures stage { (order : Order) (stage : Stage) → StandsAt order stage (state_of self.now)
             → H.records result.now ≡ held_for (last_given (given stage)) stage.taken }
     {
         self.state.held()
@@ -122,9 +123,9 @@ impl<'o, H: Held, O: ChromOrder> Sweep<'o, H, O> {
     pub fn give_a<K: Sink>(&mut self, a: &BedRef<'_>, out: &mut Out<K>) -> Result<(), Fault>
         requires want { want_in (state_of self.old) ≡ Want.A }
         requires known { IsTrue ((order_of self.old).knows a.now.chrom.now) }
-        ensures gives { (shape : Shape) (rule : HitRule) (limit : Option ℕ) (stage : Stage) → StandsAt (order_of self.old) shape rule limit stage (state_of self.old)
+        ensures gives { (stage : Stage) → StandsAt (order_of self.old) stage (state_of self.old)
             → IsInOrder (order_of self.old) (with_a stage (feature_lent a.now))
-            → GivesA (order_of self.old) shape rule limit stage (feature_lent a.now) out.old.output result
+            → GivesA (order_of self.old) stage (feature_lent a.now) (state_of self.old) out.old.output result
             (state_of self.new) out.new.output }
         ensures stops { OnErr result (want_in (state_of self.new) ≡ Want.Nothing) }
         ensures order { order_of self.new ≡ order_of self.old }
@@ -135,8 +136,8 @@ impl<'o, H: Held, O: ChromOrder> Sweep<'o, H, O> {
     /// Takes the end of the first input. Nothing is written, and nothing more is wanted.
     pub fn end_a(&mut self)
         requires { want_in (state_of self.old) ≡ Want.A }
-        ensures stands { (shape : Shape) (rule : HitRule) (limit : Option ℕ) (stage : Stage) → StandsAt (order_of self.old) shape rule limit stage (state_of self.old)
-            → StandsAt (order_of self.old) shape rule limit (with_a_ended stage) (state_of self.new) }
+        ensures stands { (stage : Stage) → StandsAt (order_of self.old) stage (state_of self.old)
+            → MovesTo (order_of self.old) (state_of self.old) (with_a_ended stage) (state_of self.new) }
         ensures nothing { want_in (state_of self.new) ≡ Want.Nothing }
         ensures order { order_of self.new ≡ order_of self.old }
     {
@@ -156,10 +157,10 @@ impl<'o, H: Held, O: ChromOrder> Sweep<'o, H, O> {
     ) -> Result<Taken, Fault>
         requires want { want_in (state_of self.old) ≡ Want.B }
         requires known { IsTrue ((order_of self.old).knows b.now.chrom.now) }
-        ensures gives { (shape : Shape) (rule : HitRule) (limit : Option ℕ) (stage : Stage) (a : Feature)
-            → StandsAt (order_of self.old) shape rule limit stage (state_of self.old) → stage.waiting ≡ Some a
+        ensures gives { (stage : Stage) (a : Feature)
+            → StandsAt (order_of self.old) stage (state_of self.old) → stage.waiting ≡ Some a
             → IsInOrder (order_of self.old) (with_b stage (feature_lent b.now))
-            → GivesB (order_of self.old) shape rule limit stage a (feature_lent b.now) line out.old.output result
+            → GivesB (order_of self.old) stage a (feature_lent b.now) line (state_of self.old) out.old.output result
             (state_of self.new) out.new.output }
         ensures stops { OnErr result (want_in (state_of self.new) ≡ Want.Nothing) }
         ensures order { order_of self.new ≡ order_of self.old }
@@ -177,10 +178,10 @@ impl<'o, H: Held, O: ChromOrder> Sweep<'o, H, O> {
     /// fails with `WriteFailed` if they can't be written.
     pub fn end_b<K: Sink>(&mut self, out: &mut Out<K>) -> Result<(), Fault>
         requires { want_in (state_of self.old) ≡ Want.B }
-        ensures gives { (shape : Shape) (rule : HitRule) (limit : Option ℕ) (stage : Stage) (a : Feature)
-            → StandsAt (order_of self.old) shape rule limit stage (state_of self.old) → stage.waiting ≡ Some a
+        ensures gives { (stage : Stage) (a : Feature)
+            → StandsAt (order_of self.old) stage (state_of self.old) → stage.waiting ≡ Some a
             → IsInOrder (order_of self.old) stage
-            → EndsB (order_of self.old) shape rule limit stage a out.old.output result (state_of self.new) out.new.output }
+            → EndsB (order_of self.old) stage a (state_of self.old) out.old.output result (state_of self.new) out.new.output }
         ensures stops { OnErr result (want_in (state_of self.new) ≡ Want.Nothing) }
         ensures order { order_of self.new ≡ order_of self.old }
     {

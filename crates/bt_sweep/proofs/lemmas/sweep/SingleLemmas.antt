@@ -1,5 +1,5 @@
 -- Lemmas on calls with one record: they are calls with cursors over one record, or over none.
-use Rattle.std.proofs.Common.{◌≡◌, ◌⊎◌, inl, inr, ℕ, Bool, true, false, cond, ◌&&◌, ◌||◌, List, [], ◌∷◌, ◌++◌, Option, Some, None, Ok, Err, Result, refl, sym, ap, ◌∙◌, subst, append-nil, length, option_to_list, bytes_eq, ltb, ◌<◌}
+use Rattle.std.proofs.Common.{◌≡◌, ◌⊎◌, inl, inr, ℕ, Bool, true, false, cond, ◌&&◌, ◌||◌, List, [], ◌∷◌, ◌++◌, Option, Some, None, Ok, Err, Result, refl, sym, ap, ◌∙◌, subst, append-nil, length, option_to_list, bytes_eq, ltb, ◌<◌, ◌≤◌}
 use Rattle.std.specs.Prelude.{OnErr, OnOk, IfSome, is_some, ⊤}
 use Rattle.std.specs.List.{list_all}
 use Rattle.std.proofs.lemmas.Bool.{and_from, false≢true, lt-ltb}
@@ -25,7 +25,7 @@ use Rattle.bt_sweep.specs.model.Deciding.{decided, decides}
 use Rattle.bt_sweep.specs.model.IntersectLines.{intersect, lines_for}
 use Rattle.bt_sweep.specs.inside.Joining.{Breaks, JoinsSo, Keeps, StopsAt}
 use Rattle.bt_sweep.specs.inside.Relating.{EndsWhile}
-use Rattle.bt_sweep.specs.calls.Standing.{HoldsFor, IsInOrder, Stage, StandsAt, given, held_for, is_held, phase_of, with_a, with_b, with_b_ended, with_lines}
+use Rattle.bt_sweep.specs.calls.Standing.{HoldsFor, IsInOrder, MovesTo, Stage, StandsAt, given, held_for, is_held, phase_of, with_a, with_b, with_b_ended, with_lines}
 use Rattle.bt_sweep.specs.calls.Steps.{EndsB, FailsToHold, FailsToKeepA, FailsToWriteA, GivesA, GivesB, PassesLimit, has_room}
 use Rattle.bt_sweep.specs.calls.SweepState.{Sweeping, want_in, want_of, is_over}
 use Rattle.bt_sweep.specs.declared.hits.hit_rule.HitRule.{HitRule}
@@ -136,7 +136,7 @@ no_lines shape rule newly now n = ap (λ (l : List Feature). intersect shape rul
 same_output : (shape : Shape) (rule : HitRule) (newly now : List Feature) (out grown : Output) → newly ≡ [] → Grown out (intersect shape rule newly now) grown → grown ≡ out
 same_output shape rule newly now out grown n puts = puts.nothing (no_lines shape rule newly now n)
 
-module _ (order : Order) (shape : Shape) (rule : HitRule) (limit : Option ℕ) (stage : Stage) (old : Sweeping) (st : StandsAt order shape rule limit stage old) (from_a from_b : Single) (out : Output) where
+module _ (order : Order) (stage : Stage) (old : Sweeping) (st : StandsAt order stage old) (from_a from_b : Single) (out : Output) where
   abbrev Done : Sweeping → Single → Single → Output → Type 0
   Done new to_a to_b grown = AdvancesSo GivesSingle HasNone GivesSingle HasNone single_line order old from_a from_b out new to_a to_b grown
 
@@ -221,11 +221,11 @@ module _ (order : Order) (shape : Shape) (rule : HitRule) (limit : Option ℕ) (
         no_seconds : d.seconds ≡ []
         no_seconds = (seconds_none to_b d.seconds d.gives_seconds).0
 
-        stands_now : StandsAt order shape rule limit (stage_after stage d.newly new.current d.seconds) new
-        stands_now = d.stands shape rule limit stage st (given_placed d.firsts (either to_a d.firsts d.gives_firsts)) (taken_placed d.seconds no_seconds)
+        stands_now : MovesTo order old (stage_after stage d.newly new.current d.seconds) new
+        stands_now = d.stands stage st (given_placed d.firsts (either to_a d.firsts d.gives_firsts)) (taken_placed d.seconds no_seconds)
 
-        puts_now : Grown out (intersect shape rule d.newly (stage.taken ++ d.seconds)) grown
-        puts_now = d.puts shape rule limit stage st (given_placed d.firsts (either to_a d.firsts d.gives_firsts)) (taken_placed d.seconds no_seconds)
+        puts_now : Grown out (intersect old.shape old.rule d.newly (stage.taken ++ d.seconds)) grown
+        puts_now = d.puts stage st (given_placed d.firsts (either to_a d.firsts d.gives_firsts)) (taken_placed d.seconds no_seconds)
 
         all_are : d.firsts ≡ d.newly ++ option_to_list new.current
         all_are = ap (λ (o : Option Feature). option_to_list o ++ d.firsts) (sym none) ∙ d.are
@@ -241,14 +241,14 @@ module _ (order : Order) (shape : Shape) (rule : HitRule) (limit : Option ℕ) (
             | inr wrote ↦ false≢true (ap is_some (sym none) ∙ wrote.0)
             | inl stop ↦
               let gone = none_of d.newly new.current (sym kept.0 ∙ all_are) in
-              let wants_a = want_a new gone.1 (not_over_by stage.a_ended stage.b_ended new.phase stands_now.phase_is goes) in
+              let wants_a = want_a new gone.1 (not_over_by stage.a_ended stage.b_ended new.phase stands_now.stands.phase_is goes) in
               let spent : HasNone to_a = stops_for new to_a to_b WantA wants_a stop in
               let apart : [] ≡ a ∷ [] = sym spent.none ∙ kept.1 in cc
           ])
         ]
 
         abbrev Given : Type 0
-        Given = StandsAt order shape rule limit (with_a stage a) new × Grown out (cond stage.b_ended (lines_for shape rule a stage.taken) []) grown
+        Given = MovesTo order old (with_a stage a) new × Grown out (cond stage.b_ended (lines_for old.shape old.rule a stage.taken) []) grown
 
         gives_written : d.newly ≡ a ∷ [] → new.current ≡ None → Given
         gives_written n w =
@@ -256,19 +256,19 @@ module _ (order : Order) (shape : Shape) (rule : HitRule) (limit : Option ℕ) (
             let is : stage_after stage d.newly new.current d.seconds ≡ with_a stage a =
             ap (λ (l : List Feature). stage_after stage l new.current d.seconds) n ∙ ap (λ (o : Option Feature). stage_after stage (a ∷ []) o d.seconds) (w ∙ sym not_waiting)
             ∙ ap (λ (l : List Feature). record stage { written = stage.written ++ a ∷ []; taken = l }) same_taken ∙ ap at (sym e) in (
-              subst (λ (s : Stage). StandsAt order shape rule limit s new) is stands_now,
-              subst (λ (l : List ℕ). Grown out l grown) (one_line shape rule a d.newly stage.taken (stage.taken ++ d.seconds) n same_taken ∙ ap (λ (c : Bool). cond c (lines_for shape rule a stage.taken) []) (sym e)) puts_now,
+              subst (λ (s : Stage). MovesTo order old s new) is stands_now,
+              subst (λ (l : List ℕ). Grown out l grown) (one_line old.shape old.rule a d.newly stage.taken (stage.taken ++ d.seconds) n same_taken ∙ ap (λ (c : Bool). cond c (lines_for old.shape old.rule a stage.taken) []) (sym e)) puts_now,
             )
 
         gives_waiting : d.newly ≡ [] → new.current ≡ Some a → Given
         gives_waiting n w =
-            let e = (stands_now.unended (ap is_some w)).1 in
+            let e = (stands_now.stands.unended (ap is_some w)).1 in
             let is : stage_after stage d.newly new.current d.seconds ≡ with_a stage a =
             ap (λ (l : List Feature). stage_after stage l new.current d.seconds) n ∙ ap (λ (o : Option Feature). stage_after stage [] o d.seconds) w
             ∙ ap (λ (l : List Feature). record stage { written = l; waiting = Some a; taken = stage.taken ++ d.seconds }) (append-nil stage.written)
             ∙ ap (λ (l : List Feature). record stage { waiting = Some a; taken = l }) same_taken ∙ ap at (sym e) in (
-              subst (λ (s : Stage). StandsAt order shape rule limit s new) is stands_now,
-              subst (λ (l : List ℕ). Grown out l grown) (no_lines shape rule d.newly (stage.taken ++ d.seconds) n ∙ ap (λ (c : Bool). cond c (lines_for shape rule a stage.taken) []) (sym e)) puts_now,
+              subst (λ (s : Stage). MovesTo order old s new) is stands_now,
+              subst (λ (l : List ℕ). Grown out l grown) (no_lines old.shape old.rule d.newly (stage.taken ++ d.seconds) n ∙ ap (λ (c : Bool). cond c (lines_for old.shape old.rule a stage.taken) []) (sym e)) puts_now,
             )
 
       done_a : (d : Done new to_a to_b grown) → Stops new to_a to_b ⊎ Writes new → Given d
@@ -296,24 +296,24 @@ module _ (order : Order) (shape : Shape) (rule : HitRule) (limit : Option ℕ) (
           ]
         ]
 
-        cuts_lines : FailsToAdd out (intersect shape rule b.newly (stage.taken ++ b.seconds)) fault grown → FailsToAdd out (cond stage.b_ended (lines_for shape rule a stage.taken) []) fault grown
+        cuts_lines : FailsToAdd out (intersect old.shape old.rule b.newly (stage.taken ++ b.seconds)) fault grown → FailsToAdd out (cond stage.b_ended (lines_for old.shape old.rule a stage.taken) []) fault grown
         cuts_lines cut = elim newly_are [
-          | inl kept ↦ absurd (cut.some (no_lines shape rule b.newly (stage.taken ++ b.seconds) kept))
+          | inl kept ↦ absurd (cut.some (no_lines old.shape old.rule b.newly (stage.taken ++ b.seconds) kept))
           | inr n ↦
             let e = ended (first_by to_b b.newly b.seconds b.next n b.gives_seconds b.comes b.settles) in
-            subst (λ (l : List ℕ). FailsToAdd out l fault grown) (one_line shape rule a b.newly stage.taken (stage.taken ++ b.seconds) n taken_same ∙ ap (λ (c : Bool). cond c (lines_for shape rule a stage.taken) []) (sym e)) cut
+            subst (λ (l : List ℕ). FailsToAdd out l fault grown) (one_line old.shape old.rule a b.newly stage.taken (stage.taken ++ b.seconds) n taken_same ∙ ap (λ (c : Bool). cond c (lines_for old.shape old.rule a stage.taken) []) (sym e)) cut
         ]
 
-        fails_a : FailsToAdd out (cond stage.b_ended (lines_for shape rule a stage.taken) []) fault grown ⊎ FailsToKeepA stage fault out grown
+        fails_a : FailsToAdd out (cond stage.b_ended (lines_for old.shape old.rule a stage.taken) []) fault grown ⊎ FailsToKeepA stage fault out grown
         fails_a = elim b.cause [
-          | inl cut ↦ inl (cuts_lines (cut.cuts shape rule limit stage st (given_placed b.firsts (either to_a b.firsts b.gives_firsts)) (taken_placed b.seconds none_taken)))
+          | inl cut ↦ inl (cuts_lines (cut.cuts stage st (given_placed b.firsts (either to_a b.firsts b.gives_firsts)) (taken_placed b.seconds none_taken)))
           | inr rest ↦ elim rest [
             | inl lack ↦ absurd (let apart : [] ≡ lack.b ∷ single_left lack.after = sym (seconds_none to_b b.seconds b.gives_seconds).1 ∙ lack.gives.left in cc)
             | inr lost ↦ inr (record {
               goes_on = goes_by stage.a_ended stage.b_ended old.phase st.phase_is goes lost.both;
               is = lost.is;
               same_output = elim newly_are [
-                | inl kept ↦ same_output shape rule b.newly (stage.taken ++ b.seconds) out grown kept (lost.puts shape rule limit stage st (given_placed b.firsts (either to_a b.firsts b.gives_firsts)) (taken_placed b.seconds none_taken))
+                | inl kept ↦ same_output old.shape old.rule b.newly (stage.taken ++ b.seconds) out grown kept (lost.puts stage st (given_placed b.firsts (either to_a b.firsts b.gives_firsts)) (taken_placed b.seconds none_taken))
                 | inr n ↦ absurd (elim (firsts_are to_a b.firsts b.gives_firsts) [
                   | inl kept ↦ (let apart : [] ≡ a ∷ [] = sym (none_of b.newly b.waiting (sym kept.0 ∙ are_all)).0 ∙ n in cc)
                   | inr came ↦ elim (one_written b.newly b.waiting a (sym came.0 ∙ are_all)) [
@@ -327,7 +327,7 @@ module _ (order : Order) (shape : Shape) (rule : HitRule) (limit : Option ℕ) (
         ]
 
     pub gives_a : {T : Type 0} (result : Result T Fault) (new : Sweeping) (to_a to_b : Single) (grown : Output) → OnErr result (want_in new ≡ Nothing)
-        → AdvancesOn GivesSingle HasNone GivesSingle HasNone single_line order old from_a from_b out result new to_a to_b grown → GivesA order shape rule limit stage a out result new grown
+        → AdvancesOn GivesSingle HasNone GivesSingle HasNone single_line order old from_a from_b out result new to_a to_b grown → GivesA order stage a old out result new grown
     gives_a (Ok done) new to_a to_b grown stops d = done_a new to_a to_b grown d.0 d.1
     gives_a (Err fault) new to_a to_b grown stops b = (stops, fails_a new to_a to_b grown (fault_value fault) b)
 
@@ -359,10 +359,10 @@ module _ (order : Order) (shape : Shape) (rule : HitRule) (limit : Option ℕ) (
     given_all firsts newly waiting e are = one_written newly waiting a (ap (λ (l : List Feature). a ∷ l) (sym e) ∙ ap (λ (o : Option Feature). option_to_list o ++ firsts) (sym some) ∙ are)
 
     -- it was taken, so it leaves that one undecided
-    undecided_by : (firsts seconds : List Feature) → firsts ≡ [] → seconds ≡ b ∷ [] → TakenEach order limit (option_to_list old.current ++ firsts) stage.taken seconds → decides order a b ≡ false
+    undecided_by : (firsts seconds : List Feature) → firsts ≡ [] → seconds ≡ b ∷ [] → TakenEach order old.limit (option_to_list old.current ++ firsts) stage.taken seconds → decides order a b ≡ false
     undecided_by firsts seconds e s each =
         let all : option_to_list old.current ++ firsts ≡ a ∷ [] = ap (λ (o : Option Feature). option_to_list o ++ firsts) some ∙ ap (λ (l : List Feature). a ∷ l) e in
-        let at = subst (λ (l : List Feature). TakenEach order limit l stage.taken (b ∷ [])) all (subst (TakenEach order limit (option_to_list old.current ++ firsts) stage.taken) s each) in
+        let at = subst (λ (l : List Feature). TakenEach order old.limit l stage.taken (b ∷ [])) all (subst (TakenEach order old.limit (option_to_list old.current ++ firsts) stage.taken) s each) in
         elim (one_of at.0.before (at.0.a ∷ at.0.after) a at.0.parts) [
           | inl here ↦ subst (λ (x : Feature). decides order x b ≡ false) (heads at.0.a a at.0.after [] here.1).0 at.0.undecided
           | inr gone ↦ absurd (let apart : at.0.a ∷ at.0.after ≡ [] = gone.1 in cc)
@@ -394,19 +394,19 @@ module _ (order : Order) (shape : Shape) (rule : HitRule) (limit : Option ℕ) (
         no_more : d.firsts ≡ []
         no_more = no_firsts to_a d.firsts d.gives_firsts
 
-        stands_then : StandsAt order shape rule limit (stage_after stage d.newly new.current d.seconds) new
-        stands_then = d.stands shape rule limit stage st (given_placed_b d.firsts no_more) (taken_placed_b to_b d.seconds d.gives_seconds)
+        stands_then : MovesTo order old (stage_after stage d.newly new.current d.seconds) new
+        stands_then = d.stands stage st (given_placed_b d.firsts no_more) (taken_placed_b to_b d.seconds d.gives_seconds)
 
-        puts_then : Grown out (intersect shape rule d.newly (stage.taken ++ d.seconds)) grown
-        puts_then = d.puts shape rule limit stage st (given_placed_b d.firsts no_more) (taken_placed_b to_b d.seconds d.gives_seconds)
+        puts_then : Grown out (intersect old.shape old.rule d.newly (stage.taken ++ d.seconds)) grown
+        puts_then = d.puts stage st (given_placed_b d.firsts no_more) (taken_placed_b to_b d.seconds d.gives_seconds)
 
         split : ((d.newly ≡ []) × (new.current ≡ Some a)) ⊎ ((d.newly ≡ a ∷ []) × (new.current ≡ None))
         split = given_all d.firsts d.newly new.current no_more d.are
 
-        each_then : TakenEach order limit (option_to_list old.current ++ d.firsts) stage.taken d.seconds
-        each_then = d.each shape rule limit stage st (given_placed_b d.firsts no_more) (taken_placed_b to_b d.seconds d.gives_seconds)
+        each_then : TakenEach order old.limit (option_to_list old.current ++ d.firsts) stage.taken d.seconds
+        each_then = d.each stage st (given_placed_b d.firsts no_more) (taken_placed_b to_b d.seconds d.gives_seconds)
 
-      taken_now : (d : Done new to_a to_b grown) → single_left to_b ≡ [] → GivesB order shape rule limit stage a b line out (Ok Yes) new grown
+      taken_now : (d : Done new to_a to_b grown) → single_left to_b ≡ [] → GivesB order stage a b line old out (Ok Yes) new grown
       taken_now d gone = elim (seconds_are to_b d.seconds d.gives_seconds) [
         | inl kept ↦ absurd (let apart : [] ≡ b ∷ [] = sym gone ∙ kept.1 in cc)
         | inr came ↦
@@ -419,14 +419,14 @@ module _ (order : Order) (shape : Shape) (rule : HitRule) (limit : Option ℕ) (
               ∙ ap (λ (l : List Feature). record stage { written = l; taken = stage.taken ++ d.seconds }) (append-nil stage.written) ∙ ap (λ (l : List Feature). record stage { taken = stage.taken ++ l }) came.0 in
               record {
                 undecided = undecided;
-                stands = subst (λ (s : Stage). StandsAt order shape rule limit s new) is (stands_then d);
-                same_output = same_output shape rule d.newly (stage.taken ++ d.seconds) out grown still.0 (puts_then d);
+                stands = subst (λ (s : Stage). MovesTo order old s new) is (stands_then d);
+                same_output = same_output old.shape old.rule d.newly (stage.taken ++ d.seconds) out grown still.0 (puts_then d);
               }
           ]
       ]
 
       -- it is still there, so it decides that one
-      not_taken : (d : Done new to_a to_b grown) (r : Feature) → Stops new to_a to_b ⊎ Writes new → single_left to_b ≡ r ∷ [] → GivesB order shape rule limit stage a b line out (Ok No) new grown
+      not_taken : (d : Done new to_a to_b grown) (r : Feature) → Stops new to_a to_b ⊎ Writes new → single_left to_b ≡ r ∷ [] → GivesB order stage a b line old out (Ok No) new grown
       not_taken d r stops still = elim (split d) [
         | inl left ↦ absurd (elim stops [
           | inl stop ↦
@@ -445,9 +445,9 @@ module _ (order : Order) (shape : Shape) (rule : HitRule) (limit : Option ℕ) (
             ∙ ap (λ (o : Option Feature). record stage { written = stage.written ++ option_to_list o; waiting = None }) (sym waits) in
             record {
               decides = told;
-              stands = subst (λ (s : Stage). StandsAt order shape rule limit s new) is (stands_then d);
-              puts = subst (λ (l : List ℕ). Grown out l grown) (one_line shape rule a d.newly stage.taken (stage.taken ++ d.seconds) written.0 same) (puts_then d);
-              settled = before_lines order shape rule a b stage.taken total known told;
+              stands = subst (λ (s : Stage). MovesTo order old s new) is (stands_then d);
+              puts = subst (λ (l : List ℕ). Grown out l grown) (one_line old.shape old.rule a d.newly stage.taken (stage.taken ++ d.seconds) written.0 same) (puts_then d);
+              settled = before_lines order old.shape old.rule a b stage.taken total known told;
             }
         ]
       ]
@@ -459,22 +459,22 @@ module _ (order : Order) (shape : Shape) (rule : HitRule) (limit : Option ℕ) (
         parts : ((f.newly ≡ []) × (f.waiting ≡ Some a)) ⊎ ((f.newly ≡ a ∷ []) × (f.waiting ≡ None))
         parts = given_all f.firsts f.newly f.waiting none_more f.are
 
-        each_f : TakenEach order limit (option_to_list old.current ++ f.firsts) stage.taken f.seconds
-        each_f = f.each shape rule limit stage st (given_placed_b f.firsts none_more) (taken_placed_b to_b f.seconds f.gives_seconds)
+        each_f : TakenEach order old.limit (option_to_list old.current ++ f.firsts) stage.taken f.seconds
+        each_f = f.each stage st (given_placed_b f.firsts none_more) (taken_placed_b to_b f.seconds f.gives_seconds)
 
         abbrev FailsB : Type 0
-        FailsB = FailsToWriteA order shape rule limit stage a b line out fault grown ⊎ (PassesLimit order shape rule limit stage a b line out fault grown ⊎ FailsToHold order shape rule limit stage a b line out fault grown)
+        FailsB = FailsToWriteA order stage a b line old out fault grown ⊎ (PassesLimit order stage a b line old out fault grown ⊎ FailsToHold order stage a b line old out fault grown)
 
-        cut_b : FailsToAdd out (intersect shape rule f.newly (stage.taken ++ f.seconds)) fault grown → FailsB
+        cut_b : FailsToAdd out (intersect old.shape old.rule f.newly (stage.taken ++ f.seconds)) fault grown → FailsB
         cut_b cut = elim parts [
-          | inl still ↦ absurd (cut.some (no_lines shape rule f.newly (stage.taken ++ f.seconds) still.0))
+          | inl still ↦ absurd (cut.some (no_lines old.shape old.rule f.newly (stage.taken ++ f.seconds) still.0))
           | inr written ↦
             let told = decided_by to_b f.newly f.seconds f.next written.0 f.gives_seconds f.comes f.settles in
             elim (seconds_are to_b f.seconds f.gives_seconds) [
               | inr came ↦ not_both told (undecided_by f.firsts f.seconds none_more came.0 each_f)
               | inl kept ↦
                 let same : stage.taken ++ f.seconds ≡ stage.taken = ap (λ (l : List Feature). stage.taken ++ l) kept.0 ∙ append-nil stage.taken in
-                inl (record { decides = told; fails = subst (λ (l : List ℕ). FailsToAdd out l fault grown) (one_line shape rule a f.newly stage.taken (stage.taken ++ f.seconds) written.0 same) cut })
+                inl (record { decides = told; fails = subst (λ (l : List ℕ). FailsToAdd out l fault grown) (one_line old.shape old.rule a f.newly stage.taken (stage.taken ++ f.seconds) written.0 same) cut })
             ]
         ]
 
@@ -492,11 +492,11 @@ module _ (order : Order) (shape : Shape) (rule : HitRule) (limit : Option ℕ) (
               let undecided = undecided_beside order total a b known chrom starts in
               let held : is_held a b ≡ true = and_from (bytes_eq a.chrom b.chrom) (ltb a.start b.stop) (name_eq a.chrom b.chrom (sym chrom)) (lt-ltb a.start b.stop ends) in
               let same : stage.taken ++ f.seconds ≡ stage.taken = ap (λ (l : List Feature). stage.taken ++ l) kept.0 ∙ append-nil stage.taken in
-              let room_is : has_room limit (length (held_for (Some lack.last) (stage.taken ++ f.seconds))) ≡ has_room limit (length (held_for (Some a) stage.taken)) =
-              ap (λ (l : List Feature). has_room limit (length (held_for (Some lack.last) l))) same ∙ ap (λ (x : Feature). has_room limit (length (held_for (Some x) stage.taken))) is_a in
-              let output = same_output shape rule f.newly (stage.taken ++ f.seconds) out grown still.0 (lack.puts shape rule limit stage st (given_placed_b f.firsts none_more) (taken_placed_b to_b f.seconds f.gives_seconds)) in
+              let room_is : has_room old.limit (length (held_for (Some lack.last) (stage.taken ++ f.seconds))) ≡ has_room old.limit (length (held_for (Some a) stage.taken)) =
+              ap (λ (l : List Feature). has_room old.limit (length (held_for (Some lack.last) l))) same ∙ ap (λ (x : Feature). has_room old.limit (length (held_for (Some x) stage.taken))) is_a in
+              let output = same_output old.shape old.rule f.newly (stage.taken ++ f.seconds) out grown still.0 (lack.puts stage st (given_placed_b f.firsts none_more) (taken_placed_b to_b f.seconds f.gives_seconds)) in
               let on_line : single_line lack.after ≡ line = lack.gives.line ∙ f.gives_seconds.line ∙ at_line in
-              elim (lack.lacks shape rule limit stage st (given_placed_b f.firsts none_more) (taken_placed_b to_b f.seconds f.gives_seconds)) [
+              elim (lack.lacks stage st (given_placed_b f.firsts none_more) (taken_placed_b to_b f.seconds f.gives_seconds)) [
                 | inl full ↦ inr (inl (record {
                   undecided = undecided;
                   to_hold = held;
@@ -511,7 +511,7 @@ module _ (order : Order) (shape : Shape) (rule : HitRule) (limit : Option ℕ) (
 
         fails_b : FailsB
         fails_b = elim f.cause [
-          | inl cut ↦ cut_b (cut.cuts shape rule limit stage st (given_placed_b f.firsts none_more) (taken_placed_b to_b f.seconds f.gives_seconds))
+          | inl cut ↦ cut_b (cut.cuts stage st (given_placed_b f.firsts none_more) (taken_placed_b to_b f.seconds f.gives_seconds))
           | inr rest ↦ elim rest [
             | inl lack ↦ lack_b lack
             | inr lost ↦ absurd (let apart : None ≡ Some a = sym lost.none ∙ some in cc)
@@ -519,29 +519,29 @@ module _ (order : Order) (shape : Shape) (rule : HitRule) (limit : Option ℕ) (
         ]
 
     pub takes_b : {T : Type 0} (done : T) (new : Sweeping) (to_a to_b : Single) (grown : Output) → AdvancesOn GivesSingle HasNone GivesSingle HasNone single_line order old from_a from_b out (Ok done) new to_a to_b grown → single_left to_b ≡ []
-        → GivesB order shape rule limit stage a b line out (Ok Yes) new grown
+        → GivesB order stage a b line old out (Ok Yes) new grown
     takes_b done new to_a to_b grown d gone = taken_now new to_a to_b grown d.0 gone
 
     pub decides_a : {T : Type 0} (done : T) (new : Sweeping) (to_a to_b : Single) (grown : Output) (r : Feature) → AdvancesOn GivesSingle HasNone GivesSingle HasNone single_line order old from_a from_b out (Ok done) new to_a to_b grown → single_left to_b ≡ r ∷ []
-        → GivesB order shape rule limit stage a b line out (Ok No) new grown
+        → GivesB order stage a b line old out (Ok No) new grown
     decides_a done new to_a to_b grown r d still = not_taken new to_a to_b grown d.0 r d.1 still
 
     pub stops_b : (new : Sweeping) (to_a to_b : Single) (grown : Output) (fault : Fault) → want_in new ≡ Nothing → FailsAt GivesSingle HasNone GivesSingle HasNone single_line order old from_a from_b out (fault_value fault) to_a to_b grown
-        → GivesB order shape rule limit stage a b line out (Err fault) new grown
+        → GivesB order stage a b line old out (Err fault) new grown
     stops_b new to_a to_b grown fault stops f = (stops, fails_b new to_a to_b grown (fault_value fault) f)
 
 -- ---- the end of the second input
 
-module _ (order : Order) (shape : Shape) (rule : HitRule) (limit : Option ℕ) (stage : Stage) (a : Feature) (old : Sweeping) (st : StandsAt order shape rule limit stage old) (waits : stage.waiting ≡ Some a) (ordered : IsInOrder order stage)
+module _ (order : Order) (stage : Stage) (a : Feature) (old : Sweeping) (st : StandsAt order stage old) (waits : stage.waiting ≡ Some a) (ordered : IsInOrder order stage)
     (mid : Sweeping) (mid_is : mid ≡ record old { current = None; phase = First }) (from_a from_b : Single) (empty_a : single_left from_a ≡ []) (empty_b : single_left from_b ≡ []) (out : Output) where
   given_last : given stage ≡ stage.written ++ a ∷ []
   given_last = ap (λ (o : Option Feature). stage.written ++ option_to_list o) waits
 
-  keeps_last : Keeps order shape rule limit (stage.written ++ a ∷ []) stage.taken mid
+  keeps_last : Keeps order old.shape old.rule old.limit (stage.written ++ a ∷ []) stage.taken mid
   keeps_last =
-      let k = subst (λ (g : List Feature). Keeps order shape rule limit g stage.taken old) given_last (keeps_of order shape rule limit stage old st) in
-      let here : Keeps order shape rule limit (stage.written ++ a ∷ []) stage.taken (record old { current = None; phase = First }) = record { shape_is = k.shape_is; rule_is = k.rule_is; limit_is = k.limit_is; holds = k.holds; within = k.within } in
-      subst (λ (n : Sweeping). Keeps order shape rule limit (stage.written ++ a ∷ []) stage.taken n) (sym mid_is) here
+      let k = subst (λ (g : List Feature). Keeps order old.shape old.rule old.limit g stage.taken old) given_last (keeps_of order stage old st) in
+      let here : Keeps order old.shape old.rule old.limit (stage.written ++ a ∷ []) stage.taken (record old { current = None; phase = First }) = record { shape_is = k.shape_is; rule_is = k.rule_is; limit_is = k.limit_is; holds = k.holds; within = k.within } in
+      subst (λ (n : Sweeping). Keeps order old.shape old.rule old.limit (stage.written ++ a ∷ []) stage.taken n) (sym mid_is) here
 
   last_placed : (firsts : List Feature) → firsts ≡ [] → ArePlaced order (intervals_of (stage.written ++ a ∷ firsts))
   last_placed firsts e = subst (λ (l : List Feature). ArePlaced order (intervals_of l)) (given_last ∙ ap (λ (l : List Feature). stage.written ++ a ∷ l) (sym e)) ordered.first
@@ -568,27 +568,24 @@ module _ (order : Order) (shape : Shape) (rule : HitRule) (limit : Option ℕ) (
     written_is newly firsts waiting e w are = sym (append-nil newly) ∙ ap (λ (o : Option Feature). newly ++ option_to_list o) (sym w) ∙ sym are ∙ ap (λ (l : List Feature). a ∷ l) e
 
     pub ends_b : (waiting : Option Feature) (j : Joined waiting) → StopsAt GivesSingle HasNone GivesSingle (EndsWhile HasNone mid.phase) single_line (IsThis order) (Settles order mid.phase) mid a from_a from_b [] out waiting to_a to_b
-        → final.current ≡ None → final.phase ≡ mid.phase → EndsB {A = Unit {0}} order shape rule limit stage a out (Ok tt) final grown
+        → final.current ≡ None → final.phase ≡ mid.phase → EndsB {A = Unit {0}} order stage a old out (Ok tt) final grown
     ends_b waiting j stops gone phase =
         let no_firsts = single_none from_a to_a j.firsts empty_a j.gives_firsts in
         let no_seconds = single_none from_b to_b j.seconds empty_b j.gives_seconds in
         let newly = written_is j.newly j.firsts waiting no_firsts (all_decided waiting stops) j.are in
-        let k = j.goes order shape rule limit stage.written stage.taken refl keeps_last (last_placed j.firsts no_firsts) (all_placed j.seconds no_seconds) in
-        let puts = with_no_pending out grown (intersect shape rule j.newly (stage.taken ++ j.seconds)) (j.writes order shape rule limit stage.written stage.taken refl keeps_last (last_placed j.firsts no_firsts) (all_placed j.seconds no_seconds)) in
+        let k = j.goes order old.shape old.rule old.limit stage.written stage.taken refl keeps_last (last_placed j.firsts no_firsts) (all_placed j.seconds no_seconds) in
+        let puts = with_no_pending out grown (intersect old.shape old.rule j.newly (stage.taken ++ j.seconds)) (j.writes order old.shape old.rule old.limit stage.written stage.taken refl keeps_last (last_placed j.firsts no_firsts) (all_placed j.seconds no_seconds)) in
         let same_given : stage.written ++ a ∷ j.firsts ≡ given stage ++ [] = ap (λ (l : List Feature). stage.written ++ a ∷ l) no_firsts ∙ sym given_last ∙ sym (append-nil (given stage)) in
-        let stands : StandsAt order shape rule limit (with_b_ended stage) final = record {
-          shape_is = k.shape_is;
-          rule_is = k.rule_is;
-          limit_is = k.limit_is;
+        let stands : StandsAt order (with_b_ended stage) final = record {
           current_is = gone;
           phase_is = phase ∙ ap (λ (s : Sweeping). s.phase) mid_is ∙ ap (λ (e : Bool). phase_of e true) (sym (st.unended (ap is_some waits)).0);
           holds = subst (λ (g : List Feature). HoldsFor order g stage.taken final.held) same_given (subst (λ (t : List Feature). HoldsFor order (stage.written ++ a ∷ j.firsts) t final.held) (same_seconds j.seconds no_seconds) k.holds);
-          within = k.within;
+          within = subst (λ (l : Option ℕ). IfSome l (λ most. length final.held ≤ most)) (sym k.limit_is) k.within;
           unended = λ some. absurd (false≢true some);
         } in
-        (stands, subst (λ (l : List ℕ). Grown out l grown) (one_line shape rule a j.newly stage.taken (stage.taken ++ j.seconds) newly (same_seconds j.seconds no_seconds)) puts)
+        (record { stands = stands; same = record { shape_is = k.shape_is; rule_is = k.rule_is; limit_is = k.limit_is } }, subst (λ (l : List ℕ). Grown out l grown) (one_line old.shape old.rule a j.newly stage.taken (stage.taken ++ j.seconds) newly (same_seconds j.seconds no_seconds)) puts)
 
-    pub stops_end : (fault : Fault) → Broken (fault_value fault) → want_in final ≡ Nothing → EndsB {A = Unit {0}} order shape rule limit stage a out (Err fault) final grown
+    pub stops_end : (fault : Fault) → Broken (fault_value fault) → want_in final ≡ Nothing → EndsB {A = Unit {0}} order stage a old out (Err fault) final grown
     stops_end fault b stops =
         let no_firsts = single_none from_a to_a b.firsts empty_a b.gives_firsts in
         let none_taken = nothing_left b.seconds (single_left to_b) (sym empty_b ∙ b.gives_seconds.left) in (
@@ -596,10 +593,10 @@ module _ (order : Order) (shape : Shape) (rule : HitRule) (limit : Option ℕ) (
           elim b.cause [
             | inr lack ↦ absurd (let apart : [] ≡ lack.b ∷ single_left lack.after = sym none_taken.1 ∙ lack.gives.left in cc)
             | inl cut ↦
-              let lines = cut.cuts order shape rule limit stage.written stage.taken refl keeps_last (last_placed b.firsts no_firsts) (all_placed b.seconds none_taken.0) in
+              let lines = cut.cuts order old.shape old.rule old.limit stage.written stage.taken refl keeps_last (last_placed b.firsts no_firsts) (all_placed b.seconds none_taken.0) in
               elim (one_written b.newly b.waiting a (ap (λ (l : List Feature). a ∷ l) (sym no_firsts) ∙ b.are)) [
-                | inl still ↦ absurd (lines.some (no_lines shape rule b.newly (stage.taken ++ b.seconds) still.0))
-                | inr written ↦ subst (λ (l : List ℕ). FailsToAdd out l (fault_value fault) grown) (one_line shape rule a b.newly stage.taken (stage.taken ++ b.seconds) written.0 (same_seconds b.seconds none_taken.0)) lines
+                | inl still ↦ absurd (lines.some (no_lines old.shape old.rule b.newly (stage.taken ++ b.seconds) still.0))
+                | inr written ↦ subst (λ (l : List ℕ). FailsToAdd out l (fault_value fault) grown) (one_line old.shape old.rule a b.newly stage.taken (stage.taken ++ b.seconds) written.0 (same_seconds b.seconds none_taken.0)) lines
               ]
           ],
         )

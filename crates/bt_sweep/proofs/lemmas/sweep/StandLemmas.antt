@@ -1,5 +1,5 @@
 -- Lemmas on where a sweep stands once records of both inputs were given and taken.
-use Rattle.std.proofs.Common.{◌≡◌, inl, inr, ℕ, Bool, true, false, List, [], ◌∷◌, ◌++◌, Option, Some, None, Ok, Err, Result, refl, sym, ap, ◌∙◌, subst, append-nil, append_assoc, option_to_list}
+use Rattle.std.proofs.Common.{◌≡◌, inl, inr, ℕ, Bool, true, false, List, [], ◌∷◌, ◌++◌, Option, Some, None, Ok, Err, Result, refl, sym, ap, ◌∙◌, subst, append-nil, append_assoc, option_to_list, length, ◌≤◌}
 use Rattle.std.specs.Prelude.{IfSome, is_some}
 use Rattle.bt_lines.specs.model.Fault.{FaultValue, no_memory}
 use Rattle.bt_lines.specs.calls.Names.{fault_value}
@@ -16,7 +16,7 @@ use Rattle.bt_sweep.specs.calls.Advancing.{Advances, AdvancesSo, AtEach, FailsAt
 use Rattle.bt_sweep.specs.model.IntersectLines.{intersect}
 use Rattle.bt_sweep.specs.calls.Taking.{CannotBeHeld, LeavesLast, TakenEach}
 use Rattle.bt_sweep.specs.inside.Joining.{BehindFor, Breaks, JoinsSo, Keeps, TakesEachFor, WritesFor}
-use Rattle.bt_sweep.specs.calls.Standing.{HoldsFor, Stage, StandsAt, given, phase_of}
+use Rattle.bt_sweep.specs.calls.Standing.{HoldsFor, MovesTo, Stage, StandsAt, given, phase_of}
 use Rattle.bt_sweep.specs.inside.StateSteps.{KeepsOne, held_with}
 use Rattle.bt_sweep.specs.calls.SweepState.{Sweeping, is_over, want_in, want_of}
 use Rattle.bt_sweep.specs.declared.hits.hit_rule.HitRule.{HitRule}
@@ -30,8 +30,8 @@ use Rattle.bt_sweep.proofs.lemmas.sweep.KeepLemmas.{keeps_first}
 use Rattle.bt_sweep.proofs.lemmas.sweep.PendingLemmas.{with_no_pending}
 use Rattle.bt_sweep.proofs.lemmas.laws.PlacedLemmas.{front_placed}
 
-pub keeps_of : (order : Order) (shape : Shape) (rule : HitRule) (limit : Option ℕ) (stage : Stage) (s : Sweeping) → StandsAt order shape rule limit stage s → Keeps order shape rule limit (given stage) stage.taken s
-keeps_of order shape rule limit stage s st = record { shape_is = st.shape_is; rule_is = st.rule_is; limit_is = st.limit_is; holds = st.holds; within = st.within }
+pub keeps_of : (order : Order) (stage : Stage) (s : Sweeping) → StandsAt order stage s → Keeps order s.shape s.rule s.limit (given stage) stage.taken s
+keeps_of order stage s st = record { shape_is = refl; rule_is = refl; limit_is = refl; holds = st.holds; within = st.within }
 
 -- neither input has ended
 pub both_open : (a b : Bool) (phase : Phase) → phase ≡ phase_of a b → (phase ≡ First → ⊥) → (phase ≡ Over → ⊥) → (a ≡ false) × (b ≡ false)
@@ -51,12 +51,12 @@ module _ (order : Order) (total : IsTotal order) (old : Sweeping) (none : old.cu
   pub pre_next : option_to_list old.current ++ first ∷ [] ≡ first ∷ []
   pre_next = ap (λ (o : Option Feature). option_to_list o ++ first ∷ []) none
 
-  pub keeps_entered : (shape : Shape) (rule : HitRule) (limit : Option ℕ) (stage : Stage) → StandsAt order shape rule limit stage old → ArePlaced order (intervals_of (stage.written ++ first ∷ []))
-      → Keeps order shape rule limit (stage.written ++ first ∷ []) stage.taken mid
-  keeps_entered shape rule limit stage st placed =
+  pub keeps_entered : (stage : Stage) → StandsAt order stage old → ArePlaced order (intervals_of (stage.written ++ first ∷ []))
+      → Keeps order old.shape old.rule old.limit (stage.written ++ first ∷ []) stage.taken mid
+  keeps_entered stage st placed =
       let gone : given stage ≡ stage.written = ap (λ (o : Option Feature). stage.written ++ option_to_list o) (sym st.current_is ∙ none) ∙ append-nil stage.written in
-      subst (λ (n : Sweeping). Keeps order shape rule limit (stage.written ++ first ∷ []) stage.taken n) (sym mid_is)
-      (keeps_first order shape rule limit stage.written first stage.taken old total placed (subst (λ (g : List Feature). Keeps order shape rule limit g stage.taken old) gone (keeps_of order shape rule limit stage old st)))
+      subst (λ (n : Sweeping). Keeps order old.shape old.rule old.limit (stage.written ++ first ∷ []) stage.taken n) (sym mid_is)
+      (keeps_first order old.shape old.rule old.limit stage.written first stage.taken old total placed (subst (λ (g : List Feature). Keeps order old.shape old.rule old.limit g stage.taken old) gone (keeps_of order stage old st)))
 
 -- ---- where one does
 
@@ -64,13 +64,13 @@ module _ (order : Order) (old : Sweeping) (first : Feature) (some : old.current 
   pub pre_current : option_to_list old.current ++ [] ≡ first ∷ []
   pre_current = ap (λ (o : Option Feature). option_to_list o ++ []) some
 
-  pub keeps_current : (shape : Shape) (rule : HitRule) (limit : Option ℕ) (stage : Stage) → StandsAt order shape rule limit stage old → ArePlaced order (intervals_of (stage.written ++ first ∷ []))
-      → Keeps order shape rule limit (stage.written ++ first ∷ []) stage.taken mid
-  keeps_current shape rule limit stage st placed =
+  pub keeps_current : (stage : Stage) → StandsAt order stage old → ArePlaced order (intervals_of (stage.written ++ first ∷ []))
+      → Keeps order old.shape old.rule old.limit (stage.written ++ first ∷ []) stage.taken mid
+  keeps_current stage st placed =
       let all : given stage ≡ stage.written ++ first ∷ [] = ap (λ (o : Option Feature). stage.written ++ option_to_list o) (sym st.current_is ∙ some) in
-      let k = subst (λ (g : List Feature). Keeps order shape rule limit g stage.taken old) all (keeps_of order shape rule limit stage old st) in
-      let here : Keeps order shape rule limit (stage.written ++ first ∷ []) stage.taken (record old { current = None }) = record { shape_is = k.shape_is; rule_is = k.rule_is; limit_is = k.limit_is; holds = k.holds; within = k.within } in
-      subst (λ (n : Sweeping). Keeps order shape rule limit (stage.written ++ first ∷ []) stage.taken n) (sym mid_is) here
+      let k = subst (λ (g : List Feature). Keeps order old.shape old.rule old.limit g stage.taken old) all (keeps_of order stage old st) in
+      let here : Keeps order old.shape old.rule old.limit (stage.written ++ first ∷ []) stage.taken (record old { current = None }) = record { shape_is = k.shape_is; rule_is = k.rule_is; limit_is = k.limit_is; holds = k.holds; within = k.within } in
+      subst (λ (n : Sweeping). Keeps order old.shape old.rule old.limit (stage.written ++ first ∷ []) stage.taken n) (sym mid_is) here
 
 -- ---- what is asked for
 
@@ -125,10 +125,10 @@ module _ {U V : Type 0} (u_gives : U → List Feature → U → Type 0) (u_ended
 -- ---- from there on
 
 module _ (order : Order) (old mid : Sweeping) (first : Feature) (pre : List Feature) (pre_is : option_to_list old.current ++ pre ≡ first ∷ [])
-    (keeps : (shape : Shape) (rule : HitRule) (limit : Option ℕ) (stage : Stage) → StandsAt order shape rule limit stage old → ArePlaced order (intervals_of (stage.written ++ first ∷ [])) → Keeps order shape rule limit (stage.written ++ first ∷ []) stage.taken mid)
+    (keeps : (stage : Stage) → StandsAt order stage old → ArePlaced order (intervals_of (stage.written ++ first ∷ [])) → Keeps order old.shape old.rule old.limit (stage.written ++ first ∷ []) stage.taken mid)
     (phase : mid.phase ≡ old.phase) where
-  given_more : (shape : Shape) (rule : HitRule) (limit : Option ℕ) (stage : Stage) → StandsAt order shape rule limit stage old → (firsts : List Feature) → given stage ++ (pre ++ firsts) ≡ stage.written ++ first ∷ firsts
-  given_more shape rule limit stage st firsts =
+  given_more : (stage : Stage) → StandsAt order stage old → (firsts : List Feature) → given stage ++ (pre ++ firsts) ≡ stage.written ++ first ∷ firsts
+  given_more stage st firsts =
       ap (λ (o : Option Feature). (stage.written ++ option_to_list o) ++ (pre ++ firsts)) (sym st.current_is)
       ∙ append_assoc stage.written (option_to_list old.current) (pre ++ firsts)
       ∙ ap (λ (l : List Feature). stage.written ++ l) (sym (append_assoc (option_to_list old.current) pre firsts) ∙ ap (λ (l : List Feature). l ++ firsts) pre_is)
@@ -137,18 +137,18 @@ module _ (order : Order) (old mid : Sweeping) (first : Feature) (pre : List Feat
   each_given firsts = sym (append_assoc (option_to_list old.current) pre firsts) ∙ ap (λ (l : List Feature). l ++ firsts) pre_is
 
   each_from : (firsts seconds : List Feature) → TakesEachFor (IsThis order) first firsts seconds mid
-      → AtEach order old (pre ++ firsts) seconds (λ shape rule limit stage. TakenEach order limit (option_to_list old.current ++ (pre ++ firsts)) stage.taken seconds)
-  each_from firsts seconds each shape rule limit stage st pg pt =
-      let pg' = subst (λ (l : List Feature). ArePlaced order (intervals_of l)) (given_more shape rule limit stage st firsts) pg in
+      → AtEach order old (pre ++ firsts) seconds (λ stage. TakenEach order old.limit (option_to_list old.current ++ (pre ++ firsts)) stage.taken seconds)
+  each_from firsts seconds each stage st pg pt =
+      let pg' = subst (λ (l : List Feature). ArePlaced order (intervals_of l)) (given_more stage st firsts) pg in
       let front = front_placed order (stage.written ++ first ∷ []) firsts (subst (λ (l : List Feature). ArePlaced order (intervals_of l)) (sym (append_assoc stage.written (first ∷ []) firsts)) pg') in
-      subst (λ (l : List Feature). TakenEach order limit l stage.taken seconds) (sym (each_given firsts)) (each order shape rule limit stage.written stage.taken refl (keeps shape rule limit stage st front) pg' pt)
+      subst (λ (l : List Feature). TakenEach order old.limit l stage.taken seconds) (sym (each_given firsts)) (each order old.shape old.rule old.limit stage.written stage.taken refl (keeps stage st front) pg' pt)
 
   at_each : (firsts seconds : List Feature) (P : Order → Shape → HitRule → Option ℕ → List Feature → List Feature → Type 0) → BehindFor (IsThis order) first firsts seconds mid P
-      → AtEach order old (pre ++ firsts) seconds (λ shape rule limit stage. P order shape rule limit (stage.written ++ first ∷ firsts) (stage.taken ++ seconds))
-  at_each firsts seconds P behind shape rule limit stage st pg pt =
-      let pg' = subst (λ (l : List Feature). ArePlaced order (intervals_of l)) (given_more shape rule limit stage st firsts) pg in
+      → AtEach order old (pre ++ firsts) seconds (λ stage. P order old.shape old.rule old.limit (stage.written ++ first ∷ firsts) (stage.taken ++ seconds))
+  at_each firsts seconds P behind stage st pg pt =
+      let pg' = subst (λ (l : List Feature). ArePlaced order (intervals_of l)) (given_more stage st firsts) pg in
       let front = front_placed order (stage.written ++ first ∷ []) firsts (subst (λ (l : List Feature). ArePlaced order (intervals_of l)) (sym (append_assoc stage.written (first ∷ []) firsts)) pg') in
-      behind order shape rule limit stage.written stage.taken refl (keeps shape rule limit stage st front) pg' pt
+      behind order old.shape old.rule old.limit stage.written stage.taken refl (keeps stage st front) pg' pt
 
   puts_each : (firsts seconds newly : List Feature) (out grown : Output) → WritesFor (IsThis order) first firsts seconds mid newly [] out [] grown → PutsEach order old (pre ++ firsts) seconds newly out grown
   puts_each firsts seconds newly out grown writes =
@@ -156,24 +156,22 @@ module _ (order : Order) (old mid : Sweeping) (first : Feature) (pre : List Feat
       (λ other shape rule limit before taken this kept pg pt. with_no_pending out grown (intersect shape rule newly (taken ++ seconds)) (writes other shape rule limit before taken this kept pg pt))
 
   abbrev IsOpen : Option Feature → Type 0
-  IsOpen waiting = is_some waiting ≡ true → (shape : Shape) (rule : HitRule) (limit : Option ℕ) (stage : Stage) → StandsAt order shape rule limit stage old → (stage.a_ended ≡ false) × (stage.b_ended ≡ false)
+  IsOpen waiting = is_some waiting ≡ true → (stage : Stage) → StandsAt order stage old → (stage.a_ended ≡ false) × (stage.b_ended ≡ false)
 
-  stands_from : (shape : Shape) (rule : HitRule) (limit : Option ℕ) (stage : Stage) (firsts seconds newly : List Feature) (waiting : Option Feature) (new final : Sweeping) → StandsAt order shape rule limit stage old
-      → Keeps order shape rule limit (stage.written ++ first ∷ firsts) (stage.taken ++ seconds) new → first ∷ firsts ≡ newly ++ option_to_list waiting → new.phase ≡ old.phase → final ≡ record new { current = waiting } → IsOpen waiting
-      → StandsAt order shape rule limit (stage_after stage newly final.current seconds) final
-  stands_from shape rule limit stage firsts seconds newly waiting new final st k are same is goes_on =
+  stands_from : (stage : Stage) (firsts seconds newly : List Feature) (waiting : Option Feature) (new final : Sweeping) → StandsAt order stage old
+      → Keeps order old.shape old.rule old.limit (stage.written ++ first ∷ firsts) (stage.taken ++ seconds) new → first ∷ firsts ≡ newly ++ option_to_list waiting → new.phase ≡ old.phase → final ≡ record new { current = waiting } → IsOpen waiting
+      → MovesTo order old (stage_after stage newly final.current seconds) final
+  stands_from stage firsts seconds newly waiting new final st k are same is goes_on =
       let all : stage.written ++ first ∷ firsts ≡ (stage.written ++ newly) ++ option_to_list waiting = ap (λ (l : List Feature). stage.written ++ l) are ∙ sym (append_assoc stage.written newly (option_to_list waiting)) in
-      let here : StandsAt order shape rule limit (stage_after stage newly waiting seconds) (record new { current = waiting }) = record {
-        shape_is = k.shape_is;
-        rule_is = k.rule_is;
-        limit_is = k.limit_is;
+      let here : StandsAt order (stage_after stage newly waiting seconds) (record new { current = waiting }) = record {
         current_is = refl;
         phase_is = same ∙ st.phase_is;
         holds = subst (λ (g : List Feature). HoldsFor order g (stage.taken ++ seconds) new.held) all k.holds;
-        within = k.within;
-        unended = λ some. goes_on some shape rule limit stage st;
+        within = subst (λ (l : Option ℕ). IfSome l (λ most. length new.held ≤ most)) (sym k.limit_is) k.within;
+        unended = λ some. goes_on some stage st;
       } in
-      subst (λ (n : Sweeping). StandsAt order shape rule limit (stage_after stage newly n.current seconds) n) (sym is) here
+      subst (λ (n : Sweeping). MovesTo order old (stage_after stage newly n.current seconds) n) (sym is)
+      (record { stands = here; same = record { shape_is = k.shape_is; rule_is = k.rule_is; limit_is = k.limit_is } })
 
   module _ {A B U : Type 0} (a_gives : A → List Feature → A → Type 0) (a_ended : A → Type 0) (b_gives : B → List Feature → B → Type 0) (b_ended b_ended' : B → Type 0) (b_line : B → ℕ)
       (u_gives : U → List Feature → U → Type 0) (u_ended : U → Type 0) (from_u to_u : U) (from_a to_a : A) (from_b to_b : B) (out grown : Output) (new : Sweeping) where
@@ -191,9 +189,9 @@ module _ (order : Order) (old mid : Sweeping) (first : Feature) (pre : List Feat
       settles = subst (λ (p : Phase). Settles order p j.newly (j.seconds ++ option_to_list j.next)) phase j.settles;
       each = each_from j.firsts j.seconds j.each;
       leaves = subst (λ (n : Sweeping). IfSome n.current (LeavesLast order j.seconds)) (sym is) leaves;
-      stands = λ shape rule limit stage st pg pt.
-          stands_from shape rule limit stage j.firsts j.seconds j.newly waiting new final st
-          (at_each j.firsts j.seconds (λ order shape rule limit as_given taken. Keeps order shape rule limit as_given taken new) j.goes shape rule limit stage st pg pt) j.are same is goes_on;
+      stands = λ stage st pg pt.
+          stands_from stage j.firsts j.seconds j.newly waiting new final st
+          (at_each j.firsts j.seconds (λ order shape rule limit as_given taken. Keeps order shape rule limit as_given taken new) j.goes stage st pg pt) j.are same is goes_on;
       puts = puts_each j.firsts j.seconds j.newly out grown j.writes;
     }
 
@@ -254,7 +252,7 @@ module _ (order : Order) (old mid : Sweeping) (first : Feature) (pre : List Feat
         → u_gives from_u (pre ++ j.firsts) to_u → new.phase ≡ old.phase → (old.phase ≡ Over → ⊥) → LeavesLast order j.seconds a → (result : Result T Fault) (final : Sweeping) → KeepsOne new a result final
         → Advances u_gives u_ended b_gives b_ended b_line order old from_u from_b out result final to_u to_b grown
     kept_or_not a j none ended not_first gives same not_over leaves (Ok t) final is = (
-      advances_from (Some a) final j gives same is (λ w shape rule limit stage st. both_open stage.a_ended stage.b_ended old.phase st.phase_is (λ e. not_first (phase ∙ e)) not_over) leaves,
+      advances_from (Some a) final j gives same is (λ w stage st. both_open stage.a_ended stage.b_ended old.phase st.phase_is (λ e. not_first (phase ∙ e)) not_over) leaves,
       stops_b u_gives u_ended b_gives b_ended b_line order old from_u to_u from_b to_b out final (want_b final a (ap (λ (s : Sweeping). s.current) is)) ended,
     )
     kept_or_not a j none ended not_first gives same not_over leaves (Err fault) final is = lacks_from a (fault_value fault) j gives none (still_both old.phase (λ e. not_first (phase ∙ e)) not_over) ended is.1
@@ -263,19 +261,18 @@ module _ (order : Order) (old mid : Sweeping) (first : Feature) (pre : List Feat
 
 module _ {U V : Type 0} (u_gives : U → List Feature → U → Type 0) (u_ended : U → Type 0) (v_gives : V → List Feature → V → Type 0) (v_ended : V → Type 0) (v_line : V → ℕ) (order : Order) (old : Sweeping) (from_u : U) (from_v : V) (out : Output)
     (u_none : u_gives from_u [] from_u) (v_none : v_gives from_v [] from_v) where
-  same_stands : (shape : Shape) (rule : HitRule) (limit : Option ℕ) (stage : Stage) → StandsAt order shape rule limit stage old → StandsAt order shape rule limit (stage_after stage [] old.current []) old
-  same_stands shape rule limit stage st = record {
-    shape_is = st.shape_is;
-    rule_is = st.rule_is;
-    limit_is = st.limit_is;
-    current_is = refl;
-    phase_is = st.phase_is;
-    holds = subst (λ (g : List Feature). HoldsFor order g (stage.taken ++ []) old.held)
-        (ap (λ (o : Option Feature). stage.written ++ option_to_list o) (sym st.current_is) ∙ ap (λ (l : List Feature). l ++ option_to_list old.current) (sym (append-nil stage.written)))
-        (subst (λ (t : List Feature). HoldsFor order (given stage) t old.held) (sym (append-nil stage.taken)) st.holds);
-    within = st.within;
-    unended = λ some. st.unended (ap is_some (sym st.current_is) ∙ some);
-  }
+  same_stands : (stage : Stage) → StandsAt order stage old → MovesTo order old (stage_after stage [] old.current []) old
+  same_stands stage st =
+      let here : StandsAt order (stage_after stage [] old.current []) old = record {
+        current_is = refl;
+        phase_is = st.phase_is;
+        holds = subst (λ (g : List Feature). HoldsFor order g (stage.taken ++ []) old.held)
+            (ap (λ (o : Option Feature). stage.written ++ option_to_list o) (sym st.current_is) ∙ ap (λ (l : List Feature). l ++ option_to_list old.current) (sym (append-nil stage.written)))
+            (subst (λ (t : List Feature). HoldsFor order (given stage) t old.held) (sym (append-nil stage.taken)) st.holds);
+        within = st.within;
+        unended = λ some. st.unended (ap is_some (sym st.current_is) ∙ some);
+      } in
+      record { stands = here; same = record { shape_is = refl; rule_is = refl; limit_is = refl } }
 
   leaves_nothing : (current : Option Feature) → IfSome current (LeavesLast order [])
   leaves_nothing None = tt
@@ -292,10 +289,10 @@ module _ {U V : Type 0} (u_gives : U → List Feature → U → Type 0) (u_ended
     next = None;
     comes = tt;
     settles = inr refl;
-    each = λ shape rule limit stage st pg pt. tt;
+    each = λ stage st pg pt. tt;
     leaves = leaves_nothing old.current;
-    stands = λ shape rule limit stage st pg pt. same_stands shape rule limit stage st;
-    puts = λ shape rule limit stage st pg pt. grown_none out;
+    stands = λ stage st pg pt. same_stands stage st;
+    puts = λ stage st pg pt. grown_none out;
   }
 
 -- ---- one record, or none

@@ -46,11 +46,6 @@ AreWithin order (Some most) as_given past =
 abbrev pub config_of : Sweeping → SweepConfig
 config_of sweep = record { shape = sweep.shape; rule = sweep.rule; limit = sweep.limit }
 
--- a sweep that goes by this stands at this stage
-abbrev pub StandsBy : Order → SweepConfig → Stage → Sweeping → Type 0
-StandsBy order config stage sweep =
-    StandsAt order config.shape config.rule config.limit stage sweep
-
 -- what a sweep makes of a record of the first input by records of the second
 abbrev pub sweep_join : Order → SweepConfig → JoinDef Feature Feature
 sweep_join order config = record {
@@ -102,7 +97,8 @@ module _ {A B O : Type 0} {g : Ghosts O} (source_a : Source A) (source_b : Sourc
     pub past_first : List (Member Feature)
     pub past_second : List (Member Feature)
     pub stage : Stage
-    pub stands : StandsBy order config stage sweep
+    pub stands : StandsAt order stage sweep
+    pub config_is : config_of sweep ≡ config
     pub comes : Comes (sweep_join order config)
         (records_pair source_a source_b old_first old_second) out
         (stage_of stage) past_first past_second (view_of first) (view_of second) grown

@@ -8,9 +8,8 @@ use Rattle.bt_lines.specs.calls.Names.{fault_value}
 use Rattle.bt_lines.specs.calls.Output.{Output}
 use Rattle.bt_lines.specs.calls.Putting.{FailsToAdd, Grown}
 use Rattle.bt_lines.specs.declared.fault.Fault.{Fault}
-use Rattle.bt_bed.specs.model.feature.Feature.{Feature, intervals_of}
+use Rattle.bt_bed.specs.model.feature.Feature.{Feature}
 use Rattle.bt_bed.specs.model.input.Good.{Member}
-use Rattle.bt_bed.specs.model.order.Locus.{ArePlaced}
 use Rattle.bt_bed.specs.model.order.Order.{Order}
 use Rattle.bt_bed.specs.calls.Reading.{ahead_in}
 use Rattle.bt_bed.specs.calls.Records.{FillsRecords, order_in, view_of}
@@ -19,14 +18,12 @@ use Rattle.bt_bed.specs.declared.read.records.Records.{Records}
 use Rattle.bt_sweep.specs.calls.Advancing.{AtEach, PutsEach, Settles, stage_after}
 use Rattle.bt_sweep.specs.model.IntersectLines.{intersect, lines_for}
 use Rattle.bt_sweep.specs.calls.Taking.{CannotBeHeld, TakenEach}
-use Rattle.bt_sweep.specs.calls.Standing.{Stage, StandsAt, with_a_ended, with_b_ended}
+use Rattle.bt_sweep.specs.calls.Standing.{IsInOrder, MovesTo, Stage, StandsAt, with_a_ended, with_b_ended}
 use Rattle.bt_sweep.specs.calls.SweepState.{Sweeping, want_in}
 use Rattle.bt_sweep.specs.declared.sweep.phase.Phase.TheVariants.{Both}
 use Rattle.bt_sweep.specs.declared.sweep.want.Want.{Want}
 use Rattle.bt_sweep.specs.declared.sweep.want.Want.TheVariants.{A as WantA, B as WantB, Nothing}
-use Rattle.bt_tool.specs.declared.loops.sweeping.SweepConfig.{SweepConfig}
 use Rattle.bt_tool.specs.inside.pair.Pair.{item_ahead}
-use Rattle.bt_tool.specs.inside.pair.SweepLoop.{StandsBy}
 use Rattle.bt_tool.specs.inside.feed.Passed.{HasTaken}
 
 module _ {A B O : Type 0} {g : Ghosts O} (source_a : Source A) (source_b : Source B) (order : Order)
@@ -35,18 +32,16 @@ module _ {A B O : Type 0} {g : Ghosts O} (source_a : Source A) (source_b : Sourc
   abbrev pub EndsFirst : Bool → Sweeping → Type 0
   EndsFirst true swept = swept ≡ sweep
   EndsFirst false swept =
-      (config : SweepConfig) (stage : Stage)
-      → StandsBy order config stage sweep → StandsBy order config (with_a_ended stage) swept
+      (stage : Stage) → StandsAt order stage sweep → MovesTo order sweep (with_a_ended stage) swept
 
   -- the same of the second, and the lines of the waiting record are written then
   abbrev pub EndsSecond : Bool → Sweeping → Output → Type 0
   EndsSecond true swept grown = (swept ≡ sweep) × (grown ≡ out)
   EndsSecond false swept grown =
-      (config : SweepConfig) (stage : Stage) (a : Feature)
-      → StandsBy order config stage sweep → stage.waiting ≡ Some a
-      → ArePlaced order (intervals_of stage.taken)
-      → StandsBy order config (with_b_ended stage) swept
-      × Grown out (lines_for config.shape config.rule a stage.taken) grown
+      (stage : Stage) (a : Feature) → StandsAt order stage sweep → stage.waiting ≡ Some a
+      → IsInOrder order stage
+      → MovesTo order sweep (with_b_ended stage) swept
+      × Grown out (lines_for sweep.shape sweep.rule a stage.taken) grown
 
   -- a record of the first input is buffered, or it has ended
   pub record FillsFirst (new : Records A O g) (new_second : Records B O g) (swept : Sweeping)
@@ -98,10 +93,9 @@ module _ {A B O : Type 0} {g : Ghosts O} (source_a : Source A) (source_b : Sourc
     pub fills : FillsRecords source_b
         second (Ok false) new
     pub same_first : new_first ≡ first
-    pub fails : (config : SweepConfig) (stage : Stage) (a : Feature)
-        → StandsBy order config stage sweep → stage.waiting ≡ Some a
-        → ArePlaced order (intervals_of stage.taken)
-        → FailsToAdd out (lines_for config.shape config.rule a stage.taken) (fault_value fault) grown
+    pub fails : (stage : Stage) (a : Feature) → StandsAt order stage sweep → stage.waiting ≡ Some a
+        → IsInOrder order stage
+        → FailsToAdd out (lines_for sweep.shape sweep.rule a stage.taken) (fault_value fault) grown
 
   -- whether anything is wanted
   abbrev pub FillsWanted : Result Bool Fault → Records A O g → Records B O g → Sweeping → Output → Type 0
@@ -135,10 +129,10 @@ module _ {A B O : Type 0} {g : Ghosts O} (source_a : Source A) (source_b : Sourc
     pub takes : TakesBoth firsts seconds new_first new_second
     pub are : option_to_list sweep.current ++ firsts ≡ newly ++ option_to_list swept.current
     pub settles : Settles order sweep.phase newly (seconds ++ option_to_list (item_ahead (view_of new_second)))
-    pub each : AtEach order sweep firsts seconds (λ shape rule limit stage.
-        TakenEach order limit (option_to_list sweep.current ++ firsts) stage.taken seconds)
-    pub stands : AtEach order sweep firsts seconds (λ shape rule limit stage.
-        StandsAt order shape rule limit (stage_after stage newly swept.current seconds) swept)
+    pub each : AtEach order sweep firsts seconds (λ stage.
+        TakenEach order sweep.limit (option_to_list sweep.current ++ firsts) stage.taken seconds)
+    pub stands : AtEach order sweep firsts seconds (λ stage.
+        MovesTo order sweep (stage_after stage newly swept.current seconds) swept)
     pub puts : PutsEach order sweep firsts seconds newly out grown
     -- or the record that waited was written
     pub stops : NotBuffered (want_in swept) new_first new_second
@@ -148,8 +142,8 @@ module _ {A B O : Type 0} {g : Ghosts O} (source_a : Source A) (source_b : Sourc
       (fault : FaultValue) (grown : Output) where
     -- the lines couldn't all be written
     pub record FailsToWrite : Type 0 where
-      pub cuts : AtEach order sweep firsts seconds (λ shape rule limit stage.
-          FailsToAdd out (intersect shape rule newly (stage.taken ++ seconds)) fault grown)
+      pub cuts : AtEach order sweep firsts seconds (λ stage.
+          FailsToAdd out (intersect sweep.shape sweep.rule newly (stage.taken ++ seconds)) fault grown)
 
     -- they were written; the record ahead of the second has to be held for the one that waits, and can't be
     pub record FailsToTake : Type 0 where
@@ -161,8 +155,8 @@ module _ {A B O : Type 0} {g : Ghosts O} (source_a : Source A) (source_b : Sourc
       pub starts : m.item.start < last.stop
       pub ends : last.start < m.item.stop
       pub puts : PutsEach order sweep firsts seconds newly out grown
-      pub lacks : AtEach order sweep firsts seconds (λ shape rule limit stage.
-          CannotBeHeld limit last (stage.taken ++ seconds) m.line fault)
+      pub lacks : AtEach order sweep firsts seconds (λ stage.
+          CannotBeHeld sweep.limit last (stage.taken ++ seconds) m.line fault)
 
     -- they were written; neither input has ended, none waited before, none of the second is buffered, and
     -- the one that waits can't be kept
@@ -185,8 +179,8 @@ module _ {A B O : Type 0} {g : Ghosts O} (source_a : Source A) (source_b : Sourc
     pub takes : TakesBoth firsts seconds new_first new_second
     pub are : option_to_list sweep.current ++ firsts ≡ newly ++ option_to_list waiting
     pub settles : Settles order sweep.phase newly (seconds ++ option_to_list (item_ahead (view_of new_second)))
-    pub each : AtEach order sweep firsts seconds (λ shape rule limit stage.
-        TakenEach order limit (option_to_list sweep.current ++ firsts) stage.taken seconds)
+    pub each : AtEach order sweep firsts seconds (λ stage.
+        TakenEach order sweep.limit (option_to_list sweep.current ++ firsts) stage.taken seconds)
     pub cause : FailsToWrite firsts seconds newly waiting new_second fault grown
         ⊎ (FailsToTake firsts seconds newly waiting new_second fault grown
         ⊎ FailsToKeep firsts seconds newly waiting new_second fault grown)

@@ -84,6 +84,6 @@ returns-clause-decides g c =
       advances_from order old mid first [] (pre_current order old first some mid taken) (keeps_current order old first some mid taken) phase GivesSingle HasNone g.B.Cursor.gives g.B.Cursor.has_ended (EndsWhile g.B.Cursor.has_ended c.take_current.new.self.phase) g.B.Cursor.line
           NoneGiven (λ u. ⊤) tt tt c.new-none.result.cursor c.decide.new.a.cursor c.args.b.now c.decide.new.b c.args.out.now.output c.decide.new.out.output (state_of c.decide.new.self)
           (Some last) final j.0 alone (c.in_ok-decide.ensures.phase ∙ phase) back
-          (λ waits shape rule limit stage st. st.unended (ap is_some (sym st.current_is ∙ some))) j.2,
+          (λ waits stage st. st.unended (ap is_some (sym st.current_is ∙ some))) j.2,
       inl (want_b final last (ap (λ (s : Sweeping). s.current) back), j.1.0),
     )

@@ -11,6 +11,6 @@ pub advance-requires-clause-known_b : goal.advance-requires-clause-known_b
 advance-requires-clause-known_b g c = known_none (order_of c.args.self.now) c.none.result c.none.ensures.left
 
 pub returns-clause-gives : goal.returns-clause-gives
-returns-clause-gives g c = λ shape rule limit stage st ordered.
-    gives_a (order_of c.args.self.now) shape rule limit stage (state_of c.args.self.now) st c.new.result c.none.result c.args.out.now.output (feature_lent c.args.a.now) c.requires.want ordered c.new.ensures.left c.none.ensures.left c.advance.result (state_of c.advance.new.self)
+returns-clause-gives g c = λ stage st ordered.
+    gives_a (order_of c.args.self.now) stage (state_of c.args.self.now) st c.new.result c.none.result c.args.out.now.output (feature_lent c.args.a.now) c.requires.want ordered c.new.ensures.left c.none.ensures.left c.advance.result (state_of c.advance.new.self)
     c.advance.new.a c.advance.new.b c.advance.new.out.output c.advance.ensures.stops c.advance.ensures.advances

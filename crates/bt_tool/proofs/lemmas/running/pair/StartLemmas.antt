@@ -14,11 +14,11 @@ use Rattle.bt_bed.specs.calls.Records.{below, good_left, last_locus, order_in, v
 use Rattle.bt_bed.specs.model.order.Sorting.{sorting_of}
 use Rattle.bt_bed.specs.declared.order.ChromOrder.{Ghosts}
 use Rattle.bt_bed.specs.declared.read.records.Records.{Records}
-use Rattle.bt_sweep.specs.calls.Standing.{first_stage}
+use Rattle.bt_sweep.specs.calls.Standing.{StandsAt, first_stage}
 use Rattle.bt_sweep.specs.calls.SweepState.{Sweeping}
 use Rattle.bt_tool.specs.declared.loops.sweeping.SweepConfig.{SweepConfig}
 use Rattle.bt_tool.specs.inside.feed.Feeding.{IsFresh}
-use Rattle.bt_tool.specs.inside.pair.SweepLoop.{StandsBy, Sweeps, records_pair, sweep_join}
+use Rattle.bt_tool.specs.inside.pair.SweepLoop.{Sweeps, config_of, records_pair, sweep_join}
 use Rattle.bt_tool.proofs.lemmas.running.members.CameMembers.{BeginsAt}
 use Rattle.bt_tool.proofs.lemmas.running.members.MemberLemmas.{passes_start}
 use Rattle.bt_tool.proofs.lemmas.running.pair.PairTurns.{comes_start}
@@ -29,13 +29,14 @@ module _ {A B O : Type 0} {g : Ghosts O} (source_a : Source A) (source_b : Sourc
     (config : SweepConfig) (first : Records A O g) (second : Records B O g) (out : Output) where
   -- nothing was given yet
   pub sweeps_start : IsFresh source_a (view_of first) → last_locus first ≡ None → IsFresh source_b (view_of second) → last_locus second ≡ None
-      → HoldsBlock out.took out.put → (sweep : Sweeping) → StandsBy (order_in first) config first_stage sweep
+      → HoldsBlock out.took out.put → (sweep : Sweeping) → StandsAt (order_in first) first_stage sweep → config_of sweep ≡ config
       → Sweeps source_a source_b (order_in first) config first second out first second sweep out
-  sweeps_start fresh none fresh_second none_second block sweep stands = record {
+  sweeps_start fresh none fresh_second none_second block sweep stands config_is = record {
     past_first = [];
     past_second = [];
     stage = first_stage;
     stands = stands;
+    config_is = config_is;
     comes = comes_start (sweep_join (order_in first) config) (records_pair source_a source_b first second) out
         (passes_start source_a (view_of first) fresh (line_going first fresh.going))
         (passes_start source_b (view_of second) fresh_second (line_going second fresh_second.going)) block;

@@ -231,10 +231,10 @@ module _ {A B O : Type 0} {g : Ghosts O} (source_a : Source A) (source_b : Sourc
           starts = lack.starts;
           ends = lack.ends;
           puts = lack.puts;
-          lacks = λ shape rule limit stage stands placed placed_second.
-              subst (λ (n : ℕ). CannotBeHeld limit lack.last (stage.taken ++ fails.seconds) n (fault_value fault))
+          lacks = λ stage stands placed placed_second.
+              subst (λ (n : ℕ). CannotBeHeld sweep.limit lack.last (stage.taken ++ fails.seconds) n (fault_value fault))
               (line_then second seconds lends_second last_seconds fails.seconds fails.gives_seconds second_consumed second_is source_b comes_second new_second second_takes lack.b lack.after lack.gives)
-              (lack.lacks shape rule limit stage stands placed placed_second);
+              (lack.lacks stage stands placed placed_second);
         }))
         | inr keep ↦ inr (inr (record {
           last = keep.last;

@@ -1,5 +1,5 @@
 -- The facts of a sweep that its report and its reading rest on.
-use Rattle.std.proofs.Common.{◌≡◌, ℕ, suc, ◌<◌, ◌≤◌, not, List, [], ◌∷◌, ◌++◌, take, refl, sym, ◌∙◌, subst}
+use Rattle.std.proofs.Common.{◌≡◌, ap, ℕ, Option, suc, ◌<◌, ◌≤◌, not, List, [], ◌∷◌, ◌++◌, take, refl, sym, ◌∙◌, subst}
 use Rattle.std.specs.Prelude.{All, IsTrue}
 use Rattle.std.specs.List.{list_all}
 use Rattle.std.proofs.lemmas.Bool.{and_from, or_left, and_parts}
@@ -11,11 +11,21 @@ use Rattle.bt_bed.specs.model.input.Good.{Member}
 use Rattle.bt_bed.specs.model.order.Order.{Order}
 use Rattle.bt_sweep.specs.model.Deciding.{decides}
 use Rattle.bt_sweep.specs.calls.Standing.{leaves_some}
+use Rattle.bt_sweep.specs.calls.SweepState.{SameConfig, Sweeping}
+use Rattle.bt_sweep.specs.declared.hits.hit_rule.HitRule.{HitRule}
+use Rattle.bt_sweep.specs.declared.output.shape.Shape.{Shape}
 use Rattle.bt_tool.specs.declared.loops.sweeping.SweepConfig.{SweepConfig}
 use Rattle.bt_tool.specs.model.report.SweepReport.{bytes_up_to, decider}
 use Rattle.bt_tool.specs.inside.feed.Feeding.{member_items}
-use Rattle.bt_tool.specs.inside.pair.SweepLoop.{sweep_join}
+use Rattle.bt_tool.specs.inside.pair.SweepLoop.{config_of, sweep_join}
 use Rattle.bt_tool.proofs.lemmas.running.pair.PairNear.{AreNeeded, least_by, not_all, skip_by, take_whole}
+
+-- it goes by the same as before
+pub same_config : (old new : Sweeping) → SameConfig old new → config_of new ≡ config_of old
+same_config old new same =
+    ap (λ (s : Shape). record { shape = s; rule = new.rule; limit = new.limit }) same.shape_is
+    ∙ ap (λ (r : HitRule). record { shape = old.shape; rule = r; limit = new.limit }) same.rule_is
+    ∙ ap (λ (l : Option ℕ). record { shape = old.shape; rule = old.rule; limit = l }) same.limit_is
 
 module _ (order : Order) where
   -- who leaves one of some records undecided, leaves one of more undecided

@@ -24,7 +24,7 @@ use Rattle.bt_tool.specs.inside.pair.SweepSteps.{AdvancesBoth, EndsFirst, EndsSe
 use Rattle.bt_tool.proofs.lemmas.running.whole.OwnFailureLemmas.{none_kept, told_kept}
 use Rattle.bt_tool.proofs.lemmas.running.pair.RestLemmas.{reads_taken, some_buffered}
 use Rattle.bt_tool.proofs.lemmas.running.sweep.SweepBegun.{At, Begun}
-use Rattle.bt_tool.proofs.lemmas.running.sweep.SweptLemmas.{ends_first, ends_second, fails_at_end, fails_both, fills_first, fills_second, goes_both, none_waits, over_is, placed_first, placed_second, placed_taken, stops_first, stops_second, waiting}
+use Rattle.bt_tool.proofs.lemmas.running.sweep.SweptLemmas.{ends_first, ends_second, fails_at_end, fails_both, fills_first, fills_second, goes_both, none_waits, over_is, placed_first, placed_second, in_order, stops_first, stops_second, waiting}
 
 -- ---- how much is still wanted
 
@@ -215,14 +215,14 @@ module _ {A B O : Type 0} {g : Ghosts O} (source_a : Source A) (source_b : Sourc
         ready = inl (some_buffered _ (view_of new_first).buffered _ fills.answers.1.read.ahead, refl, wants);
       })
   filled_first false new_first new_second swept later wants fills ends same same_output =
-      let stands = ends config s.stage s.stands in
+      let moves = ends s.stage s.stands in
       rw (same, same_output) (record {
-        going = ends_first source_a source_b begun at s wants new_first swept fills stands;
+        going = ends_first source_a source_b begun at s wants new_first swept fills moves;
         less = omega (arith, fills.answers.shrinks);
         ready = inr (inr (inl (
           fills.answers.none_buffered,
-          stands.current_is ∙ none_waits source_a source_b begun at s wants,
-          ap is_done stands.phase_is ∙ over_is true s.stage.b_ended,
+          moves.stands.current_is ∙ none_waits source_a source_b begun at s wants,
+          ap is_done moves.stands.phase_is ∙ over_is true s.stage.b_ended,
           wants,
         )));
       })
@@ -238,11 +238,11 @@ module _ {A B O : Type 0} {g : Ghosts O} (source_a : Source A) (source_b : Sourc
       })
   filled_second false new_first new_second swept later wants fills ends same =
       let w = waiting source_a source_b begun at s wants in
-      let ended = ends config s.stage w.0 s.stands w.1 (placed_taken source_a source_b begun at s) in
+      let ended = ends s.stage w.0 s.stands w.1 (in_order source_a source_b begun at s) in
       rw same (record {
         going = ends_second source_a source_b begun at s wants new_second swept later fills ended.0 ended.1;
         less = omega (arith, fills.answers.shrinks);
-        ready = inr (inr (inr (ended.0.current_is, wants)));
+        ready = inr (inr (inr (ended.0.stands.current_is, wants)));
       })
 
   filled_at : (new_first : Records A O g) (new_second : Records B O g) (swept : Sweeping) (later : Output) → FillsWanted source_a source_b (order_in old_first) first second sweep grown (Ok true) new_first new_second swept later
@@ -265,7 +265,7 @@ module _ {A B O : Type 0} {g : Ghosts O} (source_a : Source A) (source_b : Sourc
       let w = waiting source_a source_b begun at s f.wants in
       rw f.same_first
       (fails_at_end source_a source_b begun at s f.wants (fault_value fault) new_second later f.fills
-      (f.fails config s.stage w.0 s.stands w.1 (placed_taken source_a source_b begun at s)))
+      (f.fails s.stage w.0 s.stands w.1 (in_order source_a source_b begun at s)))
 
   pub fill_stops : (fault : Fault) (new : At A B O g) → FillsWanted source_a source_b order first second sweep grown (Err fault) new.first new.second new.sweep new.out
       → Ends fault new.first new.second new.out
@@ -290,7 +290,7 @@ module _ {A B O : Type 0} {g : Ghosts O} (source_a : Source A) (source_b : Sourc
   done_at new_first new_second swept later gives =
       let placed = placed_first source_a source_b begun at s new_first new_second gives.firsts gives.seconds gives.takes in
       let placed_seconds = placed_second source_a source_b begun at s new_first new_second gives.firsts gives.seconds gives.takes in
-      ap is_done (gives.stands config.shape config.rule config.limit s.stage s.stands placed placed_seconds).phase_is ∙ ap is_done (sym s.stands.phase_is)
+      ap is_done (gives.stands s.stage s.stands placed placed_seconds).stands.phase_is ∙ ap is_done (sym s.stands.phase_is)
 
   pub still_done : (new : At A B O g) → GivesBoth source_a source_b order first second sweep grown new.first new.second new.sweep new.out
       → is_done new.sweep.phase ≡ is_done sweep.phase

@@ -33,9 +33,9 @@ use Rattle.bt_bed.proofs.lemmas.read.batch.NeighbourLemmas.{wrong_of_bed}
 use Rattle.bt_sweep.specs.calls.Advancing.{PutsEach, Settles as SettlesEach, stage_after}
 use Rattle.bt_sweep.specs.model.Deciding.{decided}
 use Rattle.bt_sweep.specs.model.IntersectLines.{intersect, lines_for}
-use Rattle.bt_sweep.specs.calls.Taking.{AreDecided, TakenEach}
+use Rattle.bt_sweep.specs.calls.Taking.{AreDecided, CannotBeHeld, TakenEach}
 use Rattle.bt_sweep.specs.model.Limit.{held_for, is_held}
-use Rattle.bt_sweep.specs.calls.Standing.{Stage, given, leaves_some, phase_of, with_a_ended, with_b_ended}
+use Rattle.bt_sweep.specs.calls.Standing.{IsInOrder, MovesTo, Stage, given, leaves_some, phase_of, with_a_ended, with_b_ended}
 use Rattle.bt_sweep.specs.calls.Steps.{has_room}
 use Rattle.bt_sweep.specs.calls.SweepState.{Sweeping, is_over as is_done, want_in, want_of}
 use Rattle.bt_sweep.specs.declared.sweep.phase.Phase.{Phase}
@@ -49,7 +49,7 @@ use Rattle.bt_tool.specs.inside.feed.Feeding.{member_items}
 use Rattle.bt_tool.specs.inside.pair.Pair.{JoinDef, Pair, Settles, item_ahead}
 use Rattle.bt_tool.specs.inside.pair.Progress.{Comes, TakesFurther}
 use Rattle.bt_tool.specs.inside.pair.Endings.{AsksFor, IsKnown}
-use Rattle.bt_tool.specs.inside.pair.SweepLoop.{AreWithin, FinishesBoth, ReadsRest, StandsBy, SweepEnds, Sweeps, records_pair, stage_of, sweep_join}
+use Rattle.bt_tool.specs.inside.pair.SweepLoop.{AreWithin, FinishesBoth, ReadsRest, SweepEnds, Sweeps, config_of, records_pair, stage_of, sweep_join}
 use Rattle.bt_tool.specs.inside.pair.SweepSteps.{FailsAmong, GivesBoth, TakesBoth}
 use Rattle.bt_tool.specs.inside.feed.Passed.{Passes, StopsAfter}
 use Rattle.bt_tool.proofs.lemmas.running.sweep.AdvanceLemmas.{ahead_placed}
@@ -57,7 +57,7 @@ use Rattle.bt_tool.proofs.lemmas.running.pair.PairSettles.{settles_seen}
 use Rattle.bt_tool.proofs.lemmas.running.pair.PairStops as stop
 use Rattle.bt_tool.proofs.lemmas.running.pair.PairTurns as turned
 use Rattle.bt_tool.proofs.lemmas.running.sweep.SweepBegun.{At, Begun}
-use Rattle.bt_tool.proofs.lemmas.running.sweep.SweepFacts.{leaves_more}
+use Rattle.bt_tool.proofs.lemmas.running.sweep.SweepFacts.{leaves_more, same_config}
 use Rattle.bt_tool.proofs.lemmas.running.sweep.SweepLimits.{cuts_at, some_limit, within_given}
 use Rattle.bt_tool.proofs.lemmas.running.members.PassedLemmas.{is_filled, is_over, is_stopped, said_in_order}
 use Rattle.bt_tool.proofs.lemmas.running.sweep.SweepSettles.{fits_each, open_last, settles_newly}
@@ -234,8 +234,18 @@ module _ {A B O : Type 0} {g : Ghosts O} (source_a : Source A) (source_b : Sourc
     placed_given : ArePlaced order (intervals_of (given stage))
     placed_given = subst (λ (l : List Feature). ArePlaced order (intervals_of l)) (sym s.comes.all_given) (first_placed s.first_begins s.past_first (view_of first) s.comes.first_passes)
 
-    pub placed_taken : ArePlaced order (intervals_of stage.taken)
+    placed_taken : ArePlaced order (intervals_of stage.taken)
     placed_taken = subst (λ (l : List Feature). ArePlaced order (intervals_of l)) (sym s.comes.all_taken) (second_placed s.second_begins s.past_second (view_of second) s.comes.second_passes)
+
+    pub in_order : IsInOrder order stage
+    in_order = record { first = placed_given; second = placed_taken }
+
+    -- what it goes by is what it began with
+    by_config : (P : SweepConfig → Type 0) → P (config_of sweep) → P config
+    by_config P p = subst P s.config_is p
+
+    moved : (swept : Sweeping) (next : Stage) → MovesTo order sweep next swept → config_of swept ≡ config
+    moved swept next moves = same_config sweep swept moves.same ∙ s.config_is
 
     abbrev asked : join.Asks (given stage) stage.taken
     asked = s.stands.holds.reached
@@ -258,6 +268,7 @@ module _ {A B O : Type 0} {g : Ghosts O} (source_a : Source A) (source_b : Sourc
         past_second = s.past_second;
         stage = stage;
         stands = s.stands;
+        config_is = s.config_is;
         comes = turned.fills_first join pair out (stage_of stage) s.past_first s.past_second (view_of first) (view_of second) grown s.comes none_waits not_ended (view_of first_now) (is_filled source_a first first_now fills);
         first_order = fills.order ∙ s.first_order;
         second_order = s.second_order;
@@ -267,12 +278,13 @@ module _ {A B O : Type 0} {g : Ghosts O} (source_a : Source A) (source_b : Sourc
       }
 
       pub ends_first : (first_now : Records A O g) (swept : Sweeping) → FillsRecords source_a first (Ok false) first_now
-          → StandsBy order config (with_a_ended stage) swept → Going first_now second swept grown
-      ends_first first_now swept fills stands = record {
+          → MovesTo order sweep (with_a_ended stage) swept → Going first_now second swept grown
+      ends_first first_now swept fills moves = record {
         past_first = s.past_first;
         past_second = s.past_second;
         stage = with_a_ended stage;
-        stands = stands;
+        stands = moves.stands;
+        config_is = moved swept (with_a_ended stage) moves;
         comes = turned.ends_first join pair out (stage_of stage) s.past_first s.past_second (view_of first) (view_of second) grown s.comes none_waits not_ended (view_of first_now) (is_over source_a first first_now fills);
         first_order = fills.order ∙ s.first_order;
         second_order = s.second_order;
@@ -304,6 +316,7 @@ module _ {A B O : Type 0} {g : Ghosts O} (source_a : Source A) (source_b : Sourc
         past_second = s.past_second;
         stage = stage;
         stands = s.stands;
+        config_is = s.config_is;
         comes = turned.fills_second join pair out (stage_of stage) s.past_first s.past_second (view_of first) (view_of second) grown s.comes goes (view_of second_now) (is_filled source_b second second_now fills);
         first_order = s.first_order;
         second_order = fills.order ∙ s.second_order;
@@ -313,13 +326,15 @@ module _ {A B O : Type 0} {g : Ghosts O} (source_a : Source A) (source_b : Sourc
       }
 
       pub ends_second : (second_now : Records B O g) (swept : Sweeping) (now : Output) → FillsRecords source_b second (Ok false) second_now
-          → StandsBy order config (with_b_ended stage) swept → Grown grown (lines_for config.shape config.rule a stage.taken) now → Going first second_now swept now
-      ends_second second_now swept now fills stands adds = record {
+          → MovesTo order sweep (with_b_ended stage) swept → Grown grown (lines_for sweep.shape sweep.rule a stage.taken) now → Going first second_now swept now
+      ends_second second_now swept now fills moves adds = record {
         past_first = s.past_first;
         past_second = s.past_second;
         stage = with_b_ended stage;
-        stands = stands;
-        comes = turned.ends_waiting join pair out (stage_of stage) s.past_first s.past_second (view_of first) (view_of second) grown s.comes goes (view_of second_now) (is_over source_b second second_now fills) a waiting.1 now adds;
+        stands = moves.stands;
+        config_is = moved swept (with_b_ended stage) moves;
+        comes = turned.ends_waiting join pair out (stage_of stage) s.past_first s.past_second (view_of first) (view_of second) grown s.comes goes (view_of second_now) (is_over source_b second second_now fills) a waiting.1 now
+            (by_config (λ c. Grown grown (lines_for c.shape c.rule a stage.taken) now) adds);
         first_order = s.first_order;
         second_order = fills.order ∙ s.second_order;
         first_begins = s.first_begins;
@@ -341,11 +356,11 @@ module _ {A B O : Type 0} {g : Ghosts O} (source_a : Source A) (source_b : Sourc
           stop.stops_second join pair out (stage_of stage) s.past_first s.past_second (view_of first) (view_of second) grown s.comes asks_here s.fits a waiting.1 wrong_second asked goes opens (fault_value fault) (view_of second_now)
           (is_stopped source_b second second_now fault fills)
 
-      pub fails_at_end : (fault : FaultValue) (second_now : Records B O g) (now : Output) → FillsRecords source_b second (Ok false) second_now → FailsToAdd grown (lines_for config.shape config.rule a stage.taken) fault now
+      pub fails_at_end : (fault : FaultValue) (second_now : Records B O g) (now : Output) → FillsRecords source_b second (Ok false) second_now → FailsToAdd grown (lines_for sweep.shape sweep.rule a stage.taken) fault now
           → Ends (Some fault) first second_now now
       fails_at_end fault second_now now fills fails =
           stop.fails_at_end join pair out (stage_of stage) s.past_first s.past_second (view_of first) (view_of second) grown s.comes asks_here s.fits a waiting.1 asked goes fault (view_of second_now) now
-          (is_over source_b second second_now fills) fails
+          (is_over source_b second second_now fills) (by_config (λ c. FailsToAdd grown (lines_for c.shape c.rule a stage.taken) fault now) fails)
 
     -- ---- what both have buffered was given
 
@@ -487,7 +502,8 @@ module _ {A B O : Type 0} {g : Ghosts O} (source_a : Source A) (source_b : Sourc
           comes_later =
               turned.goes_on join pair out (stage_of stage) s.past_first s.past_second (view_of first) (view_of second) grown s.comes more_first more_second (view_of first_now) (view_of second_now) further further_second ended_first ended_second newly (stage_of later)
               (record { given_is = given_later ∙ ap (λ (l : List Feature). given stage ++ l) (sym items_first); written_is = refl; taken_is = ap (λ (l : List Feature). stage.taken ++ l) (sym items_second); first_is = refl; second_is = refl })
-              (intersect config.shape config.rule newly (stage.taken ++ ss)) now (λ known. settled_more stage.written newly s.comes.bytes newly_placed each (settled_seen known)) (puts config.shape config.rule config.limit stage s.stands placed_first placed_second)
+              (intersect config.shape config.rule newly (stage.taken ++ ss)) now (λ known. settled_more stage.written newly s.comes.bytes newly_placed each (settled_seen known)) 
+              (by_config (λ c. Grown grown (intersect c.shape c.rule newly (stage.taken ++ ss)) now) (puts stage s.stands placed_first placed_second))
 
     -- ---- it went on
 
@@ -496,17 +512,20 @@ module _ {A B O : Type 0} {g : Ghosts O} (source_a : Source A) (source_b : Sourc
     goes_both first_now second_now swept now gives =
         let placed = placed_first first_now second_now gives.firsts gives.seconds gives.takes in
         let placed_second = placed_second first_now second_now gives.firsts gives.seconds gives.takes in
+        let moves = gives.stands stage s.stands placed placed_second in
         record {
           past_first = s.past_first ++ members_from (suc (lines_given (below first))) gives.firsts;
           past_second = s.past_second ++ members_from (suc (lines_given (below second))) gives.seconds;
           stage = stage_after stage gives.newly swept.current gives.seconds;
-          stands = gives.stands config.shape config.rule config.limit stage s.stands placed placed_second;
+          stands = moves.stands;
+          config_is = moved swept (stage_after stage gives.newly swept.current gives.seconds) moves;
           comes = comes_later first_now second_now gives.firsts gives.seconds gives.takes gives.newly swept.current gives.are gives.settles now gives.puts;
           first_order = gives.takes.first_order ∙ s.first_order;
           second_order = gives.takes.second_order ∙ s.second_order;
           first_begins = s.first_begins;
           second_begins = s.second_begins;
-          fits = fits_later first_now second_now gives.firsts gives.seconds gives.takes gives.newly swept.current gives.are (gives.each config.shape config.rule config.limit stage s.stands placed placed_second);
+          fits = fits_later first_now second_now gives.firsts gives.seconds gives.takes gives.newly swept.current gives.are 
+              (by_config (λ c. TakenEach order c.limit (option_to_list sweep.current ++ gives.firsts) stage.taken gives.seconds) (gives.each stage s.stands placed placed_second));
         }
 
     -- ---- it failed at one of the first
@@ -518,14 +537,15 @@ module _ {A B O : Type 0} {g : Ghosts O} (source_a : Source A) (source_b : Sourc
         let ss = fails.seconds in
         let placed = placed_first first_now second_now fs ss fails.takes in
         let placed_taken = placed_second first_now second_now fs ss fails.takes in
-        let each = fails.each config.shape config.rule config.limit stage s.stands placed placed_taken in
+        let each = by_config (λ c. TakenEach order c.limit (option_to_list sweep.current ++ fs) stage.taken ss) (fails.each stage s.stands placed placed_taken) in
         let past_first = s.past_first ++ members_from (suc (lines_given (below first))) fs in
         let past_second = s.past_second ++ members_from (suc (lines_given (below second))) ss in
         let asks : stage.a_ended ≡ false → AsksFor join pair out past_first (view_of second_now) =
         λ going. stop.asks_then join pair out (stage_of stage) s.past_first s.past_second (view_of first) (view_of second) grown s.comes asked (λ more asks. leaves_more order (given stage) more stage.taken asks)
         (members_from (suc (lines_given (below first))) fs) (members_from (suc (lines_given (below second))) ss) (view_of second_now) (further_second first_now second_now fs ss fails.takes) in
         elim fails.cause [
-          | inl write ↦ cuts_later first_now second_now fs ss fails.takes fails.newly fails.waiting fails.are each fails.settles fault now (write.cuts config.shape config.rule config.limit stage s.stands placed placed_taken)
+          | inl write ↦ cuts_later first_now second_now fs ss fails.takes fails.newly fails.waiting fails.are each fails.settles fault now 
+            (by_config (λ c. FailsToAdd grown (intersect c.shape c.rule fails.newly (stage.taken ++ ss)) fault now) (write.cuts stage s.stands placed placed_taken))
           | inr others ↦ elim others [
             | inl lack ↦
                 let last = lack.last in
@@ -533,7 +553,7 @@ module _ {A B O : Type 0} {g : Ghosts O} (source_a : Source A) (source_b : Sourc
                 let comes = comes_later first_now second_now fs ss fails.takes fails.newly (Some last) are fails.settles now lack.puts in
                 let fits = fits_later first_now second_now fs ss fails.takes fails.newly (Some last) are each in
                 let placed_last = placed_back order (stage.written ++ fails.newly) (last ∷ []) (subst (λ (l : List Feature). ArePlaced order (intervals_of l)) (sym (given_later first_now second_now fs ss fails.takes fails.newly (Some last) are)) placed) in
-                elim (lack.lacks config.shape config.rule config.limit stage s.stands placed placed_taken) [
+                elim (by_config (λ c. CannotBeHeld c.limit last (stage.taken ++ ss) lack.m.line fault) (lack.lacks stage s.stands placed placed_taken)) [
                   | inl full ↦
                       limit_case fault first_now second_now (fails.takes.second_order ∙ s.second_order ∙ same_order) s.second_begins (stage_after stage fails.newly (Some last) ss) last refl
                       (not_ended_with first_now second_now fs ss fails.takes lack.m lack.ahead stage.b_ended refl) past_first past_second now comes asks fits lack.m lack.ahead lack.chrom lack.starts lack.ends placed_last.0 full.0 full.1

@@ -13,7 +13,7 @@ returns-in_err-end_b-in-B-clause-fills g c =
       wants = sym c.want.ensures.is ∙ c.in-B.is;
       fills = rw c.if-branch-2.false at c.in_ok-fill-in-B.ensures;
       same_first = refl;
-      fails = λ config stage a stands waits placed. (c.in_err-end_b-in-B.ensures.gives config.shape config.rule config.limit stage a stands waits placed).1;
+      fails = λ stage a stands waits placed. (c.in_err-end_b-in-B.ensures.gives stage a stands waits placed).1;
     })))
 
 pub returns-in_ok-end_b-in-B-clause-fills : goal.returns-in_ok-end_b-in-B-clause-fills
@@ -22,7 +22,7 @@ returns-in_ok-end_b-in-B-clause-fills g c =
       wants = sym c.want.ensures.is ∙ c.in-B.is;
       answer = false;
       fills = rw c.if-branch-2.false at c.in_ok-fill-in-B.ensures;
-      ends = λ config stage a stands waits placed. c.in_ok-end_b-in-B.ensures.gives config.shape config.rule config.limit stage a stands waits placed;
+      ends = λ stage a stands waits placed. c.in_ok-end_b-in-B.ensures.gives stage a stands waits placed;
       same_first = refl;
     })
 
@@ -32,7 +32,7 @@ returns-else-branch-clause-fills g c =
       wants = sym c.want.ensures.is ∙ c.in-A.is;
       answer = false;
       fills = rw c.if-branch.false at c.in_ok-fill-in-A.ensures;
-      ends = λ config stage stands. c.end_a.ensures.stands config.shape config.rule config.limit stage stands;
+      ends = λ stage stands. c.end_a.ensures.stands stage stands;
       same_second = refl;
       same_output = refl;
     })

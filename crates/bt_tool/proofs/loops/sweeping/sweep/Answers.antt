@@ -35,7 +35,7 @@ read_both-swept-requires-clause-starts g c =
     (fresh_start _ c.new.result c.new-firsts.result records.below reader.none_given reader.none_taken.0 reader.none_fed (records.fault ∙ reader.going.0) records.none_buffered reader.sound) records.none_last
     (fresh_start _ c.new-2.result c.new-seconds.result records_2.below reader_2.none_given reader_2.none_taken.0 reader_2.none_fed (records_2.fault ∙ reader_2.going.0) records_2.none_buffered reader_2.sound) records_2.none_last
     c.requires.block (state_of c.new-sweep.result)
-    (rw (← records.order, ← stands.shape_is, ← stands.rule_is, ← stands.limit_is) at stands)
+    (rw (← records.order) at stands) refl
 
 pub returns-in-Ok-clause-written : goal.returns-in-Ok-clause-written
 returns-in-Ok-clause-written g c =
@@ -44,8 +44,8 @@ returns-in-Ok-clause-written g c =
     let reader_2 = c.new-2.ensures in
     let records_2 = c.new-seconds.ensures in
     let order = g.O.ChromOrder.order c.args.order.now in
-    let stands = c.new-sweep.ensures.stands in
-    let ends = rw (records.order, stands.shape_is, stands.rule_is, stands.limit_is) at c.in-Ok.ensures.finishes in
+    let sweep = c.new-sweep.ensures in
+    let ends = rw (records.order, sweep.shape, sweep.rule, sweep.limit) at c.in-Ok.ensures.finishes in
     let join = sweep_join order c.args.config in
     let pair = records_pair g.A.Source g.B.Source c.new-firsts.result c.new-seconds.result in
     let format = bed_format (sorting_of order) in
@@ -67,8 +67,8 @@ returns-clause-written g c =
     let records_2 = c.new-seconds.ensures in
     let order = g.O.ChromOrder.order c.args.order.now in
     let fault = Some (fault_value c.in-Err.fault) in
-    let stands = c.new-sweep.ensures.stands in
-    let ends = rw (records.order, stands.shape_is, stands.rule_is, stands.limit_is) at c.in-Err.ensures.finishes in
+    let sweep = c.new-sweep.ensures in
+    let ends = rw (records.order, sweep.shape, sweep.rule, sweep.limit) at c.in-Err.ensures.finishes in
     let join = sweep_join order c.args.config in
     let pair = records_pair g.A.Source g.B.Source c.new-firsts.result c.new-seconds.result in
     let format = bed_format (sorting_of order) in
@@ -93,8 +93,8 @@ returns-clause-own_failure g c =
     let records_2 = c.new-seconds.ensures in
     let order = g.O.ChromOrder.order c.args.order.now in
     let fault = Some (fault_value c.in-Err.fault) in
-    let stands = c.new-sweep.ensures.stands in
-    let ends = rw (records.order, stands.shape_is, stands.rule_is, stands.limit_is) at c.in-Err.ensures.finishes in
+    let sweep = c.new-sweep.ensures in
+    let ends = rw (records.order, sweep.shape, sweep.rule, sweep.limit) at c.in-Err.ensures.finishes in
     let join = sweep_join order c.args.config in
     let pair = records_pair g.A.Source g.B.Source c.new-firsts.result c.new-seconds.result in
     let format = bed_format (sorting_of order) in
