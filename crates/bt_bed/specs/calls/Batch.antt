@@ -4,7 +4,7 @@ use Rattle.bt_lines.specs.calls.Buffered.{IsWhere as IsLineWhere, PassesLines, l
 use Rattle.bt_lines.specs.calls.FirstLine.{Cut, Shown}
 use Rattle.bt_lines.specs.declared.reader.buffered_lines.BufferedLines.{BufferedLines}
 use Rattle.bt_bed.specs.model.feature.Feature.{Feature}
-use Rattle.bt_bed.specs.calls.RawRecord.{record_in, text_in}
+use Rattle.bt_bed.specs.calls.RawRecord.{raw_in, record_in, text_in}
 use Rattle.bt_bed.specs.calls.Run.{is_some_left, last_start, run_of}
 use Rattle.bt_bed.specs.declared.read.batch.Batch.{Batch}
 use Rattle.bt_bed.specs.declared.read.batch.Consumed.{Consumed}
@@ -44,7 +44,8 @@ pub record StandsFirst (batch : Batch) (r : RawRecord) : Type 0 where
   pub line : Shown
   pub cut : Cut (rest_in (cursor_in batch)) line
   pub text_is : text_in r ≡ line.text
-  pub size_is : line.size ≡ r.size
+  pub size_is : line.size ≡ length (raw_in r)
+  pub bytes_are : take line.size (rest_in (cursor_in batch)) ≡ raw_in r
 
 -- the records were given, one after another, and are consumed
 pub record Passes (old : Batch) (records : List Feature) (new : Batch) : Type 0 where

@@ -1,6 +1,7 @@
 //! Records that a reader has buffered.
 
-ghost use Rattle.std.specs.Prelude.{◌≡◌, ◌<◌, ◌≤◌, IsTrue, get_or, length};
+ghost use Rattle.std.specs.Prelude.{◌≡◌, ◌<◌, ◌≤◌, IsTrue, get_or, length, nat_eq};
+ghost use Rattle.std.specs.Io.BufRead.{strip_last};
 ghost use Rattle.bt_lines.specs.calls.Buffered.{rest_in};
 ghost use Rattle.bt_bed.specs.inside.FirstColumns.{IsRecordName};
 ghost use Rattle.bt_bed.specs.inside.PackedName.{HasKey};
@@ -13,7 +14,7 @@ use crate::parse::packed_name::PackedName;
 use crate::parse::parsed_number::parse_number;
 use crate::parse::parsing::parse_bed;
 use crate::record::raw_record::RawRecord;
-use bt_lines::{BufferedLines, ConsumedLines, LineText};
+use bt_lines::{BufferedLines, ConsumedLines, ends_with_return, without_return};
 
 /// Records that a reader has buffered, of one chromosome and in order, as a cursor over them. It ends before the first line
 /// that isn't such a record's. What was consumed is reported to the reader ([`Records::consume`](crate::Records::consume)).
@@ -43,8 +44,8 @@ pub struct Consumed {
 #[tactic(auto, unfolding(crate::specs::calls::Batch::left, crate::specs::calls::Batch::left_behind, crate::specs::calls::Batch::chrom_in, crate::specs::calls::Batch::start_in, crate::specs::calls::Batch::line_in, crate::specs::calls::Batch::cursor_in, crate::specs::calls::RawRecord::text_in))]
 impl<'a> Batch<'a> {
     ghost use Rattle.std.specs.Prelude.{◌≡◌, ◌<◌, ◌≤◌, ◌∷◌, ◌++◌, [], IfNone, IfSome, false, length, take};
+    ghost use Rattle.std.specs.Io.BufRead.{strip_last};
     ghost use Rattle.bt_lines.specs.calls.Buffered.{lines_in, rest_in};
-    ghost use Rattle.bt_lines.specs.calls.FirstLine.{Cut, line_shown};
     ghost use Rattle.bt_bed.specs.calls.Batch.{IsWhere, Passes, StandsFirst, chrom_in, consumed_in, cursor_in, left, line_in, start_in};
     ghost use Rattle.bt_bed.specs.inside.FirstColumns.{IsRecordName};
     ghost use Rattle.bt_bed.specs.calls.RawRecord.{IsOnLine, raw_in, record_in};
@@ -89,7 +90,7 @@ impl<'a> Batch<'a> {
         ensures on { IfSome result (λ r. (record_in r).chrom ≡ chrom_in self.now) }
         ensures none { IfNone result (left self.now ≡ []) }
     {
-        let line = self.lines.first()?;
+        let line = self.lines.first_line();
         let record = self.read(line)?;
         if record.start.value < self.start {
             return None;
@@ -99,10 +100,10 @@ impl<'a> Batch<'a> {
 
     // The record of the next line, which is this one, if it lies on the chromosome.
     #[inline(always)]
-    fn read(&self, line: LineText<'a>) -> Option<RawRecord<'a>>
-        requires { Cut (rest_in (cursor_in self.now)) (line_shown line) }
-        ensures some { IfSome result (IsOnLine (line_shown line.entry) (chrom_in self.now)) }
-        ensures none { IfNone result (is_on (chrom_in self.now) (record_of line.entry.text.now) ≡ false) }
+    fn read(&self, line: &'a [u8]) -> Option<RawRecord<'a>>
+        requires { take (length line.now) (rest_in (cursor_in self.now)) ≡ line.now }
+        ensures some { IfSome result (IsOnLine line.now (chrom_in self.now)) }
+        ensures none { IfNone result (is_on (chrom_in self.now) (record_of (strip_last 13 line.now)) ≡ false) }
     {
         match self.scan(line) {
             Some(record) => Some(record),
@@ -112,9 +113,9 @@ impl<'a> Batch<'a> {
 
     // The same as it is scanned: none proves nothing.
     #[inline(always)]
-    fn scan(&self, line: LineText<'a>) -> Option<RawRecord<'a>>
-        requires { Cut (rest_in (cursor_in self.now)) (line_shown line) }
-        ensures { IfSome result (IsOnLine (line_shown line.entry) (chrom_in self.now)) }
+    fn scan(&self, line: &'a [u8]) -> Option<RawRecord<'a>>
+        requires { take (length line.now) (rest_in (cursor_in self.now)) ≡ line.now }
+        ensures { IfSome result (IsOnLine line.now (chrom_in self.now)) }
     {
         let rest = self.lines.rest();
         if rest.len() < self.name.len() + LOOKAHEAD {
@@ -122,12 +123,11 @@ impl<'a> Batch<'a> {
         }
         let columns = scan_columns(rest, self.name, self.key)?;
         let end = self.name.len() + columns.start.end + columns.stop.end + 2;
-        if !ends_column(line.text, end) {
+        if !ends_column(line, end) {
             return None;
         }
         Some(RawRecord {
-            text: line.text,
-            size: line.size,
+            line,
             name: self.name.len(),
             start: columns.start,
             stop: columns.stop,
@@ -136,18 +136,18 @@ impl<'a> Batch<'a> {
 
     // The same as the line is parsed.
     #[inline(always)]
-    fn parse(&self, line: LineText<'a>) -> Option<RawRecord<'a>>
-        ensures some { IfSome result (IsOnLine (line_shown line.entry) (chrom_in self.now)) }
-        ensures none { IfNone result (is_on (chrom_in self.now) (record_of line.entry.text.now) ≡ false) }
+    fn parse(&self, line: &'a [u8]) -> Option<RawRecord<'a>>
+        ensures some { IfSome result (IsOnLine line.now (chrom_in self.now)) }
+        ensures none { IfNone result (is_on (chrom_in self.now) (record_of (strip_last 13 line.now)) ≡ false) }
     {
-        if !is_record_on(line.text, self.name) {
+        if !is_record_on(line, self.name) {
             return None;
         }
-        let start = parse_number(line.text, self.name.len() + 1);
-        let stop = parse_number(line.text, self.name.len() + start.end + 2);
+        let text = without_return(line);
+        let start = parse_number(text, self.name.len() + 1);
+        let stop = parse_number(text, self.name.len() + start.end + 2);
         Some(RawRecord {
-            text: line.text,
-            size: line.size,
+            line,
             name: self.name.len(),
             start,
             stop,
@@ -161,7 +161,7 @@ impl<'a> Batch<'a> {
         ensures passes { Passes self.old (record_in raw.now ∷ []) self.new }
         ensures line { consumed_in self.new ≡ consumed_in self.old ++ raw_in raw.now }
     {
-        self.lines.consume(raw.size);
+        self.lines.consume(raw.size());
         self.start = raw.start.value;
     }
 
@@ -213,25 +213,35 @@ impl<'a> Batch<'a> {
     }
 }
 
-// Whether a column that reaches so far ends there.
+// Whether the column that reaches so far in a line, which has no line feed, ends there.
 #[inline(always)]
-fn ends_column(text: &[u8], end: usize) -> bool
-    ensures within { IsTrue result → end ≤ length text.now }
-    ensures tab { IsTrue result → end < length text.now → get_or text.now end 0 ≡ 9 }
+fn ends_column(line: &[u8], end: usize) -> bool
+    ensures within { IsTrue result → end ≤ length (strip_last 13 line.now) }
+    ensures tab { IsTrue result → end < length (strip_last 13 line.now) → get_or (strip_last 13 line.now) end 0 ≡ 9 }
 {
-    if end < text.len() {
-        return text[end] == b'\t';
+    if end < line.len() {
+        return line[end] == b'\t' || ends_text(line, end);
     }
-    end == text.len()
+    end == line.len() && !ends_with_return(line)
 }
 
-// Whether a text says a record on the chromosome of this name. Most that don't begin with another name, so that no other
+// Whether the text of a line has so many bytes. It stands apart, since most lines end by a line feed alone.
+#[cold]
+#[inline(never)]
+fn ends_text(line: &[u8], end: usize) -> bool
+    ensures { result ≡ nat_eq (length (strip_last 13 line.now)) end }
+{
+    without_return(line).len() == end
+}
+
+// Whether a line says a record on the chromosome of this name. Most that don't begin with another name, so that no other
 // column is parsed.
 #[cold]
 #[inline(never)]
-fn is_record_on(text: &[u8], name: &[u8]) -> bool
-    ensures { result ≡ is_on name.now (record_of text.now) }
+fn is_record_on(line: &[u8], name: &[u8]) -> bool
+    ensures { result ≡ is_on name.now (record_of (strip_last 13 line.now)) }
 {
+    let text = without_return(line);
     if text.len() <= name.len() || !begins_with_long(text, name) {
         return false;
     }

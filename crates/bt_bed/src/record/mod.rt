@@ -18,6 +18,7 @@ use crate::record::bed::BedRef;
 use crate::record::kept_strand::kept_strand;
 use crate::record::raw_record::RawRecord;
 use crate::record::strand::Strand;
+use bt_lines::ends_with_return;
 
 /// A record: a line that a reader has buffered ([`RawRecord`]), or a [`BedRef`] that a caller gives.
 pub trait Record: Copy {
@@ -113,7 +114,7 @@ impl<'a> Record for RawRecord<'a> {
     #[inline(always)]
     fn written(&self) -> Option<&[u8]> {
         if self.is_canonical() {
-            Some(self.text)
+            Some(self.text())
         } else {
             None
         }
@@ -121,11 +122,11 @@ impl<'a> Record for RawRecord<'a> {
 
     #[inline(always)]
     fn is_canonical_line(&self) -> bool {
-        self.size == self.text.len() + 1 && self.is_canonical()
+        !ends_with_return(self.line) && self.is_canonical()
     }
 
     #[inline(always)]
     fn strand(&self) -> Strand {
-        kept_strand(self.text, self.name + self.start.end + self.stop.end + 2)
+        kept_strand(self.text(), self.name + self.start.end + self.stop.end + 2)
     }
 }

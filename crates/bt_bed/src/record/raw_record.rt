@@ -1,6 +1,7 @@
 //! Lines of which a record's start and end were read.
 
-ghost use Rattle.std.specs.Prelude.{◌≡◌, IsTrue, Ok, Some, false, get_or};
+ghost use Rattle.std.specs.Prelude.{◌≡◌, IsTrue, Ok, Some, false, get_or, length};
+ghost use Rattle.std.specs.Io.BufRead.{strip_last};
 ghost use Rattle.bt_bed.specs.inside.FirstColumns.{AreBounds, EndsName};
 ghost use Rattle.bt_bed.specs.model.feature.Header.{is_header};
 
@@ -8,35 +9,43 @@ use crate::parse::parsed_number::ParsedNumber;
 use crate::parse::parsing::behind;
 use crate::record::bed::BedRef;
 use crate::record::kept_strand::kept_strand;
+use bt_lines::without_return;
 
 /// A line that says a record, of which the start and the end were read. Its other columns aren't looked at until
 /// they are needed.
 #[derive(Clone, Copy, Debug)]
 pub struct RawRecord<'a> {
-    pub(crate) text: &'a [u8],
-    // How many bytes the line has, with its end.
-    pub(crate) size: usize,
+    // The line without its line feed.
+    pub(crate) line: &'a [u8],
     // Where the chromosome's name ends.
     pub(crate) name: usize,
     // The numbers of the second and the third column, and where these end, each counted from where it begins.
     pub(crate) start: ParsedNumber,
     pub(crate) stop: ParsedNumber,
-    ghost named: { EndsName text.now name },
-    ghost bounds: { AreBounds text.now name start stop },
-    ghost no_header: { is_header text.now ≡ false },
+    ghost named: { EndsName (strip_last 13 line.now) name },
+    ghost bounds: { AreBounds (strip_last 13 line.now) name start stop },
+    ghost no_header: { is_header (strip_last 13 line.now) ≡ false },
 }
 
-#[tactic(auto, unfolding(crate::specs::calls::RawRecord::text_in, crate::specs::calls::RawRecord::record_in, crate::specs::calls::RawRecord::kept_in))]
+#[tactic(auto, unfolding(crate::specs::calls::RawRecord::text_in, crate::specs::calls::RawRecord::raw_in, crate::specs::calls::RawRecord::record_in, crate::specs::calls::RawRecord::kept_in))]
 impl<'a> RawRecord<'a> {
     ghost use Rattle.bt_bed.specs.calls.Bed.{feature_lent};
-    ghost use Rattle.bt_bed.specs.calls.RawRecord.{IsAsWritten, record_in, text_in};
+    ghost use Rattle.bt_bed.specs.calls.RawRecord.{IsAsWritten, raw_in, record_in, text_in};
 
     /// The text of the line.
     #[inline(always)]
     pub fn text(&self) -> &'a [u8]
         ensures { result.now ≡ text_in self.now }
     {
-        self.text
+        without_return(self.line)
+    }
+
+    /// How many bytes the line has, with its end.
+    #[inline(always)]
+    pub(crate) fn size(&self) -> usize
+        ensures { result ≡ length (raw_in self.now) }
+    {
+        self.line.len() + 1
     }
 
     /// The record, for as long as the line.
@@ -44,13 +53,14 @@ impl<'a> RawRecord<'a> {
     pub fn to_bed(&self) -> BedRef<'a>
         ensures { feature_lent result ≡ record_in self.now }
     {
+        let text = self.text();
         let kept = self.name + self.start.end + self.stop.end + 2;
         BedRef {
-            chrom: &self.text[..self.name],
+            chrom: &text[..self.name],
             start: self.start.value,
             stop: self.stop.value,
-            strand: kept_strand(self.text, kept),
-            rest: behind(self.text, kept),
+            strand: kept_strand(text, kept),
+            rest: behind(text, kept),
         }
     }
 
@@ -62,6 +72,6 @@ impl<'a> RawRecord<'a> {
     {
         let start = self.name + 1;
         let stop = start + self.start.end + 1;
-        self.text[start] != b'0' && self.text[stop] != b'0'
+        self.line[start] != b'0' && self.line[stop] != b'0'
     }
 }

@@ -14,6 +14,10 @@ pub record Shown : Type 0 where
 abbrev pub line_shown : LineText → Shown
 line_shown line = record { text = line.text.now; size = line.size }
 
+-- the same of its bytes without the line feed
+abbrev pub shown_of : List ℕ → Shown
+shown_of line = record { text = strip_last 13 line; size = length line + 1 }
+
 -- the line's bytes without its line feed, and what follows them
 pub record Cut (bytes : List ℕ) (line : Shown) : Type 0 where
   pub piece : List ℕ

@@ -6,7 +6,7 @@ ghost use Rattle.bt_lines.specs.calls.FirstLine.{IsFirst, ending_at, line_shown}
 ghost use Rattle.bt_lines.specs.inside.Shape.{IsLast, is_fed};
 
 use crate::reader::line::{Line, LineEnd};
-use crate::reader::newline::find_newline;
+use crate::reader::newline::{find_newline, line_length};
 
 /// The complete lines that a reader has buffered, as a cursor over them. What was consumed is reported to the reader
 /// ([`LineReader::consume`](crate::LineReader::consume)).
@@ -46,7 +46,7 @@ pub struct LineText<'a> {
 impl<'a> BufferedLines<'a> {
     ghost use Rattle.std.specs.Prelude.{◌≡◌, ◌+◌, ◌-◌, ◌≤◌, ◌<◌, ◌^◌, ◌∷◌, [], IfNone, IfSome, drop, length, nat_eq, slice_range, take, true};
     ghost use Rattle.bt_lines.specs.calls.Buffered.{BeginsLines, IsWhere, PassesLine, PassesLines, lines_after, lines_in, line_of, rest_in};
-    ghost use Rattle.bt_lines.specs.calls.FirstLine.{Cut, Shown};
+    ghost use Rattle.bt_lines.specs.calls.FirstLine.{Cut, Shown, shown_of};
     ghost use Rattle.bt_lines.specs.calls.LentLine.{line_seen};
     ghost use Rattle.bt_lines.specs.inside.Shape.{IsLast, is_fed};
 
@@ -97,6 +97,18 @@ impl<'a> BufferedLines<'a> {
         ensures none { IfNone result (lines_in self.now ≡ []) }
     {
         first_line(self.rest())
+    }
+
+    /// The bytes of the next line without its line feed, or none if there is no line. It isn't consumed.
+    #[inline(always)]
+    pub fn first_line(&self) -> &'a [u8]
+        ensures front { take (length result.now) (rest_in self.now) ≡ result.now }
+        ensures some { 0 < length (rest_in self.now) → Cut (rest_in self.now) (shown_of result.now)
+            × (lines_in self.now ≡ line_of self.now (shown_of result.now) ∷ lines_after self.now (length result.now + 1)) }
+        ensures none { rest_in self.now ≡ [] → lines_in self.now ≡ [] }
+    {
+        let rest = self.rest();
+        &rest[..line_length(rest)]
     }
 
     /// The next line, which is consumed.
@@ -212,9 +224,9 @@ pub(crate) fn ending_of(has_return: bool, is_open: bool) -> LineEnd
     }
 }
 
-// A line without its line feed, without a carriage return at its end.
+/// A line without its line feed, without a carriage return at its end.
 #[inline(always)]
-fn without_return(line: &[u8]) -> &[u8]
+pub fn without_return(line: &[u8]) -> &[u8]
     ensures { result.now ≡ strip_last 13 line.now }
 {
     if ends_with_return(line) {
@@ -223,10 +235,10 @@ fn without_return(line: &[u8]) -> &[u8]
     line
 }
 
-// Whether a carriage return ends a piece.
+/// Whether a carriage return ends a line without its line feed.
 #[inline(always)]
-fn ends_with_return(piece: &[u8]) -> bool
-    ensures { result ≡ ends_with_byte 13 piece.now }
+pub fn ends_with_return(line: &[u8]) -> bool
+    ensures { result ≡ ends_with_byte 13 line.now }
 {
-    piece.last() == Some(&b'\r')
+    line.last() == Some(&b'\r')
 }

@@ -23,7 +23,7 @@ pub(crate) fn find_newline(text: &[u8]) -> Option<usize>
 
 // How many bytes come before the first line feed, or in all. Most lines end in the first sixty-four bytes.
 #[inline(always)]
-fn line_length(text: &[u8]) -> usize
+pub(crate) fn line_length(text: &[u8]) -> usize
     ensures { IsBefore 10 text.now result }
 {
     let Some(near) = text.first_chunk::<NEAR>() else {

@@ -1,14 +1,15 @@
 -- Lemmas on lines of which a record's bounds were read.
-use Rattle.std.proofs.Common.{◌≡◌, ℕ, zero, suc, ◌+◌, ◌<◌, ◌≤◌, List, [], ◌∷◌, ◌++◌, length, take, drop, get_or, Some, Ok, refl, sym, ap, ◌∙◌, subst, arith, append_assoc, decimal, eq-eqb, eqb, length-drop}
+use Rattle.std.proofs.Common.{◌≡◌, ℕ, zero, suc, ◌+◌, ◌<◌, ◌≤◌, List, [], ◌∷◌, ◌++◌, length, take, drop, get_or, Some, Ok, refl, sym, ap, ◌∙◌, subst, arith, append_assoc, decimal, eq-eqb, eqb, length-append, length-drop}
 use Rattle.std.specs.Prelude.{IsTrue, not}
+use Rattle.std.specs.Io.BufRead.{strip_last}
 use Rattle.std.specs.Str.Parse.{AllDigits}
 use Rattle.std.proofs.lemmas.Fmt.{decimal-digits_value}
 use Rattle.std.proofs.lemmas.Bool.{false≢true}
-use Rattle.std.proofs.lemmas.List.{drop_more, get_or-drop, get_or-take, take-append-drop}
+use Rattle.std.proofs.lemmas.List.{drop_more, get_or-drop, get_or-take, get_or_append_left, take-append-drop, take-append-le}
 use Rattle.std.proofs.lemmas.Str.Parse.{numerals_by_value, tells_digits}
 use Rattle.bt_lines.specs.model.Number.{value_of}
-use Rattle.bt_lines.specs.calls.FirstLine.{Shown}
 use Rattle.bt_lines.proofs.lemmas.numbers.NumberLemmas.{all_digits_in, digits_denoting}
+use Rattle.bt_lines.proofs.lemmas.reader.lines.BufferedLemmas.{strip_begins}
 use Rattle.bt_bed.specs.model.feature.Feature.{Feature}
 use Rattle.bt_bed.specs.inside.FirstColumns.{Leads}
 use Rattle.bt_bed.specs.model.feature.Record.{IsFeature, bed_text, columns_in, record_of, strand_of}
@@ -20,7 +21,7 @@ use Rattle.bt_bed.proofs.lemmas.read.FirstColumnLemmas.{bounds_say, rest_stands}
 
 pub says_its_record : (line : RawRecord) → record_of (text_in line) ≡ Ok (Some (record_in line))
 unfolding text_in record_in kept_in
-says_its_record line = sym (columns_say_feature line.text.now (record_in line) line.no_header (bounds_say line.text.now (kept_in line) line.name line.start line.stop (strand_of (columns_in (kept_in line))) line.named line.bounds refl refl))
+says_its_record line = sym (columns_say_feature (strip_last 13 line.line.now) (record_in line) line.no_header (bounds_say (strip_last 13 line.line.now) (kept_in line) line.name line.start line.stop (strand_of (columns_in (kept_in line))) line.named line.bounds refl refl))
 
 -- it says no other
 pub same_record : (line : RawRecord) (r : Feature) → record_of (text_in line) ≡ Ok (Some r) → record_in line ≡ r
@@ -56,19 +57,19 @@ cut_there text end inside tab =
     sym (take-append-drop end text) ∙ ap (λ (l : List ℕ). take end text ++ l) (drop_more text end 0 inside ∙ ap (λ (b : ℕ). b ∷ drop (end + 1) text) tab)
 
 -- the third column has a first byte
-pub column_begins : (line : RawRecord) → line.name + 1 + line.start.end + 1 < length line.text.now
+pub column_begins : (line : RawRecord) → line.name + 1 + line.start.end + 1 < length (strip_last 13 line.line.now)
 column_begins line =
-    let first = drop (line.name + 1) line.text.now in
+    let first = drop (line.name + 1) (strip_last 13 line.line.now) in
     let second = drop (line.start.end + 1) first in
     let some = some_digits line.stop.end second line.stop.value line.bounds.second.value in
     let within = line.bounds.second.within in
-    omega (arith, length-drop (line.name + 1) line.text.now, length-drop (line.start.end + 1) first)
+    omega (arith, length-drop (line.name + 1) (strip_last 13 line.line.now), length-drop (line.start.end + 1) first)
 
 -- if no number begins with a zero, the record is written as its line is
-pub written_so : (line : RawRecord) (r : Feature) → record_of line.text.now ≡ Ok (Some r) → (get_or line.text.now (line.name + 1) 0 ≡ 48 → ⊥) → (get_or line.text.now (line.name + 1 + line.start.end + 1) 0 ≡ 48 → ⊥) → bed_text r ≡ line.text.now
+pub written_so : (line : RawRecord) (r : Feature) → record_of (strip_last 13 line.line.now) ≡ Ok (Some r) → (get_or (strip_last 13 line.line.now) (line.name + 1) 0 ≡ 48 → ⊥) → (get_or (strip_last 13 line.line.now) (line.name + 1 + line.start.end + 1) 0 ≡ 48 → ⊥) → bed_text r ≡ (strip_last 13 line.line.now)
 unfolding text_in record_in kept_in
 written_so line r said start stop =
-    let text = line.text.now in
+    let text = (strip_last 13 line.line.now) in
     let first = drop (line.name + 1) text in
     let second = drop (line.start.end + 1) first in
     let rest = drop line.stop.end second in
@@ -99,12 +100,56 @@ written_so line r said start stop =
 pub raw_is_feature : (raw : RawRecord) → IsFeature (record_in raw)
 raw_is_feature raw = said_is_feature (text_in raw) (record_in raw) (record_said (text_in raw) (record_in raw) (says_its_record raw)).1
 
+-- so it is by the text that is looked at
+pub text_is_feature : (raw : RawRecord) (text : List ℕ) → text ≡ text_in raw
+    → IsFeature (record {
+      chrom = take raw.name text;
+      start = raw.start.value;
+      stop = raw.stop.value;
+      strand = strand_of (columns_in (drop (raw.name + raw.start.end + raw.stop.end + 2) text));
+      rest = drop (raw.name + raw.start.end + raw.stop.end + 2) text;
+    })
+unfolding text_in record_in kept_in
+text_is_feature raw text is =
+    subst (λ (t : List ℕ). IsFeature (record {
+      chrom = take raw.name t;
+      start = raw.start.value;
+      stop = raw.stop.value;
+      strand = strand_of (columns_in (drop (raw.name + raw.start.end + raw.stop.end + 2) t));
+      rest = drop (raw.name + raw.start.end + raw.stop.end + 2) t;
+    })) (sym is) (raw_is_feature raw)
+
 -- a line that is as it is written is its record's text
 pub text_written : (raw : RawRecord) → IsAsWritten (text_in raw) → text_in raw ≡ bed_text (record_in raw)
 text_written raw stands = sym (stands.is (record_in raw) (says_its_record raw))
 
 -- the record of a line on which it was read
-pub on_line : (raw : RawRecord) (line : Shown) (name : List ℕ) → raw.text.now ≡ line.text → raw.size ≡ line.size → take raw.name raw.text.now ≡ name → IsOnLine line name raw
+pub on_line : (raw : RawRecord) (line name : List ℕ) → raw.line.now ≡ line → take raw.name (strip_last 13 raw.line.now) ≡ name → IsOnLine line name raw
 unfolding text_in record_in
-on_line raw line name text size chrom =
-    record { text = text; size = size; says = ap record_of (sym text) ∙ says_its_record raw; chrom = chrom }
+on_line raw line name is chrom =
+    record { line_is = is; says = ap (λ l. record_of (strip_last 13 l)) (sym is) ∙ says_its_record raw; chrom = chrom }
+
+-- ---- a line and its text
+
+-- the text's bytes are its line's
+pub byte_there : (line : List ℕ) (i : ℕ) → i < length (strip_last 13 line) → get_or line i 0 ≡ get_or (strip_last 13 line) i 0
+byte_there line i inside =
+    let begins = strip_begins line in
+    ap (λ l. get_or l i 0) begins.1 ∙ get_or_append_left (strip_last 13 line) begins.0 0 i inside
+
+pub front_there : (line : List ℕ) (n : ℕ) → n ≤ length (strip_last 13 line) → take n line ≡ take n (strip_last 13 line)
+front_there line n within =
+    let begins = strip_begins line in
+    ap (take n) begins.1 ∙ take-append-le n (strip_last 13 line) begins.0 within
+
+pub text_less : (line : List ℕ) → length (strip_last 13 line) ≤ length line
+text_less line =
+    let begins = strip_begins line in
+    omega (arith, ap length begins.1, length-append (strip_last 13 line) begins.0)
+
+-- the name stands in the line as in the text
+pub name_there : (raw : RawRecord) → take raw.name raw.line.now ≡ take raw.name (strip_last 13 raw.line.now)
+name_there raw = front_there raw.line.now raw.name (let inside = raw.named.within in omega arith)
+
+pub name_within : (raw : RawRecord) → raw.name < length raw.line.now
+name_within raw = let inside = raw.named.within in omega (arith, text_less raw.line.now)

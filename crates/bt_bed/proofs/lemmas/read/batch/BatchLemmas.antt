@@ -1,15 +1,17 @@
 -- Lemmas on the next record of a batch.
-use Rattle.std.proofs.Common.{◌≡◌, ◌<◌, ◌≤◌, true, false, List, [], ◌∷◌, drop, Option, Some, None, sym, ap, ◌∙◌, arith, nat_lt}
+use Rattle.std.proofs.Common.{◌≡◌, ℕ, ◌+◌, ◌<◌, ◌≤◌, true, false, List, [], ◌∷◌, ◌++◌, drop, length, length-append, take, Option, Some, None, sym, ap, ◌∙◌, arith, nat_lt}
 use Rattle.std.proofs.lemmas.Bool.Decides.{nat_tests}
 use Rattle.std.specs.Prelude.{IfNone}
+use Rattle.std.specs.Io.BufRead.{strip_last}
+use Rattle.std.proofs.Math.Seq.{take-append-add, take-append_seam, take-nil}
 use Rattle.bt_lines.specs.calls.Buffered.{lines_in, lines_after, line_of, rest_in}
-use Rattle.bt_lines.specs.calls.FirstLine.{Cut, line_shown}
+use Rattle.bt_lines.specs.calls.FirstLine.{Cut, shown_of}
 use Rattle.bt_lines.specs.model.Lines.{TextLine}
-use Rattle.bt_lines.specs.declared.reader.buffered_lines.LineText.{LineText}
-use Rattle.bt_bed.proofs.lemmas.read.batch.RunLemmas.{placed_there, placed_below, placed_elsewhere, run_none, run_some}
+use Rattle.bt_bed.proofs.lemmas.read.batch.RunLemmas.{placed_there, placed_below, placed_elsewhere, run_nil, run_none, run_some}
+use Rattle.bt_bed.proofs.lemmas.records.RawRecordLemmas.{name_within}
 use Rattle.bt_bed.specs.calls.Batch.{StandsFirst, chrom_in, cursor_in, left, left_behind, start_in}
 use Rattle.bt_bed.specs.model.feature.Feature.{Feature}
-use Rattle.bt_bed.specs.calls.RawRecord.{IsOnLine, record_in}
+use Rattle.bt_bed.specs.calls.RawRecord.{IsOnLine, raw_in, record_in, text_in}
 use Rattle.bt_bed.specs.model.feature.Record.{record_of}
 use Rattle.bt_bed.specs.calls.Run.{is_on, run_of}
 use Rattle.bt_bed.specs.declared.read.batch.Batch.{Batch}
@@ -19,21 +21,44 @@ pub none_holds : {A : Type 0} (o : Option A) (P : Type 0) → P → IfNone o P
 none_holds None P p = p
 none_holds (Some x) P p = tt
 
-module _ (batch : Batch) (line : LineText) (cut : Cut (rest_in (cursor_in batch)) (line_shown line))
-    (first : lines_in (cursor_in batch) ≡ line_of (cursor_in batch) (line_shown line) ∷ lines_after (cursor_in batch) line.size) where
+-- the bytes of a line are those before its line feed, and that
+line_there : (line bytes : List ℕ) → take (length line) bytes ≡ line → Cut bytes (shown_of line) → take (length line + 1) bytes ≡ line ++ 10 ∷ []
+line_there line bytes front cut =
+    let size : length cut.piece ≡ length line = omega (arith, cut.size_is) in
+    let piece : cut.piece ≡ line =
+    sym (ap (take (length cut.piece)) cut.cut ∙ take-append_seam cut.piece (10 ∷ drop (length line + 1) bytes)) ∙ ap (λ n. take n bytes) size ∙ front in
+    ap (λ n. take (n + 1) bytes) (sym size) ∙ ap (take (length cut.piece + 1)) cut.cut ∙ take-append-add cut.piece (10 ∷ drop (length line + 1) bytes) 1 ∙ ap (λ l. l ++ 10 ∷ []) piece
+
+-- bytes that a record's line begins aren't empty
+pub some_bytes : (raw : RawRecord) (line bytes : List ℕ) → raw.line.now ≡ line → take (length line) bytes ≡ line → 0 < length bytes
+some_bytes raw line [] is front =
+    let none : length line ≡ 0 = ap length (sym front) ∙ ap length (take-nil (length line)) in
+    absurd (let inside = name_within raw in omega (arith, ap length is, none))
+some_bytes raw line (byte ∷ bytes) is front = omega arith
+
+-- none is left without a line, and else where the next one says so
+pub none_either : (batch : Batch) (bytes : List ℕ) → rest_in (cursor_in batch) ≡ bytes → (rest_in (cursor_in batch) ≡ [] → lines_in (cursor_in batch) ≡ [])
+    → (0 < length (rest_in (cursor_in batch)) → left batch ≡ []) → left batch ≡ []
+unfolding left cursor_in
+none_either batch [] e none some = run_nil batch.name.now batch.start _ (none e)
+none_either batch (byte ∷ bytes) e none some = some (omega (arith, ap length e))
+
+module _ (batch : Batch) (line : List ℕ) (front : take (length line) (rest_in (cursor_in batch)) ≡ line) (cut : Cut (rest_in (cursor_in batch)) (shown_of line))
+    (first : lines_in (cursor_in batch) ≡ line_of (cursor_in batch) (shown_of line) ∷ lines_after (cursor_in batch) (length line + 1)) where
   -- the record of the next line, which doesn't start below, comes next
-  pub stands_first : (raw : RawRecord) → IsOnLine (line_shown line) (chrom_in batch) raw → start_in batch ≤ (record_in raw).start → StandsFirst batch raw
-  unfolding left left_behind chrom_in start_in cursor_in
+  pub stands_first : (raw : RawRecord) → IsOnLine line (chrom_in batch) raw → start_in batch ≤ (record_in raw).start → StandsFirst batch raw
+  unfolding left left_behind chrom_in start_in cursor_in text_in raw_in rest_in
   stands_first raw is above = record {
     left_is =
         ap (λ l. left_of l) first
-        ∙ run_some (chrom_in batch) (start_in batch) (line_of (cursor_in batch) (line_shown line)) (lines_after (cursor_in batch) line.size) (record_in raw)
-        (placed_there (chrom_in batch) (start_in batch) line.text.now (record_in raw) is.says is.chrom above)
+        ∙ run_some (chrom_in batch) (start_in batch) (line_of (cursor_in batch) (shown_of line)) (lines_after (cursor_in batch) (length line + 1)) (record_in raw)
+        (placed_there (chrom_in batch) (start_in batch) (strip_last 13 line) (record_in raw) is.says is.chrom above)
         ∙ ap (λ l. record_in raw ∷ behind (drop 1 l)) (sym first);
-    line = line_shown line;
+    line = shown_of line;
     cut = cut;
-    text_is = is.text;
-    size_is = sym is.size;
+    text_is = ap (strip_last 13) is.line_is;
+    size_is = sym (length-append line (10 ∷ [])) ∙ ap (λ l. length (l ++ 10 ∷ [])) (sym is.line_is);
+    bytes_are = line_there line (rest_in (cursor_in batch)) front cut ∙ ap (λ l. l ++ 10 ∷ []) (sym is.line_is);
   }
     where
       left_of : List TextLine → List Feature
@@ -43,18 +68,18 @@ module _ (batch : Batch) (line : LineText) (cut : Cut (rest_in (cursor_in batch)
       behind l = run_of batch.name.now (record_in raw).start l
 
   -- none is left if it starts below
-  pub none_below : (raw : RawRecord) → IsOnLine (line_shown line) (chrom_in batch) raw → (record_in raw).start < start_in batch → left batch ≡ []
+  pub none_below : (raw : RawRecord) → IsOnLine line (chrom_in batch) raw → (record_in raw).start < start_in batch → left batch ≡ []
   unfolding left chrom_in start_in cursor_in
   none_below raw is below =
       let test : nat_lt (record_in raw).start batch.start ≡ true = grind (arith, nat_tests) in
       ap (run_of batch.name.now batch.start) first
-      ∙ run_none batch.name.now batch.start (line_of batch.lines (line_shown line)) (lines_after batch.lines line.size)
-      (placed_below batch.name.now batch.start line.text.now (record_in raw) is.says test)
+      ∙ run_none batch.name.now batch.start (line_of batch.lines (shown_of line)) (lines_after batch.lines (length line + 1))
+      (placed_below batch.name.now batch.start (strip_last 13 line) (record_in raw) is.says test)
 
   -- or the line says none on the chromosome
-  pub none_elsewhere : is_on (chrom_in batch) (record_of line.text.now) ≡ false → left batch ≡ []
+  pub none_elsewhere : is_on (chrom_in batch) (record_of (strip_last 13 line)) ≡ false → left batch ≡ []
   unfolding left chrom_in start_in cursor_in
   none_elsewhere other =
       ap (run_of batch.name.now batch.start) first
-      ∙ run_none batch.name.now batch.start (line_of batch.lines (line_shown line)) (lines_after batch.lines line.size)
-      (placed_elsewhere batch.name.now batch.start line.text.now other)
+      ∙ run_none batch.name.now batch.start (line_of batch.lines (shown_of line)) (lines_after batch.lines (length line + 1))
+      (placed_elsewhere batch.name.now batch.start (strip_last 13 line) other)

@@ -1,5 +1,7 @@
-use Rattle.std.proofs.Common.{arith}
+use Rattle.std.proofs.Common.{ap, arith, ◌∙◌}
+use Rattle.bt_bed.specs.calls.Run.{is_on}
 use Rattle.bt_bed.specs.inside.FirstColumns.{BeginsWithName}
+use Rattle.bt_bed.specs.model.feature.Record.{record_of}
 use Rattle.bt_bed.proofs.lemmas.read.FirstColumnLemmas.{begins_within}
 use Rattle.bt_bed.proofs.lemmas.read.ParsedColumns.{not_on}
 use Rattle.bt_bed.proofs.read.batch.is_record_on.Goals as goal
@@ -7,7 +9,7 @@ use Rattle.bt_bed.proofs.read.batch.is_record_on.Goals.{then-text-name-via-then-
 
 pub returns-then-text-name : goal.returns-then-text-name
 returns-then-text-name c =
-    let text = c.args.text.now in
+    let text = c.without_return-text.result.now in
     let name = c.args.name.now in
     let other : BeginsWithName text name → ⊥ = λ begins. elim c.then-text-name.branch [
       | then-text-name-via-then-text-name w ↦
@@ -19,4 +21,4 @@ returns-then-text-name c =
           let no = w.if-not-begins_with_long.true in
           cc
     ] in
-    not_on name text other
+    not_on name text other ∙ ap (λ l. is_on name (record_of l)) c.without_return-text.ensures

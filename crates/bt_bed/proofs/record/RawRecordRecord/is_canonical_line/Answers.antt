@@ -1,14 +1,11 @@
-use Rattle.std.proofs.Common.{◌≡◌, ◌∙◌, ◌+◌, ◌∷◌, ◌++◌, false, [], ap, arith, cond, length, nat_lt}
-use Rattle.std.proofs.lemmas.Bool.Decides.{nat_tests}
+use Rattle.std.proofs.Common.{◌∙◌, ◌∷◌, ◌++◌, [], ap, sym}
+use Rattle.bt_lines.proofs.lemmas.reader.lines.LinesLemmas.{strip_last-other}
 use Rattle.bt_bed.specs.calls.RawRecord.{raw_in, text_in}
 use Rattle.bt_bed.proofs.lemmas.records.RawRecordLemmas.{text_written}
 use Rattle.bt_bed.proofs.record.RawRecordRecord.is_canonical_line.Goals as goal
 
-pub returns-then-self : goal.returns-then-self
+pub returns-then-not-ends_with_return : goal.returns-then-not-ends_with_return
 unfolding raw_in text_in
-returns-then-self c is =
+returns-then-not-ends_with_return c is =
     let raw = c.args.self.now in
-    let same : raw.size ≡ length raw.text.now + 1 = c.if-self.true in
-    let short : nat_lt (length raw.text.now + 1) raw.size ≡ false = grind (arith, nat_tests, same) in
-    ap (λ b. raw.text.now ++ cond b (13 ∷ 10 ∷ []) (10 ∷ [])) short
-    ∙ ap (λ l. l ++ 10 ∷ []) (text_written raw (c.is_canonical.ensures is))
+    ap (λ l. l ++ 10 ∷ []) (sym (strip_last-other 13 raw.line.now (sym c.ends_with_return.ensures ∙ c.if-not-ends_with_return.true)) ∙ text_written raw (c.is_canonical.ensures is))

@@ -1,15 +1,19 @@
 -- Lemmas on the lines that are left of those buffered.
-use Rattle.std.proofs.Common.{◌≡◌, ℕ, suc, ◌+◌, ◌-◌, ◌^◌, ◌<◌, ◌≤◌, Bool, true, false, List, [], ◌∷◌, ◌++◌, length, take, drop, Option, None, Some, refl, sym, ap, ◌∙◌, length-append, arith}
+use Rattle.std.proofs.Common.{◌≡◌, ℕ, suc, ◌+◌, ◌-◌, ◌^◌, ◌<◌, ◌≤◌, Bool, true, false, List, [], ◌∷◌, ◌++◌, length, take, drop, Option, None, Some, refl, sym, ap, ◌∙◌, length-append, append_assoc, append-nil, subst, inl, inr, arith}
 use Rattle.std.specs.Prelude.{option_map, nat_lt, IfSome, IfNone}
+use Rattle.std.specs.Io.BufRead.{ends_with_byte, strip_last}
+use Rattle.std.proofs.lemmas.Bool.{cases_lt}
+use Rattle.std.proofs.lemmas.Bool.Decides.{nat_tests}
 use Rattle.std.proofs.Math.Seq.{take-append_seam}
-use Rattle.std.proofs.lemmas.List.{drop-drop, length-drop}
+use Rattle.std.proofs.lemmas.List.{drop-drop, length-drop, take-append-drop, take_all}
 use Rattle.bt_lines.proofs.lemmas.reader.block.BufferLemmas.{fed_clear, fed_drop}
 use Rattle.bt_lines.proofs.lemmas.reader.lines.CutLemmas.{alone, some_size}
-use Rattle.bt_lines.proofs.lemmas.reader.lines.LinesLemmas.{lines_from-last, lines_from-nil}
+use Rattle.bt_lines.proofs.lemmas.reader.lines.LinesLemmas.{lines_from-last, lines_from-nil, strip_last-other, strip_last-push}
 use Rattle.bt_lines.proofs.lemmas.reader.lines.StepLemmas.{last_line-some}
 use Rattle.bt_lines.proofs.lemmas.reader.lines.TextLemmas.{whole_lines_from-fed, whole_lines_from-last}
 use Rattle.bt_lines.specs.calls.Buffered.{BeginsLines, buffered_lines, line_of, lines_after, lines_in, rest_in}
-use Rattle.bt_lines.specs.calls.FirstLine.{Cut, IsFirst, Shown, ending_at, line_shown}
+use Rattle.bt_lines.specs.calls.FirstByte.{IsBefore}
+use Rattle.bt_lines.specs.calls.FirstLine.{Cut, IsFirst, Shown, ending_at, line_shown, shown_of}
 use Rattle.bt_lines.specs.calls.LentLine.{NoLineFeed}
 use Rattle.bt_lines.specs.model.Lines.{TextLine, fed_line, lines_from, whole_lines_from}
 use Rattle.bt_lines.specs.inside.Shape.{IsLast, is_fed}
@@ -57,6 +61,65 @@ pub first_none : (cursor : BufferedLines) (found : Option LineText) → IsFirst 
 unfolding rest_in lines_in
 first_none cursor None first = lines_none cursor.is_open cursor.lines (drop cursor.at cursor.all.now) first cursor.fed
 first_none cursor (Some line) first = tt
+
+-- ---- the bytes of the first line
+
+-- a text is what its line begins with
+pub strip_begins : (line : List ℕ) → (tail : List ℕ) × (line ≡ strip_last 13 line ++ tail)
+strip_begins line = begins_by (ends_with_byte 13 line) refl
+  where
+    begins_by : (b : Bool) → ends_with_byte 13 line ≡ b → (tail : List ℕ) × (line ≡ strip_last 13 line ++ tail)
+    begins_by true e = (13 ∷ [], sym (strip_last-push 13 line e))
+    begins_by false e = ([], sym (append-nil (strip_last 13 line) ∙ strip_last-other 13 line e))
+
+-- what bytes begin with begins by its own first bytes
+pub take_front : (xs tail line bytes : List ℕ) → line ≡ xs ++ tail → take (length line) bytes ≡ line → take (length xs) bytes ≡ xs
+take_front xs tail line bytes is front =
+    let all : bytes ≡ xs ++ (tail ++ drop (length line) bytes) =
+    sym (take-append-drop (length line) bytes) ∙ ap (λ l. l ++ drop (length line) bytes) (front ∙ is) ∙ append_assoc xs tail (drop (length line) bytes) in
+    ap (take (length xs)) all ∙ take-append_seam xs (tail ++ drop (length line) bytes)
+
+-- whether a carriage return was taken off
+returned_by : (line : List ℕ) (b : Bool) → ends_with_byte 13 line ≡ b → nat_lt (length (strip_last 13 line) + 1) (length line + 1) ≡ b
+returned_by line true e =
+    let size : length line ≡ length (strip_last 13 line) + 1 = ap length (sym (strip_last-push 13 line e)) ∙ length-append (strip_last 13 line) (13 ∷ []) in
+    grind (arith, nat_tests, size)
+returned_by line false e =
+    let size : length (strip_last 13 line) ≡ length line = ap length (strip_last-other 13 line e) in
+    grind (arith, nat_tests, size)
+
+-- the first line, as it was cut
+cut_of : (bytes line : List ℕ) → IsBefore 10 bytes (length line) → take (length line) bytes ≡ line → length line < length bytes → Cut bytes (shown_of line)
+cut_of bytes line before front inside = record {
+  piece = line;
+  clear = subst NoLineFeed front before.clear;
+  size_is = refl;
+  cut = before.cut inside ∙ ap (λ l. l ++ 10 ∷ drop (length line + 1) bytes) front;
+  stripped = refl;
+  front = take_front (strip_last 13 line) (strip_begins line).0 line bytes (strip_begins line).1 front;
+  returned = returned_by line (ends_with_byte 13 line) refl;
+}
+
+-- bytes that are complete lines have a line feed, if there are some
+inside_by : (bytes line : List ℕ) → IsBefore 10 bytes (length line) → take (length line) bytes ≡ line → is_fed bytes ≡ true → 0 < length bytes → length line < length bytes
+inside_by bytes line before front fed some = elim (cases_lt (length line) (length bytes)) [
+  | inl less ↦ less
+  | inr past ↦
+    let clear : NoLineFeed bytes = subst NoLineFeed (take_all (length line) bytes past) before.clear in
+    absurd (let none : length bytes ≡ 0 = ap length (fed_clear bytes fed clear) in omega (arith, none))
+]
+
+pub line_first : (cursor : BufferedLines) (line : List ℕ) → IsBefore 10 (rest_in cursor) (length line) → take (length line) (rest_in cursor) ≡ line → 0 < length (rest_in cursor)
+    → Cut (rest_in cursor) (shown_of line) × (lines_in cursor ≡ line_of cursor (shown_of line) ∷ lines_after cursor (length line + 1))
+unfolding rest_in lines_in
+line_first cursor line before front some =
+    let rest = drop cursor.at cursor.all.now in
+    let cut = cut_of rest line before front (inside_by rest line before front cursor.fed some) in
+    (cut, lines_first cursor.is_open cursor.lines rest (shown_of line) cut cursor.fed cursor.last)
+
+pub line_none : (cursor : BufferedLines) → rest_in cursor ≡ [] → lines_in cursor ≡ []
+unfolding rest_in lines_in
+line_none cursor none = lines_none cursor.is_open cursor.lines (drop cursor.at cursor.all.now) (subst NoLineFeed (sym none) (λ k d h. absurd (omega (arith, h)))) cursor.fed
 
 -- what a cursor keeps when a line is consumed
 pub record Kept (all : List ℕ) (at lines : ℕ) (is_open : Bool) : Type 0 where

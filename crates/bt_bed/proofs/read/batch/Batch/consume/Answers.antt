@@ -1,9 +1,9 @@
-use Rattle.std.proofs.Common.{◌∷◌, refl, sym, ap, ◌∙◌}
+use Rattle.std.proofs.Common.{◌∷◌, refl, sym, ap, take, ◌∙◌}
 use Rattle.bt_lines.specs.calls.Buffered.{rest_in}
 use Rattle.bt_bed.specs.calls.Batch.{chrom_in, consumed_in, cursor_in, left, left_behind, start_in}
 use Rattle.bt_bed.specs.calls.RawRecord.{raw_in, record_in, text_in}
 use Rattle.bt_bed.specs.calls.Run.{run_of}
-use Rattle.bt_bed.proofs.lemmas.read.batch.ConsumedLemmas.{one_more, record_bytes}
+use Rattle.bt_bed.proofs.lemmas.read.batch.ConsumedLemmas.{one_more}
 use Rattle.bt_bed.proofs.read.batch.Batch.consume.Goals as goal
 
 pub returns-clause-passes : goal.returns-clause-passes
@@ -23,4 +23,4 @@ returns-clause-line c =
     let old = c.args.self.now.lines in
     let raw = c.args.raw.now in
     rw (c.consume.ensures.at, c.consume.ensures.same.0)
-    (one_more old.at raw.size old.all.now (raw_in raw) (record_bytes (rest_in old) raw.text.now raw.size c.requires.line c.requires.cut c.requires.text_is c.requires.size_is))
+    (one_more old.at c.size.result old.all.now (raw_in raw) (ap (λ n. take n (rest_in old)) (c.size.ensures ∙ sym c.requires.size_is) ∙ c.requires.bytes_are))

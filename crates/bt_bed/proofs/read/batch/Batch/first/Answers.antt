@@ -1,24 +1,31 @@
-use Rattle.bt_bed.proofs.lemmas.read.batch.BatchLemmas.{none_below, none_elsewhere, none_holds, stands_first}
-use Rattle.bt_bed.proofs.lemmas.read.batch.RunLemmas.{run_nil}
-use Rattle.bt_bed.specs.calls.Batch.{chrom_in, cursor_in, left, start_in}
+use Rattle.std.proofs.Common.{refl}
+use Rattle.bt_lines.specs.calls.Buffered.{rest_in}
+use Rattle.bt_bed.proofs.lemmas.read.batch.BatchLemmas.{none_below, none_either, none_elsewhere, none_holds, some_bytes, stands_first}
+use Rattle.bt_bed.specs.calls.Batch.{chrom_in, cursor_in, start_in}
 use Rattle.bt_bed.specs.calls.RawRecord.{record_in}
 use Rattle.bt_bed.proofs.read.batch.Batch.first.Goals as goal
-
-pub returns-in_err-line-clause-none : goal.returns-in_err-line-clause-none
-unfolding left
-returns-in_err-line-clause-none c = none_holds c.from_residual.result _ (run_nil c.args.self.now.name.now c.args.self.now.start _ c.in_err-line.ensures.none)
 
 pub returns-in_err-record-clause-none : goal.returns-in_err-record-clause-none
 unfolding cursor_in chrom_in
 returns-in_err-record-clause-none c =
-    none_holds c.from_residual-in_err-record.result _ (none_elsewhere c.args.self.now c.in_ok-line.line c.in_ok-line.ensures.cut c.in_ok-line.ensures.some c.in_err-record.ensures.none)
+    let line = c.first_line-line.result.now in
+    let is = c.first_line-line.ensures in
+    none_holds c.from_residual.result _ (none_either c.args.self.now _ refl is.none (λ some. none_elsewhere c.args.self.now line is.front (is.some some).0 (is.some some).1 c.in_err-record.ensures.none))
 
 pub returns-then-record-self-clause-none : goal.returns-then-record-self-clause-none
 unfolding cursor_in chrom_in start_in record_in
 returns-then-record-self-clause-none c =
-    none_below c.args.self.now c.in_ok-line.line c.in_ok-line.ensures.cut c.in_ok-line.ensures.some c.in_ok-record.record c.in_ok-record.ensures.some c.if-record-self.true
+    let line = c.first_line-line.result.now in
+    let is = c.first_line-line.ensures in
+    let raw = c.in_ok-record.record in
+    let here = is.some (some_bytes raw line (rest_in c.args.self.now.lines) c.in_ok-record.ensures.some.line_is is.front) in
+    none_below c.args.self.now line is.front here.0 here.1 raw c.in_ok-record.ensures.some c.if-record-self.true
 
 pub returns-clause-some : goal.returns-clause-some
 unfolding cursor_in chrom_in start_in record_in
 returns-clause-some c =
-    stands_first c.args.self.now c.in_ok-line.line c.in_ok-line.ensures.cut c.in_ok-line.ensures.some c.in_ok-record.record c.in_ok-record.ensures.some c.if-record-self.false
+    let line = c.first_line-line.result.now in
+    let is = c.first_line-line.ensures in
+    let raw = c.in_ok-record.record in
+    let here = is.some (some_bytes raw line (rest_in c.args.self.now.lines) c.in_ok-record.ensures.some.line_is is.front) in
+    stands_first c.args.self.now line is.front here.0 here.1 raw c.in_ok-record.ensures.some c.if-record-self.false

@@ -1,47 +1,50 @@
-use Rattle.std.proofs.Common.{◌≡◌, ◌∙◌, ◌+◌, arith, length, length-drop, refl, sym, subst, take}
+use Rattle.std.proofs.Common.{◌≡◌, ◌∙◌, ◌+◌, ap, arith, drop, length, length-drop, refl, sym, subst, take, true}
 use Rattle.std.specs.Prelude.{IfSome}
-use Rattle.bt_lines.specs.calls.FirstLine.{line_shown}
+use Rattle.std.specs.Io.BufRead.{strip_last}
 use Rattle.bt_lines.specs.model.Number.{value_of}
 use Rattle.bt_bed.proofs.lemmas.read.FirstColumnLemmas.{front_is_name}
 use Rattle.bt_bed.proofs.lemmas.read.ParsedColumns.{parsed_begins, parsed_bounds, parsed_inside, parsed_name, parsed_no_header, parsed_of, third_at}
 use Rattle.bt_bed.proofs.lemmas.records.RawRecordLemmas.{on_line}
 use Rattle.bt_bed.specs.calls.Batch.{chrom_in}
 use Rattle.bt_bed.specs.inside.FirstColumns.{EndsFirst}
+use Rattle.bt_bed.specs.calls.Run.{is_on}
+use Rattle.bt_bed.specs.model.feature.Record.{record_of}
 use Rattle.bt_bed.proofs.read.batch.Batch.parse.Goals as goal
 
 pub parse_number-start-requires : goal.parse_number-start-requires
 parse_number-start-requires c =
-    let text = c.args.line.text.now in
+    let text = c.without_return-text.result.now in
     let name = c.args.self.now.name.now in
-    let p = parsed_of name text (sym c.is_record_on.ensures ∙ c.if-not-is_record_on.false) in
+    let p = parsed_of name text (ap (λ l. is_on name (record_of l)) c.without_return-text.ensures ∙ sym c.is_record_on.ensures ∙ c.if-not-is_record_on.false) in
     omega (arith, (parsed_name text name p.0 p.1 p.2).within)
 
 pub parse_number-stop-requires : goal.parse_number-stop-requires
 parse_number-stop-requires c =
-    let text = c.args.line.text.now in
+    let text = c.without_return-text.result.now in
     let name = c.args.self.now.name.now in
-    let p = parsed_of name text (sym c.is_record_on.ensures ∙ c.if-not-is_record_on.false) in
+    let p = parsed_of name text (ap (λ l. is_on name (record_of l)) c.without_return-text.ensures ∙ sym c.is_record_on.ensures ∙ c.if-not-is_record_on.false) in
     omega (arith, parsed_inside text name p.0 p.1 p.2 c.parse_number-start.result.end c.parse_number-start.ensures.ends, length-drop (length name + 1) text)
 
 pub invariant_of-result : goal.invariant_of-result
 invariant_of-result c =
-    let text = c.args.line.text.now in
+    let text = c.without_return-text.result.now in
     let name = c.args.self.now.name.now in
-    let p = parsed_of name text (sym c.is_record_on.ensures ∙ c.if-not-is_record_on.false) in
+    let p = parsed_of name text (ap (λ l. is_on name (record_of l)) c.without_return-text.ensures ∙ sym c.is_record_on.ensures ∙ c.if-not-is_record_on.false) in
     let start = c.parse_number-start.result in
     let stop = c.parse_number-stop.result in
     let third = sym (third_at text (length name) start.end) in
-    record {
+    rw (← c.without_return-text.ensures)
+    (record {
       named = parsed_name text name p.0 p.1 p.2;
       bounds = parsed_bounds text name p.0 p.1 p.2 start.end c.parse_number-start.ensures.ends stop.end (subst (λ l. EndsFirst l stop.end) third c.parse_number-stop.ensures.ends)
           start.value stop.value c.parse_number-start.ensures.value (subst (λ l. IfSome (value_of (take stop.end l)) (λ v. stop.value ≡ v)) third c.parse_number-stop.ensures.value);
       no_header = parsed_no_header text name p.0 p.1 p.2;
-    }
+    })
 
 pub returns-clause-some : goal.returns-clause-some
 unfolding chrom_in
 returns-clause-some c =
-    let text = c.args.line.text.now in
+    let text = strip_last 13 c.args.line.now in
     let name = c.args.self.now.name.now in
     let p = parsed_of name text (sym c.is_record_on.ensures ∙ c.if-not-is_record_on.false) in
-    on_line _ (line_shown c.args.line) name refl refl (front_is_name text name (parsed_begins text name p.0 p.1 p.2))
+    on_line _ c.args.line.now name refl (front_is_name text name (parsed_begins text name p.0 p.1 p.2))

@@ -1,6 +1,7 @@
 use Rattle.std.proofs.Common.{◌≡◌, ◌∙◌, ◌<◌, ap, arith, length, refl, take}
 use Rattle.bt_lines.specs.calls.Buffered.{rest_in}
-use Rattle.bt_lines.specs.calls.FirstLine.{line_shown}
+use Rattle.std.specs.Io.BufRead.{strip_last}
+use Rattle.bt_lines.proofs.lemmas.reader.lines.BufferedLemmas.{strip_begins, take_front}
 use Rattle.bt_bed.proofs.lemmas.parse.ColumnsLemmas.{line_bounds, line_named}
 use Rattle.bt_bed.proofs.lemmas.read.FirstColumnLemmas.{front_is_name, name_ends, named_is_no_header}
 use Rattle.bt_bed.proofs.lemmas.records.RawRecordLemmas.{on_line}
@@ -10,14 +11,14 @@ use Rattle.bt_bed.proofs.read.batch.Batch.scan.Goals as goal
 pub invariant_of-result : goal.invariant_of-result
 unfolding cursor_in
 invariant_of-result c =
-    let text = c.args.line.text.now in
+    let text = strip_last 13 c.args.line.now in
     let name = c.args.self.now.name.now in
     let rest = c.rest-rest.result.now in
     let columns = c.in_ok-columns.columns in
     let has = c.in_ok-columns.ensures in
     let ends = c.if-not-ends_column.false in
     let past = c.ends_column.ensures.within ends in
-    let front : take (length text) rest ≡ text = ap (take (length text)) c.rest-rest.ensures ∙ c.requires.front in
+    let front : take (length text) rest ≡ text = ap (take (length text)) c.rest-rest.ensures ∙ take_front text (strip_begins c.args.line.now).0 c.args.line.now (rest_in c.args.self.now.lines) (strip_begins c.args.line.now).1 c.requires in
     let some : 0 < length (rest_in c.args.self.now.lines) = omega (arith, c.if-rest-self.false, ap length c.rest-rest.ensures) in
     let is = c.args.self.now.named some in
     let begins = line_named rest name columns.start columns.stop has text past front (c.ends_column.ensures.tab ends) in
@@ -30,11 +31,11 @@ invariant_of-result c =
 pub returns : goal.returns
 unfolding chrom_in cursor_in
 returns c =
-    let text = c.args.line.text.now in
+    let text = strip_last 13 c.args.line.now in
     let name = c.args.self.now.name.now in
     let rest = c.rest-rest.result.now in
     let columns = c.in_ok-columns.columns in
     let ends = c.if-not-ends_column.false in
-    let front : take (length text) rest ≡ text = ap (take (length text)) c.rest-rest.ensures ∙ c.requires.front in
-    on_line _ (line_shown c.args.line) name refl refl
+    let front : take (length text) rest ≡ text = ap (take (length text)) c.rest-rest.ensures ∙ take_front text (strip_begins c.args.line.now).0 c.args.line.now (rest_in c.args.self.now.lines) (strip_begins c.args.line.now).1 c.requires in
+    on_line _ c.args.line.now name refl
     (front_is_name text name (line_named rest name columns.start columns.stop c.in_ok-columns.ensures text (c.ends_column.ensures.within ends) front (c.ends_column.ensures.tab ends)))

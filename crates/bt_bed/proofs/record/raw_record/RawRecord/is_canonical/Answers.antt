@@ -1,10 +1,17 @@
+use Rattle.std.proofs.Common.{arith, sym, ◌∙◌}
 use Rattle.bt_bed.specs.calls.RawRecord.{text_in}
-use Rattle.bt_bed.proofs.lemmas.records.RawRecordLemmas.{column_begins, other_byte, written_so}
+use Rattle.bt_bed.proofs.lemmas.records.RawRecordLemmas.{byte_there, column_begins, name_within, other_byte, text_less, written_so}
 use Rattle.bt_bed.proofs.record.raw_record.RawRecord.is_canonical.Goals as goal
 
 pub bounds-self-stop : goal.bounds-self-stop
-bounds-self-stop c = column_begins c.args.self.now
+bounds-self-stop c = omega (arith, column_begins c.args.self.now, text_less c.args.self.now.line.now)
 
 pub returns-then-self-start-ne48 : goal.returns-then-self-start-ne48
 unfolding text_in
-returns-then-self-start-ne48 c = λ other. record { is = λ r said. written_so c.args.self.now r said c.if-self-start-ne48.true (other_byte _ 48 other) }
+returns-then-self-start-ne48 c = λ other.
+    let raw = c.args.self.now in
+    let line = raw.line.now in
+    let inside = column_begins raw in
+    record {
+      is = λ r said. written_so raw r said (λ zero. c.if-self-start-ne48.true (byte_there line _ (omega (arith, inside)) ∙ zero)) (λ zero. other_byte _ 48 other (byte_there line _ inside ∙ zero));
+    }
