@@ -455,11 +455,14 @@ impl<H: Held> State<H> {
         // A record is consumed only once it is taken, and not if it decides all of the first or can't be held.
         let mut ahead = *seconds;
         while let Some(next) = ahead.next() {
-            let Some(waiting) = self.write_up_to(next.start(), current, firsts, out)? else {
-                return Ok(None);
-            };
-            current = waiting;
-            self.take(&current, &next, ahead.line())?;
+            // One that ends before the current record neither decides it nor is held.
+            if current.start() < next.stop() {
+                let Some(waiting) = self.write_up_to(next.start(), current, firsts, out)? else {
+                    return Ok(None);
+                };
+                current = waiting;
+                self.take(&current, &next, ahead.line())?;
+            }
             *seconds = ahead;
         }
         Ok(Some(current))
