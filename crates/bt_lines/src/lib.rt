@@ -48,7 +48,9 @@ pub use fault::report::{Names, fault_line};
 pub use fault::{Fault, Input, Kind, Place};
 pub use numbers::number_column::{COLUMN, write_column};
 pub use numbers::{MAX_NUMBER, eight_digits, few_digits, number};
-pub use reader::buffered_lines::{BufferedLines, ConsumedLines, LineText, ends_with_return, without_return};
+pub use reader::buffered_lines::{
+    BufferedLines, ConsumedLines, LineText, ends_with_return, without_return,
+};
 pub use reader::column_iter::Columns;
 pub use reader::line::{Line, LineEnd};
 pub use reader::line_reader::LineReader;

@@ -4,9 +4,9 @@ pub mod Complementing
 pub mod CoveredLevels
 pub mod Covering
 pub mod Engine
-pub mod Failure
 pub mod MergeKind
 pub mod Merging
+pub mod Ruled
 pub mod Settling
 pub mod StrandOrder
 pub mod Stranding

@@ -3,11 +3,11 @@ pub mod BamToBedState
 pub mod GivenLines
 pub mod HeldMasks
 pub mod MaskAdvance
-pub mod MaskFronts
+pub mod MaskPrefixes
 pub mod MaskSettles
 pub mod MaskStage
 pub mod MaskStanding
 pub mod MaskState
 pub mod MaskSteps
+pub mod Matching
 pub mod Sam
-pub mod SamBlocks

@@ -6,22 +6,22 @@ ghost use Rattle.bt_bed.specs.model.order.ByteOrder.{byte_order, bytes_are_total
 ghost use Rattle.bt_bed.specs.model.order.Genome.{first_lines_make_entries, genome_names_are_distinct};
 ghost use Rattle.bt_bed.specs.model.input.GoodBed.{good_are_non_empty, good_are_placed};
 ghost use Rattle.bt_bed.specs.model.input.GoodBlocks.{blocks_know_each_chromosome, good_are_in_blocks, good_in_blocks_are_non_empty, good_in_blocks_stand_on_lines};
-ghost use Rattle.bt_bed.specs.model.order.Locus.{fronts_are_placed, placed_grows};
+ghost use Rattle.bt_bed.specs.model.order.Locus.{prefixes_are_placed, placed_grows};
 ghost use Rattle.bt_bed.specs.model.order.Rank.{ranks_are_total};
 ghost use Rattle.bt_bed.specs.model.order.Sorting.{sorted_by_places};
-ghost use Rattle.bt_bed.specs.model.order.Contiguous.{fronts_stand_together, placed_are_together, together_grows};
+ghost use Rattle.bt_bed.specs.model.order.Contiguous.{prefixes_are_contiguous, placed_are_contiguous, contiguous_grows};
 
 /// Records in order stay so with a next one that isn't below the last, and so do the first of them.
 pub fn order_grows()
     ensures placed { placed_grows }
-    ensures together { together_grows }
-    ensures placed_front { fronts_are_placed }
-    ensures together_front { fronts_stand_together }
+    ensures together { contiguous_grows }
+    ensures placed_front { prefixes_are_placed }
+    ensures together_front { prefixes_are_contiguous }
 {}
 
 /// In a total order of the chromosomes the records of each are contiguous.
 pub fn order_gathers()
-    ensures { placed_are_together }
+    ensures { placed_are_contiguous }
 {}
 
 /// The good records of an input are in order, and each has a base.

@@ -1,6 +1,6 @@
 //! Records that a reader has buffered.
 
-ghost use Rattle.std.specs.Prelude.{◌≡◌, ◌<◌, ◌≤◌, IsTrue, get_or, length, nat_eq};
+ghost use Rattle.std.specs.Prelude.{◌≡◌, ◌-◌, ◌<◌, ◌≤◌, IsTrue, get_or, length, nat_eq};
 ghost use Rattle.std.specs.Io.BufRead.{strip_last};
 ghost use Rattle.bt_lines.specs.calls.Buffered.{rest_in};
 ghost use Rattle.bt_bed.specs.inside.FirstColumns.{IsRecordName};
@@ -14,7 +14,7 @@ use crate::parse::packed_name::PackedName;
 use crate::parse::parsed_number::parse_number;
 use crate::parse::parsing::parse_bed;
 use crate::record::raw_record::RawRecord;
-use bt_lines::{BufferedLines, ConsumedLines, ends_with_return, without_return};
+use bt_lines::{BufferedLines, ConsumedLines, without_return};
 
 /// Records that a reader has buffered, of one chromosome and in order, as a cursor over them. It ends before the first line
 /// that isn't such a record's. What was consumed is reported to the reader ([`Records::consume`](crate::Records::consume)).
@@ -213,16 +213,17 @@ impl<'a> Batch<'a> {
     }
 }
 
-// Whether the column that reaches so far in a line, which has no line feed, ends there.
+// Whether the column that reaches so far in a line, which has no line feed, ends there. No carriage return is its last byte.
 #[inline(always)]
 fn ends_column(line: &[u8], end: usize) -> bool
+    requires { end ≤ length line.now → get_or line.now (end - 1) 0 ≡ 13 → ⊥ }
     ensures within { IsTrue result → end ≤ length (strip_last 13 line.now) }
     ensures tab { IsTrue result → end < length (strip_last 13 line.now) → get_or (strip_last 13 line.now) end 0 ≡ 9 }
 {
     if end < line.len() {
         return line[end] == b'\t' || ends_text(line, end);
     }
-    end == line.len() && !ends_with_return(line)
+    end == line.len()
 }
 
 // Whether the text of a line has so many bytes. It stands apart, since most lines end by a line feed alone.
@@ -234,8 +235,7 @@ fn ends_text(line: &[u8], end: usize) -> bool
     without_return(line).len() == end
 }
 
-// Whether a line says a record on the chromosome of this name. Most that don't begin with another name, so that no other
-// column is parsed.
+// Whether a line says a record on the chromosome of this name. One that begins with another name isn't parsed.
 #[cold]
 #[inline(never)]
 fn is_record_on(line: &[u8], name: &[u8]) -> bool

@@ -20,7 +20,7 @@ use Rattle.bt_runs.specs.inside.coverage.DepthStep.{Known, begun_to, depth_walk,
 use Rattle.bt_runs.specs.model.Gaps.{AreTaken, length_in}
 use Rattle.bt_runs.specs.model.Levels.{Begun}
 use Rattle.bt_runs.specs.inside.walk.Walk.{AreReached, Place, entry_at, is_on, places, walk_step}
-use Rattle.bt_runs.specs.declared.coverage.depth_rule.DepthChrom.{DepthChrom}
+use Rattle.bt_runs.specs.declared.coverage.depth_rule.CurrentChrom.{CurrentChrom}
 use Rattle.bt_runs.specs.declared.coverage.depths.OpenInterval.{OpenInterval}
 use Rattle.bt_runs.specs.declared.engine.failure.Failure.{Failure}
 use Rattle.bt_runs.specs.declared.engine.failure.Failure.TheVariants.{Write, Memory}
@@ -32,7 +32,7 @@ pub record Covering : Type 0 where
   pub zeros : Bool
   pub strand : Option Strand
   pub current : Option (Place Known)
-  pub is_here : Bool
+  pub is_known : Bool
   pub name : List ℕ
   pub length : ℕ
 
@@ -128,7 +128,7 @@ IsOnBy false entries current name size chrom =
 
 abbrev pub IsOnChrom : Covering → List ℕ → Type 0
 IsOnChrom coverage chrom =
-    IsOnBy coverage.is_here coverage.entries coverage.current coverage.name coverage.length chrom
+    IsOnBy coverage.is_known coverage.entries coverage.current coverage.name coverage.length chrom
 
 -- with the interval that is kept in a local
 abbrev pub with_begun : Option OpenInterval → Option (Place Known) → Option (Place Known)
@@ -137,13 +137,13 @@ with_begun begun (Some place) =
     let known : Known = record { to = place.known.to; begun = begun_seen begun; held = place.known.held } in
     Some (record { rank = place.rank; known = known })
 
-abbrev pub with_chrom : Covering → DepthChrom → Covering
+abbrev pub with_chrom : Covering → CurrentChrom → Covering
 with_chrom coverage on = record {
   entries = coverage.entries;
   zeros = coverage.zeros;
   strand = coverage.strand;
   current = with_begun on.begun coverage.current;
-  is_here = on.is_here;
+  is_known = on.is_known;
   name = on.name.now;
   length = on.length;
 }

@@ -5,31 +5,31 @@ use Rattle.bt_lines.specs.model.Fault.{FaultValue}
 use Rattle.bt_bed.specs.model.feature.Feature.{Feature}
 use Rattle.bt_bed.specs.model.feature.Interval.{Interval}
 use Rattle.bt_runs.specs.model.MergedRuns.{AreTaken}
-use Rattle.bt_runs.specs.inside.walk.Ruled.{ruled_fault, ruled_stands}
+use Rattle.bt_runs.specs.calls.Ruled.{ruled_fault, ruled_stands}
 use Rattle.bt_runs.specs.calls.Stranding as strands
 use Rattle.bt_runs.specs.model.StrandRuns.{places_of}
 use Rattle.bt_runs.specs.inside.merge.StrandTaking as strand_step
-use Rattle.bt_runs.specs.calls.Unstranded as pool
-use Rattle.bt_runs.specs.inside.merge.UnstrandedStep as pool_step
+use Rattle.bt_runs.specs.calls.Unstranded as unstranded
+use Rattle.bt_runs.specs.inside.merge.UnstrandedStep as unstranded_step
 use Rattle.bt_runs.specs.declared.merge.merge_strand.MergeStrand.{MergeStrand}
 use Rattle.bt_runs.specs.declared.merge.merge_strand.MergeStrand.TheVariants.{All, Each, One}
 use Rattle.bt_runs.specs.declared.engine.rule.Ruled.{Ruled}
 
--- a merge as its callers see it: of all counted records together, or of each strand apart
+-- a merge as its callers see it: of all counted records together, or of each strand separately
 pub data Merging : Type 0 where
-  Contiguous : Ruled pool.Unstranded → Merging
-  Apart : Ruled strands.Stranding → Merging
+  Unstranded : Ruled unstranded.Unstranded → Merging
+  PerStrand : Ruled strands.Stranding → Merging
 
 -- one that has taken no record
-abbrev pub together_begun : ℕ → MergeStrand → Merging
-together_begun gap strand =
-    Contiguous (record { rule = record { gap = gap; strand = strand; chrom = []; kept = [] }; failure = None })
+abbrev pub unstranded_begun : ℕ → MergeStrand → Merging
+unstranded_begun gap strand =
+    Unstranded (record { rule = record { gap = gap; strand = strand; chrom = []; kept = [] }; failure = None })
 
 abbrev pub merge_begun : ℕ → MergeStrand → Merging
 merge_begun gap Each =
-    Apart (record { rule = record { gap = gap; chrom = []; kept = []; listed = [] }; failure = None })
-merge_begun gap All = together_begun gap All
-merge_begun gap (One strand) = together_begun gap (One strand)
+    PerStrand (record { rule = record { gap = gap; chrom = []; kept = []; listed = [] }; failure = None })
+merge_begun gap All = unstranded_begun gap All
+merge_begun gap (One strand) = unstranded_begun gap (One strand)
 
 -- the records that may be taken
 abbrev pub may_take : Merging → List Feature → Type 0
@@ -37,10 +37,10 @@ may_take first past = AreTaken past
 
 -- what the merge has become after the records
 abbrev pub stands_after : Merging → List Feature → Merging → Type 0
-stands_after (Contiguous first) past (Contiguous now) = ruled_stands pool.stands_after first past now
-stands_after (Apart first) past (Apart now) = ruled_stands strands.stands_after first past now
-stands_after (Contiguous first) past (Apart now) = ⊥
-stands_after (Apart first) past (Contiguous now) = ⊥
+stands_after (Unstranded first) past (Unstranded now) = ruled_stands unstranded.stands_after first past now
+stands_after (PerStrand first) past (PerStrand now) = ruled_stands strands.stands_after first past now
+stands_after (Unstranded first) past (PerStrand now) = ⊥
+stands_after (PerStrand first) past (Unstranded now) = ⊥
 
 -- a merge with this gap and these strands is after no record
 abbrev pub StandsNew : ℕ → MergeStrand → Merging → Type 0
@@ -48,35 +48,35 @@ StandsNew gap strand merge = stands_after (merge_begun gap strand) [] merge
 
 -- the fault that it returned, if one
 abbrev pub kept_fault : Merging → Option FaultValue
-kept_fault (Contiguous merge) = ruled_fault merge
-kept_fault (Apart merge) = ruled_fault merge
+kept_fault (Unstranded merge) = ruled_fault merge
+kept_fault (PerStrand merge) = ruled_fault merge
 
 -- the lines of the settled runs
 abbrev pub settled_lines : Merging → List Feature → List ℕ
-settled_lines (Contiguous first) past = pool.settled_lines first.rule past
-settled_lines (Apart first) past = strands.settled_lines first.rule past
+settled_lines (Unstranded first) past = unstranded.settled_lines first.rule past
+settled_lines (PerStrand first) past = strands.settled_lines first.rule past
 
 -- the lines of all runs
 abbrev pub whole_output : Merging → List Feature → List ℕ
-whole_output (Contiguous first) past = pool.whole_output first.rule past
-whole_output (Apart first) past = strands.whole_output first.rule past
+whole_output (Unstranded first) past = unstranded.whole_output first.rule past
+whole_output (PerStrand first) past = strands.whole_output first.rule past
 
 -- how many runs are kept
 abbrev pub held_count : Merging → List Feature → ℕ
-held_count (Contiguous first) past = pool.held_count first.rule past
-held_count (Apart first) past = strands.held_count first.rule past
+held_count (Unstranded first) past = unstranded.held_count first.rule past
+held_count (PerStrand first) past = strands.held_count first.rule past
 
 -- a record on the last chromosome that settles no run, with which no more are kept
 abbrev pub is_quiet : Merging → List Feature → Feature → Type 0
-is_quiet (Contiguous first) past r = pool.is_quiet first.rule past r
-is_quiet (Apart first) past r = strands.is_quiet first.rule past r
+is_quiet (Unstranded first) past r = unstranded.is_quiet first.rule past r
+is_quiet (PerStrand first) past r = strands.is_quiet first.rule past r
 
 -- the runs that are kept
 abbrev pub kept_places : Merging → List Interval
-kept_places (Contiguous merge) = merge.rule.kept
-kept_places (Apart merge) = places_of merge.rule.kept
+kept_places (Unstranded merge) = merge.rule.kept
+kept_places (PerStrand merge) = places_of merge.rule.kept
 
 -- what needs memory: the name of another chromosome, and with each strand separately a run that has to be opened
 abbrev pub wants_memory : Merging → Feature → Type 0
-wants_memory (Contiguous old) r = pool_step.IsElsewhere old.rule r
-wants_memory (Apart old) r = strand_step.wants_memory old.rule r
+wants_memory (Unstranded old) r = unstranded_step.IsElsewhere old.rule r
+wants_memory (PerStrand old) r = strand_step.wants_memory old.rule r

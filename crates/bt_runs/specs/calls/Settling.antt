@@ -5,7 +5,7 @@ use Rattle.bt_bed.specs.model.feature.Feature.{Feature}
 -- each next record settles what was settled and more, and what is settled begins the whole
 pub record Settles {T : Type 0} (settled whole : List Feature → List T)
     (Taken : List Feature → Type 0) : Type 0 where
-  pub front : (past more : List Feature) → Taken (past ++ more) → Taken past
+  pub prefix : (past more : List Feature) → Taken (past ++ more) → Taken past
   pub next : (past : List Feature) (r : Feature) → Taken (past ++ r ∷ [])
       → (lines : List T) × (settled (past ++ r ∷ []) ≡ settled past ++ lines)
   pub begins : (past : List Feature) → Taken past

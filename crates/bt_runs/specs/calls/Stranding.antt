@@ -20,7 +20,7 @@ pub record Stranding : Type 0 where
 pub record StandsAfter (gap : ℕ) (past : List Feature) (merge : Stranding) : Type 0 where
   pub same_gap : merge.gap ≡ gap
   -- it is on the chromosome of the last one
-  pub chrom : (front : List Feature) (last : Feature) → past ≡ front ++ last ∷ []
+  pub chrom : (before : List Feature) (last : Feature) → past ≡ before ++ last ∷ []
       → merge.chrom ≡ last.chrom
   pub kept : merge.kept ≡ kept_strand_runs gap past
 

@@ -22,7 +22,7 @@ pub record StandsAfter (gap : ℕ) (strand : MergeStrand) (past : List Feature)
   pub same_gap : merge.gap ≡ gap
   pub same_strand : merge.strand ≡ strand
   pub kept : merge.kept ≡ kept_runs gap strand past
-  pub on : (front : List Feature) (last : Feature) → past ≡ front ++ last ∷ [] → merge.chrom ≡ last.chrom
+  pub on : (before : List Feature) (last : Feature) → past ≡ before ++ last ∷ [] → merge.chrom ≡ last.chrom
 
 -- the records that may be taken
 abbrev pub may_take : Unstranded → List Feature → Type 0

@@ -3,5 +3,4 @@ pub mod GapCursor
 pub mod GapRule
 pub mod GapStep
 pub mod Rule
-pub mod Ruled
 pub mod Walk

@@ -12,7 +12,7 @@ ghost use Rattle.bt_bed.specs.calls.GenomeTable.{entries};
 ghost use Rattle.bt_runs.specs.calls.Calls.{AnswersAgain, IsFaultless, KeepsFault, TakesQuiet, WritesLeft, WritesLeftPrefix, WritesPrefix, WritesSettled};
 ghost use Rattle.bt_runs.specs.calls.Complementing.{StandsAfter, held_count, is_quiet, kept_in, may_take, settled_lines, stands_after, whole_output};
 ghost use Rattle.bt_runs.specs.calls.Engine.{KeepsHeld};
-ghost use Rattle.bt_runs.specs.inside.walk.Ruled.{ruled_count, ruled_fault, ruled_quiet, ruled_stands, ruled_takes, ruled_text};
+ghost use Rattle.bt_runs.specs.calls.Ruled.{ruled_count, ruled_fault, ruled_quiet, ruled_stands, ruled_takes, ruled_text};
 
 use crate::complement::gap_rule::GapRule;
 use crate::engine::Engine;
@@ -113,7 +113,7 @@ impl Engine for Complement<'_> {
 
     ghost quiet = { ruled_quiet is_quiet };
 
-    // It takes no memory.
+    // It doesn't allocate.
     ghost wants = { λ complement r. ⊥ };
 
     fn feed_batch<C: Cursor, K: Sink>(

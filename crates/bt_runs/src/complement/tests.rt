@@ -1,3 +1,5 @@
+//! Worked complements, and one place kept of many records.
+
 use super::*;
 use crate::tests::testing::{
     Bounds, ChromSpans, Row, check_failing, check_row, check_spans, expect_end, feed_kept, genome,

@@ -1,6 +1,6 @@
 //! The line of an interval with its depth.
 
-ghost use Rattle.std.specs.Prelude.{◌≡◌, ◌+◌, ◌≤◌, ◌++◌, codes, decimal, drop};
+ghost use Rattle.std.specs.Prelude.{◌≡◌, ◌+◌, ◌≤◌, drop};
 ghost use Rattle.bt_lines.specs.calls.Putting.{Puts};
 ghost use Rattle.bt_runs.specs.model.Depth.{depth_line};
 ghost use Rattle.bt_runs.specs.inside.coverage.DepthText.{depth_text};

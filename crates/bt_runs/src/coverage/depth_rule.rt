@@ -1,6 +1,6 @@
 //! The rule of `bedtools genomecov -bg`: the records that are open, and the interval that isn't ended.
 
-ghost use Rattle.std.specs.Prelude.{◌≡◌, false, true, ◌<◌, ◌≤◌, [], length, flat_map, min, slice_range, IfOk, OnErr, OnOk};
+ghost use Rattle.std.specs.Prelude.{◌≡◌, false, true, ◌<◌, ◌≤◌, [], length, flat_map, min, slice_range, IfOk, OnOk};
 ghost use Rattle.bt_lines.specs.calls.Putting.{Adds};
 ghost use Rattle.bt_bed.specs.calls.GenomeTable.{entries};
 ghost use Rattle.bt_runs.specs.inside.coverage.CountSeen.{known_seen, seen};
@@ -9,9 +9,9 @@ ghost use Rattle.bt_runs.specs.calls.Covering.{CountsDepths, IsOnChrom, OnWant, 
 ghost use Rattle.bt_runs.specs.model.Depth.{depth_lines, is_counted_by};
 ghost use Rattle.bt_runs.specs.inside.coverage.DepthStep.{bare_of, depths_left, levels_by, levels_left, levels_on};
 ghost use Rattle.bt_runs.specs.calls.Engine.{KeepsHeld};
-ghost use Rattle.bt_runs.specs.inside.coverage.OpenRecords.{none_open_at, open_with};
+ghost use Rattle.bt_runs.specs.inside.coverage.OpenRecords.{none_open_at};
 ghost use Rattle.bt_runs.specs.inside.walk.Rule.{EnterAnswers, Taken};
-ghost use Rattle.bt_runs.specs.inside.walk.Walk.{AreReached, begun, entry_at, is_on, left_before, left_of};
+ghost use Rattle.bt_runs.specs.inside.walk.Walk.{AreReached, begun, is_on, left_before, left_of};
 
 use crate::coverage::depth_line::put_depth;
 use crate::coverage::depths::{CoveredChrom, DepthCursor, OpenInterval, go_on, put_ended};
@@ -20,14 +20,14 @@ use crate::engine::failure::Failure;
 use crate::engine::rule::Rule;
 use bt_bed::{Bounds, Genome, Record, Strand, is_same_name};
 use bt_lines::{Fault, Out, Sink};
-use std::alloc::{AllocError, Global};
+use std::alloc::Global;
 use std::marker::Model;
 
 // The chromosome that records lie on.
-#[derive(Clone, Copy, Debug)]
-pub(crate) struct DepthChrom<'g> {
+#[derive(Clone, Copy)]
+pub(crate) struct CurrentChrom<'g> {
     // Whether the genome file has it.
-    is_here: bool,
+    is_known: bool,
     name: &'g [u8],
     length: u64,
     // The interval that isn't ended.
@@ -36,14 +36,14 @@ pub(crate) struct DepthChrom<'g> {
 
 // The chromosomes of a genome file, which depths are written for.
 #[derive(Clone, Copy, Debug)]
-struct CoveredChroms<'g> {
+struct DepthGenome<'g> {
     genome: &'g Genome,
     // Whether depth 0 is written.
     zeros: bool,
 }
 
 // A record as it comes next on its chromosome.
-#[derive(Clone, Copy, Debug)]
+#[derive(Clone, Copy)]
 struct NextRecord {
     bounds: Bounds,
     // Whether its strand is one that is counted.
@@ -53,16 +53,13 @@ struct NextRecord {
 // A coverage of the chromosomes of a genome file, in their order.
 #[derive(Drop, Debug)]
 pub(crate) struct DepthRule<'g> {
-    // Its chromosomes are those that are written.
-    genome: &'g Genome,
-    // Whether depth 0 is written.
-    zeros: bool,
+    chroms: DepthGenome<'g>,
     // The strand that is counted; `None` if all records are.
     strand: Option<Strand>,
     // `None` before the first record on a chromosome of the genome file.
     current: Option<DepthCursor>,
     // Whether the last record lies there; else the genome file doesn't have its chromosome.
-    is_here: bool,
+    is_known: bool,
     // The name and the length of the chromosome that the last record lies on.
     name: &'g [u8],
     length: u64,
@@ -79,16 +76,16 @@ impl<'g> Model for DepthRule<'g> {
     ghost Value = { Covering };
 
     ghost view = { λ m. record {
-      entries = entries m.genome.now;
-      zeros = m.zeros;
+      entries = entries m.chroms.genome.now;
+      zeros = m.chroms.zeros;
       strand = m.strand;
       current = seen m.current m.held;
-      is_here = m.is_here;
+      is_known = m.is_known;
       name = m.name.now;
       length = m.length;
     } };
 
-    ghost invariant = { λ m. AreReached (entries m.genome.now) (seen m.current m.held) };
+    ghost invariant = { λ m. AreReached (entries m.chroms.genome.now) (seen m.current m.held) };
 }
 
 impl<'g> DepthRule<'g> {
@@ -105,11 +102,10 @@ impl<'g> DepthRule<'g> {
         ensures rules { (result.zeros ≡ zeros) × (result.strand ≡ strand) }
     {
         DepthRule {
-            genome,
-            zeros,
+            chroms: DepthGenome { genome, zeros },
             strand,
             current: None,
-            is_here: false,
+            is_known: false,
             name: &[],
             length: 0,
             held: OpenRecords::new(alloc),
@@ -122,20 +118,16 @@ impl<'g> DepthRule<'g> {
         ensures on { OnOk result (IsOnChrom self.new chrom.now) }
         ensures enters { EnterAnswers CountsDepths (Taken may_take stands_after settled_lines is_quiet wants_memory CountsDepths) self.old chrom.now out.old.output result self.new out.new.output }
     {
-        let Some(rank) = self.genome.rank(chrom) else {
-            self.is_here = false;
+        let Some(rank) = self.chroms.genome.rank(chrom) else {
+            self.is_known = false;
             return Ok(());
         };
-        let name = self.genome.name(rank);
-        let length = self.genome.length(rank);
-        let chroms = CoveredChroms {
-            genome: self.genome,
-            zeros: self.zeros,
-        };
-        put_before(&chroms, self.current, &mut self.held, rank, out)?;
+        let name = self.chroms.genome.name(rank);
+        let length = self.chroms.genome.length(rank);
+        put_before(&self.chroms, self.current, &mut self.held, rank, out)?;
         self.held.clear(0);
         self.current = Some(DepthCursor { rank, begun: None });
-        self.is_here = true;
+        self.is_known = true;
         self.name = name;
         self.length = length;
         Ok(())
@@ -143,7 +135,7 @@ impl<'g> DepthRule<'g> {
 }
 
 impl<'g> Rule for DepthRule<'g> {
-    type OnChrom = DepthChrom<'g>;
+    type OnChrom = CurrentChrom<'g>;
 
     ghost takes = { may_take };
 
@@ -170,10 +162,10 @@ impl<'g> Rule for DepthRule<'g> {
     #[inline(never)]
     fn enter<K: Sink>(&mut self, chrom: &[u8], out: &mut Out<K>) -> Result<(), Fault> {
         if let Some(reached) = self.current {
-            let name = self.genome.name(reached.rank);
-            let length = self.genome.length(reached.rank);
+            let name = self.chroms.genome.name(reached.rank);
+            let length = self.chroms.genome.length(reached.rank);
             if is_same_name(name, chrom) {
-                self.is_here = true;
+                self.is_known = true;
                 self.name = name;
                 self.length = length;
                 return Ok(());
@@ -182,13 +174,13 @@ impl<'g> Rule for DepthRule<'g> {
         self.begin(chrom, out)
     }
 
-    fn on_chrom(&self) -> DepthChrom<'g> {
+    fn on_chrom(&self) -> CurrentChrom<'g> {
         let begun = match self.current {
             None => None,
             Some(reached) => reached.begun,
         };
-        DepthChrom {
-            is_here: self.is_here,
+        CurrentChrom {
+            is_known: self.is_known,
             name: self.name,
             length: self.length,
             begun,
@@ -198,11 +190,11 @@ impl<'g> Rule for DepthRule<'g> {
     #[inline(always)]
     fn step<R: Record, K: Sink>(
         &mut self,
-        on: &mut DepthChrom<'g>,
+        on: &mut CurrentChrom<'g>,
         record: &R,
         out: &mut Out<K>,
     ) -> Result<(), Fault> {
-        if !on.is_here {
+        if !on.is_known {
             return Ok(());
         }
         let bounds = Bounds {
@@ -216,7 +208,7 @@ impl<'g> Rule for DepthRule<'g> {
         let chrom = CoveredChrom {
             name: on.name,
             length: on.length,
-            zeros: self.zeros,
+            zeros: self.chroms.zeros,
         };
         let counted = count_next(&chrom, next, on.begun, &mut self.held, out);
         match counted {
@@ -226,8 +218,8 @@ impl<'g> Rule for DepthRule<'g> {
         Ok(())
     }
 
-    fn leave(&mut self, on: DepthChrom<'g>) {
-        self.is_here = on.is_here;
+    fn leave(&mut self, on: CurrentChrom<'g>) {
+        self.is_known = on.is_known;
         self.name = on.name;
         self.length = on.length;
         if let Some(reached) = self.current {
@@ -239,11 +231,8 @@ impl<'g> Rule for DepthRule<'g> {
     }
 
     fn finish<K: Sink>(mut self, out: &mut Out<K>) -> Result<(), Fault> {
-        let count = self.genome.count();
-        let chroms = CoveredChroms {
-            genome: self.genome,
-            zeros: self.zeros,
-        };
+        let count = self.chroms.genome.count();
+        let chroms = self.chroms;
         put_before(&chroms, self.current, &mut self.held, count, out)
     }
 
@@ -270,8 +259,8 @@ fn is_counted<R: Record>(wanted: Option<Strand>, record: &R) -> bool
     }
 }
 
-// Takes the next record on a chromosome. It writes the intervals that the record settles there, and gives
-// the one that isn't ended with it.
+// Takes the next record on a chromosome. It writes the intervals that the record's start settles, and returns the one
+// that isn't ended there. A record that isn't counted settles them too.
 #[inline(always)]
 fn count_next<K: Sink>(
     chrom: &CoveredChrom<'_>,
@@ -289,13 +278,17 @@ fn count_next<K: Sink>(
     let Ok(begun) = settle(chrom, begun, held, start, out) else {
         return Err(Failure::Write);
     };
-    match hold(held, next.counted, chrom.length, next.bounds.stop) {
-        Ok(()) => Ok(begun),
-        Err(AllocError) => Err(Failure::Memory),
+    if next.counted && held.at() < chrom.length {
+        // Cut at the length.
+        let stop = next.bounds.stop.min(chrom.length);
+        if held.push(stop).is_err() {
+            return Err(Failure::Memory);
+        }
     }
+    Ok(begun)
 }
 
-// Goes on to a record's start. It writes the intervals that the start settles, and gives the one that
+// Goes on to a record's start. It writes the intervals that the start settles, and returns the one that
 // isn't ended there. Past the chromosome's length nothing is open.
 #[inline(always)]
 fn settle<K: Sink>(
@@ -316,18 +309,6 @@ fn settle<K: Sink>(
         return Ok(None);
     }
     go_on(chrom, begun, held, start, out)
-}
-
-// Adds a counted record that starts below the chromosome's length, cut there.
-#[inline(always)]
-fn hold(held: &mut OpenRecords, counted: bool, length: u64, stop: u64) -> Result<(), AllocError>
-    ensures held { OnOk result (held.new ≡ open_with counted length stop held.old) }
-    ensures memory { OnErr result ((counted ≡ true) × (held.old.at < length)) }
-{
-    if counted && held.at() < length {
-        return held.push(stop.min(length));
-    }
-    Ok(())
 }
 
 // Writes what is left of a chromosome, and drops its records.
@@ -363,7 +344,7 @@ fn put_left<K: Sink>(
 // Writes what is left before the chromosome of the rank `stop`: the rest of the current one, and each
 // one between the two.
 fn put_before<K: Sink>(
-    chroms: &CoveredChroms<'_>,
+    chroms: &DepthGenome<'_>,
     current: Option<DepthCursor>,
     held: &mut OpenRecords,
     stop: usize,
@@ -390,7 +371,7 @@ fn first_rank(current: Option<DepthCursor>, stop: usize) -> usize
 
 // Writes what is left of the current chromosome.
 fn put_current<K: Sink>(
-    chroms: &CoveredChroms<'_>,
+    chroms: &DepthGenome<'_>,
     current: Option<DepthCursor>,
     held: &mut OpenRecords,
     out: &mut Out<K>,
@@ -411,9 +392,9 @@ fn put_current<K: Sink>(
     }
 }
 
-// Writes the chromosomes of the ranks from `first` on and below `stop`, which have no records.
+// Writes the chromosomes of the ranks from `first` on and below `stop`, which have no records, if depth 0 is written.
 fn put_bares<K: Sink>(
-    chroms: &CoveredChroms<'_>,
+    chroms: &DepthGenome<'_>,
     first: usize,
     stop: usize,
     out: &mut Out<K>,
@@ -423,19 +404,10 @@ fn put_bares<K: Sink>(
     ensures { Adds out.old.output (depth_lines (flat_map (bare_of chroms.now.zeros) (slice_range (entries chroms.now.genome.now) first stop))) result out.new.output }
 {
     for rank in first..stop {
-        put_bare(chroms, rank, out)?;
-    }
-    Ok(())
-}
-
-// Writes a chromosome that has no records, if depth 0 is reported.
-fn put_bare<K: Sink>(chroms: &CoveredChroms<'_>, rank: usize, out: &mut Out<K>) -> Result<(), Fault>
-    requires { rank < length (entries chroms.now.genome.now) }
-    ensures { Adds out.old.output (depth_lines (bare_of chroms.now.zeros (entry_at (entries chroms.now.genome.now) rank))) result out.new.output }
-{
-    let length = chroms.genome.length(rank);
-    if chroms.zeros && 0 < length {
-        return put_depth(chroms.genome.name(rank), 0, length, 0, out);
+        let length = chroms.genome.length(rank);
+        if chroms.zeros && 0 < length {
+            put_depth(chroms.genome.name(rank), 0, length, 0, out)?;
+        }
     }
     Ok(())
 }

@@ -5,7 +5,7 @@ ghost use Rattle.bt_lines.specs.calls.Putting.{Adds};
 ghost use Rattle.bt_runs.specs.inside.coverage.CountSeen.{begun_seen};
 ghost use Rattle.bt_runs.specs.model.Depth.{depth_lines, depth_of, reported};
 ghost use Rattle.bt_runs.specs.inside.coverage.DepthStep.{levels_on};
-ghost use Rattle.bt_runs.specs.model.Levels.{begun_after, begun_at, ended_after, ended_at, goes_on, next_begun, next_ended};
+ghost use Rattle.bt_runs.specs.model.Levels.{begun_after, ended_after, ended_at, next_begun, next_ended};
 ghost use Rattle.bt_runs.specs.inside.coverage.OpenRecords.{open_from};
 
 use crate::coverage::depth_line::put_depth;
@@ -13,7 +13,7 @@ use crate::coverage::open_records::OpenRecords;
 use bt_lines::{Fault, Out, Sink};
 
 // A chromosome that depths are written for.
-#[derive(Clone, Copy, Debug)]
+#[derive(Clone, Copy)]
 pub(crate) struct CoveredChrom<'a> {
     pub(crate) name: &'a [u8],
     pub(crate) length: u64,
@@ -41,7 +41,7 @@ pub(crate) struct DepthCursor {
 }
 
 // Goes on to a position on a chromosome, with the open records. It writes the intervals that end before
-// it, and gives the one that isn't ended there.
+// it, and returns the one that isn't ended there.
 #[inline(always)]
 pub(crate) fn go_on<K: Sink>(
     chrom: &CoveredChrom<'_>,
@@ -78,7 +78,7 @@ fn reported(zeros: bool, depth: u64) -> Option<u64>
 }
 
 // Takes the position with its depth, if that is reported. It writes the interval that ends there,
-// if one does, and gives the one that isn't ended.
+// if one does, and returns the one that isn't ended.
 fn put_next<K: Sink>(
     chrom: &[u8],
     begun: Option<OpenInterval>,
@@ -89,31 +89,21 @@ fn put_next<K: Sink>(
     ensures adds { Adds out.old.output (depth_lines (levels_on chrom.now (next_ended position depth (begun_seen begun)))) result out.new.output }
     ensures begun { IfOk result (λ next. begun_seen next ≡ next_begun position depth (begun_seen begun)) }
 {
-    if goes_on(begun, depth) {
+    let goes_on = match (begun, depth) {
+        (None, None) => true,
+        (Some(interval), Some(depth)) => interval.depth == depth,
+        _ => false,
+    };
+    if goes_on {
         return Ok(begun);
     }
     put_ended(chrom, begun, position, out)?;
-    Ok(begin_at(position, depth))
-}
-
-// Whether the position with this depth goes on with what has begun.
-fn goes_on(begun: Option<OpenInterval>, depth: Option<u64>) -> bool
-    ensures { result ≡ goes_on (begun_seen begun) depth }
-{
-    match (begun, depth) {
-        (None, None) => true,
-        (Some(stretch), Some(depth)) => stretch.depth == depth,
-        _ => false,
-    }
-}
-
-// What begins at the position.
-fn begin_at(start: u64, depth: Option<u64>) -> Option<OpenInterval>
-    ensures { begun_seen result ≡ begun_at start depth }
-{
     match depth {
-        None => None,
-        Some(depth) => Some(OpenInterval { start, depth }),
+        None => Ok(None),
+        Some(depth) => Ok(Some(OpenInterval {
+            start: position,
+            depth,
+        })),
     }
 }
 
@@ -128,6 +118,6 @@ pub(crate) fn put_ended<K: Sink>(
 {
     match begun {
         None => Ok(()),
-        Some(stretch) => put_depth(chrom, stretch.start, stop, stretch.depth, out),
+        Some(interval) => put_depth(chrom, interval.start, stop, interval.depth, out),
     }
 }

@@ -14,7 +14,7 @@ ghost use Rattle.bt_bed.specs.calls.GenomeTable.{entries};
 ghost use Rattle.bt_runs.specs.calls.Calls.{AnswersAgain, IsFaultless, KeepsFault, TakesQuiet, WritesFirst, WritesLeft, WritesLeftPrefix, WritesPrefix, WritesSettled};
 ghost use Rattle.bt_runs.specs.calls.Covering.{StandsAfter, held_count, is_quiet, kept_in, may_take, settled_lines, stands_after, wants_memory, whole_output};
 ghost use Rattle.bt_runs.specs.calls.Engine.{IsWanted, KeepsHeld};
-ghost use Rattle.bt_runs.specs.inside.walk.Ruled.{ruled_count, ruled_fault, ruled_quiet, ruled_stands, ruled_takes, ruled_text, ruled_wants};
+ghost use Rattle.bt_runs.specs.calls.Ruled.{ruled_count, ruled_fault, ruled_quiet, ruled_stands, ruled_takes, ruled_text, ruled_wants};
 
 use crate::coverage::depth_rule::DepthRule;
 use crate::engine::Engine;

@@ -59,7 +59,7 @@ impl OpenEnds {
         }
     }
 
-    // Lets go of all.
+    // Drops all.
     pub(crate) fn clear(&mut self)
         ensures { self.new ≡ [] }
     {

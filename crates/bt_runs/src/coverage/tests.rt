@@ -1,3 +1,5 @@
+//! Worked depths, and how many records are kept while they are open.
+
 use super::*;
 use crate::tests::testing::{
     Bounds, ChromSpans, Row, check_failing, check_row, check_spans, expect_end, feed_line,

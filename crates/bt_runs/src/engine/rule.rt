@@ -1,15 +1,12 @@
 //! The rules by which engines take records, and the loop that all of them share.
 
-ghost use Rattle.std.specs.Prelude.{◌≡◌, ◌⊎◌, ℕ, List, None, Option, Result, Some, OnOk, option_map};
-ghost use Rattle.bt_lines.specs.model.Fault.{FaultValue, no_memory, write_failed};
-ghost use Rattle.bt_lines.specs.calls.Names.{fault_value};
+ghost use Rattle.std.specs.Prelude.{◌≡◌, ℕ, List, None, Option, Result, Some, OnOk};
 ghost use Rattle.bt_lines.specs.calls.Output.{Output};
 ghost use Rattle.bt_lines.specs.declared.fault.Fault.{Fault};
 ghost use Rattle.bt_bed.specs.model.feature.Feature.{Feature};
 ghost use Rattle.bt_runs.specs.calls.Engine.{KeepsHeld};
 ghost use Rattle.bt_runs.specs.inside.walk.Rule.{EnterAnswers, Follows, RuleFeeds, RuleFinishes, Taken, WantsMemory};
 
-use crate::engine::Engine;
 use crate::engine::failure::Failure;
 use bt_bed::{Cursor, Record};
 use bt_lines::{Fault, Out, Sink};
@@ -96,6 +93,9 @@ pub(crate) struct Ruled<E> {
 }
 
 impl<E: Rule + Drop> Ruled<E> {
+    ghost use Rattle.bt_runs.specs.calls.Engine.{FeedsBatch, Finishes};
+    ghost use Rattle.bt_runs.specs.calls.Ruled.{ruled_fault, ruled_quiet, ruled_stands, ruled_takes, ruled_text, ruled_wants};
+
     // A rule that has taken no record.
     pub(crate) fn new(rule: E) -> Ruled<E>
         ensures { result ≡ record { rule = rule; failure = None } }
@@ -105,34 +105,17 @@ impl<E: Rule + Drop> Ruled<E> {
             failure: None,
         }
     }
-}
 
-impl<E: Rule + Drop> Engine for Ruled<E> {
-    ghost use Rattle.bt_runs.specs.inside.walk.Ruled.{ruled_count, ruled_fault, ruled_quiet, ruled_stands, ruled_takes, ruled_text, ruled_wants};
-
-    ghost takes = { ruled_takes E.takes };
-
-    ghost settled = { ruled_text E.settled };
-
-    ghost output = { ruled_text E.output };
-
-    ghost held = { ruled_count E.held };
-
-    ghost is_after = { ruled_stands E.is_after };
-
-    ghost fault = { ruled_fault };
-
-    ghost quiet = { ruled_quiet E.quiet };
-
-    ghost wants = { ruled_wants E.wants };
-
-    // It is out of line, so that the hot loop stays small.
+    // Takes the records that a cursor gives, unless it has failed. It is out of line, so that the hot loop stays small.
     #[inline(never)]
-    fn feed_batch<C: Cursor, K: Sink>(
+    pub(crate) fn feed_batch<C: Cursor, K: Sink>(
         &mut self,
         records: &mut C,
         out: &mut Out<K>,
-    ) -> Result<(), Fault> {
+    ) -> Result<(), Fault>
+        ensures { FeedsBatch (ruled_takes E.takes) (ruled_stands E.is_after) ruled_fault (ruled_text E.settled) (ruled_quiet E.quiet)
+            (ruled_wants E.wants) C.gives C.has_ended self.old records.old out.old.output result self.new records.new out.new.output }
+    {
         if let Some(failure) = self.failure {
             return Err(failure.fault());
         }
@@ -143,16 +126,16 @@ impl<E: Rule + Drop> Engine for Ruled<E> {
         fed
     }
 
-    fn finish<K: Sink>(self, out: &mut Out<K>) -> Result<(), Fault> {
+    // Writes the lines that are still unsettled, unless it has failed.
+    pub(crate) fn finish<K: Sink>(self, out: &mut Out<K>) -> Result<(), Fault>
+        ensures { Finishes (ruled_takes E.takes) (ruled_stands E.is_after) ruled_fault (ruled_text E.settled) (ruled_text E.output)
+            self out.old.output result out.new.output }
+    {
         let Ruled { rule, failure } = self;
         match failure {
             Some(failure) => Err(failure.fault()),
             None => rule.finish(out),
         }
-    }
-
-    fn kept_len(&self) -> usize {
-        self.rule.kept_len()
     }
 }
 

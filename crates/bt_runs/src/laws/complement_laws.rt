@@ -9,7 +9,7 @@ pub fn gaps_are_determined()
 {}
 
 /// No later record changes a settled gap, and one place at most is kept.
-pub fn settled_gaps_are_a_front()
+pub fn settled_gaps_are_a_prefix()
     ensures stay { settled_gaps_stay }
     ensures begin { settled_gaps_begin }
     ensures kept { one_place_is_kept }

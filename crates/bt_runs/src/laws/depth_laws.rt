@@ -12,7 +12,7 @@ pub fn levels_are_determined()
 {}
 
 /// No later record changes a settled interval.
-pub fn settled_depths_are_a_front()
+pub fn settled_depths_are_a_prefix()
     ensures stay { settled_depths_stay }
     ensures begin { settled_depths_begin }
 {}

@@ -36,7 +36,7 @@ pub fn runs_come_in_file_order()
 {}
 
 /// No later record changes a settled run, and all runs but one are settled.
-pub fn settled_runs_are_a_front()
+pub fn settled_runs_are_a_prefix()
     ensures stay { settled_runs_stay }
     ensures begin { settled_runs_begin }
     ensures kept { one_run_is_kept }
@@ -44,7 +44,7 @@ pub fn settled_runs_are_a_front()
 
 /// With each strand separately no later record changes a settled run either, and the kept runs are the
 /// others. The runs of one strand are listed in their order, each once.
-pub fn settled_strand_runs_are_a_front()
+pub fn settled_strand_runs_are_a_prefix()
     ensures stay { strand_runs_stay }
     ensures begin { strand_runs_begin }
     ensures kept { strand_runs_divide }

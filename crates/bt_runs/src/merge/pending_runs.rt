@@ -100,18 +100,10 @@ impl PendingRuns {
     pub(crate) fn join(&mut self, strand: Strand, stop: u64, reach: u64) -> bool
         ensures { (result, self.new) ≡ with_joined reach stop self.old (place_of strand self.old) }
     {
-        let Some(place) = self.place(strand) else {
+        let Some(place) = self.up_to_last[slot_of(strand)].checked_sub(1) else {
             return false;
         };
         lengthen(&mut self.runs, place, stop, reach)
-    }
-
-    // The place of the last run of a strand.
-    #[inline]
-    fn place(&self, strand: Strand) -> Option<usize>
-        ensures { result ≡ place_of strand self.now }
-    {
-        self.up_to_last[slot_of(strand)].checked_sub(1)
     }
 
     // Adds a run after the others.

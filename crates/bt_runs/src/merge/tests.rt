@@ -1,3 +1,5 @@
+//! Worked merges, and how many runs are kept of many records.
+
 use super::*;
 use crate::plain::plain_runs;
 use crate::tests::testing::{
@@ -336,7 +338,7 @@ fn check(rt: &impl Abort, alloc: Global, case: &Case) -> Result<(), Fail> {
         name: case.name,
         lines: case.lines,
         settled: case.settled,
-        left: case.whole.strip_prefix(case.settled).ok_or("a front")?,
+        left: case.whole.strip_prefix(case.settled).ok_or("a prefix")?,
     };
     check_row(rt, alloc, merge_for(alloc, case), &row);
     for good in 0..case.whole.len() {

@@ -146,19 +146,8 @@ impl Rule for UnstrandedMerge {
     }
 }
 
-// Whether a record that starts here closes the run: there is one, and it ends more than the gap below.
-#[inline(always)]
-fn closes(run: OpenRun, start: u64, gap: u64) -> bool
-    ensures passed { (chrom : List ℕ) (stop : ℕ) → settled_by gap (kept_at chrom run) (record { chrom = chrom; start = start; stop = stop })
-        ≡ cond result (kept_at chrom run) [] }
-    ensures left { (chrom : List ℕ) (stop : ℕ) → left_by gap (kept_at chrom run) (record { chrom = chrom; start = start; stop = stop })
-        ≡ cond result [] (kept_at chrom run) }
-    ensures some { result ≡ true → run.stop ≡ 0 → ⊥ }
-{
-    (run.stop != 0) & (run.stop < start.saturating_sub(gap))
-}
-
-// Writes the run, if a record that starts here closes it, and gives the run that is left.
+// Writes the run, if a record that starts here closes it, and returns the run that is left. A run is closed if it ends
+// more than the gap below the start.
 #[inline(always)]
 fn close_passed<K: Sink>(
     chrom: &[u8],
@@ -172,7 +161,8 @@ fn close_passed<K: Sink>(
     ensures left { IfOk result (λ left. (stop : ℕ) → kept_at chrom.now left
         ≡ left_by gap (kept_at chrom.now run) (record { chrom = chrom.now; start = start; stop = stop })) }
 {
-    if !closes(run, start, gap) {
+    let is_closed = (run.stop != 0) & (run.stop < start.saturating_sub(gap));
+    if !is_closed {
         return Ok(run);
     }
     match put_interval(chrom, run.start, run.stop, out) {

@@ -173,8 +173,8 @@ pub(crate) fn check_failing<E: Engine + Drop>(
     wanted.extend_from_slice(row.left)?;
     let mut out = Out::new(ScriptSink::new(alloc, 4, Some(good)));
     feed_failing(rt, engine, row, &mut out);
-    let front = wanted.as_slice().get(..good).unwrap_or(b"");
-    same_bytes(rt, out.into_sink().taken(), front, row.name);
+    let prefix = wanted.as_slice().get(..good).unwrap_or(b"");
+    same_bytes(rt, out.into_sink().taken(), prefix, row.name);
     Ok(())
 }
 

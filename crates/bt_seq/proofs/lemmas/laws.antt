@@ -3,7 +3,7 @@ pub mod AgreeLemmas
 pub mod HeldLemmas
 pub mod KnowsLemmas
 pub mod LeftLemmas
-pub mod MaskFrontLemmas
+pub mod MaskPrefixLemmas
 pub mod MaskMetLemmas
 pub mod OwnerLemmas
 pub mod QuietLemmas

@@ -3,7 +3,6 @@ pub mod AlignmentLemmas
 pub mod BetweenLemmas
 pub mod BlockLemmas
 pub mod CigarLemmas
-pub mod ColumnEndLemmas
 pub mod DivisionLemmas
 pub mod ExtentLemmas
 pub mod SamKindLemmas

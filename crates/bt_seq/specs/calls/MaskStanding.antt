@@ -53,6 +53,6 @@ pub record MaskStandsAt (how : MaskHow) (full : Bool) (stage : MaskStage)
 -- No prefix of the records taken decides all lines given: so none was taken after the first record
 -- that did.
 abbrev pub taken_are_first : Type 0
-taken_are_first = (lines : List SequenceLine) (front rest : List Feature)
-    → IsOpen (line_given_last lines) (front ++ rest)
-    → (front ++ rest ≡ []) ⊎ (AllByRecursion (λ line. decided line front ≡ true) lines → ⊥)
+taken_are_first = (lines : List SequenceLine) (before rest : List Feature)
+    → IsOpen (line_given_last lines) (before ++ rest)
+    → (before ++ rest ≡ []) ⊎ (AllByRecursion (λ line. decided line before ≡ true) lines → ⊥)

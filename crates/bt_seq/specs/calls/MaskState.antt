@@ -17,7 +17,7 @@ use Rattle.bt_lines.specs.declared.fault.Fault.{Fault}
 use Rattle.bt_lines.specs.declared.fault.Input.TheVariants.{First, Second}
 use Rattle.bt_lines.specs.declared.fault.Kind.TheVariants.{TextBeforeHeader, NoSequence}
 use Rattle.bt_lines.specs.declared.reader.line.LineEnd.{LineEnd}
-use Rattle.bt_seq.specs.inside.mask.Matching.{Matched, named, matched_with, owner_of}
+use Rattle.bt_seq.specs.calls.Matching.{Matched, named, matched_with, owner_of}
 use Rattle.bt_seq.specs.model.Sequences.{is_header, name_in}
 use Rattle.bt_seq.specs.inside.mask.MaskedBases.{masked_in}
 use Rattle.bt_seq.specs.inside.mask.Window.{Bounds, gone_on, limit, no_bases}

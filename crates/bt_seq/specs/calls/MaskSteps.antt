@@ -12,10 +12,9 @@ use Rattle.bt_lines.specs.declared.fault.Fault.{Fault}
 use Rattle.bt_lines.specs.declared.fault.Input.TheVariants.{First, Second}
 use Rattle.bt_lines.specs.declared.fault.Kind.{Kind}
 use Rattle.bt_lines.specs.declared.fault.Kind.TheVariants.{NoSequence}
-use Rattle.bt_seq.specs.calls.MaskStage.{MaskStage, is_written_at_once, reached}
+use Rattle.bt_seq.specs.calls.MaskStage.{MaskStage, is_written_at_once, reached, with_bed_ended, with_decided, with_line, with_record}
 use Rattle.bt_seq.specs.calls.MaskStanding.{MaskStandsAt}
-use Rattle.bt_seq.specs.calls.MaskStage.{with_bed_ended, with_decided, with_line, with_record}
-use Rattle.bt_seq.specs.calls.MaskFronts.{LineBefore}
+use Rattle.bt_seq.specs.calls.MaskPrefixes.{LineBefore}
 use Rattle.bt_seq.specs.model.Masked.{decided, held_for, masked_line}
 use Rattle.bt_seq.specs.calls.MaskState.{Masking}
 use Rattle.bt_seq.specs.model.Owners.{left_after}

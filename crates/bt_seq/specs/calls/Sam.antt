@@ -1,9 +1,13 @@
--- Alignments and columns that are borrowed, as the definitions see them.
-use Rattle.std.specs.Prelude.{◌≡◌, ℕ, List, [], ◌∷◌, Option, Some, None, Result, Ok, Err}
+-- Alignments, columns and blocks that are borrowed, as the definitions see them.
+use Rattle.std.specs.Prelude.{◌≡◌, ℕ, List, [], ◌∷◌, ◌++◌, Option, Some, None, Result, Ok, Err}
 use Rattle.std.specs.Prelude.{option_map}
+use Rattle.bt_bed.specs.model.feature.Interval.{Span}
 use Rattle.bt_lines.specs.model.Lines.{pieces}
 use Rattle.bt_lines.specs.declared.fault.Kind.{Kind}
 use Rattle.bt_seq.specs.model.Alignment.{Alignment, Fields}
+use Rattle.bt_seq.specs.model.AlignmentBlocks.{blocks_in}
+use Rattle.bt_seq.specs.model.Cigar.{operations_in}
+use Rattle.bt_seq.specs.declared.sam.block_iter.SamBlocks.{SamBlocks}
 use Rattle.bt_seq.specs.declared.sam.fields.Fields.{Fields as FieldsRef}
 use Rattle.bt_seq.specs.declared.sam.SamRef.{SamRef}
 use denote.Ref.{Bor}
@@ -39,3 +43,15 @@ fields_lent fields = record {
 abbrev pub IsCut : List ℕ → Option (Bor (List ℕ) × Bor (List ℕ)) → Type 0
 IsCut text None = pieces 9 text ≡ text ∷ []
 IsCut text (Some cut) = pieces 9 text ≡ cut.0.now ∷ pieces 9 cut.1.now
+
+-- a start and a stop
+abbrev pub span_given : ℕ × ℕ → Span
+span_given pair = record { start = pair.0; stop = pair.1 }
+
+abbrev pub spans_given : Option (ℕ × ℕ) → List Span
+spans_given None = []
+spans_given (Some pair) = span_given pair ∷ []
+
+-- the blocks that are still to come
+abbrev pub blocks_left : SamBlocks → List Span
+blocks_left blocks = spans_given blocks.whole ++ blocks_in blocks.at (operations_in blocks.rest.now)

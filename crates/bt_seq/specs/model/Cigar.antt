@@ -1,7 +1,7 @@
 -- CIGAR strings (Sequence Alignment/Map Format Specification, section 1.4, field 6): `*`, or one or
 -- more operations, each a number and a letter.
-use Rattle.std.specs.Prelude.{◌≡◌, ℕ, ◌==◌, ◌&&◌, ◌||◌, Bool, IsTrue, List, [], ◌∷◌, ◌++◌, codes}
-use Rattle.std.specs.Prelude.{bytes_eq, flat_map, sum_by, Option, Some, None, option_map}
+use Rattle.std.specs.Prelude.{◌≡◌, ℕ, ◌+◌, ◌==◌, ◌&&◌, ◌||◌, Bool, IsTrue, List, [], ◌∷◌, ◌++◌, codes}
+use Rattle.std.specs.Prelude.{bytes_eq, flat_map, min, sum_by, Option, Some, None, option_map}
 use Rattle.std.specs.Prelude.{if◌then◌else◌}
 use Rattle.std.specs.List.{list_all}
 use Rattle.bt_lines.specs.model.Number.{is_number, value_of}
@@ -96,6 +96,15 @@ operations_of (byte ∷ bytes) =
 -- the reference length of a CIGAR, if it is well formed
 abbrev pub length_of : List ℕ → Option ℕ
 length_of cigar = option_map reference_length (operations_of cigar)
+
+-- the smaller of a reference length, with so many more bases, and a million million
+abbrev pub span_with : ℕ → Option (List Operation) → Option ℕ
+span_with more operations =
+    option_map (λ os. min (more + reference_length os) 1000000000000) operations
+
+-- the CIGAR is well formed, and the end is the start and its reference length
+abbrev pub EndsAt : List ℕ → ℕ → ℕ → Type 0
+EndsAt cigar start stop = option_map (λ length. start + length) (length_of cigar) ≡ Some stop
 
 -- a text can be divided in one way only
 abbrev pub division_is_one : Type 0

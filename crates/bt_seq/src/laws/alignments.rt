@@ -2,8 +2,7 @@
 
 ghost use Rattle.std.specs.Prelude.{◌≡◌, [], ◌∷◌, Some, None, Ok, Err, codes, true, false};
 ghost use Rattle.bt_seq.specs.model.Alignment.{alignment_of};
-ghost use Rattle.bt_seq.specs.inside.sam.Between.{blocks_are_within};
-ghost use Rattle.bt_seq.specs.model.AlignmentBlocks.{blocks_in, unskipped_are_one_block};
+ghost use Rattle.bt_seq.specs.model.AlignmentBlocks.{blocks_are_within, blocks_in, unskipped_are_one_block};
 ghost use Rattle.bt_seq.specs.model.Cigar.{division_is_found, division_is_one, length_of, operations_are_divided, operations_of};
 ghost use Rattle.bt_seq.specs.model.SamKind.{sam_kinds_are_of_lines, wrong_have_sam_kinds};
 

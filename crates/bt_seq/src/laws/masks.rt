@@ -3,8 +3,8 @@
 ghost use Rattle.std.specs.Prelude.{◌≡◌, [], ◌∷◌, Some, None, codes, true, false};
 ghost use Rattle.bt_bed.specs.model.feature.LineKind.{fault_at_line};
 ghost use Rattle.bt_seq.specs.calls.HeldMasks.{held_mask_alone};
-ghost use Rattle.bt_seq.specs.inside.mask.Knows.{owners_are_found};
-ghost use Rattle.bt_seq.specs.calls.MaskFronts.{decided_lines_stay, faultless_are_masked, first_unowned_is_told, masked_are_a_front, masked_lines_are_before, masked_lines_stay, owned_lack_none};
+ghost use Rattle.bt_seq.specs.calls.Matching.{owners_are_found};
+ghost use Rattle.bt_seq.specs.calls.MaskPrefixes.{decided_lines_stay, faultless_are_masked, first_unowned_is_told, masked_are_a_prefix, masked_lines_are_before, masked_lines_stay, owned_lack_none};
 ghost use Rattle.bt_seq.specs.calls.MaskStanding.{taken_are_first};
 ghost use Rattle.bt_seq.specs.calls.MaskSteps.{quiet_records_are_taken};
 ghost use Rattle.bt_seq.specs.model.Masked.{mask_texts};
@@ -56,8 +56,8 @@ pub fn decided_lines_stay()
 
 /// What is written for a prefix of both inputs begins what is written for the whole of them. If the
 /// second input has no fault, all lines are written, masked.
-pub fn masked_fronts_begin()
-    ensures front { masked_are_a_front }
+pub fn masked_prefixes_begin()
+    ensures prefix { masked_are_a_prefix }
     ensures faultless { faultless_are_masked }
 {}
 

@@ -1,3 +1,5 @@
+//! Worked masks, step by step, and outputs and memory that fail.
+
 ghost use Rattle.std.specs.Prelude.{◌≡◌};
 
 use super::*;

@@ -21,8 +21,7 @@ pub struct SamBlocks<'a> {
 impl<'a> SamBlocks<'a> {
     ghost use Rattle.std.specs.Prelude.{◌≡◌};
     ghost use Rattle.bt_seq.specs.model.AlignmentBlocks.{alignment_blocks};
-    ghost use Rattle.bt_seq.specs.calls.Sam.{alignment_lent};
-    ghost use Rattle.bt_seq.specs.calls.SamBlocks.{blocks_left};
+    ghost use Rattle.bt_seq.specs.calls.Sam.{alignment_lent, blocks_left};
 
     // The blocks of an alignment.
     pub(crate) fn new(sam: &SamRef<'a>, split: bool) -> SamBlocks<'a>
@@ -45,7 +44,7 @@ impl<'a> SamBlocks<'a> {
 
 impl<'a> Iterator for SamBlocks<'a> {
     ghost use Rattle.std.specs.Iterator.{YieldsFirstBy, item_count};
-    ghost use Rattle.bt_seq.specs.calls.SamBlocks.{blocks_left, span_given};
+    ghost use Rattle.bt_seq.specs.calls.Sam.{blocks_left, span_given};
 
     type Item = (u64, u64);
 

@@ -144,8 +144,8 @@ fn three_digits(hundreds: u8, tens: u8, ones: u8) -> Option<u64>
     if !ones.is_ascii_digit() {
         return None;
     }
-    let front = u64::from(hundreds - b'0') * 10 + u64::from(tens - b'0');
-    Some(front * 10 + u64::from(ones - b'0'))
+    let upper = u64::from(hundreds - b'0') * 10 + u64::from(tens - b'0');
+    Some(upper * 10 + u64::from(ones - b'0'))
 }
 
 // The number that a text denotes. Of eight or nine digits, as most positions have, eight are read at once.

@@ -2,8 +2,7 @@
 
 ghost use Rattle.std.specs.Prelude.{◌≡◌};
 ghost use Rattle.bt_seq.specs.model.AlignmentBlocks.{alignment_blocks};
-ghost use Rattle.bt_seq.specs.calls.Sam.{alignment_lent};
-ghost use Rattle.bt_seq.specs.calls.SamBlocks.{blocks_left};
+ghost use Rattle.bt_seq.specs.calls.Sam.{alignment_lent, blocks_left};
 
 use crate::sam::SamRef;
 use crate::sam::block_iter::SamBlocks;

@@ -1,5 +1,5 @@
 -- After which records of both inputs a sweep is.
-use Rattle.std.specs.Prelude.{◌≡◌, ℕ, ◌≤◌, Bool, true, false, not, IfSome, IsTrue, cond, List, []}
+use Rattle.std.specs.Prelude.{◌≡◌, ◌≤◌, Bool, true, false, not, IfSome, IsTrue, cond, List, []}
 use Rattle.std.specs.Prelude.{◌∷◌, ◌++◌, length, Option, Some, None, is_some, option_to_list}
 use Rattle.std.specs.List.{list_any, list_all, take_while}
 use Rattle.bt_bed.specs.model.feature.Feature.{Feature, intervals_of}

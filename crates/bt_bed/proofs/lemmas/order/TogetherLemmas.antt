@@ -5,8 +5,8 @@ use Rattle.std.specs.declared.cmp.Ordering.TheVariants.{Less, Equal}
 use Rattle.std.proofs.lemmas.Bool.{or_parts, or_from, or_left, or_right, false≢true}
 use Rattle.bt_bed.specs.model.feature.Interval.{last_from, last_of, Interval}
 use Rattle.bt_bed.specs.model.order.Order.{Order, IsTotal}
-use Rattle.bt_bed.specs.model.order.Locus.{locus_of, IsUpTo, ArePlaced, placed_grows, fronts_are_placed}
-use Rattle.bt_bed.specs.model.order.Contiguous.{has_records, IsFollowed, AreContiguous, placed_are_together, together_grows, fronts_stand_together}
+use Rattle.bt_bed.specs.model.order.Locus.{locus_of, IsUpTo, ArePlaced, placed_grows, prefixes_are_placed}
+use Rattle.bt_bed.specs.model.order.Contiguous.{has_records, IsFollowed, AreContiguous, placed_are_contiguous, contiguous_grows, prefixes_are_contiguous}
 use Rattle.bt_bed.proofs.lemmas.parse.NameLemmas.{name_eq, name_ne, other_name, name_ne-sym}
 
 pub has_records-append : (name : List ℕ) (xs ys : List Interval) → has_records name (xs ++ ys) ≡ false → (has_records name xs ≡ false) × (has_records name ys ≡ false)
@@ -17,7 +17,7 @@ has_records-append name (x ∷ xs) ys f =
     (or_from (bytes_eq x.chrom name) (has_records name xs) parts.0 rest.0, rest.1)
 
 -- records in order: the last of them, and one more
-pub together_front : fronts_stand_together
+pub together_front : prefixes_are_contiguous
 together_front [] ys t = tt
 together_front (x ∷ []) ys t = (tt, tt)
 together_front (x ∷ y ∷ zs) ys t =
@@ -85,7 +85,7 @@ grows_from q (s ∷ ss) r t next =
     ] in
     (first, grows_from s ss r t.1 later)
 
-pub grows_together : together_grows
+pub grows_together : contiguous_grows
 grows_together [] r t next = (tt, tt)
 grows_together (q ∷ qs) r t next = grows_from q qs r t next
 
@@ -116,11 +116,11 @@ followed order r (s ∷ ss) total placed =
       | inr same ↦ inl (sym same.0, same.1)
     ]
 
-pub placed_together : placed_are_together
+pub placed_together : placed_are_contiguous
 placed_together order [] total placed = tt
 placed_together order (r ∷ rs) total placed = (followed order r rs total placed, placed_together order rs total placed.2)
 
-pub placed_front : fronts_are_placed
+pub placed_front : prefixes_are_placed
 placed_front order [] ys placed = tt
 placed_front order (x ∷ []) ys placed = (placed.0, tt, tt)
 placed_front order (x ∷ y ∷ zs) ys placed = (placed.0, placed.1, placed_front order (y ∷ zs) ys placed.2)

@@ -1,17 +1,22 @@
 -- Lemmas on lines of which a record's bounds were read.
-use Rattle.std.proofs.Common.{◌≡◌, ℕ, zero, suc, ◌+◌, ◌<◌, ◌≤◌, List, [], ◌∷◌, ◌++◌, length, take, drop, get_or, Some, Ok, refl, sym, ap, ◌∙◌, subst, arith, append_assoc, decimal, eq-eqb, eqb, length-append, length-drop}
+use Rattle.std.proofs.Common.{◌≡◌, ℕ, zero, suc, ◌+◌, ◌-◌, ◌<◌, ◌≤◌, List, [], ◌∷◌, ◌++◌, length, take, drop, get_or, Some, Ok, true, false, refl, sym, ap, ◌∙◌, subst, arith, append_assoc, decimal, eq-eqb, eqb, length-append, length-drop}
 use Rattle.std.specs.Prelude.{IsTrue, not}
-use Rattle.std.specs.Io.BufRead.{strip_last}
+use Rattle.std.specs.Char.{is_ascii_digit}
+use Rattle.std.specs.Io.BufRead.{ends_with_byte, strip_last}
+use Rattle.std.specs.List.{list_all}
+use Rattle.std.proofs.Math.Seq.{get_or-append_seam}
+use Rattle.std.proofs.lemmas.List.Folds.{list_all_at}
 use Rattle.std.specs.Str.Parse.{AllDigits}
 use Rattle.std.proofs.lemmas.Fmt.{decimal-digits_value}
 use Rattle.std.proofs.lemmas.Bool.{false≢true}
-use Rattle.std.proofs.lemmas.List.{drop_more, get_or-drop, get_or-take, get_or_append_left, take-append-drop, take-append-le}
+use Rattle.std.proofs.lemmas.List.{drop_more, get_or-drop, get_or-take, get_or_append_left, length-take-le, take-append-drop, take-append-le}
 use Rattle.std.proofs.lemmas.Str.Parse.{numerals_by_value, tells_digits}
 use Rattle.bt_lines.specs.model.Number.{value_of}
 use Rattle.bt_lines.proofs.lemmas.numbers.NumberLemmas.{all_digits_in, digits_denoting}
 use Rattle.bt_lines.proofs.lemmas.reader.lines.BufferedLemmas.{strip_begins}
+use Rattle.bt_lines.proofs.lemmas.reader.lines.LinesLemmas.{strip_last-push}
 use Rattle.bt_bed.specs.model.feature.Feature.{Feature}
-use Rattle.bt_bed.specs.inside.FirstColumns.{Leads}
+use Rattle.bt_bed.specs.inside.FirstColumns.{HasColumns, Leads}
 use Rattle.bt_bed.specs.model.feature.Record.{IsFeature, bed_text, columns_in, record_of, strand_of}
 use Rattle.bt_bed.specs.calls.RawRecord.{IsAsWritten, IsOnLine, kept_in, record_in, text_in}
 use Rattle.bt_bed.specs.declared.parse.parsed_number.ParsedNumber.{ParsedNumber}
@@ -153,3 +158,28 @@ name_there raw = front_there raw.line.now raw.name (let inside = raw.named.withi
 
 pub name_within : (raw : RawRecord) → raw.name < length raw.line.now
 name_within raw = let inside = raw.named.within in omega (arith, text_less raw.line.now)
+
+-- the last byte of a line on which a carriage return ends it
+pub last_return : (line : List ℕ) → ends_with_byte 13 line ≡ true → get_or line (length line - 1) 0 ≡ 13
+last_return line e =
+    let text = strip_last 13 line in
+    let is : text ++ 13 ∷ [] ≡ line = strip_last-push 13 line e in
+    let at : length line - 1 ≡ length text = omega (arith, ap length is, length-append text (13 ∷ [])) in
+    ap (λ n. get_or line n 0) at ∙ ap (λ l. get_or l (length text) 0) (sym is) ∙ get_or-append_seam text 13 [] 0
+
+-- no carriage return is the last byte of the third column
+pub no_return_there : (bytes name line : List ℕ) (start stop : ParsedNumber) → HasColumns bytes name start stop → take (length line) bytes ≡ line
+    → length name + start.end + stop.end + 2 ≤ length line → get_or line (length name + start.end + stop.end + 2 - 1) 0 ≡ 13 → ⊥
+no_return_there bytes name line start stop has front inside is =
+    let from = length name + start.end + 2 in
+    let end = length name + start.end + stop.end + 2 in
+    let digits = take stop.end (drop from bytes) in
+    let some = has.some_second in
+    let last : stop.end - 1 < stop.end = omega (arith, some) in
+    let size : length digits ≡ stop.end = length-take-le stop.end (drop from bytes) has.second.within in
+    let place : from + (stop.end - 1) ≡ end - 1 = omega (arith, some) in
+    let same : get_or digits (stop.end - 1) 0 ≡ 13 =
+    get_or-take stop.end (drop from bytes) (stop.end - 1) 0 last ∙ get_or-drop from bytes (stop.end - 1) 0 ∙ ap (λ n. get_or bytes n 0) place
+    ∙ sym (get_or-take (length line) bytes (end - 1) 0 (omega (arith, inside))) ∙ ap (λ l. get_or l (end - 1) 0) front ∙ is in
+    let bad : list_all is_ascii_digit digits ≡ false = list_all_at is_ascii_digit digits (stop.end - 1) 0 (omega (arith, size, some)) (ap is_ascii_digit same) in
+    false≢true (sym bad ∙ has.second.digits)

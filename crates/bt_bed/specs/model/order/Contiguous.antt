@@ -23,19 +23,19 @@ AreContiguous [] = ⊤
 AreContiguous (r ∷ rs) = IsFollowed r rs × AreContiguous rs
 
 -- in a total order of the chromosomes, the records of each are contiguous
-abbrev pub placed_are_together : Type 0
-placed_are_together =
+abbrev pub placed_are_contiguous : Type 0
+placed_are_contiguous =
     (order : Order) (records : List Interval) → IsTotal order → ArePlaced order records
     → AreContiguous records
 
 -- a record keeps them together that goes on from the last, or is the first of its chromosome
-abbrev pub together_grows : Type 0
-together_grows =
+abbrev pub contiguous_grows : Type 0
+contiguous_grows =
     (past : List Interval) (r : Interval) → AreContiguous past
     → IfSome (last_of past) (λ last. ((r.chrom ≡ last.chrom) × (last.start ≤ r.start))
     ⊎ IsFalse (has_records r.chrom past)) → AreContiguous (past ++ r ∷ [])
 
 -- a prefix of contiguous records is contiguous
-abbrev pub fronts_stand_together : Type 0
-fronts_stand_together =
+abbrev pub prefixes_are_contiguous : Type 0
+prefixes_are_contiguous =
     (front rest : List Interval) → AreContiguous (front ++ rest) → AreContiguous front

@@ -58,7 +58,7 @@ placed_grows =
     → ArePlaced order (past ++ r ∷ [])
 
 -- the first of records that are placed are placed
-abbrev pub fronts_are_placed : Type 0
-fronts_are_placed =
+abbrev pub prefixes_are_placed : Type 0
+prefixes_are_placed =
     (order : Order) (front rest : List Interval) → ArePlaced order (front ++ rest)
     → ArePlaced order front

@@ -13,10 +13,10 @@ use Rattle.bt_runs.specs.inside.coverage.CountedDepths.{CountAnswers, Counts, kn
 use Rattle.bt_runs.specs.calls.Covering.{CountsDepths, Covering, HasToKeep, IsOnBy, IsOnChrom, OnWant, depth_step, with_chrom}
 use Rattle.bt_runs.specs.model.Depth.{is_counted_by}
 use Rattle.bt_runs.specs.inside.coverage.DepthStep.{Known, levels_on}
-use Rattle.bt_runs.specs.calls.Failure.{fault_of}
+use Rattle.bt_runs.specs.calls.Ruled.{fault_of}
 use Rattle.bt_runs.specs.inside.coverage.OpenRecords.{OpenAt}
 use Rattle.bt_runs.specs.inside.walk.Walk.{AreReached, IsPlaced, Place, entry_at, is_on}
-use Rattle.bt_runs.specs.declared.coverage.depth_rule.DepthChrom.{DepthChrom}
+use Rattle.bt_runs.specs.declared.coverage.depth_rule.CurrentChrom.{CurrentChrom}
 use Rattle.bt_runs.specs.declared.coverage.depths.OpenInterval.{OpenInterval}
 use Rattle.bt_runs.specs.declared.coverage.depths.DepthCursor.{DepthCursor}
 use Rattle.bt_bed.specs.declared.record.strand.Strand.{Strand}
@@ -27,16 +27,16 @@ use Rattle.bt_runs.proofs.lemmas.order.GenomeRanks.{size_ranked}
 
 module _ (entries : List Entry) (current : Option (Place Known)) (name : List ℕ) (size : ℕ) (chrom : List ℕ) where
   -- whether it lies there is known
-  pub on_here : (is_here : Bool) → is_here ≡ true → IsOnBy is_here entries current name size chrom → IsOnBy true entries current name size chrom
+  pub on_here : (is_known : Bool) → is_known ≡ true → IsOnBy is_known entries current name size chrom → IsOnBy true entries current name size chrom
   on_here true is on = on
   on_here false is on = absurd (cc)
 
-  pub off_here : (is_here : Bool) → is_here ≡ false → IsOnBy is_here entries current name size chrom → IsOnBy false entries current name size chrom
+  pub off_here : (is_known : Bool) → is_known ≡ false → IsOnBy is_known entries current name size chrom → IsOnBy false entries current name size chrom
   off_here true is on = absurd (cc)
   off_here false is on = on
 
 -- a place of the same rank is the same chromosome
-stays_here : (entries : List Entry) (place now : Place Known) (name : List ℕ) (size : ℕ) (chrom : List ℕ) (is_here : Bool) → now.rank ≡ place.rank → is_here ≡ true → IsOnBy true entries (Some place) name size chrom → IsOnBy is_here entries (Some now) name size chrom
+stays_here : (entries : List Entry) (place now : Place Known) (name : List ℕ) (size : ℕ) (chrom : List ℕ) (is_known : Bool) → now.rank ≡ place.rank → is_known ≡ true → IsOnBy true entries (Some place) name size chrom → IsOnBy is_known entries (Some now) name size chrom
 stays_here entries place now name size chrom true same here on = rw same on
 stays_here entries place now name size chrom false same here on = absurd (cc)
 
@@ -49,7 +49,7 @@ module _ (old : Covering) (place : Place Known) (reached : old.current ≡ Some 
 
   -- it was taken
   pub counts_ok : (begun : Option OpenInterval) (held : OpenAt) (grown : Output) → Counts chrom (levels_past old.zeros size place.known bounds) (known_past old.zeros counted size place.known bounds) begun held out grown
-      → CountsDepths old r out (Ok tt) (record { entries = old.entries; zeros = old.zeros; strand = old.strand; current = Some (place_seen (record { rank = place.rank; begun = begun }) held); is_here = old.is_here; name = old.name; length = old.length }) grown
+      → CountsDepths old r out (Ok tt) (record { entries = old.entries; zeros = old.zeros; strand = old.strand; current = Some (place_seen (record { rank = place.rank; begun = begun }) held); is_known = old.is_known; name = old.name; length = old.length }) grown
   counts_ok begun held grown c =
       record {
         same_entries = refl;
@@ -73,31 +73,31 @@ module _ (old : Covering) (place : Place Known) (reached : old.current ≡ Some 
   counts_err Memory fault new held grown is puts want = inr (record { is = is; puts = rw step_is puts; to_keep = to_keep want })
 
 -- the same for the place that the code has
-module _ (table : List Entry) (zeros : Bool) (strand : Option Strand) (is_here : Bool) (name : List ℕ) (size : ℕ) (on : DepthChrom) (here : on.is_here ≡ true)
+module _ (table : List Entry) (zeros : Bool) (strand : Option Strand) (is_known : Bool) (name : List ℕ) (size : ℕ) (on : CurrentChrom) (here : on.is_known ≡ true)
     (r : Feature) (bounds : Bounds) (starts : r.start ≡ bounds.start) (stops : r.stop ≡ bounds.stop) (counted : Bool) (counts : is_counted_by strand r.strand ≡ counted) (out grown : Output) where
   -- a coverage with these open records
   abbrev pub covering : Option DepthCursor → OpenAt → Covering
-  covering current held = record { entries = table; zeros = zeros; strand = strand; current = seen current held; is_here = is_here; name = name; length = size }
+  covering current held = record { entries = table; zeros = zeros; strand = strand; current = seen current held; is_known = is_known; name = name; length = size }
 
-  abbrev pub ended_with : Option OpenInterval → DepthChrom
-  ended_with begun = record { is_here = on.is_here; name = on.name; length = on.length; begun = begun }
+  abbrev pub ended_with : Option OpenInterval → CurrentChrom
+  ended_with begun = record { is_known = on.is_known; name = on.name; length = on.length; begun = begun }
 
   pub step_ok : (current : Option DepthCursor) (held : OpenAt) → AreReached table (seen current held) → IsOnChrom (with_chrom (covering current held) on) r.chrom → (begun : Option OpenInterval) (now_held : OpenAt)
       → Counts on.name.now (levels_past zeros on.length (known_seen on.begun held) bounds) (known_past zeros counted on.length (known_seen on.begun held) bounds) begun now_held out grown
       → CountsDepths (with_chrom (covering current held) on) r out (Ok tt) (with_chrom (covering current now_held) (ended_with begun)) grown × IsOnChrom (with_chrom (covering current now_held) (ended_with begun)) r.chrom
-  step_ok None held placed lies begun now_held c = absurd (on_here table None on.name.now on.length r.chrom on.is_here here lies).1
+  step_ok None held placed lies begun now_held c = absurd (on_here table None on.name.now on.length r.chrom on.is_known here lies).1
   step_ok (Some reached) held placed lies begun now_held c =
       let place = place_seen (record { rank = reached.rank; begun = on.begun }) held in
-      let l = on_here table (Some place) on.name.now on.length r.chrom on.is_here here lies in (
+      let l = on_here table (Some place) on.name.now on.length r.chrom on.is_known here lies in (
         counts_ok (with_chrom (covering (Some reached) held) on) place refl placed on.name.now on.length l.1.0 l.1.1 r l.0 bounds starts stops counted counts out begun now_held grown c,
-        stays_here table place (place_seen (record { rank = reached.rank; begun = begun }) now_held) on.name.now on.length r.chrom on.is_here refl here l,
+        stays_here table place (place_seen (record { rank = reached.rank; begun = begun }) now_held) on.name.now on.length r.chrom on.is_known refl here l,
       )
 
   pub step_err : (current : Option DepthCursor) (held : OpenAt) → AreReached table (seen current held) → IsOnChrom (with_chrom (covering current held) on) r.chrom → (failure : Failure) (fault : Fault) (new : Covering) (now_held : OpenAt) → fault_value fault ≡ fault_of failure
       → CountAnswers on.name.now (levels_past zeros on.length (known_seen on.begun held) bounds) (known_past zeros counted on.length (known_seen on.begun held) bounds) (Err failure) now_held out grown
       → OnWant {A = Option OpenInterval} ((counted ≡ true) × (bounds.start < on.length)) (Err failure) → CountsDepths (with_chrom (covering current held) on) r out (Err fault) new grown
-  step_err None held placed lies failure fault new now_held is c want = absurd (on_here table None on.name.now on.length r.chrom on.is_here here lies).1
+  step_err None held placed lies failure fault new now_held is c want = absurd (on_here table None on.name.now on.length r.chrom on.is_known here lies).1
   step_err (Some reached) held placed lies failure fault new now_held is c want =
       let place = place_seen (record { rank = reached.rank; begun = on.begun }) held in
-      let l = on_here table (Some place) on.name.now on.length r.chrom on.is_here here lies in
+      let l = on_here table (Some place) on.name.now on.length r.chrom on.is_known here lies in
       counts_err (with_chrom (covering (Some reached) held) on) place refl placed on.name.now on.length l.1.0 l.1.1 r l.0 bounds starts stops counted counts out failure fault new now_held grown is c want

@@ -65,6 +65,14 @@ pub bare_some : (zeros : Bool) (entries : List Entry) (rank size : ℕ) (name : 
     → bare_of zeros (entry_at entries rank) ≡ record { chrom = name; start = 0; stop = size; depth = 0 } ∷ []
 bare_some zeros entries rank size name is named t some = rw (is, named, t, lt-ltb 0 size some) refl
 
+-- one that isn't written: depth 0 isn't reported, or it has no base
+pub bare_unasked : (zeros : Bool) (entry : Entry) → zeros ≡ false → bare_of zeros entry ≡ []
+bare_unasked zeros entry f = rw f refl
+
+pub bare_empty : (zeros : Bool) (entry : Entry) (size : ℕ) → entry.length ≡ size → size ≡ 0 → bare_of zeros entry ≡ []
+bare_empty true entry size is none = rw (is, none) refl
+bare_empty false entry size is none = refl
+
 -- how many chromosomes have begun doesn't depend on the open records
 pub begun_same : (current : Option DepthCursor) (held : OpenAt) → begun (seen current (none_open_at 0)) ≡ begun (seen current held)
 begun_same None held = refl

@@ -205,9 +205,9 @@ module _ (old : Covering) where
         step_goes (depth_walk old.zeros old.strand) old.entries old.current r place [] (going_on (depth_walk old.zeros old.strand) old.entries old.current r.chrom on ∙ ap (λ o. (o, [])) is)
 
   -- on which chromosome the last record lies changes nothing
-  module _ (is_here : Bool) (name : List ℕ) (size : ℕ) where
+  module _ (is_known : Bool) (name : List ℕ) (size : ℕ) where
     abbrev pub moved : Covering
-    moved = record { entries = old.entries; zeros = old.zeros; strand = old.strand; current = old.current; is_here = is_here; name = name; length = size }
+    moved = record { entries = old.entries; zeros = old.zeros; strand = old.strand; current = old.current; is_known = is_known; name = name; length = size }
 
     answers_moved : (r : Feature) (out : Output) (result : Result (Unit {0}) Fault) (new : Covering) (grown : Output) → CountsDepths moved r out result new grown → CountsDepths old r out result new grown
     answers_moved r out (Ok done) new grown c = record { same_entries = c.same_entries; same_zeros = c.same_zeros; same_strand = c.same_strand; current = c.current; at = c.at; puts = c.puts }
@@ -223,7 +223,7 @@ module _ (old : Covering) where
     place_first = record { rank = rank; known = unknown }
 
     abbrev pub begun_there : Covering
-    begun_there = record { entries = old.entries; zeros = old.zeros; strand = old.strand; current = Some place_first; is_here = true; name = name; length = size }
+    begun_there = record { entries = old.entries; zeros = old.zeros; strand = old.strand; current = Some place_first; is_known = true; name = name; length = size }
 
     abbrev before : List DepthInterval
     before = left_before (depths_left old.zeros) (bare_of old.zeros) old.entries old.current rank

@@ -6,15 +6,10 @@ use Rattle.bt_lines.specs.calls.Output.{Output}
 use Rattle.bt_lines.specs.declared.fault.Fault.{Fault}
 use Rattle.bt_bed.specs.model.feature.Feature.{Feature}
 use Rattle.bt_runs.specs.calls.Engine.{FeedAnswers, Feeds, FeedsBatch, TakesEach}
-use Rattle.bt_runs.specs.calls.Failure.{fault_of}
 use Rattle.bt_runs.specs.inside.walk.Rule.{DoesEach, Follows, RuleAnswers, RuleFeeds, WantsMemory}
-use Rattle.bt_runs.specs.inside.walk.Ruled.{ruled_fault, ruled_quiet, ruled_stands, ruled_takes, ruled_text, ruled_wants}
+use Rattle.bt_runs.specs.calls.Ruled.{fault_of, ruled_fault, ruled_quiet, ruled_stands, ruled_takes, ruled_text, ruled_wants}
 use Rattle.bt_runs.specs.declared.engine.failure.Failure.{Failure}
 use Rattle.bt_runs.specs.declared.engine.rule.Ruled.{Ruled}
-
-none_failed : {f : Option Failure} → option_map fault_of f ≡ None → f ≡ None
-none_failed {f = None} e = refl
-none_failed {f = Some failure} e = absurd (cc)
 
 module _ {E : Type 0} (takes : E → List Feature → Type 0) (stands : E → List Feature → E → Type 0) (settled : E → List Feature → List ℕ) (quiet : E → List Feature → Feature → Type 0) where
   -- an engine with a rule that hasn't failed

@@ -9,7 +9,7 @@ stays settled whole Taken h past [] t = ([], ap settled (append-nil past) ∙ sy
 stays {T} settled whole Taken h past (r ∷ rs) t =
     let grown : (past ++ r ∷ []) ++ rs ≡ past ++ r ∷ rs = append_assoc past (r ∷ []) rs in
     let t_grown = subst Taken (sym grown) t in
-    let one = h.next past r (h.front (past ++ r ∷ []) rs t_grown) in
+    let one = h.next past r (h.prefix (past ++ r ∷ []) rs t_grown) in
     let more = stays {T = T} settled whole Taken h (past ++ r ∷ []) rs t_grown in
     (one.0 ++ more.0, ap settled (sym grown) ∙ more.1 ∙ ap (λ l. l ++ more.0) one.1 ∙ append_assoc (settled past) one.0 more.0)
 

@@ -8,8 +8,8 @@ use Rattle.bt_lines.specs.calls.Putting.{CutsRest, PutsRest}
 use Rattle.bt_lines.specs.declared.fault.Fault.{Fault}
 use Rattle.bt_bed.specs.model.feature.Feature.{Feature}
 use Rattle.bt_runs.specs.calls.Engine.{AfterEach, AtEnd, FeedAnswers, Feeds, FeedsBatch, FinishAnswers, Finishes, NotTaken, TakesEach, TakesGiven}
-use Rattle.bt_runs.specs.calls.Merging.{Merging, StandsNew, Contiguous, Apart, merge_begun, is_quiet, kept_fault, may_take, settled_lines, stands_after, wants_memory, whole_output}
-use Rattle.bt_runs.specs.calls.Unstranded as pool
+use Rattle.bt_runs.specs.calls.Merging.{Merging, StandsNew, Unstranded, PerStrand, merge_begun, is_quiet, kept_fault, may_take, settled_lines, stands_after, wants_memory, whole_output}
+use Rattle.bt_runs.specs.calls.Unstranded as unstranded
 use Rattle.bt_runs.specs.declared.merge.merge_strand.MergeStrand.{MergeStrand}
 use Rattle.bt_runs.specs.declared.merge.merge_strand.MergeStrand.TheVariants.{All, Each, One}
 use Rattle.bt_runs.proofs.lemmas.merge.SettledRuns.{none_kept}
@@ -165,13 +165,13 @@ module _ {E : Type 0} (merge : E → Merging) (only : (first : Merging) (past : 
     })
 
 -- one that merges all records together, and one that keeps the strands apart
-pub only_together : (first : Merging) (past : List Feature) (old : Ruled pool.Unstranded) → stands_after first past (Contiguous old) → (inner : Ruled pool.Unstranded) × (Contiguous inner ≡ first)
-only_together (Contiguous first) past old s = (first, refl)
-only_together (Apart first) past old s = absurd s
+pub only_together : (first : Merging) (past : List Feature) (old : Ruled unstranded.Unstranded) → stands_after first past (Unstranded old) → (inner : Ruled unstranded.Unstranded) × (Unstranded inner ≡ first)
+only_together (Unstranded first) past old s = (first, refl)
+only_together (PerStrand first) past old s = absurd s
 
-pub only_apart : (first : Merging) (past : List Feature) (old : Ruled strands.Stranding) → stands_after first past (Apart old) → (inner : Ruled strands.Stranding) × (Apart inner ≡ first)
-only_apart (Apart first) past old s = (first, refl)
-only_apart (Contiguous first) past old s = absurd s
+pub only_apart : (first : Merging) (past : List Feature) (old : Ruled strands.Stranding) → stands_after first past (PerStrand old) → (inner : Ruled strands.Stranding) × (PerStrand inner ≡ first)
+only_apart (PerStrand first) past old s = (first, refl)
+only_apart (Unstranded first) past old s = absurd s
 
 -- no list ends with an element and is empty
 none_last : {A : Type 0} (xs : List A) (x : A) → [] ≡ xs ++ x ∷ [] → ⊥

@@ -1,5 +1,5 @@
 -- The place of each strand's last run, as runs are added, joined and taken off, and what is written of those that a record closes.
-use Rattle.std.proofs.Common.{◌≡◌, ℕ, ◌<◌, ◌≤◌, List, [], ◌∷◌, ◌++◌, refl, sym, ap, ◌∙◌, cond, get_or, length, set, arith, Bool, true, false, nat_lt, lt-ltb, le-ltb, Option, Some, None, zero, suc, ◌⊎◌, inl, inr, append_assoc, append-nil, not, ◌||◌, drop, Result, Err}
+use Rattle.std.proofs.Common.{◌≡◌, ℕ, ◌<◌, ◌≤◌, ◌-◌, List, [], ◌∷◌, ◌++◌, refl, sym, ap, ◌∙◌, cond, get_or, length, set, arith, Bool, true, false, nat_lt, lt-ltb, le-ltb, Option, Some, None, zero, suc, ◌⊎◌, inl, inr, append_assoc, append-nil, not, ◌||◌, drop, Result, Err}
 use Rattle.std.specs.List.{slice_get}
 use Rattle.std.proofs.lemmas.Bool.{cond-true, cond-false, not_from_false, not_from_true, or_from, or_left, or_right}
 use Rattle.std.proofs.lemmas.List.{set-get_or, map-append}
@@ -9,7 +9,7 @@ use Rattle.bt_bed.specs.declared.record.strand.Strand.{Strand}
 use Rattle.bt_bed.specs.declared.record.strand.Strand.TheVariants.{Plus, Minus, Dot}
 use Rattle.bt_bed.specs.model.feature.Strands.{is_strand}
 use Rattle.bt_runs.specs.inside.merge.StrandStep.{last_place, place_among}
-use Rattle.bt_runs.specs.inside.merge.PendingRuns.{count_up_to, count_up_to_last, counts_up_to_last, slot_of, joined_here, lengthened, with_joined, left_runs, passed_runs, placed_run, placed_runs}
+use Rattle.bt_runs.specs.inside.merge.PendingRuns.{count_up_to, count_up_to_last, counts_up_to_last, place_of, slot_of, joined_here, lengthened, with_joined, left_runs, passed_runs, placed_run, placed_runs}
 use Rattle.bt_runs.specs.declared.merge.pending_runs.PendingRun.{PendingRun}
 use Rattle.bt_lines.specs.calls.Output.{Output}
 use Rattle.bt_lines.specs.calls.Putting.{Adds, Grown, Puts}
@@ -43,6 +43,16 @@ module _ {A : Type 0} (test : A → Bool) where
   pub last_place_within : (xs : List A) (i : ℕ) → last_place test xs ≡ Some i → i < length xs
   last_place_within [] i e = absurd (cc)
   last_place_within (x ∷ xs) i e = among_within (test x) (last_place test xs) i (length xs) (λ j is. last_place_within xs j is) e
+
+-- the place of the last run of a strand, from the count in its slot
+counted_place : (place : Option ℕ) (p : ℕ) → 1 ≤ count_up_to place → p ≡ count_up_to place - 1 → place ≡ Some p
+counted_place None p some is = absurd (omega arith)
+counted_place (Some q) p some is = let same : q ≡ p = omega arith in ap (λ n. Some n) same
+
+pub place_counted : (strand : Strand) (runs : List PendingRun) (p : ℕ) → 1 ≤ get_or (counts_up_to_last runs) (slot_of strand) 0 → p ≡ get_or (counts_up_to_last runs) (slot_of strand) 0 - 1 → place_of strand runs ≡ Some p
+place_counted Plus runs p some is = counted_place (place_of Plus runs) p some is
+place_counted Minus runs p some is = counted_place (place_of Minus runs) p some is
+place_counted Dot runs p some is = counted_place (place_of Dot runs) p some is
 
 -- the count of a strand with one more run, of the strand or of another
 counted_so : (strand : Strand) (runs : List PendingRun) (run : PendingRun) → is_strand run.strand strand ≡ true → count_up_to_last strand (runs ++ run ∷ []) ≡ suc (length runs)

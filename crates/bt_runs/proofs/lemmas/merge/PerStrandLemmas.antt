@@ -18,13 +18,13 @@ use Rattle.bt_bed.specs.model.feature.Strands.{is_strand}
 use Rattle.bt_bed.proofs.lemmas.write.IntervalLineLemmas.{adds_line}
 use Rattle.bt_bed.proofs.lemmas.parse.NameLemmas.{name_eq, name_ne, other_name}
 use Rattle.bt_runs.specs.calls.Engine.{AfterEach}
-use Rattle.bt_runs.specs.calls.Failure.{fault_of}
+use Rattle.bt_runs.specs.calls.Ruled.{fault_of}
 use Rattle.bt_runs.specs.model.MergedRuns.{AreTaken, is_closed}
 use Rattle.bt_runs.specs.inside.merge.PendingRuns.{joined_here, left_runs, lengthened, passed_runs, pending_from, place_of, placed_run, placed_runs, with_joined}
 use Rattle.bt_runs.specs.inside.merge.PerStrand.{kept_in, run_at_hand}
 use Rattle.bt_runs.specs.inside.walk.Rule.{EnterAnswers, RuleFeeds, RuleFinishes, Taken, WantsMemory}
 use Rattle.bt_runs.specs.model.StrandRuns.{StrandRun, kept_strand_runs, places_of, settled_strand_runs, strand_runs}
-use Rattle.bt_runs.specs.inside.merge.StrandStep.{added_at, behind_settled, front_settled, kept_with, last_place, place_among, run_from, run_with, with_added}
+use Rattle.bt_runs.specs.inside.merge.StrandStep.{added_at, left_unsettled, settled_prefix, kept_with, last_place, place_among, run_from, run_with, with_added}
 use Rattle.bt_runs.specs.inside.merge.StrandTaking.{JoinsAmong, JoinsLeft, LeavesNone, OpensRun, Takes, TakesNext, joined_among, lines_by, wants_memory}
 use Rattle.bt_runs.specs.calls.Stranding.{Stranding, StandsAfter, held_count, is_quiet, may_take, settled_lines, stands_after, strand_lines, whole_output}
 use Rattle.bt_runs.specs.declared.engine.failure.Failure.{Failure}
@@ -75,11 +75,11 @@ module _ (gap : ℕ) (chrom : List ℕ) (r : Feature) where
       ∙ prefix_same (λ (w : PendingRun). is_closed gap (interval_of r) (placed_run chrom w).run) (λ (w : PendingRun). not here || nat_lt w.stop reach) test_same runs
 
   -- the runs that the record settles, and those that stay
-  pub front_placed : (runs : List PendingRun) → front_settled gap (placed_runs chrom runs) r ≡ placed_runs chrom (passed_runs here reach runs)
+  pub front_placed : (runs : List PendingRun) → settled_prefix gap (placed_runs chrom runs) r ≡ placed_runs chrom (passed_runs here reach runs)
   front_placed runs =
       ap (λ n. take n (placed_runs chrom runs)) (prefix_placed runs) ∙ take-map (placed_run chrom) (prefix_len (λ (w : PendingRun). not here || nat_lt w.stop reach) runs) runs
 
-  pub behind_placed : (runs : List PendingRun) → behind_settled gap (placed_runs chrom runs) r ≡ placed_runs chrom (left_runs here reach runs)
+  pub behind_placed : (runs : List PendingRun) → left_unsettled gap (placed_runs chrom runs) r ≡ placed_runs chrom (left_runs here reach runs)
   behind_placed runs =
       ap (λ (l : List StrandRun). drop (length l) (placed_runs chrom runs)) (front_placed runs)
       ∙ ap (λ n. drop n (placed_runs chrom runs)) (length-map (passed_runs here reach runs) (placed_run chrom))
@@ -158,14 +158,14 @@ module _ (old : Stranding) (r : Feature) (out : Output) (runs : List PendingRun)
   here_is : bytes_eq old.chrom r.chrom ≡ true
   here_is = name_eq old.chrom r.chrom on
 
-  front_is : front_settled old.gap old.kept r ≡ placed_runs old.chrom (passed_runs true near runs)
+  front_is : settled_prefix old.gap old.kept r ≡ placed_runs old.chrom (passed_runs true near runs)
   front_is =
-      ap (λ items. front_settled old.gap items r) kept_is ∙ front_placed old.gap old.chrom r runs
+      ap (λ items. settled_prefix old.gap items r) kept_is ∙ front_placed old.gap old.chrom r runs
       ∙ ap (λ b. placed_runs old.chrom (passed_runs b near runs)) here_is
 
-  behind_is : behind_settled old.gap old.kept r ≡ placed_runs old.chrom left
+  behind_is : left_unsettled old.gap old.kept r ≡ placed_runs old.chrom left
   behind_is =
-      ap (λ items. behind_settled old.gap items r) kept_is ∙ behind_placed old.gap old.chrom r runs
+      ap (λ items. left_unsettled old.gap items r) kept_is ∙ behind_placed old.gap old.chrom r runs
       ∙ ap (λ b. placed_runs old.chrom (left_runs b near runs)) here_is
 
   lines_is : strand_lines (placed_runs old.chrom (passed_runs true near runs)) ≡ lines_by old r
@@ -229,15 +229,15 @@ module _ (old : Stranding) (r : Feature) (out : Output) (runs : List PendingRun)
   here_not : bytes_eq old.chrom r.chrom ≡ false
   here_not = name_ne old.chrom r.chrom other
 
-  all_settled : front_settled old.gap old.kept r ≡ old.kept
+  all_settled : settled_prefix old.gap old.kept r ≡ old.kept
   all_settled =
-      ap (λ items. front_settled old.gap items r) kept_is ∙ front_placed old.gap old.chrom r runs
+      ap (λ items. settled_prefix old.gap items r) kept_is ∙ front_placed old.gap old.chrom r runs
       ∙ ap (λ b. placed_runs old.chrom (passed_runs b (r.start - old.gap) runs)) here_not
       ∙ ap (placed_runs old.chrom) (passed_every (r.start - old.gap) runs) ∙ sym kept_is
 
-  none_behind : behind_settled old.gap old.kept r ≡ []
+  none_behind : left_unsettled old.gap old.kept r ≡ []
   none_behind =
-      ap (λ items. behind_settled old.gap items r) kept_is ∙ behind_placed old.gap old.chrom r runs
+      ap (λ items. left_unsettled old.gap items r) kept_is ∙ behind_placed old.gap old.chrom r runs
       ∙ ap (λ b. placed_runs old.chrom (left_runs b (r.start - old.gap) runs)) here_not
       ∙ ap (placed_runs old.chrom) (left_none (r.start - old.gap) runs)
 
@@ -253,7 +253,7 @@ module _ (old : Stranding) (r : Feature) (out : Output) (runs : List PendingRun)
   module _ (mid : Stranding) (through : Output) (gap : mid.gap ≡ old.gap) (none : mid.kept ≡ []) (closed : Grown out (strand_lines old.kept) through) where
     puts_then : (later : Output) → Grown through (lines_by mid r) later → Grown out (lines_by old r) later
     puts_then later p =
-        let nothing : lines_by mid r ≡ [] = ap (λ items. strand_lines (front_settled mid.gap items r)) none in
+        let nothing : lines_by mid r ≡ [] = ap (λ items. strand_lines (settled_prefix mid.gap items r)) none in
         subst (λ l. Grown out l later) (append-nil (strand_lines old.kept) ∙ all_lines) (grown_more out through later (strand_lines old.kept) [] closed (subst (λ l. Grown through l later) nothing p))
 
     pub enters_other : (result : Result (Unit {0}) Fault) (next : Stranding) (later : Output) → TakesNext mid r through result next later → TakesNext old r out result next later
@@ -263,7 +263,7 @@ module _ (old : Stranding) (r : Feature) (out : Output) (runs : List PendingRun)
       kept = p.kept ∙ ap (λ items. kept_with mid.gap items r) none ∙ sym (ap (λ items. with_added old.gap items r) none_behind);
       puts = puts_then later p.puts;
     }
-    enters_other (Err fault) next later (inl p) = absurd (p.some (ap (λ items. strand_lines (front_settled mid.gap items r)) none))
+    enters_other (Err fault) next later (inl p) = absurd (p.some (ap (λ items. strand_lines (settled_prefix mid.gap items r)) none))
     enters_other (Err fault) next later (inr p) = inr (p.0, record { wanted = inr other; puts = puts_then later p.1.puts })
 
 -- the kept runs, if one is in a local or none
@@ -338,7 +338,7 @@ module _ (gap : ℕ) (past : List Feature) (merge : Stranding) (stands : StandsA
   -- the lines of the step are those that the record settles
   pub settles_next : (r : Feature) → AreTaken (past ++ r ∷ []) → strand_lines (settled_strand_runs gap (past ++ r ∷ [])) ≡ strand_lines (settled_strand_runs gap past) ++ lines_by merge r
   settles_next r taken =
-      rw (stands.same_gap, stands.kept) (ap strand_lines (strand_next gap past r taken).settled ∙ places-append (settled_strand_runs gap past) (front_settled gap (kept_strand_runs gap past) r))
+      rw (stands.same_gap, stands.kept) (ap strand_lines (strand_next gap past r taken).settled ∙ places-append (settled_strand_runs gap past) (settled_prefix gap (kept_strand_runs gap past) r))
 
   keeps_next : (r : Feature) → AreTaken (past ++ r ∷ []) → kept_strand_runs gap (past ++ r ∷ []) ≡ kept_with merge.gap merge.kept r
   keeps_next r taken = rw (stands.same_gap, stands.kept) (strand_next gap past r taken).kept
@@ -354,8 +354,8 @@ module _ (gap : ℕ) (past : List Feature) (merge : Stranding) (stands : StandsA
   -- if a run has to be opened and none was settled, the record isn't quiet
   pub loud_next : (r : Feature) → AreTaken (past ++ r ∷ []) → OpensRun merge r → lines_by merge r ≡ [] → length (kept_strand_runs gap (past ++ r ∷ [])) ≤ length (kept_strand_runs gap past) → ⊥
   loud_next r taken opens none more =
-      let settled = no_items (front_settled merge.gap merge.kept r) (no_lines (places_of (front_settled merge.gap merge.kept r)) none) in
-      let stay : behind_settled merge.gap merge.kept r ≡ merge.kept = ap (λ (l : List StrandRun). drop (length l) merge.kept) settled in
+      let settled = no_items (settled_prefix merge.gap merge.kept r) (no_lines (places_of (settled_prefix merge.gap merge.kept r)) none) in
+      let stay : left_unsettled merge.gap merge.kept r ≡ merge.kept = ap (λ (l : List StrandRun). drop (length l) merge.kept) settled in
       let is : kept_strand_runs gap (past ++ r ∷ []) ≡ merge.kept ++ run_from r ∷ [] = keeps_next r taken ∙ opens ∙ ap (λ l. l ++ run_from r ∷ []) stay in
       let a = ap length is in
       let b = ap length stands.kept in
@@ -377,7 +377,7 @@ module _ (merge : Stranding) (out : Output) where
     -- a record isn't quiet if memory is needed
     loud : wants_memory merge r → AfterEach may_take stands_after merge r (λ first past. is_quiet first past r → ⊥)
     loud (inl opens) first past stands taken quiet = loud_next first.gap past merge stands r taken opens (none first past stands taken quiet) quiet.0.keeps
-    loud (inr other) first past stands taken quiet = other (stands.chrom quiet.1.front quiet.1.last quiet.1.is ∙ quiet.1.same)
+    loud (inr other) first past stands taken quiet = other (stands.chrom quiet.1.before quiet.1.last quiet.1.is ∙ quiet.1.same)
 
     -- what is done with a record exactly is done after every past
     pub does_feeds : (result : Result (Unit {0}) Fault) (new : Stranding) (grown : Output) → TakesNext merge r out result new grown → RuleFeeds may_take stands_after settled_lines merge r out is_quiet result new grown

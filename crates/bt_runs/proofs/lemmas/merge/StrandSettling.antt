@@ -14,8 +14,8 @@ use Rattle.bt_bed.proofs.lemmas.order.TogetherLemmas.{last_of-push}
 use Rattle.bt_bed.specs.model.feature.Strands.{is_strand}
 use Rattle.bt_runs.specs.model.MergedRuns.{AreTaken, is_closed}
 use Rattle.bt_runs.specs.calls.Settling.{Settles}
-use Rattle.bt_runs.specs.model.StrandRuns.{StrandRun, kept_strand_runs, passed_front, settled_strand_runs, strand_runs, strand_runs_begin, strand_runs_divide, strand_runs_stay, strands_stay_in_order}
-use Rattle.bt_runs.specs.inside.merge.StrandStep.{added_at, behind_settled, front_settled, kept_with, last_place, place_among, run_from, run_with, with_added}
+use Rattle.bt_runs.specs.model.StrandRuns.{StrandRun, kept_strand_runs, passed_prefix, settled_strand_runs, strand_runs, strand_runs_begin, strand_runs_divide, strand_runs_stay, strands_stay_in_order}
+use Rattle.bt_runs.specs.inside.merge.StrandStep.{added_at, left_unsettled, settled_prefix, kept_with, last_place, place_among, run_from, run_with, with_added}
 use Rattle.bt_runs.proofs.lemmas.order.ByChromosome.{full_last, intervals_next}
 use Rattle.bt_runs.proofs.lemmas.laws.EachLemmas.{Each, Some_of, each_append, each_both, each_front, each_unmap, each_weaker, map_leaves, none_each, none_from, some_each, some_out}
 use Rattle.bt_runs.proofs.lemmas.merge.OneStrand.{joined_to, last_there, new_run, parted, reaches}
@@ -185,7 +185,7 @@ module _ (gap : ℕ) where
   abbrev passes : Interval → StrandRun → Bool
   passes last item = is_closed gap last item.run
 
-  front_parts : (items : List StrandRun) (last : Option Interval) → items ≡ passed_front gap items last ++ drop (length (passed_front gap items last)) items
+  front_parts : (items : List StrandRun) (last : Option Interval) → items ≡ passed_prefix gap items last ++ drop (length (passed_prefix gap items last)) items
   front_parts items None = refl
   front_parts items (Some last) = front_and_behind (passes last) items
 
@@ -222,10 +222,10 @@ module _ (gap : ℕ) where
     listed : Listed gap past
     listed = are_listed gap past (taken_front past (r ∷ []) taken)
 
-    settled_still : (last : Option Interval) → last_of (intervals_of past) ≡ last → Each (λ item. passes (interval_of r) item ≡ true) (passed_front gap (strand_runs gap past) last)
+    settled_still : (last : Option Interval) → last_of (intervals_of past) ≡ last → Each (λ item. passes (interval_of r) item ≡ true) (passed_prefix gap (strand_runs gap past) last)
     settled_still None is = tt
     settled_still (Some last) is =
-        let front = passed_front gap (strand_runs gap past) (Some last) in
+        let front = passed_prefix gap (strand_runs gap past) (Some last) in
         let Has : StrandRun → Type 0 = λ item. Some_of (λ p. Lies item p) past in
         let has = each_front Has front (drop (length front) (strand_runs gap past)) (subst (λ (l : List StrandRun). Each Has l) (front_and_behind (passes last) (strand_runs gap past)) listed.has) in
         each_weaker (λ item. (passes last item ≡ true) × Has item) (λ item. passes (interval_of r) item ≡ true)
@@ -267,7 +267,7 @@ module _ (gap : ℕ) where
         ∙ append_assoc front (map (joined_to gap r) items) (new_run any r)
 
     pub record Divided : Type 0 where
-      pub settled : settled_strand_runs gap (past ++ r ∷ []) ≡ settled_strand_runs gap past ++ front_settled gap (kept_strand_runs gap past) r
+      pub settled : settled_strand_runs gap (past ++ r ∷ []) ≡ settled_strand_runs gap past ++ settled_prefix gap (kept_strand_runs gap past) r
       pub kept : kept_strand_runs gap (past ++ r ∷ []) ≡ kept_with gap (kept_strand_runs gap past) r
 
     -- what one more record settles, and what is kept with it
@@ -277,8 +277,8 @@ module _ (gap : ℕ) where
         let x = interval_of r in
         let done = settled_strand_runs gap past in
         let kept = kept_strand_runs gap past in
-        let more = front_settled gap kept r in
-        let rest = behind_settled gap kept r in
+        let more = settled_prefix gap kept r in
+        let rest = left_unsettled gap kept r in
         let front = done ++ more in
         let whole : strand_runs gap past ≡ front ++ rest = strand_runs_are_all past ∙ ap (λ l. done ++ l) (front_and_behind (passes x) kept) ∙ sym (append_assoc done more rest) in
         let passed = each_append (λ item. passes x item ≡ true) done more (settled_still (last_of (intervals_of past)) refl) (front_passes (passes x) kept) in
@@ -291,7 +291,7 @@ module _ (gap : ℕ) where
         ∙ ap (λ l. map (joined_to gap r) l ++ new_run (list_any (reaches gap r) l) r) whole
         ∙ grown_behind front rest passed ∙ ap (λ l. front ++ l) (sym added) in
         let last = ap last_of (intervals_next past r) ∙ last_of-push (intervals_of past) x in
-        let is : settled_strand_runs gap (past ++ r ∷ []) ≡ front = ap (passed_front gap (strand_runs gap (past ++ r ∷ []))) last ∙ ap (take_while (passes x)) all ∙ front_is (passes x) front next passed stops in
+        let is : settled_strand_runs gap (past ++ r ∷ []) ≡ front = ap (passed_prefix gap (strand_runs gap (past ++ r ∷ []))) last ∙ ap (take_while (passes x)) all ∙ front_is (passes x) front next passed stops in
         record {
           settled = is;
           kept = ap₂ (λ (a b : List StrandRun). drop (length a) b) is all ∙ drop_at front next (length front) refl;
@@ -299,8 +299,8 @@ module _ (gap : ℕ) where
 
   settles_strands : Settles (settled_strand_runs gap) (strand_runs gap) AreTaken
   settles_strands = record {
-    front = taken_front;
-    next = λ past r t. (front_settled gap (kept_strand_runs gap past) r, (strand_next past r t).settled);
+    prefix = taken_front;
+    next = λ past r t. (settled_prefix gap (kept_strand_runs gap past) r, (strand_next past r t).settled);
     begins = λ past t. (kept_strand_runs gap past, strand_runs_are_all past);
   }
 

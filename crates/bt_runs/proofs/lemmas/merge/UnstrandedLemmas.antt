@@ -70,7 +70,7 @@ module _ (old : Unstranded) (out : Output) where
     does_feeds (Err e) new grown (inl p) = rule_cut may_take stands_after settled_lines old out (lines_by old r) is_quiet r next none e new grown p
     does_feeds (Err e) new grown (inr p) =
         rule_short may_take stands_after settled_lines old out (lines_by old r) is_quiet r next none e new grown p.0
-        (λ first past stands taken quiet. p.1.elsewhere (stands.on quiet.1.front quiet.1.last quiet.1.is ∙ quiet.1.same)) p.1.puts
+        (λ first past stands taken quiet. p.1.elsewhere (stands.on quiet.1.before quiet.1.last quiet.1.is ∙ quiet.1.same)) p.1.puts
 
     pub does_memory : (result : Result (Unit {0}) Fault) (new : Unstranded) (grown : Output) → Does old r out result new grown → WantsMemory IsElsewhere old r result
     does_memory (Ok done) new grown d = tt

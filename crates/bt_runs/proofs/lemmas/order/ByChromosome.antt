@@ -319,7 +319,7 @@ module _ {K T S : Type 0} (f : Form K T S) (At : K → List Feature → ℕ → 
   -- if all that it may take is ordered, what is settled begins what is settled later, and the whole
   pub settling : (Taken : List Feature → Type 0) → ((past more : List Feature) → Taken (past ++ more) → Taken past) → ((all : List Feature) → Taken all → Ordered all) → Settles f.settled f.whole Taken
   settling Taken front ordered = record {
-    front = front;
+    prefix = front;
     next = λ past r t.
         let o = ordered (past ++ r ∷ []) t in
         settles_some o.keys o.owes o.distinct past r o.in_order (o.written past (r ∷ []) refl) (o.written (past ++ r ∷ []) [] (append-nil (past ++ r ∷ [])));

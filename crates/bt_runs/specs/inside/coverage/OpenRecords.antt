@@ -1,8 +1,8 @@
 -- The records that are open at a position of a chromosome, and how the code keeps them.
 use Rattle.std.specs.Prelude.{◌≡◌, ℕ, ◌<◌, ◌≤◌, Bool}
-use Rattle.std.specs.Prelude.{List, [], ◌∷◌, ◌++◌, All, filter, length, map}
+use Rattle.std.specs.Prelude.{List, [], ◌∷◌, All, filter, length, map}
 use Rattle.bt_bed.specs.model.feature.Interval.{Span}
-use Rattle.bt_runs.specs.inside.coverage.DepthStep.{opened, still_open}
+use Rattle.bt_runs.specs.inside.coverage.DepthStep.{still_open}
 use Rattle.bt_runs.specs.declared.coverage.open_records.OpenSpan.{OpenSpan}
 
 -- a position, and records that start there or before, in file order
@@ -17,12 +17,6 @@ none_open_at at = record { at = at; spans = [] }
 -- those that are still open at a position
 abbrev pub open_from : ℕ → OpenAt → OpenAt
 open_from position here = record { at = position; spans = still_open position here.spans }
-
--- those with one more, if it is counted: it starts at the position, below the chromosome's length,
--- and is cut there
-abbrev pub open_with : Bool → ℕ → ℕ → OpenAt → OpenAt
-open_with counted size stop here =
-    record { at = here.at; spans = here.spans ++ opened counted size here.at stop }
 
 -- a record that is open, where it lies
 abbrev pub span_open : OpenSpan → Span

@@ -5,15 +5,15 @@ use Rattle.bt_bed.specs.model.feature.Feature.{Feature, interval_of}
 use Rattle.bt_bed.specs.model.feature.Strands.{is_strand}
 use Rattle.bt_runs.specs.model.MergedRuns.{is_closed}
 use Rattle.bt_runs.specs.inside.merge.MergeStep.{joined_run}
-use Rattle.bt_runs.specs.model.StrandRuns.{StrandRun, passed_front}
+use Rattle.bt_runs.specs.model.StrandRuns.{StrandRun, passed_prefix}
 
 -- the runs that the record settles: those up to the first that it doesn't close
-abbrev pub front_settled : ℕ → List StrandRun → Feature → List StrandRun
-front_settled gap items r = passed_front gap items (Some (interval_of r))
+abbrev pub settled_prefix : ℕ → List StrandRun → Feature → List StrandRun
+settled_prefix gap items r = passed_prefix gap items (Some (interval_of r))
 
 -- and those after them
-abbrev pub behind_settled : ℕ → List StrandRun → Feature → List StrandRun
-behind_settled gap items r = drop (length (front_settled gap items r)) items
+abbrev pub left_unsettled : ℕ → List StrandRun → Feature → List StrandRun
+left_unsettled gap items r = drop (length (settled_prefix gap items r)) items
 
 -- the record as a run of its own
 abbrev pub run_from : Feature → StrandRun
@@ -50,4 +50,4 @@ with_added gap items r =
 
 -- the runs that are kept after the record
 abbrev pub kept_with : ℕ → List StrandRun → Feature → List StrandRun
-kept_with gap items r = with_added gap (behind_settled gap items r) r
+kept_with gap items r = with_added gap (left_unsettled gap items r) r

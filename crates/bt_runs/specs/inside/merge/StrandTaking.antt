@@ -7,7 +7,7 @@ use Rattle.bt_lines.specs.calls.Putting.{FailsToAdd, Grown}
 use Rattle.bt_lines.specs.declared.fault.Fault.{Fault}
 use Rattle.bt_bed.specs.model.feature.Feature.{Feature}
 use Rattle.bt_runs.specs.inside.merge.PendingRuns.{left_runs, passed_runs, place_of, placed_runs, with_joined}
-use Rattle.bt_runs.specs.inside.merge.StrandStep.{behind_settled, front_settled, kept_with, run_from, with_added}
+use Rattle.bt_runs.specs.inside.merge.StrandStep.{left_unsettled, settled_prefix, kept_with, run_from, with_added}
 use Rattle.bt_runs.specs.calls.Stranding.{Stranding, strand_lines}
 use Rattle.bt_runs.specs.declared.engine.failure.Failure.{Failure}
 use Rattle.bt_runs.specs.declared.engine.failure.Failure.TheVariants.{Write, Memory}
@@ -15,13 +15,13 @@ use Rattle.bt_runs.specs.declared.merge.pending_runs.PendingRun.{PendingRun}
 
 -- the line of each run that the record settles
 abbrev pub lines_by : Stranding → Feature → List ℕ
-lines_by merge r = strand_lines (front_settled merge.gap merge.kept r)
+lines_by merge r = strand_lines (settled_prefix merge.gap merge.kept r)
 
 -- a run has to be opened: of the runs that stay, the record is joined to none
 abbrev pub OpensRun : Stranding → Feature → Type 0
 OpensRun old r =
-    with_added old.gap (behind_settled old.gap old.kept r) r
-    ≡ behind_settled old.gap old.kept r ++ run_from r ∷ []
+    with_added old.gap (left_unsettled old.gap old.kept r) r
+    ≡ left_unsettled old.gap old.kept r ++ run_from r ∷ []
 
 -- the record lies on another chromosome
 abbrev pub IsElsewhere : Stranding → Feature → Type 0

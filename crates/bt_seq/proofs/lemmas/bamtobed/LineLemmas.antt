@@ -11,7 +11,7 @@ use Rattle.bt_lines.specs.declared.fault.Fault.{Fault}
 use Rattle.bt_lines.proofs.lemmas.writer.PuttingLemmas.{cut_off, adds_some, fails_before, fails_then, grown_all, grown_more, puts_more}
 use Rattle.bt_seq.specs.model.Alignment.{Alignment}
 use Rattle.bt_seq.specs.model.BedLines.{bed_line, text_if}
-use Rattle.bt_seq.specs.calls.SamBlocks.{span_given}
+use Rattle.bt_seq.specs.calls.Sam.{span_given}
 use Rattle.bt_seq.specs.inside.sam.LineEnds.{bounds_text, line_tail, marks, quality_text}
 
 -- the pieces of a line

@@ -2,8 +2,7 @@
 use Rattle.std.proofs.Common.{◌≡◌, ℕ, ◌⊎◌, Bool, true, false, cond, ◌&&◌, not, List, [], ◌∷◌, ◌++◌, Option, Some, None, refl, sym, ap, ◌∙◌, inl, inr, bytes_eq}
 use Rattle.bt_bed.specs.model.feature.Feature.{Feature}
 use Rattle.bt_seq.proofs.lemmas.laws.LeftLemmas.{goes_on_or_begins}
-use Rattle.bt_seq.specs.inside.mask.Knows.{KnowsEarlier, KnowsOwn, last_chrom, owner_by, owners_are_found}
-use Rattle.bt_seq.specs.inside.mask.Matching.{Matched, is_it, owner_of}
+use Rattle.bt_seq.specs.calls.Matching.{KnowsEarlier, KnowsOwn, last_chrom, owner_by, owners_are_found, Matched, is_it, owner_of}
 use Rattle.bt_seq.specs.model.Owners.{goes_on, left_after, left_by, names_behind}
 use Rattle.bt_seq.specs.declared.mask.matching.Owner.{Owner}
 use Rattle.bt_seq.specs.declared.mask.matching.Owner.TheVariants.{Own, Earlier, Nobody}
@@ -51,7 +50,7 @@ module _ (names : List (List ℕ)) (records : List Feature) (m : Matched) (r : F
   next_left : (left : Option (List (List ℕ))) → left_after names records ≡ left → left_after names (records ++ r ∷ []) ≡ cond (goes_on records r) left (left_by left r.chrom)
   next_left left e = goes_on_or_begins names records r ∙ ap (λ left. cond (goes_on records r) left (left_by left r.chrom)) e
 
-  found_at : m.last ≡ last_chrom records → KnowsOwn names records m ⊎ KnowsEarlier names records m → (goes_on records r ≡ false → (e : KnowsEarlier names records m) → names_behind r.chrom e.front ≡ None)
+  found_at : m.last ≡ last_chrom records → KnowsOwn names records m ⊎ KnowsEarlier names records m → (goes_on records r ≡ false → (e : KnowsEarlier names records m) → names_behind r.chrom e.before ≡ None)
       → owner_of m r.chrom ≡ owner_by (left_after names (records ++ r ∷ []))
   found_at last (inl k) none =
       owner_is m r.chrom true (goes_on records r) (ap (λ l. is_it l r.chrom) last ∙ last_goes_on records r) k.own
@@ -60,8 +59,8 @@ module _ (names : List (List ℕ)) (records : List Feature) (m : Matched) (r : F
   found_at last (inr k) none =
       owner_is m r.chrom false (goes_on records r) (ap (λ l. is_it l r.chrom) last ∙ last_goes_on records r) k.own
       ∙ ap (λ n. found_by false (goes_on records r) (is_it n r.chrom)) k.named
-      ∙ found_earlier (goes_on records r) r.chrom k.name k.front (λ begins. none begins k)
-      ∙ sym (ap owner_by (next_left (Some (k.front ++ k.name ∷ [])) k.left))
+      ∙ found_earlier (goes_on records r) r.chrom k.name k.before (λ begins. none begins k)
+      ∙ sym (ap owner_by (next_left (Some (k.before ++ k.name ∷ [])) k.left))
 
 pub owners_found : owners_are_found
 owners_found names records m r knows none = found_at names records m r knows.last knows.where_last none

@@ -13,9 +13,9 @@ use Rattle.bt_lines.specs.model.Fault.{FaultValue}
 use Rattle.bt_lines.specs.declared.fault.Input.TheVariants.{Second}
 use Rattle.bt_lines.specs.declared.fault.Kind.TheVariants.{NoSequence}
 use Rattle.bt_seq.proofs.lemmas.laws.LeftLemmas.{is_last, leave, leave_all}
-use Rattle.bt_seq.proofs.lemmas.laws.MaskFrontLemmas.{decided_stays, masked_stay, none_next}
+use Rattle.bt_seq.proofs.lemmas.laws.MaskPrefixLemmas.{decided_stays, masked_stay, none_next}
 use Rattle.bt_seq.proofs.lemmas.sam.TagLemmas.{AllHaveOne, HasOne, Tagged, blocks_have_one, next_left, spread, tag_items, tags, tags_all}
-use Rattle.bt_seq.specs.calls.MaskFronts.{early_mask_rule, faultless_are_masked, first_unowned_is_told, masked_are_a_front, owned_lack_none}
+use Rattle.bt_seq.specs.calls.MaskPrefixes.{early_mask_rule, faultless_are_masked, first_unowned_is_told, masked_are_a_prefix, owned_lack_none}
 use Rattle.bt_seq.specs.model.Masked.{decided, mask_rule, masked_line, no_sequence, no_sequence_for, told_at_first}
 use Rattle.bt_seq.specs.model.Owners.{Block, blocks_by, first_unowned, left_by, owned_from, unowned_or}
 use Rattle.bt_seq.specs.model.Sequences.{SequenceLine}
@@ -38,7 +38,7 @@ module _ (how : MaskHow) (names : List (List ℕ)) (second : Good Feature) where
   all_decided (line ∷ lines) e =
       ap (λ b. b && list_all (mask_rule how names second).decided lines) (or_left (is_none second.fault) (decided line (items_in second)) (ap is_none e)) ∙ all_decided lines e
 
-pub masked_front : masked_are_a_front
+pub masked_front : masked_are_a_prefix
 masked_front how names first more_first fault second seen more is placed =
     written_begins (early_mask_rule how seen) (mask_rule how names second) first more_first fault (all_stay how names second first seen more is placed)
 

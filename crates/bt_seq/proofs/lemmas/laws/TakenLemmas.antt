@@ -4,7 +4,7 @@ use Rattle.std.specs.Prelude.{◌⊎◌}
 use Rattle.std.specs.List.{AllByRecursion}
 use Rattle.std.proofs.lemmas.Bool.{false≢true}
 use Rattle.bt_bed.specs.model.feature.Feature.{Feature}
-use Rattle.bt_seq.proofs.lemmas.laws.MaskFrontLemmas.{decided_stays}
+use Rattle.bt_seq.proofs.lemmas.laws.MaskPrefixLemmas.{decided_stays}
 use Rattle.bt_seq.specs.model.Masked.{decided}
 use Rattle.bt_seq.specs.calls.MaskStage.{line_given_last}
 use Rattle.bt_seq.specs.calls.MaskStanding.{IsOpen, taken_are_first}

@@ -6,8 +6,7 @@ use Rattle.bt_lines.specs.model.Lines.{pieces}
 use Rattle.bt_lines.specs.declared.fault.Kind.{Kind}
 use Rattle.bt_lines.specs.declared.fault.Kind.TheVariants.{TooFewColumns, EmptyName, BadFlag, BadPosition, BadQuality, BadCigar, StopTooLarge}
 use Rattle.bt_seq.specs.model.Alignment.{Alignment, Fields, alignment_at, alignment_of, columns_say, fields_of, fields_say, gives_nothing, is_skipped, value_up_to, values_say}
-use Rattle.bt_seq.specs.model.Cigar.{length_of, operations_of, reference_length}
-use Rattle.bt_seq.specs.inside.sam.CigarSteps.{span_with}
+use Rattle.bt_seq.specs.model.Cigar.{length_of, operations_of, reference_length, span_with}
 use Rattle.bt_seq.specs.inside.sam.ColumnNumbers.{AreValues}
 use Rattle.bt_seq.specs.model.Flag.{is_unmapped}
 use Rattle.bt_seq.specs.declared.sam.operation.Operation.{Operation}
@@ -135,8 +134,3 @@ line_too_short text e few = rw (e, ← few) refl
 pub line_says : (text : List ℕ) (fields : Fields) (said : Result (Option Alignment) Kind) → is_skipped text ≡ false → Some fields ≡ fields_of (pieces 9 text) → said ≡ fields_say (Some fields) → said ≡ alignment_of text
 unfolding alignment_of
 line_says text fields said e found is = rw (e, ← found) is
-
--- what its columns say, of which the first was cut off
-pub says_behind : (text name : List ℕ) (columns : List (List ℕ)) → is_skipped text ≡ false → pieces 9 text ≡ name ∷ columns → fields_say (fields_of (name ∷ columns)) ≡ alignment_of text
-unfolding alignment_of
-says_behind text name columns e cut = rw (e, cut) refl

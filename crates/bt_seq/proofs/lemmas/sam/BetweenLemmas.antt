@@ -4,8 +4,7 @@ use Rattle.std.specs.Prelude.{nat_lt, option_map}
 use Rattle.std.proofs.lemmas.Bool.Decides.{nat_tests}
 use Rattle.std.proofs.lemmas.List.Sums.{sum_by-cons}
 use Rattle.bt_bed.specs.model.feature.Interval.{Span}
-use Rattle.bt_seq.specs.inside.sam.Between.{AreBetween, blocks_are_within}
-use Rattle.bt_seq.specs.model.AlignmentBlocks.{blocks_in, is_skip, with_bases}
+use Rattle.bt_seq.specs.model.AlignmentBlocks.{AreBetween, blocks_are_within, blocks_in, is_skip, with_bases}
 use Rattle.bt_seq.specs.model.Cigar.{covered_by, operations_of, reference_length}
 use Rattle.bt_seq.specs.declared.sam.operation.Operation.{Operation}
 use Rattle.bt_seq.proofs.lemmas.sam.BlockLemmas.{blocks_open, open_blocks, skip_covers}

@@ -10,8 +10,8 @@ use Rattle.std.proofs.lemmas.Bool.{false≢true, and_parts}
 use Rattle.std.proofs.lemmas.List.{take-append-drop, take_more, drop_more, take-append-le, get_or_append_left, take_all}
 use Rattle.bt_lines.proofs.lemmas.numbers.NumberLemmas.{digits_below, digits_denoting, value_of_digits, value_of_empty, value_of_large, value_of_other, value_short}
 use Rattle.bt_lines.specs.model.Number.{value_of}
-use Rattle.bt_seq.specs.model.Cigar.{Part, is_letter, onto_part, operation_of, operations_in, operations_of_parts, parts_of, covered_by, with_operation, with_part}
-use Rattle.bt_seq.specs.inside.sam.CigarSteps.{none_left, span_with}
+use Rattle.bt_seq.specs.model.Cigar.{Part, is_letter, onto_part, operation_of, operations_in, operations_of_parts, parts_of, covered_by, with_operation, with_part, span_with}
+use Rattle.bt_seq.specs.inside.sam.CigarSteps.{none_left}
 use Rattle.bt_seq.specs.declared.sam.operation.Operation.{Operation}
 
 -- no digit is a letter of an operation

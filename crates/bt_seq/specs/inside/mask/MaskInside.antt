@@ -5,11 +5,10 @@ use Rattle.std.specs.Prelude.{Option, Some, None, is_some, option_to_list}
 use Rattle.std.specs.List.{AllByRecursion}
 use Rattle.bt_bed.specs.model.feature.Feature.{Feature}
 use Rattle.bt_lines.specs.model.Number.{max_number}
-use Rattle.bt_seq.specs.inside.mask.Knows.{Knows, KnowsEarlier}
+use Rattle.bt_seq.specs.calls.Matching.{Knows, KnowsEarlier, Matched}
 use Rattle.bt_seq.specs.calls.MaskStage.{MaskStage, given, line_given_last, reached, reached_by, want_at}
 use Rattle.bt_seq.specs.model.Masked.{decided, is_unnamed}
 use Rattle.bt_seq.specs.calls.MaskState.{Masking}
-use Rattle.bt_seq.specs.inside.mask.Matching.{Matched}
 use Rattle.bt_seq.specs.model.Owners.{goes_on, left_after, names_behind}
 use Rattle.bt_seq.specs.model.Sequences.{SequenceLine}
 use Rattle.bt_seq.specs.inside.mask.Window.{Bounds, limit}
@@ -47,14 +46,14 @@ module _ (names : List (List ℕ)) (taken : List Feature) (m : Matched) where
   -- the sequence of the last block is known; it is the last sequence or the one before
   pub record KnowsLast : Type 0 where
     pub knows : Knows names taken m
-    pub near : (e : KnowsEarlier names taken m) → e.front ≡ []
+    pub near : (e : KnowsEarlier names taken m) → e.before ≡ []
 
 -- the record ahead, which begins a block, belongs to no sequence before the last one
 pub record KnowsAhead (names : List (List ℕ)) (taken : List Feature) (r : Feature)
     (m : Matched) : Type 0 where
   pub knows : Knows names taken m
   pub begins : goes_on taken r ≡ false
-  pub none : (e : KnowsEarlier names taken m) → names_behind r.chrom e.front ≡ None
+  pub none : (e : KnowsEarlier names taken m) → names_behind r.chrom e.before ≡ None
 
 -- What is known of the sequences and the blocks of records, if one may be ahead. If no line
 -- waits, the one ahead has decided the last line: its block belongs to the last sequence,

@@ -1,8 +1,7 @@
 -- What is read of a CIGAR, one operation after another.
-use Rattle.std.specs.Prelude.{◌≡◌, ℕ, ◌+◌, ◌<◌, ◌≤◌, ⊤, List, [], ◌∷◌, length, min, Option, Some}
-use Rattle.std.specs.Prelude.{None, option_map}
+use Rattle.std.specs.Prelude.{◌≡◌, ℕ, ◌<◌, ◌≤◌, ⊤, List, [], ◌∷◌, length, Option, Some, None}
 use Rattle.bt_lines.specs.model.Number.{max_number}
-use Rattle.bt_seq.specs.model.Cigar.{operations_in, reference_length, with_operation}
+use Rattle.bt_seq.specs.model.Cigar.{operations_in, with_operation}
 use Rattle.bt_seq.specs.declared.sam.operation.Operation.{Operation}
 use denote.Ref.{Bor}
 
@@ -21,8 +20,3 @@ IsFirst text (Some first) =
 abbrev pub IsWithin : List ℕ → Option (Operation × Bor (List ℕ)) → Type 0
 IsWithin text None = ⊤
 IsWithin text (Some first) = (length first.1.now < length text) × (first.0.length ≤ max_number)
-
--- the smaller of the reference length, with so much more, and a million million
-abbrev pub span_with : ℕ → Option (List Operation) → Option ℕ
-span_with more operations =
-    option_map (λ os. min (more + reference_length os) 1000000000000) operations

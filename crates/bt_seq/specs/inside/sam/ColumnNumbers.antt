@@ -1,8 +1,7 @@
 -- The numbers of an alignment's columns.
 use Rattle.std.specs.Prelude.{◌≡◌, ℕ, ◌<◌, length, Some}
 use Rattle.bt_seq.specs.model.Alignment.{Fields, max_flag, max_position, max_quality, value_up_to}
-use Rattle.bt_seq.specs.model.Cigar.{operations_of}
-use Rattle.bt_seq.specs.inside.sam.CigarSteps.{span_with}
+use Rattle.bt_seq.specs.model.Cigar.{operations_of, span_with}
 
 -- the values of the columns, none of which is at fault
 pub record AreValues (f : Fields) (flag p q span : ℕ) : Type 0 where

@@ -1,3 +1,5 @@
+//! Worked alignments as BED lines, and outputs that fail.
+
 use super::*;
 use crate::sam::sam_text::sam_line;
 use bt_lines::{Input, Kind, LineReader, ScriptSink, ScriptSource};

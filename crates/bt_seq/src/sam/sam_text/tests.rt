@@ -1,3 +1,5 @@
+//! Worked lines of SAM text, and what is wrong with others.
+
 use super::*;
 
 // What is compared of an alignment: start, end, both segments, the reverse strand and the quality.

@@ -1,6 +1,6 @@
 -- Lemmas on calls with one record: they are calls with cursors over one record, or over none.
 use Rattle.std.proofs.Common.{◌≡◌, ◌⊎◌, inl, inr, ℕ, Bool, true, false, cond, ◌&&◌, ◌||◌, List, [], ◌∷◌, ◌++◌, Option, Some, None, Ok, Err, Result, refl, sym, ap, ◌∙◌, subst, append-nil, length, option_to_list, bytes_eq, ltb, ◌<◌, ◌≤◌}
-use Rattle.std.specs.Prelude.{OnErr, OnOk, IfSome, is_some, ⊤}
+use Rattle.std.specs.Prelude.{OnErr, IfSome, is_some}
 use Rattle.std.specs.List.{list_all}
 use Rattle.std.proofs.lemmas.Bool.{and_from, false≢true, lt-ltb}
 use Rattle.bt_lines.specs.model.Fault.{FaultValue}
@@ -16,18 +16,17 @@ use Rattle.bt_bed.specs.model.order.Locus.{ArePlaced}
 use Rattle.bt_bed.specs.model.order.Order.{Order, IsTotal}
 use Rattle.bt_bed.specs.calls.Single.{GivesSingle, HasNone, single_left, single_line}
 use Rattle.bt_bed.specs.declared.read.cursor.Single.{Single}
-use Rattle.bt_bed.specs.declared.record.taken.Taken.{Taken}
 use Rattle.bt_bed.specs.declared.record.taken.Taken.TheVariants.{Yes, No}
 use Rattle.bt_bed.proofs.lemmas.parse.NameLemmas.{name_eq}
-use Rattle.bt_sweep.specs.calls.Advancing.{AdvancesOn, AdvancesSo, FailsAt, FailsToKeep, FailsToTake, HasWritten, IsThis, Settles, StopsFor, stage_after}
-use Rattle.bt_sweep.specs.calls.Taking.{AreDecided, ComesNext, GivesKnown, TakenEach, TakenFor}
-use Rattle.bt_sweep.specs.model.Deciding.{decided, decides}
+use Rattle.bt_sweep.specs.calls.Advancing.{AdvancesOn, AdvancesSo, FailsAt, FailsToTake, HasWritten, IsThis, Settles, StopsFor, stage_after}
+use Rattle.bt_sweep.specs.calls.Taking.{AreDecided, ComesNext, GivesKnown, TakenEach}
+use Rattle.bt_sweep.specs.model.Deciding.{decides}
 use Rattle.bt_sweep.specs.model.IntersectLines.{intersect, lines_for}
 use Rattle.bt_sweep.specs.inside.Joining.{Breaks, JoinsSo, Keeps, StopsAt}
 use Rattle.bt_sweep.specs.inside.Relating.{EndsWhile}
 use Rattle.bt_sweep.specs.calls.Standing.{HoldsFor, IsInOrder, MovesTo, Stage, StandsAt, given, held_for, is_held, phase_of, with_a, with_b, with_b_ended, with_lines}
 use Rattle.bt_sweep.specs.calls.Steps.{EndsB, FailsToHold, FailsToKeepA, FailsToWriteA, GivesA, GivesB, PassesLimit, has_room}
-use Rattle.bt_sweep.specs.calls.SweepState.{Sweeping, want_in, want_of, is_over}
+use Rattle.bt_sweep.specs.calls.SweepState.{Sweeping, want_in}
 use Rattle.bt_sweep.specs.declared.hits.hit_rule.HitRule.{HitRule}
 use Rattle.bt_sweep.specs.declared.sweep.phase.Phase.{Phase}
 use Rattle.bt_sweep.specs.declared.sweep.phase.Phase.TheVariants.{Both, First, Over}
@@ -208,9 +207,9 @@ module _ (order : Order) (stage : Stage) (old : Sweeping) (st : StandsAt order s
     first_by to_b newly seconds next n gives comes settles = elim settles [
       | inl first ↦ first
       | inr all ↦ absurd (
-        let gone = seconds_none to_b seconds gives in
-        let bs : seconds ++ option_to_list next ≡ [] = ap (λ (o : Option Feature). seconds ++ option_to_list o) (none_next to_b gone.1 next comes) ∙ append-nil seconds ∙ gone.0 in
-        undecided_by_none order a (subst (λ (l : List Feature). AreDecided order l []) n (subst (AreDecided order newly) bs all)))
+          let gone = seconds_none to_b seconds gives in
+          let bs : seconds ++ option_to_list next ≡ [] = ap (λ (o : Option Feature). seconds ++ option_to_list o) (none_next to_b gone.1 next comes) ∙ append-nil seconds ∙ gone.0 in
+          undecided_by_none order a (subst (λ (l : List Feature). AreDecided order l []) n (subst (AreDecided order newly) bs all)))
     ]
 
     ended : old.phase ≡ First → stage.b_ended ≡ true
@@ -240,10 +239,10 @@ module _ (order : Order) (stage : Stage) (old : Sweeping) (st : StandsAt order s
           | inl kept ↦ absurd (elim stops [
             | inr wrote ↦ false≢true (ap is_some (sym none) ∙ wrote.0)
             | inl stop ↦
-              let gone = none_of d.newly new.current (sym kept.0 ∙ all_are) in
-              let wants_a = want_a new gone.1 (not_over_by stage.a_ended stage.b_ended new.phase stands_now.stands.phase_is goes) in
-              let spent : HasNone to_a = stops_for new to_a to_b WantA wants_a stop in
-              let apart : [] ≡ a ∷ [] = sym spent.none ∙ kept.1 in cc
+                let gone = none_of d.newly new.current (sym kept.0 ∙ all_are) in
+                let wants_a = want_a new gone.1 (not_over_by stage.a_ended stage.b_ended new.phase stands_now.stands.phase_is goes) in
+                let spent : HasNone to_a = stops_for new to_a to_b WantA wants_a stop in
+                let apart : [] ≡ a ∷ [] = sym spent.none ∙ kept.1 in cc
           ])
         ]
 
@@ -300,8 +299,8 @@ module _ (order : Order) (stage : Stage) (old : Sweeping) (st : StandsAt order s
         cuts_lines cut = elim newly_are [
           | inl kept ↦ absurd (cut.some (no_lines old.shape old.rule b.newly (stage.taken ++ b.seconds) kept))
           | inr n ↦
-            let e = ended (first_by to_b b.newly b.seconds b.next n b.gives_seconds b.comes b.settles) in
-            subst (λ (l : List ℕ). FailsToAdd out l fault grown) (one_line old.shape old.rule a b.newly stage.taken (stage.taken ++ b.seconds) n taken_same ∙ ap (λ (c : Bool). cond c (lines_for old.shape old.rule a stage.taken) []) (sym e)) cut
+              let e = ended (first_by to_b b.newly b.seconds b.next n b.gives_seconds b.comes b.settles) in
+              subst (λ (l : List ℕ). FailsToAdd out l fault grown) (one_line old.shape old.rule a b.newly stage.taken (stage.taken ++ b.seconds) n taken_same ∙ ap (λ (c : Bool). cond c (lines_for old.shape old.rule a stage.taken) []) (sym e)) cut
         ]
 
         fails_a : FailsToAdd out (cond stage.b_ended (lines_for old.shape old.rule a stage.taken) []) fault grown ⊎ FailsToKeepA stage fault out grown
@@ -410,19 +409,19 @@ module _ (order : Order) (stage : Stage) (old : Sweeping) (st : StandsAt order s
       taken_now d gone = elim (seconds_are to_b d.seconds d.gives_seconds) [
         | inl kept ↦ absurd (let apart : [] ≡ b ∷ [] = sym gone ∙ kept.1 in cc)
         | inr came ↦
-          let undecided = undecided_by d.firsts d.seconds (no_more d) came.0 (each_then d) in
-          elim (split d) [
-            | inr written ↦ not_both (decided_by to_b d.newly d.seconds d.next written.0 d.gives_seconds d.comes d.settles) undecided
-            | inl still ↦
-              let is : stage_after stage d.newly new.current d.seconds ≡ with_b stage b =
-              ap (λ (l : List Feature). stage_after stage l new.current d.seconds) still.0 ∙ ap (λ (o : Option Feature). stage_after stage [] o d.seconds) (still.1 ∙ sym waits)
-              ∙ ap (λ (l : List Feature). record stage { written = l; taken = stage.taken ++ d.seconds }) (append-nil stage.written) ∙ ap (λ (l : List Feature). record stage { taken = stage.taken ++ l }) came.0 in
-              record {
-                undecided = undecided;
-                stands = subst (λ (s : Stage). MovesTo order old s new) is (stands_then d);
-                same_output = same_output old.shape old.rule d.newly (stage.taken ++ d.seconds) out grown still.0 (puts_then d);
-              }
-          ]
+            let undecided = undecided_by d.firsts d.seconds (no_more d) came.0 (each_then d) in
+            elim (split d) [
+              | inr written ↦ not_both (decided_by to_b d.newly d.seconds d.next written.0 d.gives_seconds d.comes d.settles) undecided
+              | inl still ↦
+                  let is : stage_after stage d.newly new.current d.seconds ≡ with_b stage b =
+                  ap (λ (l : List Feature). stage_after stage l new.current d.seconds) still.0 ∙ ap (λ (o : Option Feature). stage_after stage [] o d.seconds) (still.1 ∙ sym waits)
+                  ∙ ap (λ (l : List Feature). record stage { written = l; taken = stage.taken ++ d.seconds }) (append-nil stage.written) ∙ ap (λ (l : List Feature). record stage { taken = stage.taken ++ l }) came.0 in
+                  record {
+                    undecided = undecided;
+                    stands = subst (λ (s : Stage). MovesTo order old s new) is (stands_then d);
+                    same_output = same_output old.shape old.rule d.newly (stage.taken ++ d.seconds) out grown still.0 (puts_then d);
+                  }
+            ]
       ]
 
       -- it is still there, so it decides that one
@@ -430,25 +429,25 @@ module _ (order : Order) (stage : Stage) (old : Sweeping) (st : StandsAt order s
       not_taken d r stops still = elim (split d) [
         | inl left ↦ absurd (elim stops [
           | inl stop ↦
-            let spent : HasNone to_b = stops_for new to_a to_b WantB (want_b new a left.1) stop in
-            (let apart : [] ≡ r ∷ [] = sym spent.none ∙ still in cc)
+              let spent : HasNone to_b = stops_for new to_a to_b WantB (want_b new a left.1) stop in
+              (let apart : [] ≡ r ∷ [] = sym spent.none ∙ still in cc)
           | inr wrote ↦ (let apart : None ≡ Some a = sym wrote.1 ∙ left.1 in cc)
         ])
         | inr written ↦ elim (seconds_are to_b d.seconds d.gives_seconds) [
           | inr came ↦ absurd (let apart : [] ≡ r ∷ [] = sym came.1 ∙ still in cc)
           | inl kept ↦
-            let told = decided_by to_b d.newly d.seconds d.next written.0 d.gives_seconds d.comes d.settles in
-            let same : stage.taken ++ d.seconds ≡ stage.taken = ap (λ (l : List Feature). stage.taken ++ l) kept.0 ∙ append-nil stage.taken in
-            let is : stage_after stage d.newly new.current d.seconds ≡ with_lines stage =
-            ap (λ (l : List Feature). stage_after stage l new.current d.seconds) written.0 ∙ ap (λ (o : Option Feature). stage_after stage (a ∷ []) o d.seconds) written.1
-            ∙ ap (λ (l : List Feature). record stage { written = stage.written ++ a ∷ []; waiting = None; taken = l }) same
-            ∙ ap (λ (o : Option Feature). record stage { written = stage.written ++ option_to_list o; waiting = None }) (sym waits) in
-            record {
-              decides = told;
-              stands = subst (λ (s : Stage). MovesTo order old s new) is (stands_then d);
-              puts = subst (λ (l : List ℕ). Grown out l grown) (one_line old.shape old.rule a d.newly stage.taken (stage.taken ++ d.seconds) written.0 same) (puts_then d);
-              settled = before_lines order old.shape old.rule a b stage.taken total known told;
-            }
+              let told = decided_by to_b d.newly d.seconds d.next written.0 d.gives_seconds d.comes d.settles in
+              let same : stage.taken ++ d.seconds ≡ stage.taken = ap (λ (l : List Feature). stage.taken ++ l) kept.0 ∙ append-nil stage.taken in
+              let is : stage_after stage d.newly new.current d.seconds ≡ with_lines stage =
+              ap (λ (l : List Feature). stage_after stage l new.current d.seconds) written.0 ∙ ap (λ (o : Option Feature). stage_after stage (a ∷ []) o d.seconds) written.1
+              ∙ ap (λ (l : List Feature). record stage { written = stage.written ++ a ∷ []; waiting = None; taken = l }) same
+              ∙ ap (λ (o : Option Feature). record stage { written = stage.written ++ option_to_list o; waiting = None }) (sym waits) in
+              record {
+                decides = told;
+                stands = subst (λ (s : Stage). MovesTo order old s new) is (stands_then d);
+                puts = subst (λ (l : List ℕ). Grown out l grown) (one_line old.shape old.rule a d.newly stage.taken (stage.taken ++ d.seconds) written.0 same) (puts_then d);
+                settled = before_lines order old.shape old.rule a b stage.taken total known told;
+              }
         ]
       ]
 
@@ -469,13 +468,13 @@ module _ (order : Order) (stage : Stage) (old : Sweeping) (st : StandsAt order s
         cut_b cut = elim parts [
           | inl still ↦ absurd (cut.some (no_lines old.shape old.rule f.newly (stage.taken ++ f.seconds) still.0))
           | inr written ↦
-            let told = decided_by to_b f.newly f.seconds f.next written.0 f.gives_seconds f.comes f.settles in
-            elim (seconds_are to_b f.seconds f.gives_seconds) [
-              | inr came ↦ not_both told (undecided_by f.firsts f.seconds none_more came.0 each_f)
-              | inl kept ↦
-                let same : stage.taken ++ f.seconds ≡ stage.taken = ap (λ (l : List Feature). stage.taken ++ l) kept.0 ∙ append-nil stage.taken in
-                inl (record { decides = told; fails = subst (λ (l : List ℕ). FailsToAdd out l fault grown) (one_line old.shape old.rule a f.newly stage.taken (stage.taken ++ f.seconds) written.0 same) cut })
-            ]
+              let told = decided_by to_b f.newly f.seconds f.next written.0 f.gives_seconds f.comes f.settles in
+              elim (seconds_are to_b f.seconds f.gives_seconds) [
+                | inr came ↦ not_both told (undecided_by f.firsts f.seconds none_more came.0 each_f)
+                | inl kept ↦
+                    let same : stage.taken ++ f.seconds ≡ stage.taken = ap (λ (l : List Feature). stage.taken ++ l) kept.0 ∙ append-nil stage.taken in
+                    inl (record { decides = told; fails = subst (λ (l : List ℕ). FailsToAdd out l fault grown) (one_line old.shape old.rule a f.newly stage.taken (stage.taken ++ f.seconds) written.0 same) cut })
+              ]
         ]
 
         lack_b : FailsToTake GivesSingle HasNone GivesSingle HasNone single_line order old from_a from_b out f.firsts f.seconds f.newly f.waiting to_b fault grown → FailsB
@@ -484,28 +483,28 @@ module _ (order : Order) (stage : Stage) (old : Sweeping) (st : StandsAt order s
           | inl still ↦ elim (seconds_are to_b f.seconds f.gives_seconds) [
             | inr came ↦ absurd (let apart : [] ≡ lack.b ∷ single_left lack.after = sym came.1 ∙ lack.gives.left in cc)
             | inl kept ↦
-              let is_a : lack.last ≡ a = same_some lack.last a (sym lack.waits ∙ still.1) in
-              let is_b : b ≡ lack.b = next_is to_b b kept.1 lack.b lack.after lack.gives in
-              let chrom : b.chrom ≡ a.chrom = ap (λ (x : Feature). x.chrom) is_b ∙ lack.chrom ∙ ap (λ (x : Feature). x.chrom) is_a in
-              let starts : b.start < a.stop = subst (λ (x : Feature). b.start < x.stop) is_a (subst (λ (x : Feature). x.start < lack.last.stop) (sym is_b) lack.starts) in
-              let ends : a.start < b.stop = subst (λ (x : Feature). x.start < b.stop) is_a (subst (λ (x : Feature). lack.last.start < x.stop) (sym is_b) lack.ends) in
-              let undecided = undecided_beside order total a b known chrom starts in
-              let held : is_held a b ≡ true = and_from (bytes_eq a.chrom b.chrom) (ltb a.start b.stop) (name_eq a.chrom b.chrom (sym chrom)) (lt-ltb a.start b.stop ends) in
-              let same : stage.taken ++ f.seconds ≡ stage.taken = ap (λ (l : List Feature). stage.taken ++ l) kept.0 ∙ append-nil stage.taken in
-              let room_is : has_room old.limit (length (held_for (Some lack.last) (stage.taken ++ f.seconds))) ≡ has_room old.limit (length (held_for (Some a) stage.taken)) =
-              ap (λ (l : List Feature). has_room old.limit (length (held_for (Some lack.last) l))) same ∙ ap (λ (x : Feature). has_room old.limit (length (held_for (Some x) stage.taken))) is_a in
-              let output = same_output old.shape old.rule f.newly (stage.taken ++ f.seconds) out grown still.0 (lack.puts stage st (given_placed_b f.firsts none_more) (taken_placed_b to_b f.seconds f.gives_seconds)) in
-              let on_line : single_line lack.after ≡ line = lack.gives.line ∙ f.gives_seconds.line ∙ at_line in
-              elim (lack.lacks stage st (given_placed_b f.firsts none_more) (taken_placed_b to_b f.seconds f.gives_seconds)) [
-                | inl full ↦ inr (inl (record {
-                  undecided = undecided;
-                  to_hold = held;
-                  is_full = sym room_is ∙ full.0;
-                  is = full.1 ∙ ap (λ (n : ℕ). fault_at_line Second n TooManyHeld) on_line;
-                  same_output = output;
-                }))
-                | inr lost ↦ inr (inr (record { undecided = undecided; to_hold = held; room = sym room_is ∙ lost.0; is = lost.1; same_output = output }))
-              ]
+                let is_a : lack.last ≡ a = same_some lack.last a (sym lack.waits ∙ still.1) in
+                let is_b : b ≡ lack.b = next_is to_b b kept.1 lack.b lack.after lack.gives in
+                let chrom : b.chrom ≡ a.chrom = ap (λ (x : Feature). x.chrom) is_b ∙ lack.chrom ∙ ap (λ (x : Feature). x.chrom) is_a in
+                let starts : b.start < a.stop = subst (λ (x : Feature). b.start < x.stop) is_a (subst (λ (x : Feature). x.start < lack.last.stop) (sym is_b) lack.starts) in
+                let ends : a.start < b.stop = subst (λ (x : Feature). x.start < b.stop) is_a (subst (λ (x : Feature). lack.last.start < x.stop) (sym is_b) lack.ends) in
+                let undecided = undecided_beside order total a b known chrom starts in
+                let held : is_held a b ≡ true = and_from (bytes_eq a.chrom b.chrom) (ltb a.start b.stop) (name_eq a.chrom b.chrom (sym chrom)) (lt-ltb a.start b.stop ends) in
+                let same : stage.taken ++ f.seconds ≡ stage.taken = ap (λ (l : List Feature). stage.taken ++ l) kept.0 ∙ append-nil stage.taken in
+                let room_is : has_room old.limit (length (held_for (Some lack.last) (stage.taken ++ f.seconds))) ≡ has_room old.limit (length (held_for (Some a) stage.taken)) =
+                ap (λ (l : List Feature). has_room old.limit (length (held_for (Some lack.last) l))) same ∙ ap (λ (x : Feature). has_room old.limit (length (held_for (Some x) stage.taken))) is_a in
+                let output = same_output old.shape old.rule f.newly (stage.taken ++ f.seconds) out grown still.0 (lack.puts stage st (given_placed_b f.firsts none_more) (taken_placed_b to_b f.seconds f.gives_seconds)) in
+                let on_line : single_line lack.after ≡ line = lack.gives.line ∙ f.gives_seconds.line ∙ at_line in
+                elim (lack.lacks stage st (given_placed_b f.firsts none_more) (taken_placed_b to_b f.seconds f.gives_seconds)) [
+                  | inl full ↦ inr (inl (record {
+                    undecided = undecided;
+                    to_hold = held;
+                    is_full = sym room_is ∙ full.0;
+                    is = full.1 ∙ ap (λ (n : ℕ). fault_at_line Second n TooManyHeld) on_line;
+                    same_output = output;
+                  }))
+                  | inr lost ↦ inr (inr (record { undecided = undecided; to_hold = held; room = sym room_is ∙ lost.0; is = lost.1; same_output = output }))
+                ]
           ]
         ]
 
@@ -593,10 +592,10 @@ module _ (order : Order) (stage : Stage) (a : Feature) (old : Sweeping) (st : St
           elim b.cause [
             | inr lack ↦ absurd (let apart : [] ≡ lack.b ∷ single_left lack.after = sym none_taken.1 ∙ lack.gives.left in cc)
             | inl cut ↦
-              let lines = cut.cuts order old.shape old.rule old.limit stage.written stage.taken refl keeps_last (last_placed b.firsts no_firsts) (all_placed b.seconds none_taken.0) in
-              elim (one_written b.newly b.waiting a (ap (λ (l : List Feature). a ∷ l) (sym no_firsts) ∙ b.are)) [
-                | inl still ↦ absurd (lines.some (no_lines old.shape old.rule b.newly (stage.taken ++ b.seconds) still.0))
-                | inr written ↦ subst (λ (l : List ℕ). FailsToAdd out l (fault_value fault) grown) (one_line old.shape old.rule a b.newly stage.taken (stage.taken ++ b.seconds) written.0 (same_seconds b.seconds none_taken.0)) lines
-              ]
+                let lines = cut.cuts order old.shape old.rule old.limit stage.written stage.taken refl keeps_last (last_placed b.firsts no_firsts) (all_placed b.seconds none_taken.0) in
+                elim (one_written b.newly b.waiting a (ap (λ (l : List Feature). a ∷ l) (sym no_firsts) ∙ b.are)) [
+                  | inl still ↦ absurd (lines.some (no_lines old.shape old.rule b.newly (stage.taken ++ b.seconds) still.0))
+                  | inr written ↦ subst (λ (l : List ℕ). FailsToAdd out l (fault_value fault) grown) (one_line old.shape old.rule a b.newly stage.taken (stage.taken ++ b.seconds) written.0 (same_seconds b.seconds none_taken.0)) lines
+                ]
           ],
         )

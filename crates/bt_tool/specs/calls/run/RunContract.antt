@@ -80,10 +80,10 @@ module _ {G A B K : Type 0} (source_g : Source G) (source_a : Source A) (source_
         × (sink.took out_after ≡ Some (before ++ (report_of command inputs).output))
     -- Whatever read, write or growth fails of such devices, what was written is a prefix of the
     -- report's output for the whole texts, what wasn't handed over of them included.
-    pub front : (inputs : Inputs) (before : List ℕ) → HoldInputs genome first second inputs
+    pub prefix : (inputs : Inputs) (before : List ℕ) → HoldInputs genome first second inputs
         → sink.took out ≡ Some before
-        → (front : List ℕ) × (rest : List ℕ) × (sink.took out_after ≡ Some (before ++ front))
-        × ((report_of command inputs).output ≡ front ++ rest)
+        → (prefix : List ℕ) × (rest : List ℕ) × (sink.took out_after ≡ Some (before ++ prefix))
+        × ((report_of command inputs).output ≡ prefix ++ rest)
     -- However the run ends, if the devices tell their bytes, there is an n. The first input handed over at
     -- most its first n lines and a block. What its first n - 1 lines settle was written, except at
     -- most a block if a write failed. At any other fault, running out of memory among them, what was

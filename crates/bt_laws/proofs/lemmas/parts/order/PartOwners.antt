@@ -10,7 +10,7 @@ use Rattle.bt_bed.specs.model.order.Rank.{is_among}
 use Rattle.bt_bed.proofs.lemmas.parse.NameLemmas.{same_name}
 use Rattle.bt_seq.proofs.lemmas.laws.AgreeLemmas.{owners_stay_so}
 use Rattle.bt_seq.proofs.lemmas.laws.LeftLemmas.{is_last, leave, one_leaves}
-use Rattle.bt_seq.proofs.lemmas.laws.MaskFrontLemmas.{chrom_of, none_next}
+use Rattle.bt_seq.proofs.lemmas.laws.MaskPrefixLemmas.{chrom_of, none_next}
 use Rattle.bt_seq.proofs.lemmas.laws.MaskMetLemmas.{none_leaves}
 use Rattle.bt_seq.proofs.lemmas.sam.TagLemmas.{Tagged, last_from, next_left, own_in, own_tagged, tag_decides, tag_items, tags, tags_append, tags_of}
 use Rattle.bt_seq.specs.model.Owners.{items_if_last, names_behind, own_records}

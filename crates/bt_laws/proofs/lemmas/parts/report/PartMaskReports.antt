@@ -31,7 +31,7 @@ use Rattle.std.proofs.lemmas.Grind.{flat_map-append}
 use Rattle.bt_lines.specs.declared.fault.Kind.TheVariants.{NoSequence}
 use Rattle.bt_bed.specs.model.input.TwoInputReport.{Rule, join_report, written}
 use Rattle.bt_bed.proofs.lemmas.laws.MeetingLemmas.{all_written, met_fault_all, met_lines, written_at, written_past}
-use Rattle.bt_seq.proofs.lemmas.laws.MaskFrontLemmas.{decided_by_tags, unnamed_own}
+use Rattle.bt_seq.proofs.lemmas.laws.MaskPrefixLemmas.{decided_by_tags, unnamed_own}
 use Rattle.bt_seq.specs.model.Owners.{block_decides, own_records, owned}
 use Rattle.bt_laws.proofs.lemmas.Lists.{all_so, flat_map_same, all_map}
 use Rattle.bt_laws.proofs.lemmas.parts.report.PartSweep.{all_true, take_front, unless_none, written_before}

@@ -105,8 +105,8 @@ inside_by : (bytes line : List ℕ) → IsBefore 10 bytes (length line) → take
 inside_by bytes line before front fed some = elim (cases_lt (length line) (length bytes)) [
   | inl less ↦ less
   | inr past ↦
-    let clear : NoLineFeed bytes = subst NoLineFeed (take_all (length line) bytes past) before.clear in
-    absurd (let none : length bytes ≡ 0 = ap length (fed_clear bytes fed clear) in omega (arith, none))
+      let clear : NoLineFeed bytes = subst NoLineFeed (take_all (length line) bytes past) before.clear in
+      absurd (let none : length bytes ≡ 0 = ap length (fed_clear bytes fed clear) in omega (arith, none))
 ]
 
 pub line_first : (cursor : BufferedLines) (line : List ℕ) → IsBefore 10 (rest_in cursor) (length line) → take (length line) (rest_in cursor) ≡ line → 0 < length (rest_in cursor)

@@ -1,8 +1,7 @@
 use Rattle.std.proofs.Common.{◌++◌, ◌∙◌, ap, sym, map, true}
 use Rattle.std.proofs.lemmas.Result.{err_from_is_err_and}
 use Rattle.bt_seq.specs.model.AlignmentBlocks.{alignment_blocks}
-use Rattle.bt_seq.specs.calls.Sam.{alignment_lent}
-use Rattle.bt_seq.specs.calls.SamBlocks.{blocks_left, span_given}
+use Rattle.bt_seq.specs.calls.Sam.{alignment_lent, blocks_left, span_given}
 use Rattle.bt_seq.proofs.lemmas.bamtobed.LineLemmas.{cut_line, grown_block, left_more}
 use Rattle.bt_seq.proofs.bamtobed.bam_to_bed.put_blocks.Goals as goal
 

@@ -1,8 +1,7 @@
 use Rattle.std.proofs.Common.{◌≡◌, ◌++◌, map, true}
 use Rattle.bt_lines.specs.calls.Putting.{Grown}
 use Rattle.bt_seq.specs.model.AlignmentBlocks.{alignment_blocks}
-use Rattle.bt_seq.specs.calls.Sam.{alignment_lent}
-use Rattle.bt_seq.specs.calls.SamBlocks.{blocks_left, span_given}
+use Rattle.bt_seq.specs.calls.Sam.{alignment_lent, blocks_left, span_given}
 use Rattle.bt_seq.proofs.lemmas.bamtobed.LineLemmas.{lines_of}
 use Rattle.bt_seq.proofs.bamtobed.bam_to_bed.put_blocks.Given as goal
 

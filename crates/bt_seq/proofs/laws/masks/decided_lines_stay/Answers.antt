@@ -1,4 +1,4 @@
-use Rattle.bt_seq.proofs.lemmas.laws.MaskFrontLemmas.{decided_stays, masked_before, masked_stay}
+use Rattle.bt_seq.proofs.lemmas.laws.MaskPrefixLemmas.{decided_stays, masked_before, masked_stay}
 use Rattle.bt_seq.proofs.laws.masks.decided_lines_stay.Goals as goal
 
 pub returns-clause-decided : goal.returns-clause-decided

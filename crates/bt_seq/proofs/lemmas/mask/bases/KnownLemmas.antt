@@ -6,11 +6,10 @@ use Rattle.bt_bed.specs.model.feature.Feature.{Feature}
 use Rattle.bt_seq.proofs.lemmas.laws.KnowsLemmas.{found_by, last_goes_on, owner_is, owners_found}
 use Rattle.bt_seq.proofs.lemmas.laws.LeftLemmas.{goes_on_or_begins}
 use Rattle.bt_seq.proofs.lemmas.mask.steps.NextLemmas.{left_grows}
-use Rattle.bt_seq.specs.inside.mask.Knows.{Knows, KnowsEarlier, last_chrom, owner_by}
+use Rattle.bt_seq.specs.calls.Matching.{Knows, KnowsEarlier, last_chrom, owner_by, Matched, begins_own, is_it, matched_with, named, owner_of}
 use Rattle.bt_seq.specs.inside.mask.MaskInside.{KnowsAhead, KnowsLast, KnowsNext, KnowsNone, last_name}
 use Rattle.bt_seq.specs.calls.MaskStage.{IsNext}
 use Rattle.bt_seq.specs.model.Masked.{is_unnamed}
-use Rattle.bt_seq.specs.inside.mask.Matching.{Matched, begins_own, is_it, matched_with, named, owner_of}
 use Rattle.bt_seq.specs.model.Owners.{goes_on, left_after, left_by, names_behind}
 use Rattle.bt_seq.specs.declared.mask.matching.Owner.TheVariants.{Own, Earlier, Nobody}
 
@@ -70,8 +69,8 @@ module _ (names : List (List ℕ)) (taken : List Feature) (r : Feature) (m : Mat
   -- the record may be taken
   pub record MayTake : Type 0 where
     pub knows : Knows names taken m
-    pub none : goes_on taken r ≡ false → (e : KnowsEarlier names taken m) → names_behind r.chrom e.front ≡ None
-    pub near : goes_on taken r ≡ true → (e : KnowsEarlier names taken m) → e.front ≡ []
+    pub none : goes_on taken r ≡ false → (e : KnowsEarlier names taken m) → names_behind r.chrom e.before ≡ None
+    pub near : goes_on taken r ≡ true → (e : KnowsEarlier names taken m) → e.before ≡ []
 
   goes_is : Knows names taken m → is_it m.last r.chrom ≡ goes_on taken r
   goes_is k = ap (λ l. is_it l r.chrom) k.last ∙ last_goes_on taken r
@@ -110,10 +109,10 @@ module _ (names : List (List ℕ)) (taken : List Feature) (r : Feature) (m : Mat
         last = is_it_true m.last r.chrom it ∙ sym (last_more taken r);
         where_last = elim k.knows.where_last [
           | inl own ↦ inl (record { left = left ∙ own.left; own = own.own })
-          | inr e ↦ inr (record { front = e.front; name = e.name; left = left ∙ e.left; named = e.named; own = e.own })
+          | inr e ↦ inr (record { before = e.before; name = e.name; left = left ∙ e.left; named = e.named; own = e.own })
         ];
       } in
-      let near : (e : KnowsEarlier names (taken ++ r ∷ []) m) → e.front ≡ [] = λ e. k.near goes (record { front = e.front; name = e.name; left = sym left ∙ e.left; named = e.named; own = e.own }) in
+      let near : (e : KnowsEarlier names (taken ++ r ∷ []) m) → e.before ≡ [] = λ e. k.near goes (record { before = e.before; name = e.name; left = sym left ∙ e.left; named = e.named; own = e.own }) in
       let all : KnowsLast names (taken ++ r ∷ []) m = record { knows = known; near = near } in
       subst (λ (x : Matched). KnowsLast names (taken ++ r ∷ []) x) (sym (matched_same it)) all
 
@@ -128,7 +127,7 @@ module _ (names : List (List ℕ)) (taken : List Feature) (r : Feature) (m : Mat
         last = is_it_true m.name r.chrom name ∙ sym (last_more taken r);
         where_last = inl (record { left = left; own = refl });
       } in
-      let near : (e : KnowsEarlier names (taken ++ r ∷ []) x) → e.front ≡ [] = λ e. absurd (no_snoc e.front e.name (sym left ∙ e.left)) in
+      let near : (e : KnowsEarlier names (taken ++ r ∷ []) x) → e.before ≡ [] = λ e. absurd (no_snoc e.before e.name (sym left ∙ e.left)) in
       let all : KnowsLast names (taken ++ r ∷ []) x = record { knows = known; near = near } in
       subst (λ (x : Matched). KnowsLast names (taken ++ r ∷ []) x) (sym (matched_new it b)) all
 
@@ -215,7 +214,7 @@ module _ (names : List (List ℕ)) (taken : List Feature) (r : Feature) (m : Mat
   known_left : KnowsLast names (taken ++ r ∷ []) m → left_after names (taken ++ r ∷ []) ≡ None → ⊥
   known_left k e = elim k.knows.where_last [
     | inl own ↦ absurd (let apart : Some [] ≡ None = sym own.left ∙ e in cc)
-    | inr earlier ↦ absurd (let apart : Some (earlier.front ++ earlier.name ∷ []) ≡ None = sym earlier.left ∙ e in cc)
+    | inr earlier ↦ absurd (let apart : Some (earlier.before ++ earlier.name ∷ []) ≡ None = sym earlier.left ∙ e in cc)
   ]
 
   not_nobody : (left : Option (List (List ℕ))) → is_some left ≡ true → owner_by left ≡ Nobody → ⊥
@@ -252,11 +251,11 @@ module _ (names : List (List ℕ)) (n : List ℕ) (taken : List Feature) (m : Ma
   grown_known : (rs : List Feature) (left : List (List ℕ)) → m.last ≡ last_chrom rs → left_after names rs ≡ Some left → Knows (names ++ n ∷ []) rs (named m n)
   grown_known rs left last e = record {
     last = last;
-    where_last = inr (record { front = left; name = n; left = left_grows n names left rs e; named = refl; own = refl });
+    where_last = inr (record { before = left; name = n; left = left_grows n names left rs e; named = refl; own = refl });
   }
 
-  front_is : (rs : List Feature) (left : List (List ℕ)) → left_after names rs ≡ Some left → (e : KnowsEarlier (names ++ n ∷ []) rs (named m n)) → e.front ≡ left
-  front_is rs left is e = snoc_front e.front left e.name n (some_same (e.front ++ e.name ∷ []) (left ++ n ∷ []) (sym e.left ∙ left_grows n names left rs is))
+  front_is : (rs : List Feature) (left : List (List ℕ)) → left_after names rs ≡ Some left → (e : KnowsEarlier (names ++ n ∷ []) rs (named m n)) → e.before ≡ left
+  front_is rs left is e = snoc_front e.before left e.name n (some_same (e.before ++ e.name ∷ []) (left ++ n ∷ []) (sym e.left ∙ left_grows n names left rs is))
 
   grown_last : (rs : List Feature) → m.last ≡ last_chrom rs → left_after names rs ≡ Some [] → KnowsLast (names ++ n ∷ []) rs (named m n)
   grown_last rs last e = record { knows = grown_known rs [] last e; near = λ k. front_is rs [] e k }
@@ -264,7 +263,7 @@ module _ (names : List (List ℕ)) (n : List ℕ) (taken : List Feature) (m : Ma
   left_known : Knows names taken m → (left : List (List ℕ)) × (left_after names taken ≡ Some left)
   left_known k = elim k.where_last [
     | inl own ↦ ([], own.left)
-    | inr e ↦ (e.front ++ e.name ∷ [], e.left)
+    | inr e ↦ (e.before ++ e.name ∷ [], e.left)
   ]
 
   ahead_grows : (r : Feature) → KnowsAhead names taken r m → left_after names (taken ++ r ∷ []) ≡ None → KnowsAhead (names ++ n ∷ []) taken r (named m n)

@@ -11,7 +11,7 @@ use Rattle.bt_lines.specs.calls.Putting.{Adds, FailsToAdd, Grown}
 use Rattle.bt_lines.specs.declared.fault.Fault.{Fault}
 use Rattle.bt_seq.proofs.lemmas.sam.ExtentLemmas.{none_masked}
 use Rattle.bt_seq.specs.calls.MaskState.{Keeps, Masking, PassesLine, TakesLine, Waiting, Writes, WritesGiven, decides, decides_by, decides_up_to, is_stray, line_bytes, moved_to, with_owner, writes_at_once}
-use Rattle.bt_seq.specs.inside.mask.Matching.{Matched, matched_with, named, owner_of}
+use Rattle.bt_seq.specs.calls.Matching.{Matched, matched_with, named, owner_of}
 use Rattle.bt_seq.specs.model.Sequences.{is_header, name_in}
 use Rattle.bt_seq.specs.inside.mask.Window.{gone_on, no_bases}
 use Rattle.bt_seq.specs.inside.mask.MaskedBases.{masked_in}

@@ -17,18 +17,17 @@ use Rattle.bt_lines.specs.declared.fault.Input.TheVariants.{Second}
 use Rattle.bt_lines.specs.declared.fault.Kind.TheVariants.{NoSequence}
 use Rattle.bt_seq.proofs.lemmas.mask.steps.CountLemmas.{decides_alike, range_more, text_masked}
 use Rattle.bt_seq.proofs.lemmas.mask.bases.KnownLemmas.{MayTake, never, next_can_be, nobody_left, none_ahead, own_ahead, owner_next, take_next}
-use Rattle.bt_seq.proofs.lemmas.laws.MaskFrontLemmas.{blocks_front, decided_stays, held_before, masked_before}
+use Rattle.bt_seq.proofs.lemmas.laws.MaskPrefixLemmas.{blocks_front, decided_stays, held_before, masked_before}
 use Rattle.bt_seq.proofs.lemmas.mask.steps.NextLemmas.{decided_more, own_more}
 use Rattle.bt_seq.proofs.lemmas.mask.steps.StandLemmas.{StandsBy, last_waits, stands_at, stands_by, wants_bed}
 use Rattle.bt_seq.specs.calls.HeldMasks.{extent_of}
-use Rattle.bt_seq.specs.inside.mask.Knows.{owner_by}
+use Rattle.bt_seq.specs.calls.Matching.{owner_by, Matched, begins_own, is_it, matched_with, owner_of}
 use Rattle.bt_seq.specs.inside.mask.MaskInside.{Counts, IsDecided, KnowsLast, KnowsNone, decided_up_to}
 use Rattle.bt_seq.specs.calls.MaskStage.{IsNext, MaskStage, given, held_by, line_given_last, reached, want_of, with_bed_ended, with_decided, with_record}
 use Rattle.bt_seq.specs.calls.MaskStanding.{MaskStandsAt, Waits, kept_line}
 use Rattle.bt_seq.specs.calls.MaskSteps.{EndsRecords, GivesBed, HasSequence, LacksSequence, WritesLine}
 use Rattle.bt_seq.specs.model.Masked.{decided, held_for, masked_line}
 use Rattle.bt_seq.specs.calls.MaskState.{Masking, TakesBed, Waiting, Writes, decides, decides_by, decides_up_to, has_owner, holding, holds, holds_by, line_bytes, with_owner, with_extent}
-use Rattle.bt_seq.specs.inside.mask.Matching.{Matched, begins_own, is_it, matched_with, owner_of}
 use Rattle.bt_seq.specs.model.Owners.{block_decides, items_if_last, left_after, own_records}
 use Rattle.bt_seq.specs.model.Sequences.{SequenceLine, bases_up_to}
 use Rattle.bt_seq.specs.inside.mask.MaskedBases.{masked_in}

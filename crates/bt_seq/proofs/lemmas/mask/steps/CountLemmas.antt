@@ -6,11 +6,11 @@ use Rattle.std.proofs.lemmas.Bool.{or_parts}
 use Rattle.bt_bed.specs.model.feature.Feature.{Feature}
 use Rattle.bt_lines.specs.model.Number.{max_number}
 use Rattle.bt_seq.proofs.lemmas.laws.HeldLemmas.{held_alone}
-use Rattle.bt_seq.proofs.lemmas.laws.MaskFrontLemmas.{chrom_of}
+use Rattle.bt_seq.proofs.lemmas.laws.MaskPrefixLemmas.{chrom_of}
 use Rattle.bt_seq.proofs.lemmas.sam.ExtentLemmas.{none_masked}
 use Rattle.bt_seq.proofs.lemmas.sam.TagLemmas.{next_left, own_in, own_tagged, tag_decides, tags}
 use Rattle.bt_seq.specs.calls.HeldMasks.{extent_of}
-use Rattle.bt_seq.specs.inside.mask.Knows.{owner_by}
+use Rattle.bt_seq.specs.calls.Matching.{owner_by}
 use Rattle.bt_seq.specs.model.MaskHow.{masked_byte}
 use Rattle.bt_seq.specs.inside.mask.MaskInside.{AreInRange}
 use Rattle.bt_seq.specs.model.Masked.{held_for, masked_from, masked_text}

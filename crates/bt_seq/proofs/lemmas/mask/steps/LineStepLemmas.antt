@@ -14,7 +14,7 @@ use Rattle.bt_lines.specs.declared.fault.Fault.{Fault}
 use Rattle.bt_lines.specs.declared.fault.Kind.TheVariants.{TextBeforeHeader}
 use Rattle.bt_seq.proofs.lemmas.mask.steps.CountLemmas.{IsLow, decides_alike, held_on, own_low, text_masked}
 use Rattle.bt_seq.proofs.lemmas.mask.bases.KnownLemmas.{never, with_header, with_plain}
-use Rattle.bt_seq.proofs.lemmas.laws.MaskFrontLemmas.{decided_by_tags, masked_before}
+use Rattle.bt_seq.proofs.lemmas.laws.MaskPrefixLemmas.{decided_by_tags, masked_before}
 use Rattle.bt_seq.proofs.lemmas.mask.steps.NextLemmas.{decided_more, left_grows, named_more, none_own, undecided_header, undecided_next}
 use Rattle.bt_seq.proofs.lemmas.mask.steps.StandLemmas.{last_more, last_name_more, last_name_none, stands_at, unnamed_are, unnamed_untaken, wants_line}
 use Rattle.bt_seq.proofs.lemmas.sam.TagLemmas.{own_tagged, tag_decides, tags_of}
@@ -25,7 +25,7 @@ use Rattle.bt_seq.specs.calls.MaskStanding.{IsOpen, MaskStandsAt, kept_line}
 use Rattle.bt_seq.specs.calls.MaskSteps.{FailsWithLine, GivesNextLine, IsSettled, RefusesLine, TakesNextLine, bytes_with, may_need_memory}
 use Rattle.bt_seq.specs.model.Masked.{decided, held_for, is_unnamed, masked_line}
 use Rattle.bt_seq.specs.calls.MaskState.{Masking, TakesLine, Waiting, bytes_at_once, is_stray, line_bytes, may_grow, moved_to, writes_at_once}
-use Rattle.bt_seq.specs.inside.mask.Matching.{Matched, named}
+use Rattle.bt_seq.specs.calls.Matching.{Matched, named}
 use Rattle.bt_seq.specs.model.Owners.{block_decides, left_after, own_records}
 use Rattle.bt_seq.specs.model.Sequences.{SequenceLine, bases_in, bases_up_to, header_behind, is_header, line_behind, line_says, may_stand, name_in}
 use Rattle.bt_seq.specs.inside.mask.MaskedBases.{masked_in}

@@ -7,7 +7,7 @@ use Rattle.std.proofs.lemmas.List.Folds.{list_any-append}
 use Rattle.std.proofs.lemmas.Bool.{or_parts, or_from}
 use Rattle.bt_bed.specs.model.feature.Feature.{Feature}
 use Rattle.bt_seq.proofs.lemmas.laws.LeftLemmas.{is_last, leave, leave_all, one_leaves}
-use Rattle.bt_seq.proofs.lemmas.laws.MaskFrontLemmas.{chrom_of, decided_by_tags}
+use Rattle.bt_seq.proofs.lemmas.laws.MaskPrefixLemmas.{chrom_of, decided_by_tags}
 use Rattle.bt_seq.proofs.lemmas.laws.MaskMetLemmas.{none_leaves}
 use Rattle.bt_seq.proofs.lemmas.sam.TagLemmas.{Tagged, own_in, own_tagged, tag_decides, tags, tags_more, tags_of}
 use Rattle.bt_seq.specs.model.Masked.{decided, is_unnamed}

@@ -8,7 +8,7 @@ use Rattle.std.proofs.lemmas.List.Folds.{list_all-append}
 use Rattle.bt_bed.specs.model.feature.Feature.{Feature}
 use Rattle.bt_bed.specs.model.input.GoodBlocks.{AreInBlocks}
 use Rattle.bt_lines.specs.model.Lines.{TextLine}
-use Rattle.bt_seq.proofs.lemmas.laws.MaskFrontLemmas.{blocks_front, decided_stays, masked_before, masked_stay}
+use Rattle.bt_seq.proofs.lemmas.laws.MaskPrefixLemmas.{blocks_front, decided_stays, masked_before, masked_stay}
 use Rattle.bt_seq.proofs.lemmas.mask.steps.StandLemmas.{last_more}
 use Rattle.bt_seq.specs.calls.GivenLines.{SayEach}
 use Rattle.bt_seq.specs.calls.MaskSettles.{GoesOn, MayFollow, SettlesLines}

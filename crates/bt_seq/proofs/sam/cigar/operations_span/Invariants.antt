@@ -1,6 +1,5 @@
 use Rattle.std.proofs.Common.{◌≡◌, length, ◌≤◌}
-use Rattle.bt_seq.specs.model.Cigar.{operations_in}
-use Rattle.bt_seq.specs.inside.sam.CigarSteps.{span_with}
+use Rattle.bt_seq.specs.model.Cigar.{operations_in, span_with}
 use Rattle.bt_seq.proofs.sam.cigar.operations_span.Given as goal
 
 -- the total and the span of the rest are that of the whole

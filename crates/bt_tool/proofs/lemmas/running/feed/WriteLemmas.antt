@@ -20,7 +20,7 @@ use Rattle.bt_bed.specs.model.order.Sorting.{sorting_of}
 use Rattle.bt_bed.proofs.lemmas.laws.GoodBedLemmas.{placed_good, placed_lines}
 use Rattle.bt_runs.specs.model.Gaps.{settled_gaps}
 use Rattle.bt_runs.specs.model.MergedRuns.{AreTaken, merged_runs, passed_by, settled_runs}
-use Rattle.bt_runs.specs.calls.Merging.{Merging, Contiguous, Apart, merge_begun, settled_lines, whole_output}
+use Rattle.bt_runs.specs.calls.Merging.{Merging, Unstranded, PerStrand, merge_begun, settled_lines, whole_output}
 use Rattle.bt_runs.specs.model.StrandRuns.{places_of, settled_strand_runs, strand_runs}
 use Rattle.bt_runs.specs.calls.Settling.{SettledBegins, SettledStays}
 use Rattle.bt_runs.specs.declared.merge.merge_strand.MergeStrand.{MergeStrand}
@@ -53,8 +53,8 @@ merge_as_they_come merge = record { whole = whole_output merge; settled = settle
 -- a merge that has taken no record has settled nothing
 pub merge_begins : (merge : Merging) → settled_lines merge [] ≡ []
 unfolding settled_runs
-merge_begins (Contiguous merge) = refl
-merge_begins (Apart merge) = ap (λ items. interval_lines (places_of items)) (no_strand_settled merge.rule.gap)
+merge_begins (Unstranded merge) = refl
+merge_begins (PerStrand merge) = ap (λ items. interval_lines (places_of items)) (no_strand_settled merge.rule.gap)
 
 -- nor does it write any of no records
 pub merge_settles_none : (order : Order) (d : ℕ) (strand : MergeStrand) → (merge_written order d strand).settled [] ≡ []
@@ -64,14 +64,14 @@ merge_settles_none order d (One strand) = refl
 
 -- what it has settled stays, and begins the whole
 pub merge_stays : (merge : Merging) → SettledStays (settled_lines merge) AreTaken
-merge_stays (Contiguous merge) = lines_stay (settled_runs merge.rule.gap merge.rule.strand) AreTaken (runs_stay merge.rule.gap merge.rule.strand)
-merge_stays (Apart merge) = lines_stay (λ records. places_of (settled_strand_runs merge.rule.gap records)) AreTaken (λ past more taken.
+merge_stays (Unstranded merge) = lines_stay (settled_runs merge.rule.gap merge.rule.strand) AreTaken (runs_stay merge.rule.gap merge.rule.strand)
+merge_stays (PerStrand merge) = lines_stay (λ records. places_of (settled_strand_runs merge.rule.gap records)) AreTaken (λ past more taken.
     let s = stay merge.rule.gap past more taken in
     (places_of s.0, ap places_of s.1 ∙ map-append (λ item. item.run) (settled_strand_runs merge.rule.gap past) s.0))
 
 pub merge_begins_whole : (merge : Merging) → SettledBegins (settled_lines merge) (whole_output merge) AreTaken
-merge_begins_whole (Contiguous merge) = lines_begin (settled_runs merge.rule.gap merge.rule.strand) (merged_runs merge.rule.gap merge.rule.strand) AreTaken (runs_begin merge.rule.gap merge.rule.strand)
-merge_begins_whole (Apart merge) = lines_begin (λ records. places_of (settled_strand_runs merge.rule.gap records)) (λ records. places_of (strand_runs merge.rule.gap records)) AreTaken (λ past more taken.
+merge_begins_whole (Unstranded merge) = lines_begin (settled_runs merge.rule.gap merge.rule.strand) (merged_runs merge.rule.gap merge.rule.strand) AreTaken (runs_begin merge.rule.gap merge.rule.strand)
+merge_begins_whole (PerStrand merge) = lines_begin (λ records. places_of (settled_strand_runs merge.rule.gap records)) (λ records. places_of (strand_runs merge.rule.gap records)) AreTaken (λ past more taken.
     let s = begin merge.rule.gap past more taken in
     (places_of s.0, ap places_of s.1 ∙ map-append (λ item. item.run) (settled_strand_runs merge.rule.gap past) s.0))
 

@@ -11,7 +11,7 @@ use Rattle.bt_bed.specs.model.input.Good.{Member}
 use Rattle.bt_seq.specs.model.Masked.{decided}
 use Rattle.bt_seq.specs.model.Sequences.{SequenceLine}
 use Rattle.bt_seq.specs.declared.mask.mask_how.MaskHow.{MaskHow}
-use Rattle.bt_seq.proofs.lemmas.laws.MaskFrontLemmas.{decided_stays}
+use Rattle.bt_seq.proofs.lemmas.laws.MaskPrefixLemmas.{decided_stays}
 use Rattle.bt_tool.specs.model.report.SweepReport.{bytes_up_to}
 use Rattle.bt_tool.specs.inside.feed.Feeding.{member_items}
 use Rattle.bt_tool.specs.model.report.MaskReport.{last_needed}

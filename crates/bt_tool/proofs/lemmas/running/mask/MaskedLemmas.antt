@@ -19,9 +19,9 @@ use Rattle.bt_bed.specs.model.input.GoodBlocks.{AreInBlocks}
 use Rattle.bt_bed.specs.model.feature.LineKind.{fault_at_line}
 use Rattle.bt_bed.specs.model.order.Locus.{Locus}
 use Rattle.bt_bed.specs.calls.Reading.{MemberReader, ahead_in, first_from, good_coming, state_behind}
-use Rattle.bt_seq.proofs.lemmas.laws.MaskFrontLemmas.{decided_stays}
+use Rattle.bt_seq.proofs.lemmas.laws.MaskPrefixLemmas.{decided_stays}
 use Rattle.bt_seq.specs.calls.MaskAdvance.{FailsAtRecord}
-use Rattle.bt_seq.specs.calls.MaskFronts.{LineBefore}
+use Rattle.bt_seq.specs.calls.MaskPrefixes.{LineBefore}
 use Rattle.bt_seq.proofs.lemmas.laws.MaskMetLemmas.{first_is_told, lack_none}
 use Rattle.bt_seq.specs.calls.MaskStage.{MaskStage, given, line_given_last, reached, reached_by, want_of, with_bed_ended, with_lines_ended}
 use Rattle.bt_seq.specs.calls.MaskStanding.{IsOpen, MaskStandsAt}

@@ -502,7 +502,7 @@ module _ {A B O : Type 0} {g : Ghosts O} (source_a : Source A) (source_b : Sourc
           comes_later =
               turned.goes_on join pair out (stage_of stage) s.past_first s.past_second (view_of first) (view_of second) grown s.comes more_first more_second (view_of first_now) (view_of second_now) further further_second ended_first ended_second newly (stage_of later)
               (record { given_is = given_later ∙ ap (λ (l : List Feature). given stage ++ l) (sym items_first); written_is = refl; taken_is = ap (λ (l : List Feature). stage.taken ++ l) (sym items_second); first_is = refl; second_is = refl })
-              (intersect config.shape config.rule newly (stage.taken ++ ss)) now (λ known. settled_more stage.written newly s.comes.bytes newly_placed each (settled_seen known)) 
+              (intersect config.shape config.rule newly (stage.taken ++ ss)) now (λ known. settled_more stage.written newly s.comes.bytes newly_placed each (settled_seen known))
               (by_config (λ c. Grown grown (intersect c.shape c.rule newly (stage.taken ++ ss)) now) (puts stage s.stands placed_first placed_second))
 
     -- ---- it went on
@@ -524,7 +524,7 @@ module _ {A B O : Type 0} {g : Ghosts O} (source_a : Source A) (source_b : Sourc
           second_order = gives.takes.second_order ∙ s.second_order;
           first_begins = s.first_begins;
           second_begins = s.second_begins;
-          fits = fits_later first_now second_now gives.firsts gives.seconds gives.takes gives.newly swept.current gives.are 
+          fits = fits_later first_now second_now gives.firsts gives.seconds gives.takes gives.newly swept.current gives.are
               (by_config (λ c. TakenEach order c.limit (option_to_list sweep.current ++ gives.firsts) stage.taken gives.seconds) (gives.each stage s.stands placed placed_second));
         }
 
@@ -544,8 +544,8 @@ module _ {A B O : Type 0} {g : Ghosts O} (source_a : Source A) (source_b : Sourc
         λ going. stop.asks_then join pair out (stage_of stage) s.past_first s.past_second (view_of first) (view_of second) grown s.comes asked (λ more asks. leaves_more order (given stage) more stage.taken asks)
         (members_from (suc (lines_given (below first))) fs) (members_from (suc (lines_given (below second))) ss) (view_of second_now) (further_second first_now second_now fs ss fails.takes) in
         elim fails.cause [
-          | inl write ↦ cuts_later first_now second_now fs ss fails.takes fails.newly fails.waiting fails.are each fails.settles fault now 
-            (by_config (λ c. FailsToAdd grown (intersect c.shape c.rule fails.newly (stage.taken ++ ss)) fault now) (write.cuts stage s.stands placed placed_taken))
+          | inl write ↦ cuts_later first_now second_now fs ss fails.takes fails.newly fails.waiting fails.are each fails.settles fault now
+              (by_config (λ c. FailsToAdd grown (intersect c.shape c.rule fails.newly (stage.taken ++ ss)) fault now) (write.cuts stage s.stands placed placed_taken))
           | inr others ↦ elim others [
             | inl lack ↦
                 let last = lack.last in

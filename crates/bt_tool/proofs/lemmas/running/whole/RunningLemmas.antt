@@ -276,7 +276,7 @@ module _ {G A B K : Type 0} (source_g : Source G) (source_a : Source A) (source_
           let w = told_by begun mid new fault answer (reported inputs).fault (before ++ (reported inputs).output)
           (λ of_input. writes.told inputs.first inputs.second before holds.first_input holds.second_input (put ∙ known) of_input) is flushes.ends in
           subst (λ (r : Report). (answer ≡ r.fault) × (sink.took out_after ≡ Some (before ++ r.output))) (sym same) (w.0, took_after ∙ w.1);
-      front = λ inputs before holds known.
+      prefix = λ inputs before holds known.
           let same = report_is inputs (knows.told inputs.genome holds.genome_file) in
           let f = front_by begun mid new fault answer before (reported inputs).output (took ∙ known) writes.grows flushes.grows
           (λ other. writes.kept other inputs.first inputs.second before holds.first_input holds.second_input (put ∙ known)) (λ is. writes.cut is inputs.first inputs.second before holds.first_input holds.second_input (put ∙ known)) flushes.ends in
@@ -328,7 +328,7 @@ module _ {G A B K : Type 0} (source_g : Source G) (source_a : Source A) (source_
           let w = told_by begun mid new fault answer (Some wrong) (before ++ []) (λ of_input. (stops.is, begun_put before known)) is flushes.ends in
           let same = report_wrong inputs (lacks.told inputs.genome holds.genome_file (subst IsOfInput w.0 is)) in
           subst (λ (r : Report). (answer ≡ r.fault) × (sink.took out_after ≡ Some (before ++ r.output))) (sym same) (w.0, took_after ∙ w.1);
-      front = λ inputs before holds known.
+      prefix = λ inputs before holds known.
           let f = front_by begun mid new fault answer before (report_of command inputs).output (took ∙ known) mid_grows flushes.grows
           (λ other. ([], (report_of command inputs).output, refl, begun_put before known)) (λ is. absurd (no_write is)) flushes.ends in
           (f.0, f.1, took_after ∙ f.2, f.3);

@@ -4,9 +4,15 @@ use Rattle.std.specs.Io.BufRead.{strip_last}
 use Rattle.bt_lines.proofs.lemmas.reader.lines.BufferedLemmas.{strip_begins, take_front}
 use Rattle.bt_bed.proofs.lemmas.parse.ColumnsLemmas.{line_bounds, line_named}
 use Rattle.bt_bed.proofs.lemmas.read.FirstColumnLemmas.{front_is_name, name_ends, named_is_no_header}
-use Rattle.bt_bed.proofs.lemmas.records.RawRecordLemmas.{on_line}
+use Rattle.bt_bed.proofs.lemmas.records.RawRecordLemmas.{no_return_there, on_line}
 use Rattle.bt_bed.specs.calls.Batch.{chrom_in, cursor_in}
 use Rattle.bt_bed.proofs.read.batch.Batch.scan.Goals as goal
+
+pub ends_column-requires : goal.ends_column-requires
+unfolding cursor_in
+ends_column-requires c =
+    let line = c.args.line.now in
+    no_return_there c.rest-rest.result.now c.args.self.now.name.now line c.in_ok-columns.columns.start c.in_ok-columns.columns.stop c.in_ok-columns.ensures (ap (take (length line)) c.rest-rest.ensures ∙ c.requires)
 
 pub invariant_of-result : goal.invariant_of-result
 unfolding cursor_in

@@ -1,6 +1,6 @@
-use Rattle.std.proofs.Common.{arith, sym, ◌∙◌}
+use Rattle.std.proofs.Common.{arith, ◌∙◌}
 use Rattle.bt_bed.specs.calls.RawRecord.{text_in}
-use Rattle.bt_bed.proofs.lemmas.records.RawRecordLemmas.{byte_there, column_begins, name_within, other_byte, text_less, written_so}
+use Rattle.bt_bed.proofs.lemmas.records.RawRecordLemmas.{byte_there, column_begins, other_byte, text_less, written_so}
 use Rattle.bt_bed.proofs.record.raw_record.RawRecord.is_canonical.Goals as goal
 
 pub bounds-self-stop : goal.bounds-self-stop

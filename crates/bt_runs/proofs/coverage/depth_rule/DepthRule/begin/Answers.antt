@@ -10,49 +10,49 @@ use Rattle.bt_runs.proofs.coverage.depth_rule.DepthRule.begin.Goals as goal
 
 pub put_before-requires-clause-within : goal.put_before-requires-clause-within
 put_before-requires-clause-within g c =
-    let at = found_at (entries c.self.inside.genome.now) c.args.chrom.now c.in-Some.rank (sym c.in-Some.ensures) in
+    let at = found_at (entries c.self.inside.chroms.genome.now) c.args.chrom.now c.in-Some.rank (sym c.in-Some.ensures) in
     let h = at.within in
     omega arith
 
 pub invariant_of-self-2 : goal.invariant_of-self-2
-invariant_of-self-2 g c = found_at (entries c.self.inside.genome.now) c.args.chrom.now c.in-Some.rank (sym c.in-Some.ensures)
+invariant_of-self-2 g c = found_at (entries c.self.inside.chroms.genome.now) c.args.chrom.now c.in-Some.rank (sym c.in-Some.ensures)
 
 pub returns-in_err-put_before-clause-enters : goal.returns-in_err-put_before-clause-enters
 returns-in_err-put_before-clause-enters g c =
     let p = err_from_is_err_and c.from_residual.result c.from_residual.ensures.1 in
     let m = c.self.inside in
-    let old : Covering = record { entries = entries m.genome.now; zeros = m.zeros; strand = m.strand; current = seen m.current m.held; is_here = m.is_here; name = m.name.now; length = m.length } in
+    let old : Covering = record { entries = entries m.chroms.genome.now; zeros = m.chroms.zeros; strand = m.strand; current = seen m.current m.held; is_known = m.is_known; name = m.name.now; length = m.length } in
     let off : is_on old.entries old.current c.args.chrom.now ≡ false = ap (λ (v : Covering). is_on v.entries v.current c.args.chrom.now) c.self.view_is ∙ c.requires in
     rw (p.1, p.2, ← c.self.view_is) (enters_cut old [] 0 c.args.chrom.now c.in-Some.rank off c.in-Some.ensures c.args.out.now.output c.in_err-put_before.field-0.0 _ c.put_before.new.out.output c.in_err-put_before.ensures)
 
 pub returns-clause-on : goal.returns-clause-on
 returns-clause-on g c =
     let m = c.self.inside in
-    let old : Covering = record { entries = entries m.genome.now; zeros = m.zeros; strand = m.strand; current = seen m.current m.held; is_here = m.is_here; name = m.name.now; length = m.length } in
+    let old : Covering = record { entries = entries m.chroms.genome.now; zeros = m.chroms.zeros; strand = m.strand; current = seen m.current m.held; is_known = m.is_known; name = m.name.now; length = m.length } in
     let off : is_on old.entries old.current c.args.chrom.now ≡ false = ap (λ (v : Covering). is_on v.entries v.current c.args.chrom.now) c.self.view_is ∙ c.requires in
-    (is_there old [] 0 c.args.chrom.now c.in-Some.rank off c.in-Some.ensures, (name_read (entries m.genome.now) c.in-Some.rank c.name-name.result.now c.name-name.ensures, length_read (entries m.genome.now) c.in-Some.rank c.length-length.result c.length-length.ensures.is))
+    (is_there old [] 0 c.args.chrom.now c.in-Some.rank off c.in-Some.ensures, (name_read (entries m.chroms.genome.now) c.in-Some.rank c.name-name.result.now c.name-name.ensures, length_read (entries m.chroms.genome.now) c.in-Some.rank c.length-length.result c.length-length.ensures.is))
 
 pub returns-clause-enters : goal.returns-clause-enters
 returns-clause-enters g c =
     let m = c.self.inside in
-    let old : Covering = record { entries = entries m.genome.now; zeros = m.zeros; strand = m.strand; current = seen m.current m.held; is_here = m.is_here; name = m.name.now; length = m.length } in
+    let old : Covering = record { entries = entries m.chroms.genome.now; zeros = m.chroms.zeros; strand = m.strand; current = seen m.current m.held; is_known = m.is_known; name = m.name.now; length = m.length } in
     let off : is_on old.entries old.current c.args.chrom.now ≡ false = ap (λ (v : Covering). is_on v.entries v.current c.args.chrom.now) c.self.view_is ∙ c.requires in
     rw (← c.self.view_is, c.clear.ensures) (enters_there old c.name-name.result.now c.length-length.result c.args.chrom.now c.in-Some.rank off c.in-Some.ensures c.args.out.now.output c.put_before.new.out.output c.in_ok-put_before.ensures)
 
 pub returns-in_default-clause-enters : goal.returns-in_default-clause-enters
 returns-in_default-clause-enters g c =
     let m = c.self.inside in
-    let old : Covering = record { entries = entries m.genome.now; zeros = m.zeros; strand = m.strand; current = seen m.current m.held; is_here = m.is_here; name = m.name.now; length = m.length } in
+    let old : Covering = record { entries = entries m.chroms.genome.now; zeros = m.chroms.zeros; strand = m.strand; current = seen m.current m.held; is_known = m.is_known; name = m.name.now; length = m.length } in
     rw (← c.self.view_is) (enters_moved old false m.name.now m.length c.args.chrom.now c.args.out.now.output)
 
 pub name-name-requires : goal.name-name-requires
 name-name-requires g c =
-    let at = found_at (entries c.self.inside.genome.now) c.args.chrom.now c.in-Some.rank (sym c.in-Some.ensures) in
+    let at = found_at (entries c.self.inside.chroms.genome.now) c.args.chrom.now c.in-Some.rank (sym c.in-Some.ensures) in
     let h = at.within in
     omega arith
 
 pub length-length-requires : goal.length-length-requires
 length-length-requires g c =
-    let at = found_at (entries c.self.inside.genome.now) c.args.chrom.now c.in-Some.rank (sym c.in-Some.ensures) in
+    let at = found_at (entries c.self.inside.chroms.genome.now) c.args.chrom.now c.in-Some.rank (sym c.in-Some.ensures) in
     let h = at.within in
     omega arith

@@ -11,7 +11,7 @@ pub returns-then-not-on-clause-does : goal.returns-then-not-on-clause-does
 returns-then-not-on-clause-does g c =
     let old = with_chrom c.args.self.now c.args.on.now in
     let r = g.R.Record.feature c.args.record.now in
-    counts_none old r c.args.out.now.output (off_here old.entries old.current old.name old.length r.chrom old.is_here c.if-not-on.true c.requires)
+    counts_none old r c.args.out.now.output (off_here old.entries old.current old.name old.length r.chrom old.is_known c.if-not-on.true c.requires)
 
 pub returns-then-not-on-clause-feeds : goal.returns-then-not-on-clause-feeds
 returns-then-not-on-clause-feeds g c = feeds_by (with_chrom c.args.self.now c.args.on.now) (g.R.Record.feature c.args.record.now) c.args.out.now.output (Ok tt) (with_chrom c.args.self.now c.args.on.now) c.args.out.now.output (returns-then-not-on-clause-does g c)
@@ -22,11 +22,11 @@ returns-in-Err-clause-does g c =
     let r = g.R.Record.feature c.args.record.now in
     let on = c.args.on.now in
     let bounds : Bounds = record { start = c.start.result; stop = c.stop.result } in
-    let table = entries m.genome.now in
-    let view : Covering = record { entries = table; zeros = m.zeros; strand = m.strand; current = seen m.current m.held; is_here = m.is_here; name = m.name.now; length = m.length } in
+    let table = entries m.chroms.genome.now in
+    let view : Covering = record { entries = table; zeros = m.chroms.zeros; strand = m.strand; current = seen m.current m.held; is_known = m.is_known; name = m.name.now; length = m.length } in
     let lies : IsOnChrom (with_chrom view on) r.chrom = subst (λ (v : Covering). IsOnChrom (with_chrom v on) r.chrom) (sym c.self.view_is) c.requires in
     subst (λ (v : Covering). CountsDepths (with_chrom v on) r c.args.out.now.output (Err c.fault.result) view c.count_next-counted.new.out.output) c.self.view_is
-    (step_err table m.zeros m.strand m.is_here m.name.now m.length on c.if-not-on.false r bounds (sym c.start.ensures) (sym c.stop.ensures.is) c.is_counted.result (sym c.is_counted.ensures) c.args.out.now.output c.count_next-counted.new.out.output
+    (step_err table m.chroms.zeros m.strand m.is_known m.name.now m.length on c.if-not-on.false r bounds (sym c.start.ensures) (sym c.stop.ensures.is) c.is_counted.result (sym c.is_counted.ensures) c.args.out.now.output c.count_next-counted.new.out.output
     m.current m.held c.self.invariant lies c.in-Err.failure c.fault.result view c.count_next-counted.new.held c.fault.ensures c.in-Err.ensures.counts c.in-Err.ensures.memory)
 
 pub returns-in-Err-clause-feeds : goal.returns-in-Err-clause-feeds
@@ -41,10 +41,10 @@ returns-clause-does g c =
     let r = g.R.Record.feature c.args.record.now in
     let on = c.args.on.now in
     let bounds : Bounds = record { start = c.start.result; stop = c.stop.result } in
-    let table = entries m.genome.now in
-    let view : Covering = record { entries = table; zeros = m.zeros; strand = m.strand; current = seen m.current m.held; is_here = m.is_here; name = m.name.now; length = m.length } in
+    let table = entries m.chroms.genome.now in
+    let view : Covering = record { entries = table; zeros = m.chroms.zeros; strand = m.strand; current = seen m.current m.held; is_known = m.is_known; name = m.name.now; length = m.length } in
     let lies : IsOnChrom (with_chrom view on) r.chrom = subst (λ (v : Covering). IsOnChrom (with_chrom v on) r.chrom) (sym c.self.view_is) c.requires in
-    rw (← c.self.view_is) (step_ok table m.zeros m.strand m.is_here m.name.now m.length on c.if-not-on.false r bounds (sym c.start.ensures) (sym c.stop.ensures.is) c.is_counted.result (sym c.is_counted.ensures) c.args.out.now.output c.count_next-counted.new.out.output
+    rw (← c.self.view_is) (step_ok table m.chroms.zeros m.strand m.is_known m.name.now m.length on c.if-not-on.false r bounds (sym c.start.ensures) (sym c.stop.ensures.is) c.is_counted.result (sym c.is_counted.ensures) c.args.out.now.output c.count_next-counted.new.out.output
     m.current m.held c.self.invariant lies c.in-Ok.begun c.count_next-counted.new.held c.in-Ok.ensures.counts).0
 
 pub returns-clause-on : goal.returns-clause-on
@@ -53,10 +53,10 @@ returns-clause-on g c =
     let r = g.R.Record.feature c.args.record.now in
     let on = c.args.on.now in
     let bounds : Bounds = record { start = c.start.result; stop = c.stop.result } in
-    let table = entries m.genome.now in
-    let view : Covering = record { entries = table; zeros = m.zeros; strand = m.strand; current = seen m.current m.held; is_here = m.is_here; name = m.name.now; length = m.length } in
+    let table = entries m.chroms.genome.now in
+    let view : Covering = record { entries = table; zeros = m.chroms.zeros; strand = m.strand; current = seen m.current m.held; is_known = m.is_known; name = m.name.now; length = m.length } in
     let lies : IsOnChrom (with_chrom view on) r.chrom = subst (λ (v : Covering). IsOnChrom (with_chrom v on) r.chrom) (sym c.self.view_is) c.requires in
-    (step_ok table m.zeros m.strand m.is_here m.name.now m.length on c.if-not-on.false r bounds (sym c.start.ensures) (sym c.stop.ensures.is) c.is_counted.result (sym c.is_counted.ensures) c.args.out.now.output c.count_next-counted.new.out.output
+    (step_ok table m.chroms.zeros m.strand m.is_known m.name.now m.length on c.if-not-on.false r bounds (sym c.start.ensures) (sym c.stop.ensures.is) c.is_counted.result (sym c.is_counted.ensures) c.args.out.now.output c.count_next-counted.new.out.output
     m.current m.held c.self.invariant lies c.in-Ok.begun c.count_next-counted.new.held c.in-Ok.ensures.counts).1
 
 pub returns-clause-feeds : goal.returns-clause-feeds

@@ -1,5 +1,5 @@
 use Rattle.std.proofs.Common.{[], ◌∷◌, ap, refl, arith}
-use Rattle.bt_seq.specs.calls.SamBlocks.{span_given}
+use Rattle.bt_seq.specs.calls.Sam.{span_given}
 use Rattle.bt_seq.proofs.lemmas.sam.BlockLemmas.{no_blocks, nothing_fits}
 use Rattle.bt_seq.proofs.sam.block_iter.SamBlocks.new.Goals as goal
 

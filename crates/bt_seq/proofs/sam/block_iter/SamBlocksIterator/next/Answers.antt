@@ -1,7 +1,7 @@
 use Rattle.std.proofs.Common.{rules, ◌++◌, sym, ◌∙◌, ap}
 use Rattle.bt_seq.specs.model.AlignmentBlocks.{blocks_in}
 use Rattle.bt_seq.specs.model.Cigar.{operations_in}
-use Rattle.bt_seq.specs.calls.SamBlocks.{spans_given}
+use Rattle.bt_seq.specs.calls.Sam.{spans_given}
 use Rattle.bt_seq.proofs.lemmas.sam.BlockLemmas.{no_blocks}
 use Rattle.bt_seq.proofs.sam.block_iter.SamBlocksIterator.next.Goals as goal
 

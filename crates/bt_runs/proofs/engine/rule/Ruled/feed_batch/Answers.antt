@@ -2,7 +2,7 @@ use Rattle.std.proofs.Common.{◌≡◌, ap, sym, ◌∙◌, Some}
 use Rattle.bt_lines.specs.calls.Names.{fault_value}
 use Rattle.bt_runs.proofs.lemmas.engine.RuledLemmas.{batch_fed}
 use Rattle.bt_runs.specs.inside.walk.Rule.{Taken}
-use Rattle.bt_runs.proofs.engine.rule.RuledEngine.feed_batch.Goals as goal
+use Rattle.bt_runs.proofs.engine.rule.Ruled.feed_batch.Goals as goal
 
 pub returns-in-Err : goal.returns-in-Err
 returns-in-Err g c =

@@ -44,8 +44,8 @@ early_mask_rule how records = record {
 }
 
 -- the lines that are decided by a prefix of each input, and so are written, begin what is written for all of the inputs
-abbrev pub masked_are_a_front : Type 0
-masked_are_a_front =
+abbrev pub masked_are_a_prefix : Type 0
+masked_are_a_prefix =
     (how : MaskHow) (names : List (List ℕ)) (first more_first : List SequenceLine)
     (fault : Option FaultValue)
     (second : Good Feature) (seen more : List Feature) → items_in second ≡ seen ++ more

@@ -1,9 +1,15 @@
 -- What an engine is that goes by a rule: what the rule is, until it has failed.
 use Rattle.std.specs.Prelude.{◌≡◌, ℕ, List, Option, None, option_map}
-use Rattle.bt_lines.specs.model.Fault.{FaultValue}
+use Rattle.bt_lines.specs.model.Fault.{FaultValue, no_memory, write_failed}
 use Rattle.bt_bed.specs.model.feature.Feature.{Feature}
-use Rattle.bt_runs.specs.calls.Failure.{fault_of}
+use Rattle.bt_runs.specs.declared.engine.failure.Failure.{Failure}
+use Rattle.bt_runs.specs.declared.engine.failure.Failure.TheVariants.{Write, Memory}
 use Rattle.bt_runs.specs.declared.engine.rule.Ruled.{Ruled}
+
+-- the fault that a failure is returned as
+abbrev pub fault_of : Failure → FaultValue
+fault_of Write = write_failed
+fault_of Memory = no_memory
 
 module _ {E : Type 0} where
   -- the failure that was returned, if one was

@@ -13,7 +13,7 @@ use Rattle.bt_bed.specs.model.input.GoodBlocks.{AreInBlocks, IsBlockUpTo}
 use Rattle.bt_lines.specs.model.Lines.{end_bytes}
 use Rattle.bt_seq.proofs.lemmas.laws.LeftLemmas.{is_last, leave}
 use Rattle.bt_seq.proofs.lemmas.sam.TagLemmas.{Tagged, decided_tagged, last_from, next_left, own_in, own_tagged, tag_decides, tags, tags_append, tags_of}
-use Rattle.bt_seq.specs.calls.MaskFronts.{decided_lines_stay, masked_lines_are_before, masked_lines_stay}
+use Rattle.bt_seq.specs.calls.MaskPrefixes.{decided_lines_stay, masked_lines_are_before, masked_lines_stay}
 use Rattle.bt_seq.specs.model.Masked.{covers, decided, held_for, is_unnamed, masked_from, masked_text}
 use Rattle.bt_seq.specs.model.MaskHow.{masked_byte}
 use Rattle.bt_seq.specs.model.Owners.{block_decides, items_if_last, left_by, own_records}

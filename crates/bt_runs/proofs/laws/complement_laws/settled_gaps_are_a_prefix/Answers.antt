@@ -1,7 +1,7 @@
 use Rattle.bt_runs.specs.model.Gaps.{AreTaken, complement, settled_gaps}
 use Rattle.bt_runs.proofs.lemmas.complement.GapSteps.{one_kept, settles_gaps}
 use Rattle.bt_runs.proofs.lemmas.laws.SettlingLemmas.{begins, stays}
-use Rattle.bt_runs.proofs.laws.complement_laws.settled_gaps_are_a_front.Goals as goal
+use Rattle.bt_runs.proofs.laws.complement_laws.settled_gaps_are_a_prefix.Goals as goal
 
 pub returns : goal.returns
 returns c = record {

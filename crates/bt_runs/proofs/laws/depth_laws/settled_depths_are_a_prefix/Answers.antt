@@ -2,7 +2,7 @@ use Rattle.bt_runs.specs.model.Depth.{coverage, settled_depths}
 use Rattle.bt_runs.specs.model.Gaps.{AreTaken}
 use Rattle.bt_runs.proofs.lemmas.coverage.DepthSteps.{settles_depths}
 use Rattle.bt_runs.proofs.lemmas.laws.SettlingLemmas.{begins, stays}
-use Rattle.bt_runs.proofs.laws.depth_laws.settled_depths_are_a_front.Goals as goal
+use Rattle.bt_runs.proofs.laws.depth_laws.settled_depths_are_a_prefix.Goals as goal
 
 pub returns : goal.returns
 returns c = record {

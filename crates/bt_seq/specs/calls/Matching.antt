@@ -1,10 +1,42 @@
--- What an engine knows of sequences and blocks is what the lists of names and records say.
-use Rattle.std.specs.Prelude.{◌≡◌, ◌⊎◌, ℕ, true, false, List, [], ◌∷◌, ◌++◌, Option, Some, None}
+-- Which sequence the block of a record belongs to, as an engine comes to know it line by line: what it knows is what
+-- the lists of names and records say.
+use Rattle.std.specs.Prelude.{◌≡◌, ◌⊎◌, ℕ, ◌&&◌, not, Bool, true, false, List, [], ◌∷◌, ◌++◌}
+use Rattle.std.specs.Prelude.{Option, Some, None, bytes_eq, if◌then◌else◌}
 use Rattle.bt_bed.specs.model.feature.Feature.{Feature}
-use Rattle.bt_seq.specs.inside.mask.Matching.{Matched, owner_of}
 use Rattle.bt_seq.specs.model.Owners.{goes_on, left_after, names_behind}
 use Rattle.bt_seq.specs.declared.mask.matching.Owner.{Owner}
 use Rattle.bt_seq.specs.declared.mask.matching.Owner.TheVariants.{Own, Earlier, Nobody}
+
+-- The name of the sequence given last, if there is one, and the chromosome of the last block that
+-- belongs to a sequence, if there is one. Then whether that is the sequence given last.
+pub record Matched : Type 0 where
+  pub name : Option (List ℕ)
+  pub last : Option (List ℕ)
+  pub own : Bool
+
+abbrev pub is_it : Option (List ℕ) → List ℕ → Bool
+is_it None name = false
+is_it (Some n) name = bytes_eq n name
+
+-- whether a new block on a chromosome belongs to the sequence given last
+abbrev pub begins_own : Matched → List ℕ → Bool
+begins_own m chrom = not m.own && is_it m.name chrom
+
+-- the sequence of the block of the next record, on this chromosome
+abbrev pub owner_of : Matched → List ℕ → Owner
+owner_of m chrom =
+    if is_it m.last chrom then (if m.own then Own else Earlier)
+    else (if begins_own m chrom then Own else Nobody)
+
+-- with that record
+abbrev pub matched_with : Matched → List ℕ → Matched
+matched_with m chrom =
+    if is_it m.last chrom then m
+    else (if begins_own m chrom then record { name = m.name; last = m.name; own = true } else m)
+
+-- with a new sequence of this name
+abbrev pub named : Matched → List ℕ → Matched
+named m name = record { name = Some name; last = m.last; own = false }
 
 -- the chromosome of the last record, if there is one
 abbrev pub last_chrom : List Feature → Option (List ℕ)
@@ -20,9 +52,9 @@ pub record KnowsOwn (names : List (List ℕ)) (records : List Feature) (m : Matc
 -- names are left after the sequence of the last block, and the last of them is the last of all
 pub record KnowsEarlier (names : List (List ℕ)) (records : List Feature)
     (m : Matched) : Type 0 where
-  pub front : List (List ℕ)
+  pub before : List (List ℕ)
   pub name : List ℕ
-  pub left : left_after names records ≡ Some (front ++ name ∷ [])
+  pub left : left_after names records ≡ Some (before ++ name ∷ [])
   pub named : m.name ≡ Some name
   pub own : m.own ≡ false
 
@@ -41,7 +73,7 @@ abbrev pub HasNoneBefore : (names : List (List ℕ)) (records : List Feature) (m
     → Knows names records m → Type 0
 HasNoneBefore names records m r knows =
     goes_on records r ≡ false → (e : KnowsEarlier names records m)
-    → names_behind r.chrom e.front ≡ None
+    → names_behind r.chrom e.before ≡ None
 
 abbrev pub owners_are_found : Type 0
 owners_are_found = (names : List (List ℕ)) (records : List Feature) (m : Matched) (r : Feature)
