@@ -18,7 +18,7 @@ use Rattle.bt_sweep.specs.declared.sweep.phase.Phase.TheVariants.{Both, First}
 use Rattle.bt_sweep.specs.declared.sweep.want.Want.{Want}
 use Rattle.bt_sweep.specs.declared.sweep.want.Want.TheVariants.{A, B, Nothing}
 
--- the stage with the lines of further records written, another one that waits, and further records of
+-- the stage with the lines of more records written, another one that waits, and more records of
 -- the second input taken
 abbrev pub stage_after : Stage → List Feature → Option Feature → List Feature → Stage
 stage_after stage newly waiting seconds =
@@ -32,7 +32,7 @@ Settles order phase as_given bs = (phase ≡ First) ⊎ AreDecided order as_give
 abbrev pub IsThis : Order → Order → Type 0
 IsThis order other = other ≡ order
 
--- Wherever it stands: with these given and taken, where they are in order.
+-- At every stage that it is at, if all that were given and taken are in order.
 abbrev pub AtEach : Order → Sweeping → List Feature → List Feature → (Stage → Type 0) → Type 0
 AtEach order old firsts seconds P =
     (stage : Stage) → StandsAt order stage old

@@ -74,7 +74,7 @@ pub record StandsAt (order : Order) (stage : Stage) (sweep : Sweeping) : Type 0 
   -- a record waits only while neither input has ended
   pub unended : is_some stage.waiting ≡ true → (stage.a_ended ≡ false) × (stage.b_ended ≡ false)
 
--- it is after these, and writes and holds by the same rules as before
+-- it is after these, and writes and holds by the same rules
 pub record MovesTo (order : Order) (old : Sweeping) (stage : Stage) (new : Sweeping) : Type 0 where
   pub stands : StandsAt order stage new
   pub same : SameConfig old new

@@ -19,7 +19,7 @@ pub record Sweeping : Type 0 where
   pub held : List Feature
   pub phase : Phase
 
--- its lines have the same shape, by the same rule, and no more records may be held
+-- lines of the same shape, hits by the same rule, and the same limit
 pub record SameConfig (old new : Sweeping) : Type 0 where
   pub shape_is : new.shape ≡ old.shape
   pub rule_is : new.rule ≡ old.rule

@@ -38,7 +38,7 @@ abbrev pub AddsWith : {T : Type 0} → List ℕ → Output → List ℕ → Resu
 AddsWith pending out lines (Ok done) left grown = GrownWith pending out lines left grown
 AddsWith pending out lines (Err fault) left grown = FailsToAdd out (pending ++ lines) (fault_value fault) grown
 
--- In such orders, wherever it stands with `first` given last: once these are given and taken.
+-- In such orders, wherever it is with `first` given last: once these are given and taken.
 abbrev pub BehindFor : (Order → Type 0) → Feature → List Feature → List Feature → Sweeping
     → (Order → Shape → HitRule → Option ℕ → List Feature → List Feature → Type 0) → Type 0
 BehindFor For first firsts seconds old P =
@@ -85,7 +85,7 @@ abbrev pub Cuts : Feature → List Feature → List Feature → Sweeping → Lis
     → Output → Type 0
 Cuts = CutsFor IsTotal
 
--- each was taken for one that those taken leave undecided, in such orders, wherever it stands with `first`
+-- each was taken for one that those taken leave undecided, in such orders, wherever it is with `first`
 -- given last
 abbrev pub TakesEachFor : (Order → Type 0) → Feature → List Feature → List Feature → Sweeping → Type 0
 TakesEachFor For first firsts seconds old =
@@ -124,7 +124,7 @@ module _ {A : Type 0} (gives : A → List Feature → A → Type 0) (has_ended :
     pub goes : GoesTo first firsts [] old new
     pub writes : Writes first firsts [] old newly pending out left grown
 
-  -- one waits that ends behind the place, or there is none
+  -- one waits that ends after the place, or there is none
   abbrev pub StopsBehind : Option Feature → A → Type 0
   StopsBehind None to = has_ended to
   StopsBehind (Some a) to = (place < a.stop) × (a.stop ≤ max_number)

@@ -93,7 +93,7 @@ impl<'o, H: Held, O: ChromOrder> Sweep<'o, H, O> {
     }
 
     /// Takes records of both inputs, one after another, as [`Sweep::give_a`] and [`Sweep::give_b`] do with each, as long as
-    /// the input that it wants has a next one. It stops too once the record is written that waited before.
+    /// the input that it wants has a next one. It may stop too once the record is written that waited before.
     /// If it wants nothing, it takes none. It fails as these calls do.
     pub fn advance<A: Cursor, B: Cursor, K: Sink>(
         &mut self,

@@ -6,7 +6,7 @@ ghost use Rattle.bt_lines.specs.calls.Putting.{Adds};
 use bt_bed::Cursor;
 use bt_lines::{Fault, Out, Sink};
 
-// A cursor, and lines of records that it gave which are to be put as they stand: those between two offsets.
+// A cursor, and lines of records that it gave which are to be put as they are: those between two offsets.
 #[derive(Drop)]
 pub(crate) struct Pending<A: Cursor> {
     // Gives the records that follow.

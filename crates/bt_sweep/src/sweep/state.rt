@@ -206,12 +206,7 @@ impl<H: Held> State<H> {
     // Takes a record of the second input, from a line, that leaves this one of the first undecided. It is held if it can
     // hit that or a later one. The limit is tested before the record is copied.
     #[inline(always)]
-    pub(crate) fn take<A: Record, B: Record>(
-        &mut self,
-        a: &A,
-        b: &B,
-        line: u64,
-    ) -> Result<(), Fault>
+    fn take<A: Record, B: Record>(&mut self, a: &A, b: &B, line: u64) -> Result<(), Fault>
         requires none { self.old.current ≡ None }
         requires hits { All (CanHit (A.feature a.now)) self.old.held }
         requires on { (B.feature b.now).chrom ≡ (A.feature a.now).chrom }
@@ -455,14 +450,11 @@ impl<H: Held> State<H> {
         // A record is consumed only once it is taken, and not if it decides all of the first or can't be held.
         let mut ahead = *seconds;
         while let Some(next) = ahead.next() {
-            // One that ends before the current record neither decides it nor is held.
-            if current.start() < next.stop() {
-                let Some(waiting) = self.write_up_to(next.start(), current, firsts, out)? else {
-                    return Ok(None);
-                };
-                current = waiting;
-                self.take(&current, &next, ahead.line())?;
-            }
+            let Some(waiting) = self.write_up_to(next.start(), current, firsts, out)? else {
+                return Ok(None);
+            };
+            current = waiting;
+            self.take(&current, &next, ahead.line())?;
             *seconds = ahead;
         }
         Ok(Some(current))

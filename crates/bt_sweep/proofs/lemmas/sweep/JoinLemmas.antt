@@ -1,8 +1,8 @@
 -- Lemmas on records of both inputs that are joined.
-use Rattle.std.proofs.Common.{◌≡◌, ◌⊎◌, ◌<◌, ◌≤◌, inl, inr, ℕ, true, false, List, [], ◌∷◌, ◌++◌, Option, Some, None, Ok, Err, Result, option_map, refl, sym, ap, ◌∙◌, subst, append-nil, append_assoc, option_to_list, bytes_eq, length, ltb, Bool, cond, arith}
+use Rattle.std.proofs.Common.{◌≡◌, ◌⊎◌, ◌<◌, ◌≤◌, inl, inr, ℕ, true, false, List, [], ◌∷◌, ◌++◌, Option, Some, None, Ok, Err, Result, option_map, refl, sym, ap, ◌∙◌, subst, append-nil, append_assoc, option_to_list, bytes_eq, length, ltb}
 use Rattle.std.specs.Prelude.{All, IfSome}
 use Rattle.std.specs.List.{list_all}
-use Rattle.std.proofs.lemmas.Bool.{and_from, and_parts, and_right, false≢true, le-ltb, ltb-true, or_left, or_right}
+use Rattle.std.proofs.lemmas.Bool.{and_from, and_parts, ltb-true, or_left, or_right}
 use Rattle.std.proofs.lemmas.List.Folds.{list_any-append}
 use Rattle.bt_lines.specs.model.Fault.{FaultValue}
 use Rattle.bt_lines.specs.calls.Names.{fault_value}
@@ -28,11 +28,6 @@ use Rattle.bt_sweep.proofs.lemmas.sweep.KeepLemmas.{cut_both, decided_before, de
 use Rattle.bt_sweep.proofs.lemmas.sweep.PendingLemmas.{fails_again, with_none, with_rest, with_rest_cut}
 use Rattle.bt_sweep.proofs.lemmas.laws.PlacedLemmas.{front_placed, last_given-push}
 use Rattle.bt_sweep.proofs.lemmas.sweep.WriteLemmas.{front_of, split_last, split_more}
-
--- what hasn't to be held changes nothing
-holds_none : (s : Sweeping) (a b : Feature) → is_held a b ≡ false → s ≡ holding s a b
-holds_none s a b none =
-    ap (λ (l : List Feature). record s { held = l }) (sym (append-nil s.held) ∙ ap (λ (l : List Feature). s.held ++ l) (sym (ap (λ (c : Bool). cond c (b ∷ []) []) none)))
 
 -- the chromosome of the next record is known
 pub known_head : {B : Type 0} (order : Order) (gives : B → List Feature → B → Type 0) (from : B) (b : Feature) (after : B) (name : List ℕ) → GivesKnown gives order from → gives from (b ∷ []) after → b.chrom ≡ name → order.knows name ≡ true
@@ -83,7 +78,7 @@ each_push order limit as_given b taken [] each last = (subst (λ (l : List Featu
 each_push order limit as_given b taken (x ∷ seconds) each last =
     (each.0, each_push order limit as_given b (taken ++ x ∷ []) seconds each.1 (subst (λ (l : List Feature). TakenFor order limit as_given l b) (sym (append_assoc taken (x ∷ []) seconds)) last))
 
--- ---- one run behind another
+-- ---- one run after another
 
 module _ (first : Feature) (firsts seconds newly : List Feature) (cur : Feature) (are : first ∷ firsts ≡ newly ++ cur ∷ []) (old mid : Sweeping) (goes : GoesTo first firsts seconds old mid) where
   pub behind_more : (firsts2 seconds2 : List Feature) (P : Order → Shape → HitRule → Option ℕ → List Feature → List Feature → Type 0) → Behind cur firsts2 seconds2 mid P
@@ -102,7 +97,7 @@ module _ (first : Feature) (firsts seconds newly : List Feature) (cur : Feature)
   pub behind_same : (firsts2 : List Feature) (P : Order → Shape → HitRule → Option ℕ → List Feature → List Feature → Type 0) → Behind cur firsts2 [] mid P → Behind first (firsts ++ firsts2) seconds old P
   behind_same firsts2 P behind = subst (λ (l : List Feature). Behind first (firsts ++ firsts2) l old P) (append-nil seconds) (behind_more firsts2 [] P behind)
 
--- ---- what was written behind what was
+-- ---- what was written after what was
 
 module _ (first : Feature) (firsts seconds newly : List Feature) (cur : Feature) (are : first ∷ firsts ≡ newly ++ cur ∷ []) (old mid : Sweeping) (goes : GoesTo first firsts seconds old mid)
     (pending left : List ℕ) (out grown : Output) (wrote : Writes first firsts seconds old newly pending out left grown) (firsts2 newly2 : List Feature) where
@@ -425,31 +420,3 @@ module _ {A B : Type 0} (a_gives : A → List Feature → A → Type 0) (a_ended
               cannot fault (b_line after) limit (taken ++ j.seconds) (room_is order shape rule limit (before ++ j.newly) (taken ++ j.seconds) k) lacks;
         });
       }
-
-  -- ---- b ends before the one that waits, and is passed over
-
-  module _ (cur : Feature) (s : Sweeping) (to_a : A) (to_b : B) (left : List ℕ) (grown : Output) (j : So (Some cur) s to_a to_b left grown) (b : Feature) (after : B) (gives_b : b_gives to_b (b ∷ []) after) (on : b.chrom ≡ first.chrom) (front : j.next ≡ None) where
-    seen_next : (k : So (Some cur) s to_a to_b left grown) × (k.next ≡ Some b)
-    seen_next = (
-      record {
-        firsts = j.firsts;
-        seconds = j.seconds;
-        newly = j.newly;
-        gives_firsts = j.gives_firsts;
-        gives_seconds = j.gives_seconds;
-        are = j.are;
-        waits = j.waits;
-        next = Some b;
-        comes = (after, gives_b);
-        settles = λ order total known. decided_before order j.newly j.seconds (b ∷ []) (settled cur s to_a to_b left grown j b after gives_b on front order total known);
-        each = j.each;
-        goes = j.goes;
-        writes = j.writes;
-      },
-      refl,
-    )
-
-    pub joins_pass : b.stop ≤ cur.start → b.start < b.stop → cur.start < cur.stop → (k : So (Some cur) s to_a after left grown) × (k.next ≡ None) × LeavesOn k.seconds cur
-    joins_pass past filled open_at =
-        let free : is_held cur b ≡ false = and_right (bytes_eq cur.chrom b.chrom) (ltb cur.start b.stop) (le-ltb cur.start b.stop past) in
-        joins_take cur s to_a to_b left grown seen_next.0 b after gives_b on seen_next.1 (omega (arith, past, filled, open_at)) s (holds_none s cur b free) (λ held. absurd (false≢true (sym free ∙ held))) j.waits.1

@@ -34,6 +34,10 @@ known_front order r (x ∷ y ∷ records) left known e = absurd (let apart : [] 
 pub known_single : (order : Order) (one : Single) (r : Feature) → single_left one ≡ r ∷ [] → order.knows r.chrom ≡ true → GivesKnown GivesSingle order one
 known_single order one r is known records to gives = known_front order r records (single_left to) known (sym is ∙ gives.left)
 
+pub known_none : (order : Order) (one : Single) → single_left one ≡ [] → GivesKnown GivesSingle order one
+known_none order one empty [] to gives = refl
+known_none order one empty (r ∷ records) to gives = absurd (let apart : [] ≡ r ∷ (records ++ single_left to) = sym empty ∙ gives.left in cc)
+
 -- records in order lie on known chromosomes
 known_in : (sorting : Sorting) (last : Option Locus) (records more : List Feature) → are_in_order sorting last (records ++ more) ≡ true → list_all (λ r. sorting.knows r.chrom) records ≡ true
 known_in sorting last [] more e = refl

@@ -60,7 +60,7 @@ module _ (order : Order) (total : IsTotal order) (a : Feature) (known : order.kn
       (holds_b order gs taken held a b holds (undecided_before b on.0)) in
       subst (λ (t : List Feature). HoldsFor order (gs ++ a ∷ []) t held) (append_assoc taken (b ∷ []) seconds) (holds_before gs (taken ++ b ∷ []) held seconds on.1 one)
 
--- ---- on one behind it
+-- ---- on one after it
 
 after_decided : (order : Order) (b : Feature) (name : List ℕ) (newly : List Feature) (place : ℕ) → IsTotal order → order.knows name ≡ true → order.compare b.chrom name ≡ Greater → EndUpTo name place newly → AreDecided order newly (b ∷ [])
 after_decided order b name [] place total known compared end = refl
@@ -225,7 +225,7 @@ module _ {A B R : Type 0} (a_gives : A → List Feature → A → Type 0) (a_end
     ];
   }
 
-  -- they lie behind, or the input has ended: what comes next then, and that it decides each
+  -- they lie after it, or the input has ended: what comes next then, and that it decides each
   abbrev IsBehind : List ℕ → Type 0
   IsBehind name = Relates b_gives b_ended name order old.phase first.chrom from_b After
 

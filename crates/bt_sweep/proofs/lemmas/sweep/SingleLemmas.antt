@@ -80,11 +80,6 @@ none_next to empty (Some b) comes = absurd (let apart : [] ≡ b ∷ single_left
 next_is : (to : Single) (b : Feature) → single_left to ≡ b ∷ [] → (r : Feature) (after : Single) → GivesSingle to (r ∷ []) after → b ≡ r
 next_is to b one r after gives = (heads b r [] (single_left after) (sym one ∙ gives.left)).0
 
-pub known_none : (order : Order) (one : Single) → single_left one ≡ [] → GivesKnown GivesSingle order one
-known_none order one empty records to gives =
-    let none = single_none one to records empty gives in
-    ap (λ (l : List Feature). list_all (λ (r : Feature). order.knows r.chrom) l) none
-
 -- ---- what decides one record
 
 undecided_by_none : (order : Order) (a : Feature) → AreDecided order (a ∷ []) [] → ⊥
@@ -97,7 +92,7 @@ one_true false e = e
 decides_one : (order : Order) (a b : Feature) → AreDecided order (a ∷ []) (b ∷ []) → decides order a b ≡ true
 decides_one order a b e = one_true (decides order a b) e
 
--- ---- by what a sweep stands at
+-- ---- by the stage that a sweep is at
 
 over_or_not : (a b : Bool) (phase : Phase) → phase ≡ phase_of a b → (phase ≡ Over → ⊥) → a ≡ false
 over_or_not true b phase e going = absurd (going e)

@@ -1,4 +1,4 @@
--- Lemmas on where a sweep stands once records of both inputs were given and taken.
+-- Lemmas on where a sweep is once records of both inputs were given and taken.
 use Rattle.std.proofs.Common.{◌≡◌, inl, inr, ℕ, Bool, true, false, List, [], ◌∷◌, ◌++◌, Option, Some, None, Ok, Err, Result, refl, sym, ap, ◌∙◌, subst, append-nil, append_assoc, option_to_list, length, ◌≤◌}
 use Rattle.std.specs.Prelude.{IfSome, is_some}
 use Rattle.bt_lines.specs.model.Fault.{FaultValue, no_memory}

@@ -18,7 +18,7 @@ use Rattle.bt_sweep.proofs.lemmas.output.OpenLemmas.{open_kept}
 use Rattle.bt_sweep.proofs.lemmas.sweep.PendingLemmas.{with_none, with_rest, with_rest_cut}
 use Rattle.bt_sweep.proofs.lemmas.laws.PlacedLemmas.{front_placed}
 
--- ---- lists, behind others
+-- ---- lists, after others
 
 module _ (before : List Feature) (first : Feature) (firsts newly : List Feature) (cur : Feature) (are : first ∷ firsts ≡ newly ++ cur ∷ []) where
   pub split_last : before ++ first ∷ firsts ≡ (before ++ newly) ++ cur ∷ []

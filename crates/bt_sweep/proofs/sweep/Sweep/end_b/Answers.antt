@@ -7,7 +7,8 @@ use Rattle.bt_sweep.specs.calls.Steps.{EndsB}
 use Rattle.bt_sweep.specs.calls.SweepState.{Sweeping}
 use Rattle.bt_sweep.specs.calls.SweepView.{order_of, state_of}
 use Rattle.bt_sweep.specs.declared.sweep.phase.Phase.TheVariants.{First}
-use Rattle.bt_sweep.proofs.lemmas.sweep.SingleLemmas.{ends_b, known_none, same_some, stops_end}
+use Rattle.bt_sweep.proofs.lemmas.sweep.KnownLemmas.{known_none}
+use Rattle.bt_sweep.proofs.lemmas.sweep.SingleLemmas.{ends_b, same_some, stops_end}
 use Rattle.bt_sweep.proofs.sweep.Sweep.end_b.Goals as goal
 
 pub decide-requires-clause-known_b : goal.decide-requires-clause-known_b

@@ -1,7 +1,7 @@
 use Rattle.bt_bed.specs.calls.Bed.{feature_lent}
 use Rattle.bt_sweep.specs.calls.SweepView.{order_of, state_of}
-use Rattle.bt_sweep.proofs.lemmas.sweep.KnownLemmas.{known_single}
-use Rattle.bt_sweep.proofs.lemmas.sweep.SingleLemmas.{gives_a, known_none}
+use Rattle.bt_sweep.proofs.lemmas.sweep.KnownLemmas.{known_none, known_single}
+use Rattle.bt_sweep.proofs.lemmas.sweep.SingleLemmas.{gives_a}
 use Rattle.bt_sweep.proofs.sweep.Sweep.give_a.Goals as goal
 
 pub advance-requires-clause-known_a : goal.advance-requires-clause-known_a

@@ -2,8 +2,8 @@ use Rattle.std.proofs.Common.{◌∙◌}
 use Rattle.std.proofs.lemmas.Result.{err_from_is_err_and}
 use Rattle.bt_bed.specs.calls.Bed.{feature_lent}
 use Rattle.bt_sweep.specs.calls.SweepView.{order_of, state_of}
-use Rattle.bt_sweep.proofs.lemmas.sweep.KnownLemmas.{known_single}
-use Rattle.bt_sweep.proofs.lemmas.sweep.SingleLemmas.{decides_a, known_none, stops_b, takes_b}
+use Rattle.bt_sweep.proofs.lemmas.sweep.KnownLemmas.{known_none, known_single}
+use Rattle.bt_sweep.proofs.lemmas.sweep.SingleLemmas.{decides_a, stops_b, takes_b}
 use Rattle.bt_sweep.proofs.sweep.Sweep.give_b.Goals as goal
 
 pub advance-requires-clause-known_a : goal.advance-requires-clause-known_a

@@ -111,7 +111,7 @@ module _ {S O : Type 0} {g : Ghosts O} (now : Records S O g) (batch : Batch) (le
 
 -- ---- the record ahead is in order after those that were passed
 
--- where the last of records stands
+-- where the last of records is
 state_last : (order : Order) (past before : List Feature) (last : Option Locus) → last ≡ option_map locus_of (last_of (intervals_of before))
     → state_behind (bed_format (sorting_of order)) last past ≡ option_map locus_of (last_of (intervals_of (before ++ past)))
 state_last order [] before last e = e ∙ ap (λ (l : List Feature). option_map locus_of (last_of (intervals_of l))) (sym (append-nil before))

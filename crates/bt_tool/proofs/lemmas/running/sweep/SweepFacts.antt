@@ -20,7 +20,7 @@ use Rattle.bt_tool.specs.inside.feed.Feeding.{member_items}
 use Rattle.bt_tool.specs.inside.pair.SweepLoop.{config_of, sweep_join}
 use Rattle.bt_tool.proofs.lemmas.running.pair.PairNear.{AreNeeded, least_by, not_all, skip_by, take_whole}
 
--- it goes by the same as before
+-- it goes by the same shape, rule and limit
 pub same_config : (old new : Sweeping) → SameConfig old new → config_of new ≡ config_of old
 same_config old new same =
     ap (λ (s : Shape). record { shape = s; rule = new.rule; limit = new.limit }) same.shape_is

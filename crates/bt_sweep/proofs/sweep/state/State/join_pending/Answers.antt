@@ -1,4 +1,4 @@
-use Rattle.std.proofs.Common.{[], ◌∷◌, Some, None, ℕ, ap, arith, refl, subst, ◌∙◌}
+use Rattle.std.proofs.Common.{[], ◌∷◌, Some, None, ℕ, ap, refl, subst, ◌∙◌}
 use Rattle.std.proofs.lemmas.Result.{err_from_is_err_and}
 use Rattle.bt_lines.specs.calls.Names.{fault_value}
 use Rattle.bt_bed.specs.model.order.Order.{IsTotal}
@@ -6,7 +6,7 @@ use Rattle.bt_sweep.specs.inside.Joining.{AreDecidedOn}
 use Rattle.bt_sweep.specs.inside.Pending.{pending_in}
 use Rattle.bt_sweep.specs.inside.StateSteps.{CannotHold}
 use Rattle.bt_sweep.specs.calls.SweepState.{Sweeping}
-use Rattle.bt_sweep.proofs.lemmas.sweep.JoinLemmas.{breaks_take, breaks_write, joins_first, joins_pass, joins_take, joins_write, leaves_none}
+use Rattle.bt_sweep.proofs.lemmas.sweep.JoinLemmas.{breaks_take, breaks_write, joins_first, joins_take, joins_write, leaves_none}
 use Rattle.bt_sweep.proofs.sweep.state.State.join_pending.Goals as goal
 
 pub loop-next-init : goal.loop-next-init
@@ -33,7 +33,7 @@ returns-in_err-waiting-clause-joins g c =
     let gives_b = subst (λ (x : g.row.B.Denot). g.B.Cursor.gives x (b ∷ []) c.next.new.self) inv.same c.in-Some.ensures.some in
     let on = c.in-Some.ensures.on ∙ inv.beside ∙ c.requires.beside in
     let e = err_from_is_err_and c.from_residual.result c.from_residual.ensures.1 in
-    let cut = rw c.start-then-start-stop.ensures at c.in_err-waiting.ensures.writes in
+    let cut = rw c.start.ensures at c.in_err-waiting.ensures.writes in
     rw (e.1, e.2)
     (breaks_write g.A.Cursor.gives g.A.Cursor.has_ended g.met.A.Cursor.gives_none g.met.A.Cursor.gives_more g.B.Cursor.gives g.B.Cursor.has_ended g.B.Cursor.line g.met.B.Cursor.gives_none g.met.B.Cursor.gives_more
     c.args.self.now (g.A.Record.Record.feature c.args.first) c.args.firsts.now.cursor c.args.seconds.now (pending_in (g.A.Cursor.consumed c.args.firsts.now.cursor) c.args.firsts.now.from c.args.firsts.now.to) c.args.out.now.output
@@ -49,7 +49,7 @@ returns-in_default-2-clause-joins g c =
     let cur = g.A.Record.Record.feature c.loop-next.current in
     let gives_b = subst (λ (x : g.row.B.Denot). g.B.Cursor.gives x (b ∷ []) c.next.new.self) inv.same c.in-Some.ensures.some in
     let on = c.in-Some.ensures.on ∙ inv.beside ∙ c.requires.beside in
-    let w = rw (c.start-then-start-stop.ensures, c.in_default-2.is) at c.in_ok-waiting.ensures.writes in (
+    let w = rw (c.start.ensures, c.in_default-2.is) at c.in_ok-waiting.ensures.writes in (
       (joins_write g.A.Cursor.gives g.A.Cursor.has_ended g.met.A.Cursor.gives_none g.met.A.Cursor.gives_more g.B.Cursor.gives g.B.Cursor.has_ended g.B.Cursor.line g.met.B.Cursor.gives_none g.met.B.Cursor.gives_more
           c.args.self.now (g.A.Record.Record.feature c.args.first) c.args.firsts.now.cursor c.args.seconds.now (pending_in (g.A.Cursor.consumed c.args.firsts.now.cursor) c.args.firsts.now.from c.args.firsts.now.to) c.args.out.now.output
           cur c.loop-next.self c.loop-next.firsts.cursor c.loop-next.seconds left c.loop-next.out.output inv.going.0 b c.next.new.self gives_b on inv.going.1
@@ -67,7 +67,7 @@ returns-in_err-take-clause-joins g c =
     let cur = g.A.Record.Record.feature c.loop-next.current in
     let gives_b = subst (λ (x : g.row.B.Denot). g.B.Cursor.gives x (b ∷ []) c.next.new.self) inv.same c.in-Some.ensures.some in
     let on = c.in-Some.ensures.on ∙ inv.beside ∙ c.requires.beside in
-    let w = rw (c.start-then-start-stop.ensures, c.in-Some-2.is) at c.in_ok-waiting.ensures.writes in
+    let w = rw (c.start.ensures, c.in-Some-2.is) at c.in_ok-waiting.ensures.writes in
     let cur2 = g.A.Record.Record.feature c.in-Some-2.waiting in
     let j = joins_write g.A.Cursor.gives g.A.Cursor.has_ended g.met.A.Cursor.gives_none g.met.A.Cursor.gives_more g.B.Cursor.gives g.B.Cursor.has_ended g.B.Cursor.line g.met.B.Cursor.gives_none g.met.B.Cursor.gives_more
     c.args.self.now (g.A.Record.Record.feature c.args.first) c.args.firsts.now.cursor c.args.seconds.now (pending_in (g.A.Cursor.consumed c.args.firsts.now.cursor) c.args.firsts.now.from c.args.firsts.now.to) c.args.out.now.output
@@ -81,8 +81,8 @@ returns-in_err-take-clause-joins g c =
     cur2 c.write_up_to.new.self c.write_up_to.new.firsts.cursor c.loop-next.seconds rest c.write_up_to.new.out.output j.0 b c.next.new.self gives_b on j.1 w.1.0
     c.in_err-take.field-0.0 lacks.1 (subst (λ (n : ℕ). CannotHold c.write_up_to.new.self n c.in_err-take.field-0.0) c.line.ensures lacks.2))
 
-pub loop-next-preserved-in_ok-take : goal.loop-next-preserved-in_ok-take
-loop-next-preserved-in_ok-take g c =
+pub loop-next-preserved : goal.loop-next-preserved
+loop-next-preserved g c =
     let inv = c.loop-next.invariant in
     let left = pending_in (g.A.Cursor.consumed c.loop-next.firsts.cursor) c.loop-next.firsts.from c.loop-next.firsts.to in
     let rest = pending_in (g.A.Cursor.consumed c.write_up_to.new.firsts.cursor) c.write_up_to.new.firsts.from c.write_up_to.new.firsts.to in
@@ -90,7 +90,7 @@ loop-next-preserved-in_ok-take g c =
     let cur = g.A.Record.Record.feature c.loop-next.current in
     let gives_b = subst (λ (x : g.row.B.Denot). g.B.Cursor.gives x (b ∷ []) c.next.new.self) inv.same c.in-Some.ensures.some in
     let on = c.in-Some.ensures.on ∙ inv.beside ∙ c.requires.beside in
-    let w = rw (c.start-then-start-stop.ensures, c.in-Some-2.is) at c.in_ok-waiting.ensures.writes in
+    let w = rw (c.start.ensures, c.in-Some-2.is) at c.in_ok-waiting.ensures.writes in
     let cur2 = g.A.Record.Record.feature c.in-Some-2.waiting in
     let j = joins_write g.A.Cursor.gives g.A.Cursor.has_ended g.met.A.Cursor.gives_none g.met.A.Cursor.gives_more g.B.Cursor.gives g.B.Cursor.has_ended g.B.Cursor.line g.met.B.Cursor.gives_none g.met.B.Cursor.gives_more
     c.args.self.now (g.A.Record.Record.feature c.args.first) c.args.firsts.now.cursor c.args.seconds.now (pending_in (g.A.Cursor.consumed c.args.firsts.now.cursor) c.args.firsts.now.from c.args.firsts.now.to) c.args.out.now.output
@@ -109,28 +109,6 @@ loop-next-preserved-in_ok-take g c =
           c.args.self.now (g.A.Record.Record.feature c.args.first) c.args.firsts.now.cursor c.args.seconds.now (pending_in (g.A.Cursor.consumed c.args.firsts.now.cursor) c.args.firsts.now.from c.args.firsts.now.to) c.args.out.now.output
           cur2 c.write_up_to.new.self c.write_up_to.new.firsts.cursor c.loop-next.seconds rest c.write_up_to.new.out.output j.0 b c.next.new.self gives_b on j.1 w.1.0
           c.take.new.self takes.0 takes.1 c.in_ok-take.ensures.hits;
-    }
-
-pub loop-next-preserved : goal.loop-next-preserved
-loop-next-preserved g c =
-    let inv = c.loop-next.invariant in
-    let left = pending_in (g.A.Cursor.consumed c.loop-next.firsts.cursor) c.loop-next.firsts.from c.loop-next.firsts.to in
-    let b = g.B.Record.Record.feature c.in-Some.next in
-    let cur = g.A.Record.Record.feature c.loop-next.current in
-    let gives_b = subst (λ (x : g.row.B.Denot). g.B.Cursor.gives x (b ∷ []) c.next.new.self) inv.same c.in-Some.ensures.some in
-    let on = c.in-Some.ensures.on ∙ inv.beside ∙ c.requires.beside in
-    record {
-      none = inv.none;
-      phase = inv.phase;
-      on = inv.on;
-      line = inv.line;
-      quiet = inv.quiet;
-      beside = c.next.ensures.same ∙ inv.beside;
-      same = refl;
-      going = joins_pass g.A.Cursor.gives g.A.Cursor.has_ended g.met.A.Cursor.gives_none g.met.A.Cursor.gives_more g.B.Cursor.gives g.B.Cursor.has_ended g.B.Cursor.line g.met.B.Cursor.gives_none g.met.B.Cursor.gives_more
-          c.args.self.now (g.A.Record.Record.feature c.args.first) c.args.firsts.now.cursor c.args.seconds.now (pending_in (g.A.Cursor.consumed c.args.firsts.now.cursor) c.args.firsts.now.from c.args.firsts.now.to) c.args.out.now.output
-          cur c.loop-next.self c.loop-next.firsts.cursor c.loop-next.seconds left c.loop-next.out.output inv.going.0 b c.next.new.self gives_b on inv.going.1
-          (omega (arith, c.if-start-stop.false, c.start.ensures, c.stop.ensures.is)) (g.B.Record.Record.filled c.in-Some.next) (g.A.Record.Record.filled c.loop-next.current);
     }
 
 pub returns-clause-joins : goal.returns-clause-joins
