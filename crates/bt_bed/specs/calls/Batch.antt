@@ -35,12 +35,12 @@ unfoldable pub left : Batch → List Feature
 left batch = run_of batch.name.now batch.start (lines_in batch.lines)
 
 -- those after the next one, which starts here
-unfoldable pub left_behind : Batch → ℕ → List Feature
-left_behind batch start = run_of batch.name.now start (drop 1 (lines_in batch.lines))
+unfoldable pub left_after : Batch → ℕ → List Feature
+left_after batch start = run_of batch.name.now start (drop 1 (lines_in batch.lines))
 
 -- the record comes next
 pub record StandsFirst (batch : Batch) (r : RawRecord) : Type 0 where
-  pub left_is : left batch ≡ record_in r ∷ left_behind batch (record_in r).start
+  pub left_is : left batch ≡ record_in r ∷ left_after batch (record_in r).start
   pub line : Shown
   pub cut : Cut (rest_in (cursor_in batch)) line
   pub text_is : text_in r ≡ line.text

@@ -1,5 +1,5 @@
 -- A feature as the definitions see it.
-use Rattle.std.specs.Prelude.{◌≡◌, ◌<◌, ℕ, ◌-◌, ◌≤◌, ⊤, List, length, drop, Option, Some, None, Result}
+use Rattle.std.specs.Prelude.{◌≡◌, ℕ, ◌-◌, ◌≤◌, ⊤, List, length, drop, Option, Some, None, Result}
 use Rattle.std.specs.Prelude.{Ok, Err, option_map}
 use Rattle.bt_lines.specs.declared.fault.Kind.{Kind}
 use Rattle.bt_bed.specs.model.feature.Feature.{Feature}
@@ -15,10 +15,6 @@ feature_lent bed =
       strand = bed.strand;
       rest = bed.rest.now;
     }
-
--- it has a base
-pub lent_filled : (bed : BedRef) → (feature_lent bed).start < (feature_lent bed).stop
-lent_filled bed = bed.non_empty
 
 abbrev pub feature_seen : Result BedRef Kind → Result Feature Kind
 feature_seen (Ok bed) = Ok (feature_lent bed)

@@ -1,5 +1,5 @@
 -- What a line says of which a record's start and end were read.
-use Rattle.std.specs.Prelude.{◌≡◌, ◌<◌, ◌+◌, ◌++◌, ◌∷◌, ℕ, List, [], Some, Ok, drop, take}
+use Rattle.std.specs.Prelude.{◌≡◌, ◌+◌, ◌++◌, ◌∷◌, ℕ, List, [], Some, Ok, drop, take}
 use Rattle.std.specs.Io.BufRead.{strip_last}
 use Rattle.bt_bed.specs.model.feature.Feature.{Feature}
 use Rattle.bt_bed.specs.model.feature.Record.{bed_text, columns_in, record_of, strand_of}
@@ -27,11 +27,6 @@ record_in raw =
       strand = strand_of (columns_in (kept_in raw));
       rest = kept_in raw;
     }
-
--- it has a base
-pub raw_filled : (raw : RawRecord) → (record_in raw).start < (record_in raw).stop
-unfolding record_in
-raw_filled raw = raw.bounds.below
 
 -- it is what this line, without its line feed, says on the chromosome of this name
 pub record IsOnLine (line name : List ℕ) (raw : RawRecord) : Type 0 where

@@ -14,9 +14,9 @@ ghost use Rattle.bt_bed.specs.model.order.Contiguous.{prefixes_are_contiguous, p
 /// Records in order stay so with a next one that isn't below the last, and so do the first of them.
 pub fn order_grows()
     ensures placed { placed_grows }
-    ensures together { contiguous_grows }
-    ensures placed_front { prefixes_are_placed }
-    ensures together_front { prefixes_are_contiguous }
+    ensures contiguous { contiguous_grows }
+    ensures placed_prefix { prefixes_are_placed }
+    ensures contiguous_prefix { prefixes_are_contiguous }
 {}
 
 /// In a total order of the chromosomes the records of each are contiguous.

@@ -14,8 +14,8 @@ pub(crate) struct ParsedNumber {
     pub(crate) end: usize,
 }
 
-// The number of the column that begins here, which denotes one. Its value and its end come by themselves, so that no
-// memory is made ready for both where one is asked for.
+// The number of the column that begins here, which denotes one. Value and end are found separately, so that neither
+// goes through memory.
 #[inline(always)]
 pub(crate) fn parse_number(text: &[u8], from: usize) -> ParsedNumber
     requires { from ≤ length text.now }

@@ -41,7 +41,7 @@ pub struct Consumed {
     pub(crate) is_ahead: bool,
 }
 
-#[tactic(auto, unfolding(crate::specs::calls::Batch::left, crate::specs::calls::Batch::left_behind, crate::specs::calls::Batch::chrom_in, crate::specs::calls::Batch::start_in, crate::specs::calls::Batch::line_in, crate::specs::calls::Batch::cursor_in, crate::specs::calls::RawRecord::text_in))]
+#[tactic(auto, unfolding(crate::specs::calls::Batch::left, crate::specs::calls::Batch::left_after, crate::specs::calls::Batch::chrom_in, crate::specs::calls::Batch::start_in, crate::specs::calls::Batch::line_in, crate::specs::calls::Batch::cursor_in, crate::specs::calls::RawRecord::text_in))]
 impl<'a> Batch<'a> {
     ghost use Rattle.std.specs.Prelude.{◌≡◌, ◌<◌, ◌≤◌, ◌∷◌, ◌++◌, [], IfNone, IfSome, false, length, take};
     ghost use Rattle.std.specs.Io.BufRead.{strip_last};
@@ -82,8 +82,8 @@ impl<'a> Batch<'a> {
         Some(record)
     }
 
-    /// The next record, which isn't consumed. Its first three columns are scanned in the buffer, and the line is parsed
-    /// if they look otherwise than most.
+    /// The next record, which isn't consumed. Its first three columns are scanned in the buffer; the line is parsed if the
+    /// scan declines.
     #[inline(always)]
     pub fn first(&self) -> Option<RawRecord<'a>>
         ensures some { IfSome result (StandsFirst self.now) }
@@ -111,7 +111,7 @@ impl<'a> Batch<'a> {
         }
     }
 
-    // The same as it is scanned: none proves nothing.
+    // The record by a scan of the first columns; `None` says nothing.
     #[inline(always)]
     fn scan(&self, line: &'a [u8]) -> Option<RawRecord<'a>>
         requires { take (length line.now) (rest_in (cursor_in self.now)) ≡ line.now }
@@ -134,7 +134,7 @@ impl<'a> Batch<'a> {
         })
     }
 
-    // The same as the line is parsed.
+    // The record by the parser; `None` only if the line says none on the chromosome.
     #[inline(always)]
     fn parse(&self, line: &'a [u8]) -> Option<RawRecord<'a>>
         ensures some { IfSome result (IsOnLine line.now (chrom_in self.now)) }
@@ -213,7 +213,7 @@ impl<'a> Batch<'a> {
     }
 }
 
-// Whether the column that reaches so far in a line, which has no line feed, ends there. No carriage return is its last byte.
+// Whether the column of a line that reaches up to `end` ends there. The byte before `end` is no carriage return.
 #[inline(always)]
 fn ends_column(line: &[u8], end: usize) -> bool
     requires { end ≤ length line.now → get_or line.now (end - 1) 0 ≡ 13 → ⊥ }
@@ -226,7 +226,7 @@ fn ends_column(line: &[u8], end: usize) -> bool
     end == line.len()
 }
 
-// Whether the text of a line has so many bytes. It stands apart, since most lines end by a line feed alone.
+// Whether the text of a line has `end` bytes. Out of line: few lines end by CR LF.
 #[cold]
 #[inline(never)]
 fn ends_text(line: &[u8], end: usize) -> bool

@@ -8,11 +8,11 @@ pub(crate) mod rec;
 pub(crate) mod strand;
 pub(crate) mod taken;
 
-ghost use Rattle.std.specs.Prelude.{◌≡◌, ◌<◌, ◌∷◌, ◌++◌, ℕ, List, [], IfSome, IsTrue};
-ghost use Rattle.bt_bed.specs.calls.Bed.{feature_lent, lent_filled};
+ghost use Rattle.std.specs.Prelude.{◌≡◌, ◌∷◌, ◌++◌, ℕ, List, [], IfSome, IsTrue};
+ghost use Rattle.bt_bed.specs.calls.Bed.{feature_lent};
 ghost use Rattle.bt_bed.specs.model.feature.Feature.{Feature};
 ghost use Rattle.bt_bed.specs.model.feature.Record.{IsFeature, bed_text};
-ghost use Rattle.bt_bed.specs.calls.RawRecord.{raw_filled, raw_in, record_in};
+ghost use Rattle.bt_bed.specs.calls.RawRecord.{raw_in, record_in};
 
 use crate::record::bed::BedRef;
 use crate::record::kept_strand::kept_strand;
@@ -27,9 +27,6 @@ pub trait Record: Copy {
 
     // The bytes of its line with its end, if it is on one that is buffered.
     ghost raw: { Self → List ℕ };
-
-    // It has a base.
-    ghost filled: { (r : Self) → (feature r).start < (feature r).stop };
 
     /// The record with its columns.
     fn bed(&self) -> BedRef<'_>
@@ -61,8 +58,6 @@ impl<'a> Record for BedRef<'a> {
     ghost feature = { feature_lent };
 
     ghost raw = { λ bed. [] };
-
-    ghost filled = { lent_filled };
 
     #[inline(always)]
     fn bed(&self) -> BedRef<'_> {
@@ -100,8 +95,6 @@ impl<'a> Record for RawRecord<'a> {
     ghost feature = { record_in };
 
     ghost raw = { raw_in };
-
-    ghost filled = { raw_filled };
 
     #[inline(always)]
     fn bed(&self) -> BedRef<'_> {

@@ -6,7 +6,7 @@ ghost use Rattle.bt_lines.specs.calls.FirstLine.{IsFirst, ending_at, line_shown}
 ghost use Rattle.bt_lines.specs.inside.Shape.{IsLast, is_fed};
 
 use crate::reader::line::{Line, LineEnd};
-use crate::reader::newline::{find_newline, line_length};
+use crate::reader::newline::line_length;
 
 /// The complete lines that a reader has buffered, as a cursor over them. What was consumed is reported to the reader
 /// ([`LineReader::consume`](crate::LineReader::consume)).
@@ -96,13 +96,20 @@ impl<'a> BufferedLines<'a> {
         ensures some { IfSome result (λ line. lines_in self.now ≡ line_of self.now (line_shown line) ∷ lines_after self.now line.size) }
         ensures none { IfNone result (lines_in self.now ≡ []) }
     {
-        first_line(self.rest())
+        if self.is_empty() {
+            return None;
+        }
+        let line = self.first_line();
+        Some(LineText {
+            text: without_return(line),
+            size: line.len() + 1,
+        })
     }
 
-    /// The bytes of the next line without its line feed, or none if there is no line. It isn't consumed.
+    /// The bytes of the next line without its line feed: empty if there is no line. It isn't consumed.
     #[inline(always)]
     pub fn first_line(&self) -> &'a [u8]
-        ensures front { take (length result.now) (rest_in self.now) ≡ result.now }
+        ensures prefix { take (length result.now) (rest_in self.now) ≡ result.now }
         ensures some { 0 < length (rest_in self.now) → Cut (rest_in self.now) (shown_of result.now)
             × (lines_in self.now ≡ line_of self.now (shown_of result.now) ∷ lines_after self.now (length result.now + 1)) }
         ensures none { rest_in self.now ≡ [] → lines_in self.now ≡ [] }
@@ -197,18 +204,6 @@ impl<'a> BufferedLines<'a> {
             lines: self.lines,
         }
     }
-}
-
-// The text of the first line of these bytes, if they have a line feed.
-#[inline(always)]
-pub(crate) fn first_line(bytes: &[u8]) -> Option<LineText<'_>>
-    ensures { IsFirst bytes.now (option_map line_shown result) }
-{
-    let length = find_newline(bytes)?;
-    Some(LineText {
-        text: without_return(&bytes[..length]),
-        size: length + 1,
-    })
 }
 
 // How a line ends, by whether it has a carriage return at its end and whether it lacks a line feed.

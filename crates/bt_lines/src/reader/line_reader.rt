@@ -8,9 +8,7 @@ ghost use Rattle.bt_lines.specs.inside.Shape.{IsLast, held_at};
 use crate::device::Source;
 use crate::fault::faults::no_memory;
 use crate::fault::{Fault, Input, Kind, Place};
-use crate::reader::buffered_lines::{
-    BufferedLines, ConsumedLines, LineText, ending_of, first_line,
-};
+use crate::reader::buffered_lines::{BufferedLines, ConsumedLines, LineText, ending_of};
 use crate::reader::line::{Line, LineEnd};
 use crate::reader::read_buffer::ReadBuffer;
 use crate::reader::spill::{Stop, read_lines};
@@ -220,7 +218,7 @@ impl<S: Source> LineReader<S> {
         ensures unchanged { result ≡ false → self.new ≡ self.old }
         ensures none { result ≡ false → complete self.old.buffer ≡ [] }
     {
-        let Some(LineText { text, size }) = first_line(self.buffer.lines()) else {
+        let Some(LineText { text, size }) = self.buffered().first() else {
             return false;
         };
         let length = text.len();

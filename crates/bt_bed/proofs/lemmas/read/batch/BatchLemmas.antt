@@ -9,7 +9,7 @@ use Rattle.bt_lines.specs.calls.FirstLine.{Cut, shown_of}
 use Rattle.bt_lines.specs.model.Lines.{TextLine}
 use Rattle.bt_bed.proofs.lemmas.read.batch.RunLemmas.{placed_there, placed_below, placed_elsewhere, run_nil, run_none, run_some}
 use Rattle.bt_bed.proofs.lemmas.records.RawRecordLemmas.{name_within}
-use Rattle.bt_bed.specs.calls.Batch.{StandsFirst, chrom_in, cursor_in, left, left_behind, start_in}
+use Rattle.bt_bed.specs.calls.Batch.{StandsFirst, chrom_in, cursor_in, left, left_after, start_in}
 use Rattle.bt_bed.specs.model.feature.Feature.{Feature}
 use Rattle.bt_bed.specs.calls.RawRecord.{IsOnLine, raw_in, record_in, text_in}
 use Rattle.bt_bed.specs.model.feature.Record.{record_of}
@@ -47,7 +47,7 @@ module _ (batch : Batch) (line : List ℕ) (front : take (length line) (rest_in 
     (first : lines_in (cursor_in batch) ≡ line_of (cursor_in batch) (shown_of line) ∷ lines_after (cursor_in batch) (length line + 1)) where
   -- the record of the next line, which doesn't start below, comes next
   pub stands_first : (raw : RawRecord) → IsOnLine line (chrom_in batch) raw → start_in batch ≤ (record_in raw).start → StandsFirst batch raw
-  unfolding left left_behind chrom_in start_in cursor_in text_in raw_in rest_in
+  unfolding left left_after chrom_in start_in cursor_in text_in raw_in rest_in
   stands_first raw is above = record {
     left_is =
         ap (λ l. left_of l) first

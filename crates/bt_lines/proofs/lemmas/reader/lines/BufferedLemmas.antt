@@ -1,6 +1,6 @@
 -- Lemmas on the lines that are left of those buffered.
-use Rattle.std.proofs.Common.{◌≡◌, ℕ, suc, ◌+◌, ◌-◌, ◌^◌, ◌<◌, ◌≤◌, Bool, true, false, List, [], ◌∷◌, ◌++◌, length, take, drop, Option, None, Some, refl, sym, ap, ◌∙◌, length-append, append_assoc, append-nil, subst, inl, inr, arith}
-use Rattle.std.specs.Prelude.{option_map, nat_lt, IfSome, IfNone}
+use Rattle.std.proofs.Common.{◌≡◌, ℕ, suc, ◌+◌, ◌-◌, ◌^◌, ◌<◌, ◌≤◌, Bool, true, false, List, [], ◌∷◌, ◌++◌, length, take, drop, Option, refl, sym, ap, ◌∙◌, length-append, append_assoc, append-nil, subst, inl, inr, arith}
+use Rattle.std.specs.Prelude.{nat_lt}
 use Rattle.std.specs.Io.BufRead.{ends_with_byte, strip_last}
 use Rattle.std.proofs.lemmas.Bool.{cases_lt}
 use Rattle.std.proofs.lemmas.Bool.Decides.{nat_tests}
@@ -13,12 +13,11 @@ use Rattle.bt_lines.proofs.lemmas.reader.lines.StepLemmas.{last_line-some}
 use Rattle.bt_lines.proofs.lemmas.reader.lines.TextLemmas.{whole_lines_from-fed, whole_lines_from-last}
 use Rattle.bt_lines.specs.calls.Buffered.{BeginsLines, buffered_lines, line_of, lines_after, lines_in, rest_in}
 use Rattle.bt_lines.specs.calls.FirstByte.{IsBefore}
-use Rattle.bt_lines.specs.calls.FirstLine.{Cut, IsFirst, Shown, ending_at, line_shown, shown_of}
+use Rattle.bt_lines.specs.calls.FirstLine.{Cut, IsFirst, Shown, ending_at, shown_of}
 use Rattle.bt_lines.specs.calls.LentLine.{NoLineFeed}
 use Rattle.bt_lines.specs.model.Lines.{TextLine, fed_line, lines_from, whole_lines_from}
 use Rattle.bt_lines.specs.inside.Shape.{IsLast, is_fed}
 use Rattle.bt_lines.specs.declared.reader.buffered_lines.BufferedLines.{BufferedLines}
-use Rattle.bt_lines.specs.declared.reader.buffered_lines.LineText.{LineText}
 
 abbrev pub shown_line : Bool → ℕ → Shown → TextLine
 shown_line is_open lines line = record { number = suc lines; text = line.text; ending = ending_at is_open (nat_lt (length line.text + 1) line.size) }
@@ -50,17 +49,6 @@ lines_first true lines bytes line cut fed last =
 lines_none : (is_open : Bool) (lines : ℕ) (bytes : List ℕ) → NoLineFeed bytes → is_fed bytes ≡ true → buffered_lines is_open lines bytes ≡ []
 lines_none false lines bytes clear fed = whole_lines_from-last (suc lines) bytes clear
 lines_none true lines bytes clear fed = ap (λ l. lines_from (suc lines) (take (length l - 1) l)) (fed_clear bytes fed clear) ∙ lines_from-nil (suc lines)
-
-pub first_some : (cursor : BufferedLines) (found : Option LineText) → IsFirst (rest_in cursor) (option_map line_shown found)
-    → IfSome found (λ line. lines_in cursor ≡ line_of cursor (line_shown line) ∷ lines_after cursor line.size)
-unfolding rest_in lines_in
-first_some cursor None first = tt
-first_some cursor (Some line) first = lines_first cursor.is_open cursor.lines (drop cursor.at cursor.all.now) (line_shown line) first cursor.fed cursor.last
-
-pub first_none : (cursor : BufferedLines) (found : Option LineText) → IsFirst (rest_in cursor) (option_map line_shown found) → IfNone found (lines_in cursor ≡ [])
-unfolding rest_in lines_in
-first_none cursor None first = lines_none cursor.is_open cursor.lines (drop cursor.at cursor.all.now) first cursor.fed
-first_none cursor (Some line) first = tt
 
 -- ---- the bytes of the first line
 
@@ -142,11 +130,21 @@ kept_after cursor line size cut e =
       last = rw behind (record { none_behind = λ h. refl; one = λ h. rw (gone h) (omega arith); some = λ h. rw (gone h) refl });
     }
 
--- a cursor that begins has all lines
+-- a cursor that begins has all bytes
+pub begins_rest : (cursor : BufferedLines) (bytes : List ℕ) (lines : ℕ) (is_open : Bool) → BeginsLines bytes lines is_open cursor → rest_in cursor ≡ bytes
+unfolding rest_in
+begins_rest cursor bytes lines is_open b = ap (λ n. drop n cursor.all.now) b.at ∙ b.bytes_are
+
+-- the first line that it finds is that of the bytes
+pub begins_first : (cursor : BufferedLines) (bytes : List ℕ) (lines : ℕ) (is_open : Bool) (line : Option Shown) → BeginsLines bytes lines is_open cursor
+    → IsFirst (rest_in cursor) line → IsFirst bytes line
+begins_first cursor bytes lines is_open line b = subst (λ xs. IsFirst xs line) (begins_rest cursor bytes lines is_open b)
+
+-- and all lines
 pub begins_lines : (cursor : BufferedLines) (bytes : List ℕ) (lines : ℕ) (is_open : Bool) → BeginsLines bytes lines is_open cursor → lines_in cursor ≡ buffered_lines is_open lines bytes
 unfolding lines_in rest_in
 begins_lines cursor bytes lines is_open b =
-    ap (λ l. buffered_lines cursor.is_open cursor.lines l) (ap (λ n. drop n cursor.all.now) b.at ∙ b.bytes_are)
+    ap (λ l. buffered_lines cursor.is_open cursor.lines l) (begins_rest cursor bytes lines is_open b)
     ∙ ap (λ n. buffered_lines cursor.is_open n bytes) b.given ∙ ap (λ o. buffered_lines o lines bytes) b.open_is
 
 -- none is left of no bytes

@@ -32,6 +32,10 @@ pub are_fed : (buffer : ReadBuffer) → AreComplete buffer.is_spilled (complete 
 unfolding complete
 are_fed buffer = buffer.are_complete
 
+-- a line that was cut is within the bytes
+pub cut_within : (bytes : List ℕ) (line : Shown) → Cut bytes line → line.size ≤ length bytes
+cut_within bytes line cut = omega (arith, cut.size_is, ap length cut.cut, length-append cut.piece (10 ∷ drop line.size bytes))
+
 lines_fit_by : (is_spilled : Bool) (spilled bytes : List ℕ) (start whole end : ℕ) → is_spilled ≡ false → start ≤ cond is_spilled (length spilled) whole → whole ≤ end → end ≤ block_size
     → length (cond is_spilled (drop start spilled) (slice_range bytes start whole) ++ slice_range bytes whole end) ≤ block_size
 lines_fit_by true spilled bytes start whole end e o w b = absurd (false≢true (sym e))

@@ -1,13 +1,13 @@
 use Rattle.std.proofs.Common.{◌∷◌, refl, sym, ap, take, ◌∙◌}
 use Rattle.bt_lines.specs.calls.Buffered.{rest_in}
-use Rattle.bt_bed.specs.calls.Batch.{chrom_in, consumed_in, cursor_in, left, left_behind, start_in}
+use Rattle.bt_bed.specs.calls.Batch.{chrom_in, consumed_in, cursor_in, left, left_after, start_in}
 use Rattle.bt_bed.specs.calls.RawRecord.{raw_in, record_in, text_in}
 use Rattle.bt_bed.specs.calls.Run.{run_of}
 use Rattle.bt_bed.proofs.lemmas.read.batch.ConsumedLemmas.{one_more}
 use Rattle.bt_bed.proofs.read.batch.Batch.consume.Goals as goal
 
 pub returns-clause-passes : goal.returns-clause-passes
-unfolding left left_behind chrom_in cursor_in start_in record_in
+unfolding left left_after chrom_in cursor_in start_in record_in
 returns-clause-passes c =
     let raw = c.args.raw.now in
     record {

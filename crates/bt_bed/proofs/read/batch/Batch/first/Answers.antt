@@ -10,7 +10,7 @@ unfolding cursor_in chrom_in
 returns-in_err-record-clause-none c =
     let line = c.first_line-line.result.now in
     let is = c.first_line-line.ensures in
-    none_holds c.from_residual.result _ (none_either c.args.self.now _ refl is.none (λ some. none_elsewhere c.args.self.now line is.front (is.some some).0 (is.some some).1 c.in_err-record.ensures.none))
+    none_holds c.from_residual.result _ (none_either c.args.self.now _ refl is.none (λ some. none_elsewhere c.args.self.now line is.prefix (is.some some).0 (is.some some).1 c.in_err-record.ensures.none))
 
 pub returns-then-record-self-clause-none : goal.returns-then-record-self-clause-none
 unfolding cursor_in chrom_in start_in record_in
@@ -18,8 +18,8 @@ returns-then-record-self-clause-none c =
     let line = c.first_line-line.result.now in
     let is = c.first_line-line.ensures in
     let raw = c.in_ok-record.record in
-    let here = is.some (some_bytes raw line (rest_in c.args.self.now.lines) c.in_ok-record.ensures.some.line_is is.front) in
-    none_below c.args.self.now line is.front here.0 here.1 raw c.in_ok-record.ensures.some c.if-record-self.true
+    let here = is.some (some_bytes raw line (rest_in c.args.self.now.lines) c.in_ok-record.ensures.some.line_is is.prefix) in
+    none_below c.args.self.now line is.prefix here.0 here.1 raw c.in_ok-record.ensures.some c.if-record-self.true
 
 pub returns-clause-some : goal.returns-clause-some
 unfolding cursor_in chrom_in start_in record_in
@@ -27,5 +27,5 @@ returns-clause-some c =
     let line = c.first_line-line.result.now in
     let is = c.first_line-line.ensures in
     let raw = c.in_ok-record.record in
-    let here = is.some (some_bytes raw line (rest_in c.args.self.now.lines) c.in_ok-record.ensures.some.line_is is.front) in
-    stands_first c.args.self.now line is.front here.0 here.1 raw c.in_ok-record.ensures.some c.if-record-self.false
+    let here = is.some (some_bytes raw line (rest_in c.args.self.now.lines) c.in_ok-record.ensures.some.line_is is.prefix) in
+    stands_first c.args.self.now line is.prefix here.0 here.1 raw c.in_ok-record.ensures.some c.if-record-self.false

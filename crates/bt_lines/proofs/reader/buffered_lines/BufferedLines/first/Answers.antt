@@ -1,8 +1,9 @@
-use Rattle.bt_lines.proofs.lemmas.reader.lines.BufferedLemmas.{first_none, first_some}
+use Rattle.std.proofs.Common.{arith, sym, ◌∙◌}
+use Rattle.std.proofs.lemmas.Bool.Decides.{nat_tests}
+use Rattle.std.proofs.lemmas.List.{nil_from_length}
+use Rattle.bt_lines.specs.calls.Buffered.{rest_in}
+use Rattle.bt_lines.proofs.lemmas.reader.lines.BufferedLemmas.{line_none}
 use Rattle.bt_lines.proofs.reader.buffered_lines.BufferedLines.first.Goals as goal
 
-pub returns-clause-some : goal.returns-clause-some
-returns-clause-some c = first_some c.args.self.now c.first_line.result (rw c.rest.ensures at c.first_line.ensures)
-
-pub returns-clause-none : goal.returns-clause-none
-returns-clause-none c = first_none c.args.self.now c.first_line.result (rw c.rest.ensures at c.first_line.ensures)
+pub returns-then-is_empty-clause-none : goal.returns-then-is_empty-clause-none
+returns-then-is_empty-clause-none c = line_none c.args.self.now (nil_from_length (rest_in c.args.self.now) (grind (arith, nat_tests, sym c.is_empty.ensures ∙ c.if-is_empty.true)))
