@@ -1,20 +1,18 @@
 -- Lemmas on lines of which a record's bounds were read.
-use Rattle.std.proofs.Common.{◌≡◌, ℕ, zero, suc, ◌+◌, ◌-◌, ◌<◌, ◌≤◌, List, [], ◌∷◌, ◌++◌, length, take, drop, get_or, Some, Ok, true, false, refl, sym, ap, ◌∙◌, subst, arith, append_assoc, decimal, eq-eqb, eqb, length-append, length-drop}
+use Rattle.std.proofs.Common.{◌≡◌, ℕ, zero, suc, ◌+◌, ◌-◌, ◌<◌, ◌≤◌, List, [], ◌∷◌, ◌++◌, length, take, drop, get_or, Some, Ok, false, refl, sym, ap, ◌∙◌, subst, arith, append_assoc, decimal, eq-eqb, eqb, length-append, length-drop}
 use Rattle.std.specs.Prelude.{IsTrue, not}
 use Rattle.std.specs.Char.{is_ascii_digit}
-use Rattle.std.specs.Io.BufRead.{ends_with_byte, strip_last}
+use Rattle.std.specs.Io.BufRead.{strip_last}
 use Rattle.std.specs.List.{list_all}
-use Rattle.std.proofs.Math.Seq.{get_or-append_seam}
 use Rattle.std.proofs.lemmas.List.Folds.{list_all_at}
 use Rattle.std.specs.Str.Parse.{AllDigits}
 use Rattle.std.proofs.lemmas.Fmt.{decimal-digits_value}
 use Rattle.std.proofs.lemmas.Bool.{false≢true}
-use Rattle.std.proofs.lemmas.List.{drop_more, get_or-drop, get_or-take, get_or_append_left, length-take-le, take-append-drop, take-append-le}
+use Rattle.std.proofs.lemmas.List.{drop_more, get_or-drop, get_or-take, get_or_append_left, length-take-le, take-append-drop}
 use Rattle.std.proofs.lemmas.Str.Parse.{numerals_by_value, tells_digits}
 use Rattle.bt_lines.specs.model.Number.{value_of}
 use Rattle.bt_lines.proofs.lemmas.numbers.NumberLemmas.{all_digits_in, digits_denoting}
 use Rattle.bt_lines.proofs.lemmas.reader.lines.BufferedLemmas.{strip_begins}
-use Rattle.bt_lines.proofs.lemmas.reader.lines.LinesLemmas.{strip_last-push}
 use Rattle.bt_bed.specs.model.feature.Feature.{Feature}
 use Rattle.bt_bed.specs.inside.FirstColumns.{HasColumns, Leads}
 use Rattle.bt_bed.specs.model.feature.Record.{IsFeature, bed_text, columns_in, record_of, strand_of}
@@ -142,30 +140,13 @@ byte_there line i inside =
     let begins = strip_begins line in
     ap (λ l. get_or l i 0) begins.1 ∙ get_or_append_left (strip_last 13 line) begins.0 0 i inside
 
-pub front_there : (line : List ℕ) (n : ℕ) → n ≤ length (strip_last 13 line) → take n line ≡ take n (strip_last 13 line)
-front_there line n within =
-    let begins = strip_begins line in
-    ap (take n) begins.1 ∙ take-append-le n (strip_last 13 line) begins.0 within
-
 pub text_less : (line : List ℕ) → length (strip_last 13 line) ≤ length line
 text_less line =
     let begins = strip_begins line in
     omega (arith, ap length begins.1, length-append (strip_last 13 line) begins.0)
 
--- the name stands in the line as in the text
-pub name_there : (raw : RawRecord) → take raw.name raw.line.now ≡ take raw.name (strip_last 13 raw.line.now)
-name_there raw = front_there raw.line.now raw.name (let inside = raw.named.within in omega arith)
-
 pub name_within : (raw : RawRecord) → raw.name < length raw.line.now
 name_within raw = let inside = raw.named.within in omega (arith, text_less raw.line.now)
-
--- the last byte of a line on which a carriage return ends it
-pub last_return : (line : List ℕ) → ends_with_byte 13 line ≡ true → get_or line (length line - 1) 0 ≡ 13
-last_return line e =
-    let text = strip_last 13 line in
-    let is : text ++ 13 ∷ [] ≡ line = strip_last-push 13 line e in
-    let at : length line - 1 ≡ length text = omega (arith, ap length is, length-append text (13 ∷ [])) in
-    ap (λ n. get_or line n 0) at ∙ ap (λ l. get_or l (length text) 0) (sym is) ∙ get_or-append_seam text 13 [] 0
 
 -- no carriage return is the last byte of the third column
 pub no_return_there : (bytes name line : List ℕ) (start stop : ParsedNumber) → HasColumns bytes name start stop → take (length line) bytes ≡ line

@@ -1,5 +1,5 @@
 -- What one put after another does to an output.
-use Rattle.std.proofs.Common.{◌≡◌, ◌≤◌, ℕ, Bool, arith, length, length-append, subst, List, [], ◌∷◌, ◌++◌, Option, None, Some, Result, Ok, Err, true, false, refl, sym, ap, ◌∙◌, append_assoc, append-nil}
+use Rattle.std.proofs.Common.{◌≡◌, ◌≤◌, ℕ, Bool, length, subst, List, [], ◌∷◌, ◌++◌, Option, None, Some, Result, Ok, Err, true, false, refl, sym, ap, ◌∙◌, append_assoc, append-nil}
 use Rattle.std.specs.Prelude.{OnOk, OnErr, IfErr, IsErr, flat_map}
 use Rattle.std.proofs.lemmas.Grind.{flat_map-append}
 use Rattle.std.proofs.KnownBytes.{Appends-trans, Appends-nil}
@@ -118,28 +118,6 @@ grown_all old new bytes some p = record {
   again = λ e. absurd (false≢true (sym p.was_served ∙ e));
   nothing = λ e. absurd (some e);
 }
-
--- what is held back after the first of two pieces
-holds_first : (took old new : Option (List ℕ)) (xs ys : List ℕ) → HoldsBlock took old → Appends old new (xs ++ ys) → HoldsBlock took new → HoldsBlock took (append_known old xs)
-holds_first None old new xs ys was then now = ([], tt, omega arith)
-holds_first (Some t) None new xs ys was then now = absurd was.1
-holds_first (Some t) (Some o) None xs ys was then now = absurd then
-holds_first (Some t) (Some o) (Some n) xs ys was then now =
-    let size : length (o ++ (xs ++ ys)) ≡ length (t ++ now.0) = ap length (sym then ∙ now.1) in
-    let front : length o ≡ length (t ++ was.0) = ap length was.1 in (
-      was.0 ++ xs,
-      ap (λ l. l ++ xs) was.1 ∙ append_assoc t was.0 xs,
-      omega (arith, size, front, now.2, length-append o (xs ++ ys), length-append xs ys, length-append t now.0, length-append t was.0, length-append was.0 xs),
-    )
-
-appends_second : (old new : Option (List ℕ)) (xs ys : List ℕ) → Appends old new (xs ++ ys) → Appends (append_known old xs) new ys
-appends_second None new xs ys p = tt
-appends_second (Some o) None xs ys p = absurd p
-appends_second (Some o) (Some n) xs ys p = p ∙ sym (append_assoc o xs ys)
-
-appends_first : (old : Option (List ℕ)) (xs : List ℕ) → Appends old (append_known old xs) xs
-appends_first None xs = tt
-appends_first (Some o) xs = refl
 
 pub grown_none : (old : Output) → Grown old [] old
 grown_none old = record {

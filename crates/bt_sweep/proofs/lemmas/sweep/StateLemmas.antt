@@ -21,9 +21,6 @@ pub hits_of : (current : Option Feature) (held : List Feature) → AreReady curr
 hits_of None held ready = tt
 hits_of (Some a) held ready = ready.hits a refl
 
-pub on_one_from : (name : List ℕ) (start : ℕ) (held : List Feature) → All (CanHitAt name start) held → AreOnOne held
-on_one_from name start held on = λ k d h. ((on k d h).2, λ i e l. (on i e l).0 ∙ sym (on k d h).0)
-
 pub on_one_filter : (p : Feature → Bool) (held : List Feature) → AreOnOne held → AreOnOne (filter p held)
 on_one_filter p held on =
     All-filter p (λ (b : Feature). (b.start < b.stop) × All (λ (r : Feature). r.chrom ≡ b.chrom) (filter p held)) held
@@ -47,20 +44,6 @@ module _ (name : List ℕ) (start : ℕ) where
       All-from_recursion (CanHitAt name start) (filter (λ r. ltb start r.stop) (b ∷ more))
       (kept_rec (b ∷ more) (recursion_from_All (λ (r : Feature). (r.chrom ≡ name) × (r.start < r.stop)) (b ∷ more)
       (λ k d h. ((first k d h) ∙ same_name b.chrom name e, (on k d h).0))))
-
--- one more is held
-pub hits_pushed : (name : List ℕ) (start : ℕ) (held new : List Feature) (b : Feature) → b.chrom ≡ name → start < b.stop → b.start < b.stop → All (CanHitAt name start) held → new ≡ held ++ b ∷ [] → All (CanHitAt name start) new
-hits_pushed name start held new b same ends filled on is = subst (All (CanHitAt name start)) (sym is) (All-push (CanHitAt name start) held b on (same, ends, filled))
-
--- whether one was held or not
-pub pushed_or_not : {T E : Type 0} (r : Result T E) (start : ℕ) (b : Feature) (held new : List Feature) → start < b.stop → b.start < b.stop → All (CanHitAt b.chrom start) held
-    → OnOk r (new ≡ held ++ b ∷ []) → OnErr r (new ≡ held) → AreOnOne new
-pushed_or_not (Ok done) start b held new ends filled on is none = on_one_from b.chrom start new (hits_pushed b.chrom start held new b refl ends filled on is)
-pushed_or_not (Err f) start b held new ends filled on is none = subst AreOnOne (sym none) (on_one_from b.chrom start held on)
-
-pub on_ok_of : {T E : Type 0} {P : Type 0} (r : Result T E) → is_err r ≡ false → OnOk r P → P
-on_ok_of (Ok done) e h = h
-on_ok_of (Err f) e h = absurd (false≢true (sym e))
 
 -- a record beside which nothing is held is one that nothing hits
 pub none_against : (shape : Shape) (rule : HitRule) (a : Feature) (held : List Feature) → length held ≡ 0 → lines_of shape a [] ≡ lines_for shape rule a held

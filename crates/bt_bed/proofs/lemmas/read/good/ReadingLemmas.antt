@@ -111,21 +111,6 @@ module _ {S A State : Type 0} (device : Source S) where
   stays_same : (reader : MemberReader S A State) → Stays device.left reader reader
   stays_same reader = record { bytes = ([], hands_none device.left reader.below); format = refl }
 
-  -- a fault that is kept is returned
-  pub fault_again : (old : MemberReader S A State) (fault : FaultValue) → old.fault ≡ Some fault → old.buffered ≡ [] → AnswersFault device old fault old
-  fault_again old fault kept none = record {
-    kept = kept;
-    was_none = none;
-    none_buffered = none;
-    state = refl;
-    again = λ before was. (let both : Some fault ≡ Some before = sym kept ∙ was in cc, refl);
-    first = λ was. absurd (let apart : None ≡ Some fault = sym was ∙ kept in cc);
-    stays = stays_same old;
-    rises = omega arith;
-    lines = λ none. (came_none device old.below).lines;
-    near = λ going. cc;
-  }
-
   -- lines were read from the reader
   pub record Begun (old : MemberReader S A State) : Type 0 where
     pub was_going : old.fault ≡ None

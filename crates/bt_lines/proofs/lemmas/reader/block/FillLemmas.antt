@@ -15,13 +15,13 @@ use Rattle.bt_lines.specs.model.Lines.{TextLine, line_feeds, lines_from}
 use Rattle.bt_lines.specs.calls.Names.{fault_value}
 use Rattle.bt_lines.specs.inside.ReadBuffer.{complete, unread}
 use Rattle.bt_lines.specs.calls.Reader.{CutsFirst, FillsLines, HasRead, TellsOwnFailure, GivesLine, MakesLine, SameLines, Stepped, StepsTo, buffered_bytes, bytes_left, bytes_taken, end_told, fault_kept, feeds_taken, has_ended, held, input_of, left_at, lines_given, lines_left, source_of}
-use Rattle.bt_lines.specs.inside.ReaderState.{ended_at, fault_at, lends_at, open_at, taken_at, text_at}
+use Rattle.bt_lines.specs.inside.ReaderState.{ended_at, fault_at, lends_at, open_at, taken_at}
 use Rattle.bt_lines.specs.inside.Shape.{held_at}
 use Rattle.bt_lines.specs.declared.fault.Fault.{Fault}
 use Rattle.bt_lines.specs.declared.fault.Input.{Input}
 use Rattle.bt_lines.specs.declared.reader.line_reader.LineReader.{LineReader}
 use Rattle.bt_lines.specs.declared.reader.line_reader.State.{State}
-use Rattle.bt_lines.specs.declared.reader.line_reader.State.TheVariants.{Reading, LastLine, Ended, ReadFailed, TooLong, NoMemory}
+use Rattle.bt_lines.specs.declared.reader.line_reader.State.TheVariants.{Reading, LastLine, Ended}
 
 same_lines : (lines : Option (List TextLine)) → SameLines lines lines
 same_lines None = tt
@@ -37,14 +37,6 @@ first_after (Some xs) b line c same first = first_of_same xs b line c same first
 going_by : (state : State) (input : Input) (lines taken : ℕ) → (state ≡ Reading) ⊎ (state ≡ LastLine) → (fault_at state input lines ≡ None) × (ended_at state ≡ false) × (taken_at state taken ≡ taken)
 going_by state input lines taken (inl e) = rw e (refl, refl, refl)
 going_by state input lines taken (inr e) = rw e (refl, refl, refl)
-
-text_none : (state : State) (lines : ℕ) (text : List ℕ) → ended_at state ≡ true → text_at state lines text ≡ None
-text_none Reading lines text e = absurd (false≢true e)
-text_none LastLine lines text e = absurd (false≢true e)
-text_none Ended lines text e = refl
-text_none ReadFailed lines text e = absurd (false≢true e)
-text_none TooLong lines text e = absurd (false≢true e)
-text_none NoMemory lines text e = absurd (false≢true e)
 
 some_told : (fault : Fault) (kept : Option FaultValue) → kept ≡ Some (fault_value fault) → kept ≡ None → ⊥
 some_told fault kept e f = false≢true (ap is_some (sym f ∙ e))
