@@ -1,7 +1,6 @@
 -- Lemmas on calls with one record: they are calls with cursors over one record, or over none.
 use Rattle.std.proofs.Common.{◌≡◌, ◌⊎◌, inl, inr, ℕ, Bool, true, false, cond, ◌&&◌, ◌||◌, List, [], ◌∷◌, ◌++◌, Option, Some, None, Ok, Err, Result, refl, sym, ap, ◌∙◌, subst, append-nil, length, option_to_list, bytes_eq, ltb, ◌<◌, ◌≤◌}
 use Rattle.std.specs.Prelude.{OnErr, IfSome, is_some}
-use Rattle.std.specs.List.{list_all}
 use Rattle.std.proofs.lemmas.Bool.{and_from, false≢true, lt-ltb}
 use Rattle.bt_lines.specs.model.Fault.{FaultValue}
 use Rattle.bt_lines.specs.calls.Names.{fault_value}
@@ -19,7 +18,7 @@ use Rattle.bt_bed.specs.declared.read.cursor.Single.{Single}
 use Rattle.bt_bed.specs.declared.record.taken.Taken.TheVariants.{Yes, No}
 use Rattle.bt_bed.proofs.lemmas.parse.NameLemmas.{name_eq}
 use Rattle.bt_sweep.specs.calls.Advancing.{AdvancesOn, AdvancesSo, FailsAt, FailsToTake, HasWritten, IsThis, Settles, StopsFor, stage_after}
-use Rattle.bt_sweep.specs.calls.Taking.{AreDecided, ComesNext, GivesKnown, TakenEach}
+use Rattle.bt_sweep.specs.calls.Taking.{AreDecided, ComesNext, TakenEach}
 use Rattle.bt_sweep.specs.model.Deciding.{decides}
 use Rattle.bt_sweep.specs.model.IntersectLines.{intersect, lines_for}
 use Rattle.bt_sweep.specs.inside.Joining.{Breaks, JoinsSo, Keeps, StopsAt}

@@ -1,10 +1,9 @@
 -- Lemmas on what a sweep keeps.
-use Rattle.std.proofs.Common.{◌≡◌, ◌<◌, ℕ, Bool, true, false, cond, List, [], ◌∷◌, ◌++◌, length, Option, Some, None, Result, Ok, Err, refl, sym, ◌∙◌, subst, ltb, arith, filter}
-use Rattle.std.specs.Prelude.{All, IfSome, OnOk, OnErr, slice_index_or}
+use Rattle.std.proofs.Common.{◌≡◌, ◌<◌, ℕ, Bool, true, false, cond, List, [], ◌∷◌, length, Option, Some, None, refl, sym, ◌∙◌, ltb, arith, filter}
+use Rattle.std.specs.Prelude.{All, IfSome, slice_index_or}
 use Rattle.std.specs.List.{AllByRecursion}
-use Rattle.std.specs.Result.{is_err}
 use Rattle.std.proofs.lemmas.Bool.{false≢true, ltb-true}
-use Rattle.std.proofs.lemmas.List.Elements.{All-filter, All-push, All-from_recursion, recursion_from_All}
+use Rattle.std.proofs.lemmas.List.Elements.{All-filter, All-from_recursion, recursion_from_All}
 use Rattle.bt_bed.specs.model.feature.Feature.{Feature}
 use Rattle.bt_bed.proofs.lemmas.parse.NameLemmas.{same_name}
 use Rattle.bt_sweep.specs.calls.Held.{AreReady, AreOnOne, CanHit, CanHitAt}
