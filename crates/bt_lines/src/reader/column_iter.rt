@@ -5,7 +5,7 @@ ghost use Rattle.std.specs.Iterator.{YieldsFirstRef, item_count};
 ghost use Rattle.bt_lines.specs.calls.Columns.{columns_left, columns_of_rest};
 ghost use Rattle.bt_lines.specs.model.Lines.{pieces};
 
-use bstr::ByteSlice;
+use crate::reader::split::first_tab;
 
 /// The columns of a text that are still to come.
 #[derive(Clone, Copy, Debug)]
@@ -32,7 +32,7 @@ impl<'a> Iterator for Columns<'a> {
 fn first_column(text: &[u8]) -> (&[u8], Option<&[u8]>)
     ensures { pieces 9 text.now ≡ result.0.now ∷ columns_of_rest result.1 }
 {
-    match text.find(b"\t") {
+    match first_tab(text) {
         Some(end) => (&text[..end], Some(&text[end + 1..])),
         None => (text, None),
     }

@@ -5,6 +5,7 @@ ghost use Rattle.bt_lines.specs.calls.Columns.{CutAt, IsFirstTab, columns_left};
 ghost use Rattle.bt_lines.specs.model.Lines.{pieces};
 
 use crate::reader::column_iter::Columns;
+use bstr::ByteSlice;
 
 /// The pieces of a text between tabs. A text without a tab is one column, the empty text too.
 pub fn columns(text: &[u8]) -> Columns<'_>
@@ -13,19 +14,10 @@ pub fn columns(text: &[u8]) -> Columns<'_>
     Columns { rest: Some(text) }
 }
 
-/// How many bytes come before the first tab of a text, if it has one. It is searched byte by byte, which for a short
-/// column takes less time than `find_byte`.
-#[inline]
+/// How many bytes come before the first tab of a text, if it has one.
 pub fn first_tab(text: &[u8]) -> Option<usize>
     ensures first { IfSome result (IsFirstTab text.now) }
     ensures cut { CutAt text.now result }
 {
-    let mut end = 0;
-    while end < text.len() {
-        if text[end] == b'\t' {
-            return Some(end);
-        }
-        end += 1;
-    }
-    None
+    text.find(b"\t")
 }
