@@ -12,7 +12,7 @@ use Rattle.bt_lines.specs.declared.fault.Fault.{Fault}
 use Rattle.bt_seq.specs.calls.GivenLines.{PassesLines}
 use Rattle.bt_seq.specs.calls.MaskSettles.{GoesOn}
 use Rattle.bt_seq.specs.calls.MaskStage.{IsNext, MaskStage, want_at}
-use Rattle.bt_seq.specs.calls.MaskStanding.{MaskStandsAt}
+use Rattle.bt_seq.specs.calls.MaskStanding.{MaskMovesTo, MaskStandsAt}
 use Rattle.bt_seq.specs.calls.MaskState.{Masking}
 use Rattle.bt_seq.specs.calls.MaskSteps.{FailsToHoldRecord, FailsToWriteLine, FailsWithLine, LacksSequence, RefusesLine}
 use Rattle.bt_seq.specs.model.Sequences.{SequenceLine}
@@ -33,7 +33,7 @@ module _ (how : MaskHow) (full : Bool) where
     pub stage : MaskStage
     pub bytes : List ℕ
     pub goes_on : GoesOn how full old lines records stage bytes
-    pub stands : MaskStandsAt how full stage mask
+    pub stands : MaskMovesTo how full stage mask
     pub puts : Grown out bytes grown
 
   -- lines that nothing masks weren't all written
@@ -88,8 +88,8 @@ pub record GivesLines {A : Type 0} (old : Masking) (lines : BufferedLines) (out 
     (answer : Result A Fault) (new : Masking) (left : BufferedLines) (grown : Output) : Type 0 where
   pub texts : List TextLine
   pub passes : PassesLines lines texts left
-  pub comes : (how : MaskHow) (full : Bool) (stage : MaskStage) → MaskStandsAt how full stage old
-      → LinesCome how full stage texts out answer new grown
+  pub comes : (stage : MaskStage) → MaskStandsAt stage old
+      → LinesCome old.how old.full stage texts out answer new grown
 
 module _ {C : Type 0} (gives : C → List Feature → C → Type 0) (line_at : C → ℕ)
     (has_ended : C → Type 0) where
@@ -144,18 +144,18 @@ module _ {C : Type 0} (gives : C → List Feature → C → Type 0) (line_at : C
     pub passes : PassesLines lines texts lines_left
     pub taken : List Feature
     pub given : gives records taken records_left
-    pub comes : (how : MaskHow) (full : Bool) (stage : MaskStage) → MaskStandsAt how full stage old
+    pub comes : (stage : MaskStage) → MaskStandsAt stage old
         → ComesNext stage.ahead records
-        → BothCome how full stage texts taken out records answer new records_left grown
+        → BothCome old.how old.full stage texts taken out records answer new records_left grown
 
   -- the next record was given, or none is there
   pub record GivesRecord {A : Type 0} (old : Masking) (records : C) (out : Output)
       (answer : Result A Fault) (new : Masking) (left : C) (grown : Output) : Type 0 where
     pub taken : List Feature
     pub given : gives records taken left
-    pub comes : (how : MaskHow) (full : Bool) (stage : MaskStage) → MaskStandsAt how full stage old
+    pub comes : (stage : MaskStage) → MaskStandsAt stage old
         → ComesNext stage.ahead records
-        → BothCome how full stage [] taken out records answer new left grown
+        → BothCome old.how old.full stage [] taken out records answer new left grown
 
 -- nothing is taken and nothing is written
 abbrev pub Stays : {C : Type 0} → Masking → BufferedLines → C → Output → Masking → BufferedLines → C

@@ -32,10 +32,7 @@ pub record Waits (stage : MaskStage) (line : SequenceLine) : Type 0 where
   pub header : is_header line.text ≡ true → line.before ≡ 0
 
 -- The engine is at the stage: what waits, what is wanted and what is held are those of the stage.
-pub record MaskStandsAt (how : MaskHow) (full : Bool) (stage : MaskStage)
-    (m : Masking) : Type 0 where
-  pub how_is : m.how ≡ how
-  pub full_is : m.full ≡ full
+pub record MaskStandsAt (stage : MaskStage) (m : Masking) : Type 0 where
   pub waiting_is : m.waiting ≡ option_map kept_line stage.waiting
   pub want_is : m.want ≡ want_at stage
   pub bed_ended_is : m.bed_ended ≡ stage.bed_ended
@@ -49,6 +46,13 @@ pub record MaskStandsAt (how : MaskHow) (full : Bool) (stage : MaskStage)
   -- each block taken belongs to a sequence
   pub owned : is_some (left_after (reached stage).names stage.taken) ≡ true
   pub inside : KnowsStage stage m
+
+-- it is at the stage, and masks and names sequences like this
+pub record MaskMovesTo (how : MaskHow) (full : Bool) (stage : MaskStage)
+    (new : Masking) : Type 0 where
+  pub stands : MaskStandsAt stage new
+  pub how_is : new.how ≡ how
+  pub full_is : new.full ≡ full
 
 -- No prefix of the records taken decides all lines given: so none was taken after the first record
 -- that did.

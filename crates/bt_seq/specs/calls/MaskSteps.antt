@@ -13,7 +13,7 @@ use Rattle.bt_lines.specs.declared.fault.Input.TheVariants.{First, Second}
 use Rattle.bt_lines.specs.declared.fault.Kind.{Kind}
 use Rattle.bt_lines.specs.declared.fault.Kind.TheVariants.{NoSequence}
 use Rattle.bt_seq.specs.calls.MaskStage.{MaskStage, is_written_at_once, reached, with_bed_ended, with_decided, with_line, with_record}
-use Rattle.bt_seq.specs.calls.MaskStanding.{MaskStandsAt}
+use Rattle.bt_seq.specs.calls.MaskStanding.{MaskMovesTo}
 use Rattle.bt_seq.specs.calls.MaskPrefixes.{LineBefore}
 use Rattle.bt_seq.specs.model.Masked.{decided, held_for, masked_line}
 use Rattle.bt_seq.specs.calls.MaskState.{Masking}
@@ -48,7 +48,7 @@ module _ (how : MaskHow) (full : Bool) (stage : MaskStage) (line : TextLine) (ou
   pub record TakesNextLine (new : Masking) (grown : Output) : Type 0 where
     pub item : SequenceLine
     pub says : line_says full (reached stage) line ≡ Ok (Some item)
-    pub stands : MaskStandsAt how full (with_line stage item) new
+    pub stands : MaskMovesTo how full (with_line stage item) new
     pub puts : Grown out (bytes_with how stage item) grown
     -- by the law that decided lines stay, said here for the caller
     pub settled : IsSettled how stage item
@@ -81,13 +81,13 @@ module _ (how : MaskHow) (full : Bool) (stage : MaskStage) (line : SequenceLine)
   -- it leaves the line undecided, and is taken
   pub record TakesRecord (new : Masking) (grown : Output) : Type 0 where
     pub undecided : decided line (stage.taken ++ r ∷ []) ≡ false
-    pub stands : MaskStandsAt how full (with_record stage r) new
+    pub stands : MaskMovesTo how full (with_record stage r) new
     pub same_output : grown ≡ out
 
   -- it decides the line, which is written as it stays, whatever follows in order
   pub record WritesLine (new : Masking) (grown : Output) : Type 0 where
     pub decides : decided line (stage.taken ++ r ∷ []) ≡ true
-    pub stands : MaskStandsAt how full (with_decided stage r) new
+    pub stands : MaskMovesTo how full (with_decided stage r) new
     pub puts : Grown out (masked_line how stage.taken line) grown
     pub settled : LineBefore how line stage.taken r
 
@@ -118,7 +118,7 @@ module _ (how : MaskHow) (full : Bool) (stage : MaskStage) (r : Feature) (number
   -- its block belongs to a sequence
   pub record HasSequence (new : Masking) (grown : Output) : Type 0 where
     pub owned : is_some (left_after (reached stage).names (stage.taken ++ r ∷ [])) ≡ true
-    pub stands : MaskStandsAt how full (with_record stage r) new
+    pub stands : MaskMovesTo how full (with_record stage r) new
     pub same_output : grown ≡ out
 
   -- its block belongs to none, which no block before it does
@@ -138,7 +138,7 @@ module _ (how : MaskHow) (full : Bool) (stage : MaskStage) (r : Feature) (number
 abbrev pub EndsRecords : {A : Type 0} → MaskHow → Bool → MaskStage → SequenceLine → Output
     → Result A Fault → Masking → Output → Type 0
 EndsRecords how full stage line out (Ok done) new grown =
-    MaskStandsAt how full (with_bed_ended stage) new
+    MaskMovesTo how full (with_bed_ended stage) new
     × Grown out (masked_line how stage.taken line) grown
 EndsRecords how full stage line out (Err fault) new grown =
     (new.want ≡ Nothing) × FailsToAdd out (masked_line how stage.taken line) (fault_value fault) grown
@@ -147,7 +147,7 @@ EndsRecords how full stage line out (Err fault) new grown =
 abbrev pub EndsCheck : {A : Type 0} → MaskHow → Bool → MaskStage → Output → Result A Fault → Masking
     → Output → Type 0
 EndsCheck how full stage out (Ok done) new grown =
-    MaskStandsAt how full (with_bed_ended stage) new × (grown ≡ out)
+    MaskMovesTo how full (with_bed_ended stage) new × (grown ≡ out)
 EndsCheck how full stage out (Err fault) new grown = ⊥
 
 -- a record that leaves the line undecided and hasn't to be held is taken, and nothing is written

@@ -14,7 +14,7 @@ ghost use Rattle.bt_bed.specs.calls.Bed.{feature_lent};
 ghost use Rattle.bt_bed.specs.model.input.GoodBlocks.{AreInBlocks};
 ghost use Rattle.bt_lines.specs.calls.LentLine.{line_seen};
 ghost use Rattle.bt_seq.specs.calls.MaskStage.{IsNext, MaskStage, first_stage, given, held_by, line_given_last, want_at, with_lines_ended};
-ghost use Rattle.bt_seq.specs.calls.MaskStanding.{MaskStandsAt};
+ghost use Rattle.bt_seq.specs.calls.MaskStanding.{MaskMovesTo, MaskStandsAt};
 ghost use Rattle.bt_seq.specs.calls.MaskAdvance.{GivesBoth, GivesRecord, Stays, StopsAt, left_to_give};
 ghost use Rattle.bt_seq.specs.calls.MaskSteps.{ChecksRecord, EndsCheck, EndsRecords, GivesNextLine, GivesBed};
 ghost use Rattle.bt_seq.specs.model.Sequences.{SequenceLine};
@@ -51,7 +51,7 @@ impl Mask {
     /// An engine that was given nothing. With `full` a sequence's name is its whole header, and else
     /// what comes before the first space or tab. It doesn't allocate.
     pub fn new(alloc: Global, how: MaskHow, full: bool) -> Mask
-        ensures stands { MaskStandsAt how full first_stage result }
+        ensures stands { MaskMovesTo how full first_stage result }
     {
         Mask {
             state: MaskState::new(alloc, how, full),
@@ -61,8 +61,7 @@ impl Mask {
     /// What it wants next.
     pub fn want(&self) -> MaskWant
         ensures is { result ≡ self.now.want }
-        ensures stage { (how : MaskHow) (full : Bool) (stage : MaskStage)
-            → MaskStandsAt how full stage self.now → result ≡ want_at stage }
+        ensures stage { (stage : MaskStage) → MaskStandsAt stage self.now → result ≡ want_at stage }
     {
         self.state.want()
     }
@@ -71,8 +70,7 @@ impl Mask {
     /// given last and reach past its start. After the last line none is added, since the records of
     /// a block rise.
     pub fn kept_len(&self) -> usize
-        ensures stage { (how : MaskHow) (full : Bool) (stage : MaskStage)
-            → MaskStandsAt how full stage self.now
+        ensures stage { (stage : MaskStage) → MaskStandsAt stage self.now
             → (stage.lines_ended ≡ false) ⊎ AreInBlocks stage.taken
             → result ≡ length (held_by (line_given_last (given stage)) stage.taken) }
     {
@@ -86,8 +84,8 @@ impl Mask {
     /// be named, or a line that waits or is to be masked can't be kept.
     pub fn give_line<K: Sink>(&mut self, line: &Line<'_>, out: &mut Out<K>) -> Result<(), Fault>
         requires { self.old.want ≡ MaskWant.Line }
-        ensures gives { (how : MaskHow) (full : Bool) (stage : MaskStage) → MaskStandsAt how full stage self.old
-            → GivesNextLine how full stage (line_seen line.now) out.old.output result self.new out.new.output }
+        ensures gives { (stage : MaskStage) → MaskStandsAt stage self.old
+            → GivesNextLine self.old.how self.old.full stage (line_seen line.now) out.old.output result self.new out.new.output }
         ensures stops { OnErr result (self.new.want ≡ MaskWant.Nothing) }
     {
         self.state.take_line(line, out)
@@ -165,8 +163,8 @@ impl Mask {
     /// to belong to a sequence.
     pub fn end_lines(&mut self)
         requires { self.old.want ≡ MaskWant.Line }
-        ensures stands { (how : MaskHow) (full : Bool) (stage : MaskStage) → MaskStandsAt how full stage self.old
-            → MaskStandsAt how full (with_lines_ended stage) self.new }
+        ensures stands { (stage : MaskStage) → MaskStandsAt stage self.old
+            → MaskMovesTo self.old.how self.old.full (with_lines_ended stage) self.new }
     {
         self.state.end_lines();
     }
@@ -183,14 +181,14 @@ impl Mask {
         out: &mut Out<K>,
     ) -> Result<Taken, Fault>
         requires { self.old.want ≡ MaskWant.Bed }
-        ensures waits { (how : MaskHow) (full : Bool) (stage : MaskStage) (waiting : SequenceLine)
-            → MaskStandsAt how full stage self.old → stage.waiting ≡ Some waiting
+        ensures waits { (stage : MaskStage) (waiting : SequenceLine)
+            → MaskStandsAt stage self.old → stage.waiting ≡ Some waiting
             → IsNext stage.ahead (feature_lent bed.now)
-            → GivesBed how full stage waiting (feature_lent bed.now) out.old.output result self.new out.new.output }
-        ensures none_waits { (how : MaskHow) (full : Bool) (stage : MaskStage)
-            → MaskStandsAt how full stage self.old → stage.waiting ≡ None
+            → GivesBed self.old.how self.old.full stage waiting (feature_lent bed.now) out.old.output result self.new out.new.output }
+        ensures none_waits { (stage : MaskStage)
+            → MaskStandsAt stage self.old → stage.waiting ≡ None
             → IsNext stage.ahead (feature_lent bed.now)
-            → ChecksRecord how full stage (feature_lent bed.now) line out.old.output result self.new out.new.output }
+            → ChecksRecord self.old.how self.old.full stage (feature_lent bed.now) line out.old.output result self.new out.new.output }
         ensures stops { OnErr result (self.new.want ≡ MaskWant.Nothing) }
         ensures leaves { result ≡ Ok Taken.No → self.new.want ≡ MaskWant.Line }
     {
@@ -205,12 +203,12 @@ impl Mask {
     /// that can't be written.
     pub fn end_bed<K: Sink>(&mut self, out: &mut Out<K>) -> Result<(), Fault>
         requires { self.old.want ≡ MaskWant.Bed }
-        ensures waits { (how : MaskHow) (full : Bool) (stage : MaskStage) (waiting : SequenceLine)
-            → MaskStandsAt how full stage self.old → stage.waiting ≡ Some waiting
-            → EndsRecords how full stage waiting out.old.output result self.new out.new.output }
-        ensures none_waits { (how : MaskHow) (full : Bool) (stage : MaskStage)
-            → MaskStandsAt how full stage self.old → stage.waiting ≡ None
-            → EndsCheck how full stage out.old.output result self.new out.new.output }
+        ensures waits { (stage : MaskStage) (waiting : SequenceLine)
+            → MaskStandsAt stage self.old → stage.waiting ≡ Some waiting
+            → EndsRecords self.old.how self.old.full stage waiting out.old.output result self.new out.new.output }
+        ensures none_waits { (stage : MaskStage)
+            → MaskStandsAt stage self.old → stage.waiting ≡ None
+            → EndsCheck self.old.how self.old.full stage out.old.output result self.new out.new.output }
         ensures stops { OnErr result (self.new.want ≡ MaskWant.Nothing) }
     {
         self.state.end_bed(out)

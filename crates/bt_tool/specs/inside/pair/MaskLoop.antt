@@ -107,7 +107,9 @@ module _ {A B : Type 0} (source_a : Source A) (source_b : Source B)
       pub past_first : List (Member SequenceLine)
       pub past_second : List (Member Feature)
       pub stage : MaskStage
-      pub stands : MaskStandsAt how full stage mask
+      pub stands : MaskStandsAt stage mask
+      pub how_is : mask.how ≡ how
+      pub full_is : mask.full ≡ full
       pub comes : Comes (mask_join how) mask_pair out (stage_of stage) past_first past_second
           first second grown
       -- the record ahead, if one is known to be, is the next one

@@ -17,13 +17,13 @@ use Rattle.bt_seq.proofs.lemmas.mask.steps.CopyLemmas.{none_pass, pass_more, pas
 use Rattle.bt_seq.proofs.lemmas.mask.steps.LineStepLemmas.{gives_line}
 use Rattle.bt_seq.proofs.lemmas.mask.bases.MaskingLemmas.{passes_line}
 use Rattle.bt_seq.proofs.lemmas.mask.steps.SettleLemmas.{decided_goes, goes_more, goes_nowhere, line_goes, record_goes}
-use Rattle.bt_seq.proofs.lemmas.mask.steps.StandLemmas.{wants_bed, wants_line}
+use Rattle.bt_seq.proofs.lemmas.mask.steps.StandLemmas.{stays_at, wants_bed, wants_line}
 use Rattle.bt_seq.specs.inside.mask.CopyThrough.{CopiesThrough, StayEach, passed_all}
 use Rattle.bt_seq.specs.calls.GivenLines.{PassesLines}
 use Rattle.bt_seq.specs.calls.MaskAdvance.{BothCome, ComesAfter, ComesNext, FailsAtRecord, GivesBoth, GivesLines, GivesRecord, HasCome, LinesCome, asks_more, left_to_give}
 use Rattle.bt_seq.specs.calls.MaskSettles.{GoesOn}
 use Rattle.bt_seq.specs.calls.MaskStage.{IsNext, MaskStage, is_written_at_once, reached, want_of, with_decided, with_line, with_record}
-use Rattle.bt_seq.specs.calls.MaskStanding.{MaskStandsAt}
+use Rattle.bt_seq.specs.calls.MaskStanding.{MaskMovesTo, MaskStandsAt}
 use Rattle.bt_seq.specs.calls.MaskState.{Masking, TakesLine, passed, stays_as_given}
 use Rattle.bt_seq.specs.calls.MaskSteps.{ChecksRecord, GivesBed, GivesNextLine, TakesNextLine, bytes_with}
 use Rattle.bt_seq.specs.model.Masked.{masked_line}
@@ -62,28 +62,28 @@ module _ (how : MaskHow) (full : Bool) where
   record LineCopied (stage : MaskStage) (m : Masking) (line : TextLine) : Type 0 where
     item : SequenceLine
     says : line_says full (reached stage) line ≡ Ok (Some item)
-    stands : MaskStandsAt how full (with_line stage item) (passed m line.text)
+    stands : MaskMovesTo how full (with_line stage item) (passed m line.text)
     bytes : spelled line ≡ bytes_with how stage item
 
-  line_copied : (stage : MaskStage) (m : Masking) → MaskStandsAt how full stage m → m.want ≡ Line → (line : TextLine) → stays_as_given m line.text ≡ true → LineCopied stage m line
+  line_copied : (stage : MaskStage) (m : Masking) → MaskMovesTo how full stage m → m.want ≡ Line → (line : TextLine) → stays_as_given m line.text ≡ true → LineCopied stage m line
   line_copied stage m stands wants line stay =
       let t : TakesNextLine how full stage line (put_known []) (passed m line.text) (put_known (spelled line)) =
       gives_line how full stage m stands wants line (put_known []) (passed m line.text) (put_known (spelled line)) (Ok (tt {0}))
       (passes_line (tt {0}) m (passed m line.text) line.number (record { text = line.text; ending = line.ending }) (put_known []) (put_known (spelled line)) (stay, refl, grown_known (spelled line))) in
       record { item = t.item; says = t.says; stands = t.stands; bytes = bytes_known (spelled line) (bytes_with how stage t.item) t.puts }
 
-  none_waits : (stage : MaskStage) (m : Masking) → MaskStandsAt how full stage m → m.want ≡ Line → stage.waiting ≡ None
-  none_waits stage m stands wants = (wants_line stage.waiting stage.lines_ended stage.bed_ended (sym stands.want_is ∙ wants)).0
+  none_waits : (stage : MaskStage) (m : Masking) → MaskMovesTo how full stage m → m.want ≡ Line → stage.waiting ≡ None
+  none_waits stage m stands wants = (wants_line stage.waiting stage.lines_ended stage.bed_ended (sym stands.stands.want_is ∙ wants)).0
 
   -- where lines that are copied through lead to
   pub record LinesCopied (stage : MaskStage) (m : Masking) (lines : List TextLine) : Type 0 where
     pub now : MaskStage
     pub goes : GoesOn how full stage lines [] now (flat_map spelled lines)
-    pub stands : MaskStandsAt how full now (passed_all m lines)
+    pub stands : MaskMovesTo how full now (passed_all m lines)
     pub ahead : now.ahead ≡ stage.ahead
     pub wants : (passed_all m lines).want ≡ Line
 
-  pub lines_copied : (lines : List TextLine) (stage : MaskStage) (m : Masking) → MaskStandsAt how full stage m → m.want ≡ Line → StayEach m lines → LinesCopied stage m lines
+  pub lines_copied : (lines : List TextLine) (stage : MaskStage) (m : Masking) → MaskMovesTo how full stage m → m.want ≡ Line → StayEach m lines → LinesCopied stage m lines
   lines_copied [] stage m stands wants stay = record { now = stage; goes = goes_nowhere how full stage; stands = stands; ahead = refl; wants = wants }
   lines_copied (line ∷ lines) stage m stands wants stay =
       let one = line_copied stage m stands wants line stay.0 in
@@ -111,7 +111,7 @@ module _ (how : MaskHow) (full : Bool) where
     puts = grown_more out mid later first.bytes rest.bytes first.puts rest.puts;
   }
 
-  abbrev pub come_nowhere : (stage : MaskStage) (m : Masking) (out : Output) → MaskStandsAt how full stage m → HasCome how full stage [] [] out m out
+  abbrev pub come_nowhere : (stage : MaskStage) (m : Masking) (out : Output) → MaskMovesTo how full stage m → HasCome how full stage [] [] out m out
   come_nowhere stage m out stands = record { stage = stage; bytes = []; goes_on = goes_nowhere how full stage; stands = stands; puts = grown_none out }
 
   -- lines that were copied through
@@ -121,7 +121,7 @@ module _ (how : MaskHow) (full : Bool) where
     stage = copied.now;
     bytes = flat_map spelled lines;
     goes_on = copied.goes;
-    stands = subst (λ (s : Masking). MaskStandsAt how full copied.now s) (sym is) copied.stands;
+    stands = subst (λ (s : Masking). MaskMovesTo how full copied.now s) (sym is) copied.stands;
     puts = puts;
   }
 
@@ -143,17 +143,17 @@ passed_wants (line ∷ lines) m e = passed_wants lines (passed m line.text) refl
 -- what giving lines does
 module _ (old : Masking) (lines : BufferedLines) (out : Output) (wants : old.want ≡ Line) where
   module _ {A : Type 0} (done : A) (mid : Masking) (left : BufferedLines) (between : Output) (copies : CopiesThrough old lines out (Ok done) mid left between) where
-    copied_from : (how : MaskHow) (full : Bool) (stage : MaskStage) → MaskStandsAt how full stage old → LinesCopied how full stage old copies.texts
-    copied_from how full stage stands = lines_copied how full copies.texts stage old stands wants copies.stay
+    copied_from : (stage : MaskStage) → MaskStandsAt stage old → LinesCopied old.how old.full stage old copies.texts
+    copied_from stage stands = lines_copied old.how old.full copies.texts stage old (stays_at stage old stands) wants copies.stay
 
     -- no line comes after those that were copied through
     pub gave_copied : {B : Type 0} (given : B) → GivesLines old lines out (Ok given) mid left between
     gave_copied given = record {
       texts = copies.texts;
       passes = copies.passes;
-      comes = λ how full stage stands.
-          let c = copied_from how full stage stands in
-          (come_copied how full stage old mid copies.texts out between copies.writes.0 copies.writes.1 c, c.ahead);
+      comes = λ stage stands.
+          let c = copied_from stage stands in
+          (come_copied old.how old.full stage old mid copies.texts out between copies.writes.0 copies.writes.1 c, c.ahead);
     }
 
     pub wants_more : mid.want ≡ Line
@@ -162,7 +162,7 @@ module _ (old : Masking) (lines : BufferedLines) (out : Output) (wants : old.wan
     -- one does
     module _ (line : TextLine) (last : BufferedLines) (passes : PassesLine left line last) (new : Masking) (grown : Output) where
       abbrev TakesIt : {B : Type 0} → Result B Fault → Type 0
-      TakesIt {B} answer = (how : MaskHow) (full : Bool) (stage : MaskStage) → MaskStandsAt how full stage mid → GivesNextLine how full stage line between answer new grown
+      TakesIt {B} answer = (how : MaskHow) (full : Bool) (stage : MaskStage) → MaskMovesTo how full stage mid → GivesNextLine how full stage line between answer new grown
 
       takes_it : {B : Type 0} (answer : Result B Fault) → TakesLine mid line.number (record { text = line.text; ending = line.ending }) between answer new grown → TakesIt answer
       takes_it answer t how full stage at = gives_line how full stage mid at wants_more line between new grown answer t
@@ -175,15 +175,15 @@ module _ (old : Masking) (lines : BufferedLines) (out : Output) (wants : old.wan
       gave_line took given takes = record {
         texts = copies.texts ++ line ∷ [];
         passes = all_pass;
-        comes = λ how full stage stands.
-            let c = copied_from how full stage stands in
-            let first : HasCome how full stage copies.texts [] out mid between = come_copied how full stage old mid copies.texts out between copies.writes.0 copies.writes.1 c in
+        comes = λ stage stands.
+            let c = copied_from stage stands in
+            let first : HasCome old.how old.full stage copies.texts [] out mid between = come_copied old.how old.full stage old mid copies.texts out between copies.writes.0 copies.writes.1 c in
             let now = c.now in
-            let at : MaskStandsAt how full now mid = subst (λ (s : Masking). MaskStandsAt how full now s) (sym copies.writes.0) c.stands in
-            let taken : TakesNextLine how full now line between new grown = takes_it (Ok took) takes how full now at in
-            let one : HasCome how full now (line ∷ []) [] between new grown =
-            come_line how full now mid new line between grown (none_waits how full now mid at wants_more) taken in (
-              come_more how full stage copies.texts (line ∷ []) [] [] out between grown mid new first one,
+            let at : MaskMovesTo old.how old.full now mid = subst (λ (s : Masking). MaskMovesTo old.how old.full now s) (sym copies.writes.0) c.stands in
+            let taken : TakesNextLine old.how old.full now line between new grown = takes_it (Ok took) takes old.how old.full now at in
+            let one : HasCome old.how old.full now (line ∷ []) [] between new grown =
+            come_line old.how old.full now mid new line between grown (none_waits old.how old.full now mid at wants_more) taken in (
+              come_more old.how old.full stage copies.texts (line ∷ []) [] [] out between grown mid new first one,
               ahead_by now taken.item (is_written_at_once now taken.item) ∙ c.ahead,
             );
       }
@@ -193,10 +193,10 @@ module _ (old : Masking) (lines : BufferedLines) (out : Output) (wants : old.wan
       failed_line fault takes = record {
         texts = copies.texts ++ line ∷ [];
         passes = all_pass;
-        comes = λ how full stage stands.
-            let c = copied_from how full stage stands in
-            let at : MaskStandsAt how full c.now mid = subst (λ (s : Masking). MaskStandsAt how full c.now s) (sym copies.writes.0) c.stands in
-            let failed = takes_it {B = Unit {0}} (Err fault) takes how full c.now at in (
+        comes = λ stage stands.
+            let c = copied_from stage stands in
+            let at : MaskMovesTo old.how old.full c.now mid = subst (λ (s : Masking). MaskMovesTo old.how old.full c.now s) (sym copies.writes.0) c.stands in
+            let failed = takes_it {B = Unit {0}} (Err fault) takes old.how old.full c.now at in (
               failed.0,
               record {
                 before = copies.texts;
@@ -204,9 +204,9 @@ module _ (old : Masking) (lines : BufferedLines) (out : Output) (wants : old.wan
                 parts = refl;
                 mask = mid;
                 through = between;
-                comes = come_copied how full stage old mid copies.texts out between copies.writes.0 copies.writes.1 c;
+                comes = come_copied old.how old.full stage old mid copies.texts out between copies.writes.0 copies.writes.1 c;
                 ahead_is = c.ahead;
-                asks = sym at.want_is ∙ wants_more;
+                asks = sym at.stands.want_is ∙ wants_more;
                 fails = inl (line, refl, failed.1);
               },
             );
@@ -217,8 +217,8 @@ module _ (old : Masking) (lines : BufferedLines) (out : Output) (wants : old.wan
   failed_copy fault new left grown copies = record {
     texts = copies.texts;
     passes = copies.passes;
-    comes = λ how full stage stands.
-        let c = lines_copied how full copies.texts stage old stands wants copies.stay in (
+    comes = λ stage stands.
+        let c = lines_copied old.how old.full copies.texts stage old (stays_at stage old stands) wants copies.stay in (
           copies.writes.0,
           record {
             before = [];
@@ -226,7 +226,7 @@ module _ (old : Masking) (lines : BufferedLines) (out : Output) (wants : old.wan
             parts = refl;
             mask = old;
             through = out;
-            comes = come_nowhere how full stage old out stands;
+            comes = come_nowhere old.how old.full stage old out (stays_at stage old stands);
             ahead_is = refl;
             asks = sym stands.want_is ∙ wants;
             fails = inr (record { stage = c.now; bytes = flat_map spelled copies.texts; goes_on = c.goes; ahead_is = c.ahead; fails = copies.writes.1 });
@@ -248,25 +248,25 @@ module _ {C : Type 0} (gives : C → List Feature → C → Type 0) (line_at : C
   gave_none done old records out = record {
     taken = [];
     given = gives_none records;
-    comes = λ how full stage stands ahead. (come_nowhere how full stage old out stands, ahead, after_none stage.ahead records);
+    comes = λ stage stands ahead. (come_nowhere old.how old.full stage old out (stays_at stage old stands), ahead, after_none stage.ahead records);
   }
 
   -- one does, and was given
   module _ (old : Masking) (records later : C) (out : Output) (r : Feature) (given : gives records (r ∷ []) later)
       (number : ℕ) (number_is : number ≡ line_at later) (wants : old.want ≡ Bed) where
     abbrev Waits : Result Taken Fault → Masking → Output → Type 0
-    Waits answer new grown = (how : MaskHow) (full : Bool) (stage : MaskStage) (waiting : SequenceLine) → MaskStandsAt how full stage old → stage.waiting ≡ Some waiting
-        → IsNext stage.ahead r → GivesBed how full stage waiting r out answer new grown
+    Waits answer new grown = (stage : MaskStage) (waiting : SequenceLine) → MaskStandsAt stage old → stage.waiting ≡ Some waiting
+        → IsNext stage.ahead r → GivesBed old.how old.full stage waiting r out answer new grown
 
     abbrev NoneWaits : Result Taken Fault → Masking → Output → Type 0
-    NoneWaits answer new grown = (how : MaskHow) (full : Bool) (stage : MaskStage) → MaskStandsAt how full stage old → stage.waiting ≡ None
-        → IsNext stage.ahead r → ChecksRecord how full stage r number out answer new grown
+    NoneWaits answer new grown = (stage : MaskStage) → MaskStandsAt stage old → stage.waiting ≡ None
+        → IsNext stage.ahead r → ChecksRecord old.how old.full stage r number out answer new grown
 
     -- the record that was left is the one ahead
     left_ahead : ComesNext gives line_at has_ended (Some r) records
     left_ahead next further gives_it = gives_same records later further r next [] given gives_it
 
-    module _ (how : MaskHow) (full : Bool) (stage : MaskStage) (stands : MaskStandsAt how full stage old) (ahead : ComesNext gives line_at has_ended stage.ahead records) where
+    module _ (stage : MaskStage) (stands : MaskStandsAt stage old) (ahead : ComesNext gives line_at has_ended stage.ahead records) where
       is_next : IsNext stage.ahead r
       is_next = ahead r later given
 
@@ -279,18 +279,18 @@ module _ {C : Type 0} (gives : C → List Feature → C → Type 0) (line_at : C
       going = ends_by stage.waiting refl
 
       took_by : (new : Masking) (grown : Output) → Waits (Ok Yes) new grown → NoneWaits (Ok Yes) new grown → (o : Option SequenceLine) → stage.waiting ≡ o
-          → (grown ≡ out) × MaskStandsAt how full (with_record stage r) new
-      took_by new grown waits none None e = let t = none how full stage stands e is_next in (t.same_output, t.stands)
-      took_by new grown waits none (Some a) e = let t = waits how full stage a stands e is_next in (t.same_output, t.stands)
+          → (grown ≡ out) × MaskMovesTo old.how old.full (with_record stage r) new
+      took_by new grown waits none None e = let t = none stage stands e is_next in (t.same_output, t.stands)
+      took_by new grown waits none (Some a) e = let t = waits stage a stands e is_next in (t.same_output, t.stands)
 
       come_taken : (new : Masking) (grown : Output) → Waits (Ok Yes) new grown → NoneWaits (Ok Yes) new grown
-          → BothCome gives line_at has_ended how full stage [] (r ∷ []) out records (Ok (tt {0})) new later grown
+          → BothCome gives line_at has_ended old.how old.full stage [] (r ∷ []) out records (Ok (tt {0})) new later grown
       come_taken new grown waits none =
           let t = took_by new grown waits none stage.waiting refl in (
             record {
               stage = with_record stage r;
               bytes = [];
-              goes_on = record_goes how full stage r going is_next;
+              goes_on = record_goes old.how old.full stage r going is_next;
               stands = t.1;
               puts = subst (λ (o : Output). Grown out [] o) (sym t.0) (grown_none out);
             },
@@ -299,14 +299,14 @@ module _ {C : Type 0} (gives : C → List Feature → C → Type 0) (line_at : C
           )
 
       come_left : (new : Masking) (grown : Output) → Waits (Ok No) new grown → NoneWaits (Ok No) new grown → (o : Option SequenceLine) → stage.waiting ≡ o
-          → BothCome gives line_at has_ended how full stage [] [] out records (Ok (tt {0})) new records grown
-      come_left new grown waits none None e = absurd (none how full stage stands e is_next)
+          → BothCome gives line_at has_ended old.how old.full stage [] [] out records (Ok (tt {0})) new records grown
+      come_left new grown waits none None e = absurd (none stage stands e is_next)
       come_left new grown waits none (Some a) e =
-          let t = waits how full stage a stands e is_next in (
+          let t = waits stage a stands e is_next in (
             record {
               stage = with_decided stage r;
-              bytes = masked_line how stage.taken a;
-              goes_on = decided_goes how full stage r going is_next a e t.decides;
+              bytes = masked_line old.how stage.taken a;
+              goes_on = decided_goes old.how old.full stage r going is_next a e t.decides;
               stands = t.stands;
               puts = t.puts;
             },
@@ -315,12 +315,12 @@ module _ {C : Type 0} (gives : C → List Feature → C → Type 0) (line_at : C
           )
 
       fails_by : (fault : Fault) (new : Masking) (grown : Output) → Waits (Err fault) new grown → NoneWaits (Err fault) new grown → (o : Option SequenceLine) → stage.waiting ≡ o
-          → (new.want ≡ Nothing) × FailsAtRecord how full o stage r number out (fault_value fault) grown
-      fails_by fault new grown waits none None e = none how full stage stands e is_next
-      fails_by fault new grown waits none (Some a) e = waits how full stage a stands e is_next
+          → (new.want ≡ Nothing) × FailsAtRecord old.how old.full o stage r number out (fault_value fault) grown
+      fails_by fault new grown waits none None e = none stage stands e is_next
+      fails_by fault new grown waits none (Some a) e = waits stage a stands e is_next
 
       come_failed : (fault : Fault) (new : Masking) (grown : Output) → Waits (Err fault) new grown → NoneWaits (Err fault) new grown
-          → BothCome gives line_at has_ended how full stage [] [] out records {A = Unit {0}} (Err fault) new records grown
+          → BothCome gives line_at has_ended old.how old.full stage [] [] out records {A = Unit {0}} (Err fault) new records grown
       come_failed fault new grown waits none =
           let f = fails_by fault new grown waits none stage.waiting refl in (
             f.0,
@@ -330,7 +330,7 @@ module _ {C : Type 0} (gives : C → List Feature → C → Type 0) (line_at : C
               parts = refl;
               mask = old;
               through = out;
-              comes = come_nowhere how full stage old out stands;
+              comes = come_nowhere old.how old.full stage old out (stays_at stage old stands);
               ahead = ahead;
               ahead_is = after_none stage.ahead records;
               fails = inr (
@@ -339,19 +339,19 @@ module _ {C : Type 0} (gives : C → List Feature → C → Type 0) (line_at : C
                 refl,
                 sym stands.want_is ∙ wants,
                 given,
-                subst (λ (n : ℕ). FailsAtRecord how full stage.waiting stage r n out (fault_value fault) grown) number_is f.1,
+                subst (λ (n : ℕ). FailsAtRecord old.how old.full stage.waiting stage r n out (fault_value fault) grown) number_is f.1,
               );
             },
           )
 
     pub gave_taken : {A : Type 0} (done : A) (new : Masking) (grown : Output) → Waits (Ok Yes) new grown → NoneWaits (Ok Yes) new grown → GivesRecord gives line_at has_ended old records out (Ok done) new later grown
-    gave_taken done new grown waits none = record { taken = r ∷ []; given = given; comes = λ how full stage stands ahead. come_taken how full stage stands ahead new grown waits none }
+    gave_taken done new grown waits none = record { taken = r ∷ []; given = given; comes = λ stage stands ahead. come_taken stage stands ahead new grown waits none }
 
     pub gave_left : {A : Type 0} (done : A) (new : Masking) (grown : Output) → Waits (Ok No) new grown → NoneWaits (Ok No) new grown → GivesRecord gives line_at has_ended old records out (Ok done) new records grown
-    gave_left done new grown waits none = record { taken = []; given = gives_none records; comes = λ how full stage stands ahead. come_left how full stage stands ahead new grown waits none stage.waiting refl }
+    gave_left done new grown waits none = record { taken = []; given = gives_none records; comes = λ stage stands ahead. come_left stage stands ahead new grown waits none stage.waiting refl }
 
     pub failed_record : {A : Type 0} (fault : Fault) (new : Masking) (grown : Output) → Waits (Err fault) new grown → NoneWaits (Err fault) new grown → GivesRecord gives line_at has_ended {A = A} old records out (Err fault) new records grown
-    failed_record fault new grown waits none = record { taken = []; given = gives_none records; comes = λ how full stage stands ahead. come_failed how full stage stands ahead fault new grown waits none }
+    failed_record fault new grown waits none = record { taken = []; given = gives_none records; comes = λ stage stands ahead. come_failed stage stands ahead fault new grown waits none }
 
   -- what giving lines or a record does is what giving both does
   module _ (records : C) {A : Type 0} (old new : Masking) (lines left : BufferedLines) (out grown : Output) where
@@ -379,7 +379,7 @@ module _ {C : Type 0} (gives : C → List Feature → C → Type 0) (line_at : C
       passes = g.passes;
       taken = [];
       given = gives_none records;
-      comes = λ how full stage stands ahead. lift_lines answer g.texts how full stage ahead (g.comes how full stage stands);
+      comes = λ stage stands ahead. lift_lines answer g.texts old.how old.full stage ahead (g.comes stage stands);
     }
 
   pub record_both : {A : Type 0} (old new : Masking) (lines : BufferedLines) (records left : C) (out grown : Output) (answer : Result A Fault) → GivesRecord gives line_at has_ended old records out answer new left grown
@@ -398,7 +398,7 @@ module _ {C : Type 0} (gives : C → List Feature → C → Type 0) (line_at : C
     passes = none_pass lines;
     taken = [];
     given = gives_none records;
-    comes = λ how full stage stands ahead. (come_nowhere how full stage old out stands, ahead, after_none stage.ahead records);
+    comes = λ stage stands ahead. (come_nowhere old.how old.full stage old out (stays_at stage old stands), ahead, after_none stage.ahead records);
   }
 
   -- what is given after that
@@ -440,6 +440,14 @@ module _ {C : Type 0} (gives : C → List Feature → C → Type 0) (line_at : C
       },
     )
 
+    -- the engine masks as before
+    as_before : {B : Type 0} (answer : Result B Fault) (texts : List TextLine) (taken : List Feature) (how : MaskHow) (full : Bool) (stage : MaskStage) → MaskMovesTo how full stage mid
+        → BothCome gives line_at has_ended mid.how mid.full stage texts taken through passing answer new last grown
+        → BothCome gives line_at has_ended how full stage texts taken through passing answer new last grown
+    as_before answer texts taken how full stage stands c =
+        subst (λ (h : MaskHow). BothCome gives line_at has_ended h full stage texts taken through passing answer new last grown) stands.how_is
+        (subst (λ (b : Bool). BothCome gives line_at has_ended mid.how b stage texts taken through passing answer new last grown) stands.full_is c)
+
     pub both_more : {B D : Type 0} (b : B) (d : D) → GivesBoth gives line_at has_ended mid between passing through (Ok b) new left last grown
         → GivesBoth gives line_at has_ended old lines records out (Ok d) new left last grown
     both_more b d rest = record {
@@ -447,21 +455,21 @@ module _ {C : Type 0} (gives : C → List Feature → C → Type 0) (line_at : C
       passes = pass_more lines between left first.texts rest.texts first.passes rest.passes;
       taken = first.taken ++ rest.taken;
       given = gives_more records passing last first.taken rest.taken first.given rest.given;
-      comes = λ how full stage stands ahead.
-          let f = first.comes how full stage stands ahead in
-          more_come b d rest.texts rest.taken how full stage f (rest.comes how full f.0.stage f.0.stands f.1);
+      comes = λ stage stands ahead.
+          let f = first.comes stage stands ahead in
+          more_come b d rest.texts rest.taken old.how old.full stage f (as_before (Ok b) rest.texts rest.taken old.how old.full f.0.stage f.0.stands (rest.comes f.0.stage f.0.stands.stands f.1));
     }
 
     pub both_fail : {B D : Type 0} (fault : Fault) → GivesBoth gives line_at has_ended {A = B} mid between passing through (Err fault) new left last grown
         → GivesBoth gives line_at has_ended {A = D} old lines records out (Err fault) new left last grown
-    both_fail fault rest = record {
+    both_fail {B} fault rest = record {
       texts = first.texts ++ rest.texts;
       passes = pass_more lines between left first.texts rest.texts first.passes rest.passes;
       taken = first.taken ++ rest.taken;
       given = gives_more records passing last first.taken rest.taken first.given rest.given;
-      comes = λ how full stage stands ahead.
-          let f = first.comes how full stage stands ahead in
-          more_fail fault rest.texts rest.taken how full stage f (rest.comes how full f.0.stage f.0.stands f.1);
+      comes = λ stage stands ahead.
+          let f = first.comes stage stands ahead in
+          more_fail fault rest.texts rest.taken old.how old.full stage f (as_before {B = B} (Err fault) rest.texts rest.taken old.how old.full f.0.stage f.0.stands (rest.comes f.0.stage f.0.stands.stands f.1));
     }
 
 asks_one : (want : MaskWant) → asks_more want ≤ 1

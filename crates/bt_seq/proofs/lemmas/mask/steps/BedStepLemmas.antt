@@ -24,7 +24,7 @@ use Rattle.bt_seq.specs.calls.HeldMasks.{extent_of}
 use Rattle.bt_seq.specs.calls.Matching.{owner_by, Matched, begins_own, is_it, matched_with, owner_of}
 use Rattle.bt_seq.specs.inside.mask.MaskInside.{Counts, IsDecided, KnowsLast, KnowsNone, decided_up_to}
 use Rattle.bt_seq.specs.calls.MaskStage.{IsNext, MaskStage, given, held_by, line_given_last, reached, want_of, with_bed_ended, with_decided, with_record}
-use Rattle.bt_seq.specs.calls.MaskStanding.{MaskStandsAt, Waits, kept_line}
+use Rattle.bt_seq.specs.calls.MaskStanding.{MaskMovesTo, Waits, kept_line}
 use Rattle.bt_seq.specs.calls.MaskSteps.{EndsRecords, GivesBed, HasSequence, LacksSequence, WritesLine}
 use Rattle.bt_seq.specs.model.Masked.{decided, held_for, masked_line}
 use Rattle.bt_seq.specs.calls.MaskState.{Masking, TakesBed, Waiting, Writes, decides, decides_by, decides_up_to, has_owner, holding, holds, holds_by, line_bytes, with_owner, with_extent}
@@ -105,15 +105,15 @@ decides_left bases (Some []) r e = inr refl
 decides_left bases (Some (n ∷ ns)) r e = absurd (never e)
 
 -- a line waits
-module _ (how : MaskHow) (full : Bool) (stage : MaskStage) (line : SequenceLine) (waits : stage.waiting ≡ Some line) (old : Masking) (stands : MaskStandsAt how full stage old) where
+module _ (how : MaskHow) (full : Bool) (stage : MaskStage) (line : SequenceLine) (waits : stage.waiting ≡ Some line) (old : Masking) (stands : MaskMovesTo how full stage old) where
   at_last : StandsBy how full stage (Some line) old
   at_last = subst (λ (l : Option SequenceLine). StandsBy how full stage l old) (last_waits stage line waits) (stands_by how full stage old stands)
 
   as_waits : Waits stage line
-  as_waits = stands.waits line waits
+  as_waits = stands.stands.waits line waits
 
   pub kept_is : old.waiting ≡ Some (kept_line line)
-  kept_is = stands.waiting_is ∙ ap (λ (w : Option SequenceLine). option_map kept_line w) waits
+  kept_is = stands.stands.waiting_is ∙ ap (λ (w : Option SequenceLine). option_map kept_line w) waits
 
   undecided_yet : decided line stage.taken ≡ false
   undecided_yet = elim (at_last.is_open as_waits.lines) [
@@ -158,7 +158,7 @@ module _ (how : MaskHow) (full : Bool) (stage : MaskStage) (line : SequenceLine)
     holds_is : holds old r ≡ holds_by (owner_by left) old.window r
     holds_is = ap (λ o. holds_by o old.window r) owner_is
 
-    taken_stands : decides old r ≡ false → MaskStandsAt how full (with_record stage r) (holding old r)
+    taken_stands : decides old r ≡ false → MaskMovesTo how full (with_record stage r) (holding old r)
     taken_stands e =
         let undecided : block_decides (bases_up_to line) left (r ∷ []) ≡ false = sym decides_is ∙ e in
         let owned : is_some left ≡ true = left_some (bases_up_to line) left r undecided in
@@ -170,7 +170,7 @@ module _ (how : MaskHow) (full : Bool) (stage : MaskStage) (line : SequenceLine)
           waiting_is = at_last.waiting_is;
           want_is = at_last.want_is;
           bed_ended_is = at_last.bed_ended_is;
-          waits = λ l d. let w = stands.waits l d in record { lines = w.lines; bed = w.bed; named = w.named; header = w.header };
+          waits = λ l d. let w = stands.stands.waits l d in record { lines = w.lines; bed = w.bed; named = w.named; header = w.header };
           counts = extent_counts (Some line) old.window (holds old r) r.start r.stop at_last.counts;
           name_is = name_same old.matched r.chrom ∙ at_last.name_is;
           holds = λ d.
@@ -196,7 +196,7 @@ module _ (how : MaskHow) (full : Bool) (stage : MaskStage) (line : SequenceLine)
       decided_to = decides_up_to (owner_of old.matched r.chrom) r.start;
     }
 
-    decided_stands : decides old r ≡ true → MaskStandsAt how full (with_decided stage r) after_decided
+    decided_stands : decides old r ≡ true → MaskMovesTo how full (with_decided stage r) after_decided
     decided_stands e =
         stands_at how full (with_decided stage r) after_decided (Some line) given_last (record {
           how_is = at_last.how_is;
@@ -228,7 +228,7 @@ module _ (how : MaskHow) (full : Bool) (stage : MaskStage) (line : SequenceLine)
       writes_line : (decides old r ≡ true) → Grown out (line_bytes old (kept_line line)) grown → new ≡ after_decided → WritesLine how full stage line r out new grown
       writes_line e puts is = record {
         decides = decided_is ∙ e;
-        stands = subst (λ (x : Masking). MaskStandsAt how full (with_decided stage r) x) (sym is) (decided_stands e);
+        stands = subst (λ (x : Masking). MaskMovesTo how full (with_decided stage r) x) (sym is) (decided_stands e);
         puts = subst (λ (l : List ℕ). Grown out l grown) bytes_are puts;
         settled = masked_before how line stage.taken r (decided_is ∙ e);
       }
@@ -236,7 +236,7 @@ module _ (how : MaskHow) (full : Bool) (stage : MaskStage) (line : SequenceLine)
       pub gives_bed : (answer : Result Taken Fault) → TakesBed old (kept_line line) r out answer new grown → GivesBed how full stage line r out answer new grown
       gives_bed (Ok Yes) t = record {
         undecided = decided_is ∙ t.0;
-        stands = subst (λ (x : Masking). MaskStandsAt how full (with_record stage r) x) (sym t.1) (taken_stands t.0);
+        stands = subst (λ (x : Masking). MaskMovesTo how full (with_record stage r) x) (sym t.1) (taken_stands t.0);
         same_output = t.2;
       }
       gives_bed (Ok No) t = writes_line t.0 t.2 t.1
@@ -259,7 +259,7 @@ module _ (how : MaskHow) (full : Bool) (stage : MaskStage) (line : SequenceLine)
       )
 
   -- the records end
-  ended_stands : MaskStandsAt how full (with_bed_ended stage) (record old { bed_ended = true; waiting = None; want = Line })
+  ended_stands : MaskMovesTo how full (with_bed_ended stage) (record old { bed_ended = true; waiting = None; want = Line })
   ended_stands =
       stands_at how full (with_bed_ended stage) (record old { bed_ended = true; waiting = None; want = Line }) (Some line) given_last (record {
         how_is = at_last.how_is;
@@ -283,7 +283,7 @@ module _ (how : MaskHow) (full : Bool) (stage : MaskStage) (line : SequenceLine)
 
   pub ends_bed : {A : Type 0} (answer : Result A Fault) (out : Output) (new : Masking) (grown : Output) → Writes (record old { bed_ended = true }) (kept_line line) out answer new grown → EndsRecords how full stage line out answer new grown
   ends_bed (Ok done) out new grown w = (
-    subst (λ (x : Masking). MaskStandsAt how full (with_bed_ended stage) x) (sym w.0) ended_stands,
+    subst (λ (x : Masking). MaskMovesTo how full (with_bed_ended stage) x) (sym w.0) ended_stands,
     subst (λ (l : List ℕ). Grown out l grown) bytes_are w.1,
   )
   ends_bed (Err fault) out new grown w = (w.0, subst (λ (l : List ℕ). FailsToAdd out l (fault_value fault) grown) bytes_are w.1)
@@ -308,9 +308,9 @@ held_next None taken r e placed = refl
 held_next (Some line) taken r e placed = held_before line taken r placed e
 
 -- after the last line
-module _ (how : MaskHow) (full : Bool) (stage : MaskStage) (none : stage.waiting ≡ None) (old : Masking) (stands : MaskStandsAt how full stage old) (wants : old.want ≡ Bed) where
+module _ (how : MaskHow) (full : Bool) (stage : MaskStage) (none : stage.waiting ≡ None) (old : Masking) (stands : MaskMovesTo how full stage old) (wants : old.want ≡ Bed) where
   ended : (stage.lines_ended ≡ true) × (stage.bed_ended ≡ false)
-  ended = wants_bed stage.lines_ended stage.bed_ended (sym (ap (λ (w : Option SequenceLine). want_of (is_some w) stage.lines_ended stage.bed_ended) none) ∙ sym stands.want_is ∙ wants)
+  ended = wants_bed stage.lines_ended stage.bed_ended (sym (ap (λ (w : Option SequenceLine). want_of (is_some w) stage.lines_ended stage.bed_ended) none) ∙ sym stands.stands.want_is ∙ wants)
 
   module _ (r : Feature) (range : r.stop ≤ max_number) (next : IsNext stage.ahead r) where
     abbrev names : List (List ℕ)
@@ -320,43 +320,45 @@ module _ (how : MaskHow) (full : Bool) (stage : MaskStage) (none : stage.waiting
     left_now = left_after names (stage.taken ++ r ∷ [])
 
     can_now : KnowsNone names stage.taken old.matched ⊎ (MayTake names stage.taken r old.matched ⊎ KnowsLast names (stage.taken ++ r ∷ []) old.matched)
-    can_now = next_can_be names stage.taken r old.matched (is_some stage.waiting) stage.ahead (stands.inside.knows ended.1) next
+    can_now = next_can_be names stage.taken r old.matched (is_some stage.waiting) stage.ahead (stands.stands.inside.knows ended.1) next
 
     owner_now : owner_of old.matched r.chrom ≡ owner_by left_now
-    owner_now = owner_next names stage.taken r old.matched can_now stands.inside.name_is
+    owner_now = owner_next names stage.taken r old.matched can_now stands.stands.inside.name_is
 
     abbrev last : Option SequenceLine
     last = line_given_last (given stage)
 
     decided_now : IsDecided last (stage.taken ++ r ∷ [])
-    decided_now = decided_next last stage.taken stage.ahead r next (stands.inside.is_decided none ended.1)
+    decided_now = decided_next last stage.taken stage.ahead r next (stands.stands.inside.is_decided none ended.1)
 
-    checked_stands : is_some left_now ≡ true → MaskStandsAt how full (with_record stage r) (with_owner old r.chrom)
+    checked_stands : is_some left_now ≡ true → MaskMovesTo how full (with_record stage r) (with_owner old r.chrom)
     checked_stands owned = record {
       how_is = stands.how_is;
       full_is = stands.full_is;
-      waiting_is = stands.waiting_is;
-      want_is = stands.want_is;
-      bed_ended_is = stands.bed_ended_is;
-      waits = λ l d. absurd (let apart : None ≡ Some l = sym none ∙ d in cc);
-      holds = λ d. elim d [
-        | inl lasts ↦ absurd (never (sym lasts ∙ ended.0))
-        | inr placed ↦ stands.holds (inr (blocks_front stage.taken (r ∷ []) placed))
-            ∙ sym (ap (λ (rs : List Feature). map extent_of rs)
-            (held_next last stage.taken r decided_now placed))
-      ];
-      is_open = λ d. absurd (never (sym d ∙ ended.0));
-      owned = owned;
-      inside = record {
-        counts = stands.inside.counts;
-        name_is = name_same old.matched r.chrom ∙ stands.inside.name_is;
-        is_decided = λ n going. subst (λ (rs : List Feature). IsDecided last rs)
-            (sym (append-nil (stage.taken ++ r ∷ []))) decided_now;
-        in_range = range_more stage.taken r stands.inside.in_range range;
-        knows = λ d. inr (take_next names stage.taken r old.matched can_now owned);
-        has_ahead = λ d. absurd (let apart : Bed ≡ Line = sym wants ∙ stands.want_is ∙ d in cc);
-        ahead_in_range = λ a d. absurd (let apart : None ≡ Some a = d in cc);
-        decided_to_is = λ n going a d. absurd (let apart : None ≡ Some a = d in cc);
+      stands = record {
+        waiting_is = stands.stands.waiting_is;
+        want_is = stands.stands.want_is;
+        bed_ended_is = stands.stands.bed_ended_is;
+        waits = λ l d. absurd (let apart : None ≡ Some l = sym none ∙ d in cc);
+        holds = λ d. elim d [
+          | inl lasts ↦ absurd (never (sym lasts ∙ ended.0))
+          | inr placed ↦ stands.stands.holds (inr (blocks_front stage.taken (r ∷ []) placed))
+              ∙ sym (ap (λ (rs : List Feature). map extent_of rs)
+              (held_next last stage.taken r decided_now placed))
+        ];
+        is_open = λ d. absurd (never (sym d ∙ ended.0));
+        owned = owned;
+        inside = record {
+          counts = stands.stands.inside.counts;
+          name_is = name_same old.matched r.chrom ∙ stands.stands.inside.name_is;
+          is_decided = λ n going. subst (λ (rs : List Feature). IsDecided last rs)
+              (sym (append-nil (stage.taken ++ r ∷ []))) decided_now;
+          in_range = range_more stage.taken r stands.stands.inside.in_range range;
+          knows = λ d. inr (take_next names stage.taken r old.matched can_now owned);
+          has_ahead = λ d. absurd (let apart : Bed ≡ Line = sym wants ∙ stands.stands.want_is ∙ d in cc);
+          ahead_in_range = λ a d. absurd (let apart : None ≡ Some a = d in cc);
+          decided_to_is = λ n going a d. absurd (let apart : None ≡ Some a = d in cc);
+        };
       };
     }
 
@@ -365,13 +367,13 @@ module _ (how : MaskHow) (full : Bool) (stage : MaskStage) (none : stage.waiting
         let owned : is_some left_now ≡ true = owner_some left_now (subst (λ o. has_owner o) owner_now owner) in
         record {
           owned = owned;
-          stands = subst (λ (x : Masking). MaskStandsAt how full (with_record stage r) x) (sym is) (checked_stands owned);
+          stands = subst (λ (x : Masking). MaskMovesTo how full (with_record stage r) x) (sym is) (checked_stands owned);
           same_output = refl;
         }
 
     pub lacks_sequence : (number : ℕ) (out : Output) (fault : Fault) → owner_of old.matched r.chrom ≡ Nobody → fault_value fault ≡ fault_at_line Second number NoSequence → LacksSequence how full stage r number out (fault_value fault) out
     lacks_sequence number out fault nobody is = record {
-      owned_before = stands.owned;
+      owned_before = stands.stands.owned;
       unowned = nobody_left left_now (sym nobody ∙ owner_now);
       is = is;
       same_output = refl;

@@ -21,7 +21,7 @@ use Rattle.bt_seq.proofs.lemmas.sam.TagLemmas.{own_tagged, tag_decides, tags_of}
 use Rattle.bt_seq.specs.calls.HeldMasks.{extent_of}
 use Rattle.bt_seq.specs.inside.mask.MaskInside.{AreInRange, Counts, KnowsNext, decided_up_to, last_name}
 use Rattle.bt_seq.specs.calls.MaskStage.{MaskStage, given, held_by, is_written_ahead, is_written_at_once, line_given_last, reached, reached_by, want_of, with_line}
-use Rattle.bt_seq.specs.calls.MaskStanding.{IsOpen, MaskStandsAt, kept_line}
+use Rattle.bt_seq.specs.calls.MaskStanding.{IsOpen, MaskMovesTo, kept_line}
 use Rattle.bt_seq.specs.calls.MaskSteps.{FailsWithLine, GivesNextLine, IsSettled, RefusesLine, TakesNextLine, bytes_with, may_need_memory}
 use Rattle.bt_seq.specs.model.Masked.{decided, held_for, is_unnamed, masked_line}
 use Rattle.bt_seq.specs.calls.MaskState.{Masking, TakesLine, Waiting, bytes_at_once, is_stray, line_bytes, may_grow, moved_to, writes_at_once}
@@ -163,18 +163,18 @@ not_strayed [] [] = refl
 not_strayed [] (byte ∷ bytes) = let some : nat_lt 0 (length (byte ∷ bytes)) ≡ true = grind (arith, nat_tests) in sym (ap not some)
 not_strayed (n ∷ ns) text = refl
 
-module _ (how : MaskHow) (full : Bool) (stage : MaskStage) (old : Masking) (s : MaskStandsAt how full stage old) (wants : old.want ≡ Line) where
+module _ (how : MaskHow) (full : Bool) (stage : MaskStage) (old : Masking) (s : MaskMovesTo how full stage old) (wants : old.want ≡ Line) where
   asked : (stage.waiting ≡ None) × (stage.lines_ended ≡ false)
-  asked = wants_line stage.waiting stage.lines_ended stage.bed_ended (sym s.want_is ∙ wants)
+  asked = wants_line stage.waiting stage.lines_ended stage.bed_ended (sym s.stands.want_is ∙ wants)
 
   abbrev names : List (List ℕ)
   names = (reached stage).names
 
   open_at : IsOpen (line_given_last (given stage)) stage.taken
-  open_at = s.is_open asked.1
+  open_at = s.stands.is_open asked.1
 
   held_is : old.window.held ≡ map extent_of (held_by (line_given_last (given stage)) stage.taken)
-  held_is = s.holds (inl asked.1)
+  held_is = s.stands.holds (inl asked.1)
 
   -- with a line, before it waits or is written
   record Moved (item : SequenceLine) (moved : Masking) : Type 0 where
@@ -194,14 +194,14 @@ module _ (how : MaskHow) (full : Bool) (stage : MaskStage) (old : Masking) (s : 
         → moved.decided_to ≡ decided_up_to (left_after item.names (stage.taken ++ r ∷ [])) r
 
   going_known : stage.bed_ended ≡ false → KnowsNext false names stage.taken stage.ahead old.matched
-  going_known going = subst (λ (w : Option SequenceLine). KnowsNext (is_some w) names stage.taken stage.ahead old.matched) asked.0 (s.inside.knows going)
+  going_known going = subst (λ (w : Option SequenceLine). KnowsNext (is_some w) names stage.taken stage.ahead old.matched) asked.0 (s.stands.inside.knows going)
 
   first_by : (u : Bool) → is_unnamed names ≡ u → (u ≡ false → is_some stage.ahead ≡ true) → is_some stage.ahead ≡ false → (names ≡ []) × (stage.taken ≡ [])
   first_by true e ahead none = (unnamed_are names e, unnamed_untaken (line_given_last (given stage)) stage.taken open_at e)
   first_by false e ahead none = absurd (never (sym none ∙ ahead refl))
 
   first_header : stage.bed_ended ≡ false → is_some stage.ahead ≡ false → (names ≡ []) × (stage.taken ≡ [])
-  first_header going none = first_by (is_unnamed names) refl (λ e. s.inside.has_ahead (sym s.want_is ∙ wants) going e) none
+  first_header going none = first_by (is_unnamed names) refl (λ e. s.stands.inside.has_ahead (sym s.stands.want_is ∙ wants) going e) none
 
   -- whether a line to which it has moved is written at once
   once_by : (item : SequenceLine) (moved : Masking) → moved.bed_ended ≡ stage.bed_ended → moved.matched.name ≡ last_name item.names
@@ -232,12 +232,12 @@ module _ (how : MaskHow) (full : Bool) (stage : MaskStage) (old : Masking) (s : 
     header_by : is_header line.text ≡ true → Moved header_item header_moved
     header_by e =
         let n = name_in old.full line.text in
-        let left = some_list (left_after names stage.taken) s.owned in
+        let left = some_list (left_after names stage.taken) s.stands.owned in
         let none : bases_in line.text ≡ 0 = ap (λ b. cond b 0 (length line.text)) e in
         record {
           how_is = s.how_is;
           full_is = s.full_is;
-          bed_ended_is = s.bed_ended_is;
+          bed_ended_is = s.stands.bed_ended_is;
           counts = record { before = omega arith; bases = omega arith };
           name_is = sym (last_name_more names n);
           holds = nothing_masked (held_for header_item stage.taken) (no_own (λ (r : Feature). nat_lt r.start (bases_up_to header_item) && nat_lt header_item.before r.stop) (own_records header_item.names stage.taken) (none_own n names left.0 stage.taken left.1));
@@ -245,7 +245,7 @@ module _ (how : MaskHow) (full : Bool) (stage : MaskStage) (old : Masking) (s : 
           owned = ap is_some (left_grows n names left.0 stage.taken left.1);
           header = λ e. refl;
           waits_known = λ going u. with_header names n stage.taken old.matched stage.ahead (first_header going) (going_known going);
-          at_once = once_by header_item header_moved s.bed_ended_is (sym (last_name_more names n)) (λ going u.
+          at_once = once_by header_item header_moved s.stands.bed_ended_is (sym (last_name_more names n)) (λ going u.
               no_and (is_header line.text) (nat_le header_moved.window.bases header_moved.decided_to) e
               ∙ sym (header_ahead stage.ahead stage.taken header_item e));
           written_known = λ going now. absurd (header_later header_item (named_more n names) e going now);
@@ -261,22 +261,22 @@ module _ (how : MaskHow) (full : Bool) (stage : MaskStage) (old : Masking) (s : 
     plain_counts : is_header line.text ≡ false → Counts (Some plain_item) plain_moved.window
     plain_counts e =
         let count : bases_in line.text ≡ length line.text = ap (λ b. cond b 0 (length line.text)) e in
-        let bases : old.window.bases ≡ min (reached stage).bases limit = s.inside.counts.bases in
+        let bases : old.window.bases ≡ min (reached stage).bases limit = s.stands.inside.counts.bases in
         record { before = bases; bases = omega arith }
 
     -- whether the record ahead decides it is what is known
     plain_alike : is_header line.text ≡ false → stage.bed_ended ≡ false → is_unnamed names ≡ false → (o : Option Feature) → stage.ahead ≡ o
         → (not (is_header line.text) && nat_le plain_moved.window.bases old.decided_to) ≡ is_written_ahead o stage.taken plain_item
     plain_alike e going is_named None ahead =
-        absurd (never (sym (ap is_some ahead) ∙ s.inside.has_ahead (sym s.want_is ∙ wants) going is_named))
+        absurd (never (sym (ap is_some ahead) ∙ s.stands.inside.has_ahead (sym s.stands.want_is ∙ wants) going is_named))
     plain_alike e going is_named (Some r) ahead =
         let known = subst (λ (o : Option Feature). KnowsNext false names stage.taken o old.matched) ahead (going_known going) in
         let left = left_after names (stage.taken ++ r ∷ []) in
-        let undecided = open_undecided plain_item stage.taken is_named (open_further stage.taken s.inside.in_range line e (line_given_last (given stage)) open_at) in
+        let undecided = open_undecided plain_item stage.taken is_named (open_further stage.taken s.stands.inside.in_range line e (line_given_last (given stage)) open_at) in
         let decides : nat_le plain_moved.window.bases old.decided_to ≡ decided plain_item (stage.taken ++ r ∷ []) =
         ap (λ (n : ℕ). nat_le n old.decided_to) (plain_counts e).bases
-        ∙ ap (λ (n : ℕ). nat_le (min (bases_up_to plain_item) limit) n) (s.inside.decided_to_is asked.0 going r ahead)
-        ∙ ahead_decides (bases_up_to plain_item) left r (s.inside.ahead_in_range r ahead) (ahead_left names stage.taken r old.matched known)
+        ∙ ap (λ (n : ℕ). nat_le (min (bases_up_to plain_item) limit) n) (s.stands.inside.decided_to_is asked.0 going r ahead)
+        ∙ ahead_decides (bases_up_to plain_item) left r (s.stands.inside.ahead_in_range r ahead) (ahead_left names stage.taken r old.matched known)
         ∙ sym (decided_more plain_item stage.taken r ∙ ap (λ b. b || block_decides (bases_up_to plain_item) left (r ∷ [])) undecided) in
         ap (λ b. not (is_header line.text) && b) decides
 
@@ -285,17 +285,17 @@ module _ (how : MaskHow) (full : Bool) (stage : MaskStage) (old : Masking) (s : 
         record {
           how_is = s.how_is;
           full_is = s.full_is;
-          bed_ended_is = s.bed_ended_is;
+          bed_ended_is = s.stands.bed_ended_is;
           counts = plain_counts e;
-          name_is = s.inside.name_is;
-          holds = held_further stage.taken s.inside.in_range line e (line_given_last (given stage)) old.window s.inside.counts open_at held_is;
-          is_open = open_further stage.taken s.inside.in_range line e (line_given_last (given stage)) open_at;
-          owned = s.owned;
+          name_is = s.stands.inside.name_is;
+          holds = held_further stage.taken s.stands.inside.in_range line e (line_given_last (given stage)) old.window s.stands.inside.counts open_at held_is;
+          is_open = open_further stage.taken s.stands.inside.in_range line e (line_given_last (given stage)) open_at;
+          owned = s.stands.owned;
           header = λ h. absurd (never (sym e ∙ h));
           waits_known = λ going u. with_plain names stage.taken stage.ahead old.matched (going_known going);
-          at_once = once_by plain_item plain_moved s.bed_ended_is s.inside.name_is (λ going u. plain_alike e going u stage.ahead refl);
+          at_once = once_by plain_item plain_moved s.stands.bed_ended_is s.stands.inside.name_is (λ going u. plain_alike e going u stage.ahead refl);
           written_known = λ going now. going_known going;
-          written_to = λ going now. s.inside.decided_to_is asked.0 going;
+          written_to = λ going now. s.stands.inside.decided_to_is asked.0 going;
         }
 
     -- what a line says, and where the engine goes
@@ -326,7 +326,7 @@ module _ (how : MaskHow) (full : Bool) (stage : MaskStage) (old : Masking) (s : 
     stray_is : is_header line.text ≡ false → is_stray old line.text ≡ (is_unnamed names && nat_lt 0 (length line.text))
     stray_is e =
         ap (λ b. not b && (is_none old.matched.name && nat_lt 0 (length line.text))) e
-        ∙ ap (λ b. b && nat_lt 0 (length line.text)) (ap is_none s.inside.name_is ∙ last_name_none names)
+        ∙ ap (λ b. b && nat_lt 0 (length line.text)) (ap is_none s.stands.inside.name_is ∙ last_name_none names)
 
     plain_says : is_header line.text ≡ false → line_says full (reached stage) line ≡ cond (may_stand names line.text) (Ok (Some plain_item)) (Err TextBeforeHeader)
     plain_says e = ap (λ b. cond b (Ok (Some (header_behind full (reached stage) line))) (cond (may_stand names line.text) (Ok (Some plain_item)) (Err TextBeforeHeader))) e
@@ -369,10 +369,10 @@ module _ (how : MaskHow) (full : Bool) (stage : MaskStage) (old : Masking) (s : 
         (ap (λ (h : MaskHow). masked_in h moved.window.held moved.window.before item.text) m.how_is
         ∙ ap (λ (l : List Extent). masked_in how l moved.window.before item.text) m.holds
         ∙ ap (λ b. masked_in how (map extent_of (held_for item stage.taken)) b item.text) m.counts.before
-        ∙ text_masked how item stage.taken s.inside.in_range m.header)
+        ∙ text_masked how item stage.taken s.stands.inside.in_range m.header)
 
     waiting_stands : stage.bed_ended ≡ false → is_unnamed item.names ≡ false
-        → MaskStandsAt how full (record stage { waiting = Some item }) (record moved { waiting = Some (kept_line item); want = Bed })
+        → MaskMovesTo how full (record stage { waiting = Some item }) (record moved { waiting = Some (kept_line item); want = Bed })
     waiting_stands going is_named =
         stands_at how full (record stage { waiting = Some item }) (record moved { waiting = Some (kept_line item); want = Bed }) (Some item) (last_more stage.written item) (record {
           how_is = m.how_is;
@@ -387,10 +387,10 @@ module _ (how : MaskHow) (full : Bool) (stage : MaskStage) (old : Masking) (s : 
           is_open = λ e. m.is_open;
           is_decided = λ e. absurd (let apart : Some item ≡ None = e in cc);
           owned = m.owned;
-          in_range = s.inside.in_range;
+          in_range = s.stands.inside.in_range;
           knows = λ e. m.waits_known going is_named;
           has_ahead = λ e. absurd (let apart : Bed ≡ Line = e in cc);
-          ahead_in_range = s.inside.ahead_in_range;
+          ahead_in_range = s.stands.inside.ahead_in_range;
           decided_to_is = λ e. absurd (let apart : Some item ≡ None = e in cc);
         })
 
@@ -407,7 +407,7 @@ module _ (how : MaskHow) (full : Bool) (stage : MaskStage) (old : Masking) (s : 
     or_true false true c e d f = absurd (never (sym f))
     or_true false false c e d f = e
 
-    written_stands : is_written_at_once stage item ≡ true → MaskStandsAt how full written_stage (record moved { waiting = None; want = Line })
+    written_stands : is_written_at_once stage item ≡ true → MaskMovesTo how full written_stage (record moved { waiting = None; want = Line })
     written_stands now =
         stands_at how full written_stage (record moved { waiting = None; want = Line }) (Some item) written_last (record {
           how_is = m.how_is;
@@ -425,20 +425,20 @@ module _ (how : MaskHow) (full : Bool) (stage : MaskStage) (old : Masking) (s : 
               decided_at_once (is_unnamed item.names) stage.ahead stage.taken item refl
               (or_rest stage.bed_ended (is_unnamed item.names || ahead) now going);
           owned = m.owned;
-          in_range = s.inside.in_range;
+          in_range = s.stands.inside.in_range;
           knows = λ going. rw asked.0 (m.written_known going now);
           has_ahead = λ e going u. decided_some stage.ahead stage.taken item
               (or_true stage.bed_ended (is_unnamed item.names) (is_written_ahead stage.ahead stage.taken item) now going u);
-          ahead_in_range = s.inside.ahead_in_range;
+          ahead_in_range = s.stands.inside.ahead_in_range;
           decided_to_is = λ e going. m.written_to going now;
         })
 
     stands_with : (b : Bool) → is_written_at_once stage item ≡ b
-        → MaskStandsAt how full (cond b written_stage (record stage { waiting = Some item })) (record moved { waiting = cond b None (Some (kept_line item)); want = cond b Line Bed })
+        → MaskMovesTo how full (cond b written_stage (record stage { waiting = Some item })) (record moved { waiting = cond b None (Some (kept_line item)); want = cond b Line Bed })
     stands_with true e = written_stands e
     stands_with false e = let both = neither stage.bed_ended (is_unnamed item.names) (is_written_ahead stage.ahead stage.taken item) e in waiting_stands both.0 both.1
 
-    with_it : MaskStandsAt how full (with_line stage item) (record moved { waiting = cond (writes_at_once moved item.text) None (Some (kept_line item)); want = cond (writes_at_once moved item.text) Line Bed })
+    with_it : MaskMovesTo how full (with_line stage item) (record moved { waiting = cond (writes_at_once moved item.text) None (Some (kept_line item)); want = cond (writes_at_once moved item.text) Line Bed })
     with_it =
         rw m.at_once (stands_with (is_written_at_once stage item) refl)
 
@@ -453,7 +453,7 @@ module _ (how : MaskHow) (full : Bool) (stage : MaskStage) (old : Masking) (s : 
     takes done g t = record {
       item = g.item;
       says = g.says;
-      stands = subst (λ (x : Masking). MaskStandsAt how full (with_line stage g.item) x)
+      stands = subst (λ (x : Masking). MaskMovesTo how full (with_line stage g.item) x)
           (ap (λ (k : Waiting). record (moved_to old line.text) { waiting = cond (writes_at_once (moved_to old line.text) k.text) None (Some k); want = cond (writes_at_once (moved_to old line.text) k.text) Line Bed }) g.kept ∙ sym t.1)
           (with_it g.item (moved_to old line.text) g.moved);
       puts = subst (λ (l : List ℕ). Grown out l grown)

@@ -8,7 +8,7 @@ use Rattle.bt_seq.proofs.lemmas.mask.bases.KnownLemmas.{never}
 use Rattle.bt_seq.specs.calls.HeldMasks.{extent_of}
 use Rattle.bt_seq.specs.inside.mask.MaskInside.{AreInRange, Counts, IsDecided, KnowsNext, decided_up_to, last_name}
 use Rattle.bt_seq.specs.calls.MaskStage.{MaskStage, given, held_by, line_given_last, reached_by, want_at, want_of}
-use Rattle.bt_seq.specs.calls.MaskStanding.{IsOpen, MaskStandsAt, Waits, kept_line}
+use Rattle.bt_seq.specs.calls.MaskStanding.{IsOpen, MaskMovesTo, MaskStandsAt, Waits, kept_line}
 use Rattle.bt_seq.specs.model.Masked.{is_unnamed}
 use Rattle.bt_seq.specs.calls.MaskState.{Masking}
 use Rattle.bt_seq.specs.model.Owners.{Owned, block_decides, left_after, owned}
@@ -41,51 +41,57 @@ pub record StandsBy (how : MaskHow) (full : Bool) (stage : MaskStage) (last : Op
       → m.decided_to ≡ decided_up_to (left_after (reached_by last).names (stage.taken ++ r ∷ [])) r
 
 module _ (how : MaskHow) (full : Bool) (stage : MaskStage) (m : Masking) where
-  pub stands_by : MaskStandsAt how full stage m → StandsBy how full stage (line_given_last (given stage)) m
+  pub stands_by : MaskMovesTo how full stage m → StandsBy how full stage (line_given_last (given stage)) m
   stands_by s = record {
     how_is = s.how_is;
     full_is = s.full_is;
-    waiting_is = s.waiting_is;
-    want_is = s.want_is;
-    bed_ended_is = s.bed_ended_is;
-    waits = s.waits;
-    counts = s.inside.counts;
-    name_is = s.inside.name_is;
-    holds = s.holds;
-    is_open = s.is_open;
-    is_decided = s.inside.is_decided;
-    owned = s.owned;
-    in_range = s.inside.in_range;
-    knows = s.inside.knows;
-    has_ahead = s.inside.has_ahead;
-    ahead_in_range = s.inside.ahead_in_range;
-    decided_to_is = s.inside.decided_to_is;
+    waiting_is = s.stands.waiting_is;
+    want_is = s.stands.want_is;
+    bed_ended_is = s.stands.bed_ended_is;
+    waits = s.stands.waits;
+    counts = s.stands.inside.counts;
+    name_is = s.stands.inside.name_is;
+    holds = s.stands.holds;
+    is_open = s.stands.is_open;
+    is_decided = s.stands.inside.is_decided;
+    owned = s.stands.owned;
+    in_range = s.stands.inside.in_range;
+    knows = s.stands.inside.knows;
+    has_ahead = s.stands.inside.has_ahead;
+    ahead_in_range = s.stands.inside.ahead_in_range;
+    decided_to_is = s.stands.inside.decided_to_is;
   }
 
-  pub stands_at : (last : Option SequenceLine) → line_given_last (given stage) ≡ last → StandsBy how full stage last m → MaskStandsAt how full stage m
+  pub stands_at : (last : Option SequenceLine) → line_given_last (given stage) ≡ last → StandsBy how full stage last m → MaskMovesTo how full stage m
   stands_at last e by =
       let s = subst (λ (l : Option SequenceLine). StandsBy how full stage l m) (sym e) by in
       record {
+        stands = record {
+          waiting_is = s.waiting_is;
+          want_is = s.want_is;
+          bed_ended_is = s.bed_ended_is;
+          waits = s.waits;
+          holds = s.holds;
+          is_open = s.is_open;
+          owned = s.owned;
+          inside = record {
+            counts = s.counts;
+            name_is = s.name_is;
+            is_decided = s.is_decided;
+            in_range = s.in_range;
+            knows = s.knows;
+            has_ahead = s.has_ahead;
+            ahead_in_range = s.ahead_in_range;
+            decided_to_is = s.decided_to_is;
+          };
+        };
         how_is = s.how_is;
         full_is = s.full_is;
-        waiting_is = s.waiting_is;
-        want_is = s.want_is;
-        bed_ended_is = s.bed_ended_is;
-        waits = s.waits;
-        holds = s.holds;
-        is_open = s.is_open;
-        owned = s.owned;
-        inside = record {
-          counts = s.counts;
-          name_is = s.name_is;
-          is_decided = s.is_decided;
-          in_range = s.in_range;
-          knows = s.knows;
-          has_ahead = s.has_ahead;
-          ahead_in_range = s.ahead_in_range;
-          decided_to_is = s.decided_to_is;
-        };
       }
+
+-- the engine stays as it is
+pub stays_at : (stage : MaskStage) (m : Masking) → MaskStandsAt stage m → MaskMovesTo m.how m.full stage m
+stays_at stage m stands = record { stands = stands; how_is = refl; full_is = refl }
 
 pub last_more : (lines : List SequenceLine) (line : SequenceLine) → line_given_last (lines ++ line ∷ []) ≡ Some line
 last_more [] line = refl

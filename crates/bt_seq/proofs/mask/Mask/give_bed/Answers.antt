@@ -2,16 +2,17 @@ use Rattle.std.proofs.Common.{◌∙◌, ap, subst, sym}
 use Rattle.std.proofs.lemmas.Result.{err_from_is_err_and}
 use Rattle.bt_bed.specs.calls.Bed.{feature_lent}
 use Rattle.bt_seq.proofs.lemmas.mask.steps.BedStepLemmas.{checks_bed, gives_bed, kept_is, lacks_sequence, leaves_bed, stops_bed}
+use Rattle.bt_seq.proofs.lemmas.mask.steps.StandLemmas.{stays_at}
 use Rattle.bt_seq.proofs.mask.Mask.give_bed.Goals as goal
-use Rattle.bt_seq.specs.calls.MaskStanding.{MaskStandsAt, kept_line}
+use Rattle.bt_seq.specs.calls.MaskStanding.{MaskMovesTo, kept_line}
 use Rattle.bt_seq.specs.calls.MaskState.{Masking}
 
 pub returns-then-waits-clause-waits : goal.returns-then-waits-clause-waits
-returns-then-waits-clause-waits g c = λ how full stage waiting stands is next.
-    let at : MaskStandsAt how full stage c.self.inside.state = subst (λ (m : Masking). MaskStandsAt how full stage m) (sym c.self.view_is) stands in
-    gives_bed how full stage waiting is c.self.inside.state at (feature_lent c.args.bed.now) c.args.bed.now.non_empty c.args.bed.now.in_range next
+returns-then-waits-clause-waits g c = λ stage waiting stands is next.
+    let at = subst (λ (m : Masking). MaskMovesTo c.args.self.now.how c.args.self.now.full stage m) (sym c.self.view_is) (stays_at stage c.args.self.now stands) in
+    gives_bed c.args.self.now.how c.args.self.now.full stage waiting is c.self.inside.state at (feature_lent c.args.bed.now) c.args.bed.now.non_empty c.args.bed.now.in_range next
     c.args.out.now.output c.take_bed.new.self c.take_bed.new.out.output c.take_bed.result
-    (c.take_bed.ensures (kept_line waiting) (kept_is how full stage waiting is c.self.inside.state at))
+    (c.take_bed.ensures (kept_line waiting) (kept_is c.args.self.now.how c.args.self.now.full stage waiting is c.self.inside.state at))
 
 pub returns-then-waits-clause-stops : goal.returns-then-waits-clause-stops
 returns-then-waits-clause-stops g c =
@@ -24,17 +25,17 @@ returns-then-waits-clause-leaves g c =
     (sym c.waits.ensures ∙ c.if-waits.true) c.take_bed.ensures
 
 pub returns-in_err-check_bed-clause-none_waits : goal.returns-in_err-check_bed-clause-none_waits
-returns-in_err-check_bed-clause-none_waits g c = λ how full stage stands none next.
-    let at : MaskStandsAt how full stage c.self.inside.state = subst (λ (m : Masking). MaskStandsAt how full stage m) (sym c.self.view_is) stands in
+returns-in_err-check_bed-clause-none_waits g c = λ stage stands none next.
+    let at = subst (λ (m : Masking). MaskMovesTo c.args.self.now.how c.args.self.now.full stage m) (sym c.self.view_is) (stays_at stage c.args.self.now stands) in
     let p = err_from_is_err_and c.from_residual.result c.from_residual.ensures.1 in
     rw (p.1, p.2) (
       c.in_err-check_bed.ensures.2,
-      lacks_sequence how full stage none c.self.inside.state at (ap (λ (m : Masking). m.want) c.self.view_is ∙ c.requires) (feature_lent c.args.bed.now) c.args.bed.now.in_range next
+      lacks_sequence c.args.self.now.how c.args.self.now.full stage none c.self.inside.state at (ap (λ (m : Masking). m.want) c.self.view_is ∙ c.requires) (feature_lent c.args.bed.now) c.args.bed.now.in_range next
           c.args.line c.args.out.now.output c.in_err-check_bed.field-0.0 c.in_err-check_bed.ensures.0 c.in_err-check_bed.ensures.1,
     )
 
 pub returns-clause-none_waits : goal.returns-clause-none_waits
-returns-clause-none_waits g c = λ how full stage stands none next.
-    let at : MaskStandsAt how full stage c.self.inside.state = subst (λ (m : Masking). MaskStandsAt how full stage m) (sym c.self.view_is) stands in
-    checks_bed how full stage none c.self.inside.state at (ap (λ (m : Masking). m.want) c.self.view_is ∙ c.requires) (feature_lent c.args.bed.now) c.args.bed.now.in_range next
+returns-clause-none_waits g c = λ stage stands none next.
+    let at = subst (λ (m : Masking). MaskMovesTo c.args.self.now.how c.args.self.now.full stage m) (sym c.self.view_is) (stays_at stage c.args.self.now stands) in
+    checks_bed c.args.self.now.how c.args.self.now.full stage none c.self.inside.state at (ap (λ (m : Masking). m.want) c.self.view_is ∙ c.requires) (feature_lent c.args.bed.now) c.args.bed.now.in_range next
     c.args.line c.args.out.now.output c.check_bed.new.self c.in_ok-check_bed.ensures.0 c.in_ok-check_bed.ensures.1

@@ -19,7 +19,7 @@ use Rattle.bt_bed.specs.model.order.Locus.{Locus}
 use Rattle.bt_bed.specs.calls.Reading.{MemberReader, members_from, state_behind}
 use Rattle.bt_seq.specs.calls.GivenLines.{SayEach}
 use Rattle.bt_seq.specs.calls.MaskSettles.{GoesOn}
-use Rattle.bt_seq.specs.calls.MaskStanding.{MaskStandsAt}
+use Rattle.bt_seq.specs.calls.MaskStanding.{MaskMovesTo}
 use Rattle.bt_seq.specs.calls.MaskStage.{MaskStage, given, reached}
 use Rattle.bt_seq.specs.calls.MaskState.{Masking}
 use Rattle.bt_seq.specs.model.Sequences.{Reached, SequenceLine, line_says, sequence_format}
@@ -160,13 +160,15 @@ module _ {A B : Type 0} (source_a : Source A) (source_b : Source B) (run : MaskR
             (ap (members_from (suc (lines_given lines))) (none_long items (omega (arith, say_count run.full at texts items say_here, ap length none))), refl)
 
         -- the engine is at the final stage
-        pub come_on : (masked : Masking) (now : Output) → MaskStandsAt run.how run.full final masked → Grown grown bytes now → (going : Going (state_behind (sequence_format run.full) at items) new second_now masked now) × (going.stage ≡ final)
+        pub come_on : (masked : Masking) (now : Output) → MaskMovesTo run.how run.full final masked → Grown grown bytes now → (going : Going (state_behind (sequence_format run.full) at items) new second_now masked now) × (going.stage ≡ final)
         come_on masked now stands puts = (
           record {
             past_first = s.past_first ++ more_first;
             past_second = s.past_second ++ more_second;
             stage = final;
-            stands = stands;
+            stands = stands.stands;
+            how_is = stands.how_is;
+            full_is = stands.full_is;
             comes = turned.goes_on rule both run.out (stage_of stage) s.past_first s.past_second (line_members run.full at lines) second grown s.comes more_first more_second first_now second_now takes_first takes_second ended_first ended_second goes.newly (stage_of final)
                 (record { given_is = given_now; written_is = goes.written_is; taken_is = taken_now; first_is = goes.lines_ended_is; second_is = goes.bed_ended_is })
                 bytes now (λ known. subst (λ (b : Bool). Settles rule final.written (s.comes.bytes ++ bytes) (final.taken ++ option_to_list (item_ahead second_now)) b) (sym goes.bed_ended_is) (settled known)) puts;

@@ -74,8 +74,8 @@ some_kept : (o : Option SequenceLine) → is_some (option_map kept_line o) ≡ i
 some_kept None = refl
 some_kept (Some line) = refl
 
-pub waits_is : {how : MaskHow} {full : Bool} {stage : MaskStage} {mask : Masking} → MaskStandsAt how full stage mask → is_some mask.waiting ≡ is_some stage.waiting
-waits_is {how} {full} {stage} {mask} stands = ap is_some stands.waiting_is ∙ some_kept stage.waiting
+pub waits_is : {stage : MaskStage} {mask : Masking} → MaskStandsAt stage mask → is_some mask.waiting ≡ is_some stage.waiting
+waits_is {stage} {mask} stands = ap is_some stands.waiting_is ∙ some_kept stage.waiting
 
 pub asks_most : (waits : Bool) (want : MaskWant) → asks waits want ≤ 3
 asks_most waits WantLine = omega arith
@@ -175,8 +175,8 @@ module _ {A B : Type 0} (source_a : Source A) (source_b : Source B) (run : MaskR
     stays : texts ≡ [] → (asks (is_some masked.waiting) masked.want < asks (is_some mask.waiting) mask.want) ⊎ ((masked.want ≡ mask.want) × (is_some masked.waiting ≡ is_some mask.waiting))
     stays none =
         stays_by s.stage.waiting final.waiting s.stage.lines_ended s.stage.bed_ended mask.want masked.want (is_some mask.waiting) (is_some masked.waiting) s.stands.want_is
-        (comes.stands.want_is ∙ ap (λ (l : Bool). want_of (is_some final.waiting) l final.bed_ended) comes.goes_on.lines_ended_is ∙ ap (λ (b : Bool). want_of (is_some final.waiting) s.stage.lines_ended b) comes.goes_on.bed_ended_is)
-        (waits_is s.stands) (waits_is comes.stands) (same_by none)
+        (comes.stands.stands.want_is ∙ ap (λ (l : Bool). want_of (is_some final.waiting) l final.bed_ended) comes.goes_on.lines_ended_is ∙ ap (λ (b : Bool). want_of (is_some final.waiting) s.stage.lines_ended b) comes.goes_on.bed_ended_is)
+        (waits_is s.stands) (waits_is comes.stands.stands) (same_by none)
 
     stuck_by : (want : MaskWant) → texts ≡ [] → taken ≡ [] → StopsAt Passes line_in HasEnded want last_lines last_beds → IsThere want lines second → ⊥
     stuck_by WantLine none unread stops there = some_buffered lines first_lines begins (parts ∙ ap (λ (l : List TextLine). l ++ lines_in last_lines) none ∙ stops) there
@@ -328,7 +328,7 @@ module _ {A B : Type 0} (source_a : Source A) (source_b : Source B) (run : MaskR
           let here =
           come_on source_a source_b run at lines second mask out s new over consumed takes taken second_now has behind.before comes.stage comes.bytes comes.goes_on kept (lines_in last_lines)
           (parts ∙ ap (λ l. l ++ lines_in last_lines) before_is) (subst (AreNumbered (suc (lines_given lines))) before_is numbered) (subst (λ (l : List TextLine). TakenLines lines consumed (length l)) before_is are) behind.mask behind.through comes.stands comes.puts in
-          fails_record source_a source_b run (state_behind (sequence_format run.full) at comes.goes_on.items) new second_now behind.mask behind.through here.0 (comes.stands.want_is ∙ wants) r (left later)
+          fails_record source_a source_b run (state_behind (sequence_format run.full) at comes.goes_on.items) new second_now behind.mask behind.through here.0 (comes.stands.stands.want_is ∙ wants) r (left later)
           (sym left_then ∙ passes.left_is) fault now
           (subst (λ (n : ℕ). FailsAtRecord run.how run.full here.0.stage.waiting here.0.stage r n behind.through fault now) number_is
           (subst (λ (stage : MaskStage). FailsAtRecord run.how run.full stage.waiting stage r (line_in later) behind.through fault now) (sym here.1) fails))
@@ -342,8 +342,15 @@ module _ {A B : Type 0} (source_a : Source A) (source_b : Source B) (run : MaskR
     failed_both : EndsAt (Some fault) now
     failed_both = fails_both behind.fails
 
+  -- the engine masks as the run says
+  as_run : {T : Type 0} (answer : Result T Fault) (masked : Masking) (now : Output) → BothCome Passes line_in HasEnded mask.how mask.full s.stage texts taken out first_beds answer masked last_beds now
+      → BothCome Passes line_in HasEnded run.how run.full s.stage texts taken out first_beds answer masked last_beds now
+  as_run answer masked now both =
+      subst (λ (h : MaskHow). BothCome Passes line_in HasEnded h run.full s.stage texts taken out first_beds answer masked last_beds now) s.how_is
+      (subst (λ (b : Bool). BothCome Passes line_in HasEnded mask.how b s.stage texts taken out first_beds answer masked last_beds now) s.full_is both)
+
   -- what the result says
-  pub gives_both : {T : Type 0} (answer : Result T Fault) (masked : Masking) (now : Output) → (ComesNext Passes line_in HasEnded s.stage.ahead first_beds → BothCome Passes line_in HasEnded run.how run.full s.stage texts taken out first_beds answer masked last_beds now)
+  pub gives_both : {T : Type 0} (answer : Result T Fault) (masked : Masking) (now : Output) → (ComesNext Passes line_in HasEnded s.stage.ahead first_beds → BothCome Passes line_in HasEnded mask.how mask.full s.stage texts taken out first_beds answer masked last_beds now)
       → OnOk answer (StopsAt Passes line_in HasEnded masked.want last_lines last_beds) → Gives source_a source_b run lines second mask answer new second_now masked now
-  gives_both (Ok done) masked now come stops = let both = come comes_next in gave_both masked now both.0 stops both.2 done
-  gives_both (Err fault) masked now come stops = let both = come comes_next in failed_both (fault_value fault) now both.1
+  gives_both (Ok done) masked now come stops = let both = as_run (Ok done) masked now (come comes_next) in gave_both masked now both.0 stops both.2 done
+  gives_both {T} (Err fault) masked now come stops = let both = as_run {T = T} (Err fault) masked now (come comes_next) in failed_both (fault_value fault) now both.1

@@ -13,7 +13,7 @@ use Rattle.bt_bed.specs.model.input.Good.{Member}
 use Rattle.bt_bed.specs.model.order.Locus.{Locus}
 use Rattle.bt_bed.specs.calls.Reading.{MemberReader, first_from}
 use Rattle.bt_seq.specs.calls.MaskStage.{want_of, with_lines_ended}
-use Rattle.bt_seq.specs.calls.MaskStanding.{MaskStandsAt}
+use Rattle.bt_seq.specs.calls.MaskStanding.{MaskMovesTo}
 use Rattle.bt_seq.specs.calls.MaskSteps.{EndsCheck, EndsRecords}
 use Rattle.bt_seq.specs.calls.MaskState.{Masking}
 use Rattle.bt_seq.specs.model.Sequences.{Reached, SequenceLine}
@@ -64,7 +64,7 @@ module _ {A B : Type 0} (source_a : Source A) (source_b : Source B) (run : MaskR
       ),
     )
 
-    pub lines_ended : GivesEnd source_a lines new → (masked : Masking) → MaskStandsAt run.how run.full (with_lines_ended s.stage) masked → Fills source_a source_b run lines second mask (Ok true) new second masked out
+    pub lines_ended : GivesEnd source_a lines new → (masked : Masking) → MaskMovesTo mask.how mask.full (with_lines_ended s.stage) masked → Fills source_a source_b run lines second mask (Ok true) new second masked out
     lines_ended ends masked stands =
         let over = gives_over source_a run.full at lines new kept ends in
         let none = ap is_some (none_waits source_a source_b run at lines second mask out s wants) in (
@@ -73,7 +73,7 @@ module _ {A B : Type 0} (source_a : Source A) (source_b : Source B) (run : MaskR
             arith,
             over.ends.shrinks,
             at_line (is_some mask.waiting) mask.want wants,
-            at_last (is_some masked.waiting) s.stage.bed_ended masked.want (waits_is stands ∙ none) (stands.want_is ∙ ap (λ w. want_of w true s.stage.bed_ended) none),
+            at_last (is_some masked.waiting) s.stage.bed_ended masked.want (waits_is stands.stands ∙ none) (stands.stands.want_is ∙ ap (λ w. want_of w true s.stage.bed_ended) none),
           )),
         )
 
@@ -89,7 +89,7 @@ module _ {A B : Type 0} (source_a : Source A) (source_b : Source B) (run : MaskR
 
     module _ (over : IsOver source_b second second_now) (masked : Masking) (now : Output) where
       ends_by : (o : Option SequenceLine) → s.stage.waiting ≡ o → {T : Type 0} (done : T)
-          → ((waiting : SequenceLine) → s.stage.waiting ≡ Some waiting → EndsRecords run.how run.full s.stage waiting out (Ok done) masked now) → (s.stage.waiting ≡ None → EndsCheck run.how run.full s.stage out (Ok done) masked now)
+          → ((waiting : SequenceLine) → s.stage.waiting ≡ Some waiting → EndsRecords mask.how mask.full s.stage waiting out (Ok done) masked now) → (s.stage.waiting ≡ None → EndsCheck mask.how mask.full s.stage out (Ok done) masked now)
           → Fills source_a source_b run lines second mask (Ok true) lines second_now masked now
       ends_by (Some a) e done waits none =
           let ends = waits a e in (
@@ -98,7 +98,7 @@ module _ {A B : Type 0} (source_a : Source A) (source_b : Source B) (run : MaskR
               arith,
               over.ends.shrinks,
               at_waiting (is_some mask.waiting) mask.want (waits_is s.stands ∙ ap is_some e) wants,
-              asks_few (is_some masked.waiting) masked.want (waits_is ends.0),
+              asks_few (is_some masked.waiting) masked.want (waits_is ends.0.stands),
             )),
           )
       ends_by None e done waits none =
@@ -109,20 +109,20 @@ module _ {A B : Type 0} (source_a : Source A) (source_b : Source B) (run : MaskR
               arith,
               over.ends.shrinks,
               at_records (is_some mask.waiting) mask.want (waits_is s.stands ∙ ap is_some e) wants,
-              at_end (is_some masked.waiting) masked.want (ends.0.want_is ∙ ap (λ b. want_of false b true) finished),
+              at_end (is_some masked.waiting) masked.want (ends.0.stands.want_is ∙ ap (λ b. want_of false b true) finished),
             )),
           )
 
-      pub records_ended : {T : Type 0} (done : T) → ((waiting : SequenceLine) → s.stage.waiting ≡ Some waiting → EndsRecords run.how run.full s.stage waiting out (Ok done) masked now) → (s.stage.waiting ≡ None → EndsCheck run.how run.full s.stage out (Ok done) masked now)
+      pub records_ended : {T : Type 0} (done : T) → ((waiting : SequenceLine) → s.stage.waiting ≡ Some waiting → EndsRecords mask.how mask.full s.stage waiting out (Ok done) masked now) → (s.stage.waiting ≡ None → EndsCheck mask.how mask.full s.stage out (Ok done) masked now)
           → Fills source_a source_b run lines second mask (Ok true) lines second_now masked now
       records_ended done waits none = ends_by s.stage.waiting refl done waits none
 
       unended_by : (o : Option SequenceLine) → s.stage.waiting ≡ o → (fault : Fault)
-          → ((waiting : SequenceLine) → s.stage.waiting ≡ Some waiting → EndsRecords {A = Unit {0}} run.how run.full s.stage waiting out (Err fault) masked now) → (s.stage.waiting ≡ None → EndsCheck {A = Unit {0}} run.how run.full s.stage out (Err fault) masked now)
+          → ((waiting : SequenceLine) → s.stage.waiting ≡ Some waiting → EndsRecords {A = Unit {0}} mask.how mask.full s.stage waiting out (Err fault) masked now) → (s.stage.waiting ≡ None → EndsCheck {A = Unit {0}} mask.how mask.full s.stage out (Err fault) masked now)
           → Fills source_a source_b run lines second mask (Err fault) lines second_now masked now
       unended_by (Some a) e fault waits none = fails_at_end source_a source_b run at lines second mask out s wants second_now over a e (fault_value fault) now (waits a e).1
       unended_by None e fault waits none = absurd (none e)
 
-      pub records_unended : (fault : Fault) → ((waiting : SequenceLine) → s.stage.waiting ≡ Some waiting → EndsRecords {A = Unit {0}} run.how run.full s.stage waiting out (Err fault) masked now)
-          → (s.stage.waiting ≡ None → EndsCheck {A = Unit {0}} run.how run.full s.stage out (Err fault) masked now) → Fills source_a source_b run lines second mask (Err fault) lines second_now masked now
+      pub records_unended : (fault : Fault) → ((waiting : SequenceLine) → s.stage.waiting ≡ Some waiting → EndsRecords {A = Unit {0}} mask.how mask.full s.stage waiting out (Err fault) masked now)
+          → (s.stage.waiting ≡ None → EndsCheck {A = Unit {0}} mask.how mask.full s.stage out (Err fault) masked now) → Fills source_a source_b run lines second mask (Err fault) lines second_now masked now
       records_unended fault waits none = unended_by s.stage.waiting refl fault waits none

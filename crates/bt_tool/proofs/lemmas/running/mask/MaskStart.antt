@@ -18,7 +18,7 @@ use Rattle.bt_bed.specs.calls.Reading.{MemberReader}
 use Rattle.bt_bed.specs.declared.read.blocks.Blocks.{Blocks}
 use Rattle.bt_bed.proofs.lemmas.read.good.ReadingLemmas.{good_at_first}
 use Rattle.bt_seq.specs.calls.MaskStage.{first_stage}
-use Rattle.bt_seq.specs.calls.MaskStanding.{MaskStandsAt}
+use Rattle.bt_seq.specs.calls.MaskStanding.{MaskMovesTo}
 use Rattle.bt_seq.specs.calls.MaskState.{Masking}
 use Rattle.bt_seq.specs.model.Sequences.{Reached, SequenceLine, sequence_format}
 use Rattle.bt_seq.specs.declared.mask.mask_how.MaskHow.{MaskHow}
@@ -77,13 +77,15 @@ module _ {A B : Type 0} (source_a : Source A) (source_b : Source B)
     (how : MaskHow) (full : Bool) (lines : LineReader A) (records : Blocks B) (out : Output) where
   -- nothing was given yet
   pub masks_start : IsFresh source_a (line_members full nothing_reached lines) → line_fault lines ≡ None → IsFresh source_b (view_of records) → fault_kept records ≡ None
-      → HoldsBlock out.took out.put → (mask : Masking) → MaskStandsAt how full first_stage mask
+      → HoldsBlock out.took out.put → (mask : Masking) → MaskMovesTo how full first_stage mask
       → Masks source_a source_b how full (line_members full nothing_reached lines) (view_of records) out (line_members full nothing_reached lines) (view_of records) mask out
   masks_start fresh going fresh_second kept block mask stands = record {
     past_first = [];
     past_second = [];
     stage = first_stage;
-    stands = stands;
+    stands = stands.stands;
+    how_is = stands.how_is;
+    full_is = stands.full_is;
     comes = comes_start (mask_join how) (mask_pair source_a source_b how full (line_members full nothing_reached lines) (view_of records)) out
         (passes_start source_a (line_members full nothing_reached lines) fresh going)
         (passes_start source_b (view_of records) fresh_second (blocks_going records kept)) block;
@@ -95,11 +97,11 @@ module _ {A B : Type 0} (source_a : Source A) (source_b : Source B) where
   -- the same by what the engine itself says that it wanted
   pub masks_as_new : (how : MaskHow) (full : Bool) (lines : LineReader A) (records : Blocks B) (out : Output) (own : Bool)
       → IsFresh source_a (line_members own nothing_reached lines) → line_fault lines ≡ None → IsFresh source_b (view_of records) → fault_kept records ≡ None
-      → HoldsBlock out.took out.put → (mask : Masking) → MaskStandsAt how full first_stage mask
+      → HoldsBlock out.took out.put → (mask : Masking) → MaskMovesTo how full first_stage mask
       → Masks source_a source_b mask.how mask.full (line_members mask.full nothing_reached lines) (view_of records) out (line_members mask.full nothing_reached lines) (view_of records) mask out
   masks_as_new how full lines records out own fresh going fresh_second kept block mask stands =
       masks_start source_a source_b mask.how mask.full lines records out (record { none_given = fresh.none_given; none_buffered = refl; going = going; sound = fresh.sound }) going fresh_second kept block mask
-      (subst (λ (h : MaskHow). MaskStandsAt h mask.full first_stage mask) (sym stands.how_is) (subst (λ (f : Bool). MaskStandsAt how f first_stage mask) (sym stands.full_is) stands))
+      (subst (λ (h : MaskHow). MaskMovesTo h mask.full first_stage mask) (sym stands.how_is) (subst (λ (f : Bool). MaskMovesTo how f first_stage mask) (sym stands.full_is) stands))
 
   -- and how it ends
   pub as_asked : (lines : LineReader A) (second : MemberReader B Feature (Option Locus)) (out : Output) (fault : Option FaultValue) (new : LineReader A) (second_now : MemberReader B Feature (Option Locus)) (grown : Output)

@@ -24,11 +24,12 @@ use Rattle.bt_seq.specs.calls.MaskAdvance.{FailsAtRecord}
 use Rattle.bt_seq.specs.calls.MaskPrefixes.{LineBefore}
 use Rattle.bt_seq.proofs.lemmas.laws.MaskMetLemmas.{first_is_told, lack_none}
 use Rattle.bt_seq.specs.calls.MaskStage.{MaskStage, given, line_given_last, reached, reached_by, want_of, with_bed_ended, with_lines_ended}
-use Rattle.bt_seq.specs.calls.MaskStanding.{IsOpen, MaskStandsAt}
+use Rattle.bt_seq.specs.calls.MaskStanding.{IsOpen, MaskMovesTo}
 use Rattle.bt_seq.specs.model.Masked.{decided, is_unnamed, masked_line, names_of, no_sequence}
 use Rattle.bt_seq.specs.calls.MaskState.{Masking}
 use Rattle.bt_seq.specs.model.Owners.{left_after}
 use Rattle.bt_seq.specs.model.Sequences.{Reached, SequenceLine, line_says, sequence_format}
+use Rattle.bt_seq.specs.declared.mask.mask_how.MaskHow.{MaskHow}
 use Rattle.bt_seq.specs.declared.mask.mask_want.MaskWant.TheVariants.{Line as WantLine, Bed as WantBed, Nothing}
 use Rattle.bt_tool.specs.inside.feed.Feeding.{ComeFirst, member_items}
 use Rattle.bt_tool.specs.model.report.MaskReport.{is_fasta_kind, is_mask_kind}
@@ -213,6 +214,8 @@ module _ {A B : Type 0} (source_a : Source A) (source_b : Source B) (run : MaskR
             past_second = s.past_second;
             stage = stage;
             stands = s.stands;
+            how_is = s.how_is;
+            full_is = s.full_is;
             comes = record {
               first_passes = passes;
               second_passes = c.second_passes;
@@ -238,14 +241,16 @@ module _ {A B : Type 0} (source_a : Source A) (source_b : Source B) (run : MaskR
           }
 
       -- the end of the lines was given
-      pub ends_lines : (new : LineReader A) (masked : Masking) → GivesEnd source_a lines new → (IsKept source_a lines → IsKept source_a new) → MaskStandsAt run.how run.full (with_lines_ended stage) masked → Going at new second masked grown
+      pub ends_lines : (new : LineReader A) (masked : Masking) → GivesEnd source_a lines new → (IsKept source_a lines → IsKept source_a new) → MaskMovesTo mask.how mask.full (with_lines_ended stage) masked → Going at new second masked grown
       ends_lines new masked ends kept stands =
           let over = gives_over source_a run.full at lines new kept ends in
           record {
             past_first = s.past_first;
             past_second = s.past_second;
             stage = with_lines_ended stage;
-            stands = stands;
+            stands = stands.stands;
+            how_is = stands.how_is ∙ s.how_is;
+            full_is = stands.full_is ∙ s.full_is;
             comes = turned.ends_first join pair run.out (stage_of stage) s.past_first s.past_second first second grown s.comes none_waits no_line.1 (line_members run.full at new) over;
             kept_ahead = s.kept_ahead;
             lines_over = λ e. over.ends.ends;
@@ -283,6 +288,8 @@ module _ {A B : Type 0} (source_a : Source A) (source_b : Source B) (run : MaskR
         past_second = s.past_second;
         stage = stage;
         stands = s.stands;
+        how_is = s.how_is;
+        full_is = s.full_is;
         comes = turned.fills_second join pair run.out (stage_of stage) s.past_first s.past_second first second grown s.comes goes second_now filled;
         kept_ahead = λ r e. kept_filled source_b second second_now r (s.kept_ahead r e) filled;
         lines_over = s.lines_over;
@@ -291,36 +298,40 @@ module _ {A B : Type 0} (source_a : Source A) (source_b : Source B) (run : MaskR
       -- the end of the records was given
       module _ (second_now : MemberReader B Feature (Option Locus)) (over : IsOver source_b second second_now) where
         -- and the waiting line was written
-        pub ends_waiting : (a : SequenceLine) → stage.waiting ≡ Some a → (masked : Masking) (now : Output) → MaskStandsAt run.how run.full (with_bed_ended stage) masked → Grown grown (masked_line run.how stage.taken a) now
+        pub ends_waiting : (a : SequenceLine) → stage.waiting ≡ Some a → (masked : Masking) (now : Output) → MaskMovesTo mask.how mask.full (with_bed_ended stage) masked → Grown grown (masked_line mask.how stage.taken a) now
             → Going at lines second_now masked now
         ends_waiting a waits masked now stands adds = record {
           past_first = s.past_first;
           past_second = s.past_second;
           stage = with_bed_ended stage;
-          stands = stands;
-          comes = turned.ends_waiting join pair run.out (stage_of stage) s.past_first s.past_second first second grown s.comes goes second_now over a waits now adds;
+          stands = stands.stands;
+          how_is = stands.how_is ∙ s.how_is;
+          full_is = stands.full_is ∙ s.full_is;
+          comes = turned.ends_waiting join pair run.out (stage_of stage) s.past_first s.past_second first second grown s.comes goes second_now over a waits now (subst (λ (h : MaskHow). Grown grown (masked_line h stage.taken a) now) s.how_is adds);
           kept_ahead = λ r e. absurd (none_ahead second r over.ends.was_none (s.kept_ahead r e));
           lines_over = s.lines_over;
         }
 
         -- or none waited
-        pub ends_alone : stage.waiting ≡ None → (masked : Masking) → MaskStandsAt run.how run.full (with_bed_ended stage) masked → Going at lines second_now masked grown
+        pub ends_alone : stage.waiting ≡ None → (masked : Masking) → MaskMovesTo mask.how mask.full (with_bed_ended stage) masked → Going at lines second_now masked grown
         ends_alone none masked stands = record {
           past_first = s.past_first;
           past_second = s.past_second;
           stage = with_bed_ended stage;
-          stands = stands;
+          stands = stands.stands;
+          how_is = stands.how_is ∙ s.how_is;
+          full_is = stands.full_is ∙ s.full_is;
           comes = turned.ends_alone join pair run.out (stage_of stage) s.past_first s.past_second first second grown s.comes goes second_now over none;
           kept_ahead = λ r e. absurd (none_ahead second r over.ends.was_none (s.kept_ahead r e));
           lines_over = s.lines_over;
         }
 
         -- the waiting line wasn't written
-        pub fails_at_end : (a : SequenceLine) → stage.waiting ≡ Some a → (fault : FaultValue) (now : Output) → FailsToAdd grown (masked_line run.how stage.taken a) fault now → EndsAt (Some fault) lines second_now now
+        pub fails_at_end : (a : SequenceLine) → stage.waiting ≡ Some a → (fault : FaultValue) (now : Output) → FailsToAdd grown (masked_line mask.how stage.taken a) fault now → EndsAt (Some fault) lines second_now now
         fails_at_end a waits fault now fails = (
           first,
           refl,
-          stop.fails_at_end join pair run.out (stage_of stage) s.past_first s.past_second first second grown s.comes asks_for (λ known. tt) a waits (asked (s.stands.waits a waits).lines) goes fault second_now now over fails,
+          stop.fails_at_end join pair run.out (stage_of stage) s.past_first s.past_second first second grown s.comes asks_for (λ known. tt) a waits (asked (s.stands.waits a waits).lines) goes fault second_now now over (subst (λ (h : MaskHow). FailsToAdd grown (masked_line h stage.taken a) fault now) s.how_is fails),
           λ input line e. e,
         )
 

@@ -35,7 +35,7 @@ pub returns-then-not-branch-clause-fills : goal.returns-then-not-branch-clause-f
 returns-then-not-branch-clause-fills g c = λ run going.
     let fills = rw c.if-not-branch.true at c.in_ok-fill-in-Line.ensures.fills in
     lines_ended g.A.Source g.B.Source run going.0 c.args.lines.now (view_of c.args.records.now) c.args.mask.now c.args.out.now.output going.1
-    (sym c.want.ensures.is ∙ c.in-Line.is) c.fill.new.self fills.kept fills.answers c.end_lines.new.self (c.end_lines.ensures.stands run.how run.full going.1.stage going.1.stands)
+    (sym c.want.ensures.is ∙ c.in-Line.is) c.fill.new.self fills.kept fills.answers c.end_lines.new.self (c.end_lines.ensures.stands going.1.stage going.1.stands)
 
 pub returns-then-not-branch-clause-reads_second : goal.returns-then-not-branch-clause-reads_second
 returns-then-not-branch-clause-reads_second g c = λ none never. reads_same g.B.Source.is_read (below c.args.records.now) (below c.args.records.now) refl
@@ -74,7 +74,7 @@ returns-in_err-end_bed-in-Bed-clause-fills g c = λ run going.
     c.from_residual-in_err-end_bed-in-Bed.result c.in_err-end_bed-in-Bed.field-0.0 c.from_residual-in_err-end_bed-in-Bed.ensures.1
     (records_unended g.A.Source g.B.Source run going.0 c.args.lines.now (view_of c.args.records.now) c.args.mask.now c.args.out.now.output going.1
     (sym c.want.ensures.is ∙ c.in-Bed.is) (view_of c.fill-in-Bed.new.self) over c.end_bed.new.self c.end_bed.new.out.output c.in_err-end_bed-in-Bed.field-0.0
-    (λ waiting e. c.in_err-end_bed-in-Bed.ensures.waits run.how run.full going.1.stage waiting going.1.stands e) (λ e. c.in_err-end_bed-in-Bed.ensures.none_waits run.how run.full going.1.stage going.1.stands e))
+    (λ waiting e. c.in_err-end_bed-in-Bed.ensures.waits going.1.stage waiting going.1.stands e) (λ e. c.in_err-end_bed-in-Bed.ensures.none_waits going.1.stage going.1.stands e))
 
 pub returns-in_err-end_bed-in-Bed-clause-reads_first : goal.returns-in_err-end_bed-in-Bed-clause-reads_first
 returns-in_err-end_bed-in-Bed-clause-reads_first g c = λ none never. reads_same g.A.Source.is_read c.args.lines.now c.args.lines.now refl
@@ -85,7 +85,7 @@ returns-in_ok-end_bed-in-Bed-clause-fills g c = λ run going.
     let over = block_over g.B.Source c.args.records.now c.fill-in-Bed.new.self fills in
     records_ended g.A.Source g.B.Source run going.0 c.args.lines.now (view_of c.args.records.now) c.args.mask.now c.args.out.now.output going.1
     (sym c.want.ensures.is ∙ c.in-Bed.is) (view_of c.fill-in-Bed.new.self) over c.end_bed.new.self c.end_bed.new.out.output c.in_ok-end_bed-in-Bed.field-0
-    (λ waiting e. c.in_ok-end_bed-in-Bed.ensures.waits run.how run.full going.1.stage waiting going.1.stands e) (λ e. c.in_ok-end_bed-in-Bed.ensures.none_waits run.how run.full going.1.stage going.1.stands e)
+    (λ waiting e. c.in_ok-end_bed-in-Bed.ensures.waits going.1.stage waiting going.1.stands e) (λ e. c.in_ok-end_bed-in-Bed.ensures.none_waits going.1.stage going.1.stands e)
 
 pub returns-in_ok-end_bed-in-Bed-clause-reads_first : goal.returns-in_ok-end_bed-in-Bed-clause-reads_first
 returns-in_ok-end_bed-in-Bed-clause-reads_first g c = λ none never. reads_same g.A.Source.is_read c.args.lines.now c.args.lines.now refl

@@ -37,7 +37,7 @@ returns-clause-gives g c = λ run going.
     gives_both g.A.Source g.B.Source run going.0 lines second c.args.mask.now c.args.out.now.output s
     first_lines last_lines begins gives.texts parts numbered c.buffered-beds.result c.advance-masked.new.records (lent_are c.args.records.now c.buffered-beds.result c.buffered-beds.ensures.lends) (lent_at c.args.records.now c.buffered-beds.result c.buffered-beds.ensures.lends)
     gives.taken gives.given c.consume.new.self (none_over lines) c.consumed-consumed.result are c.consume.ensures (view_of c.consume-2.new.self) has
-    c.advance-masked.result c.advance-masked.new.self c.advance-masked.new.out.output (λ next. gives.comes run.how run.full s.stage s.stands next) c.advance-masked.ensures.stops
+    c.advance-masked.result c.advance-masked.new.self c.advance-masked.new.out.output (λ next. gives.comes s.stage s.stands next) c.advance-masked.ensures.stops
 
 pub returns-clause-reads_first : goal.returns-clause-reads_first
 returns-clause-reads_first g c =
