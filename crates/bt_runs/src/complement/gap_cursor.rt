@@ -26,23 +26,9 @@ pub(crate) struct GapCursor<'g> {
 }
 
 impl<'g> GapCursor<'g> {
-    ghost use Rattle.std.specs.Prelude.{None, OnOk};
+    ghost use Rattle.std.specs.Prelude.{OnOk};
     ghost use Rattle.bt_runs.specs.inside.walk.GapCursor.{Covers, gap_before, seen};
     ghost use Rattle.bt_runs.specs.inside.walk.Walk.{IsPlaced, entry_at};
-
-    // No chromosome was reached.
-    pub(crate) fn new(genome: &'g Genome) -> GapCursor<'g>
-        ensures entries { entries result.genome.now ≡ entries genome.now }
-        ensures none { seen result ≡ None }
-    {
-        GapCursor {
-            genome,
-            rank: None,
-            name: &[],
-            length: 0,
-            end: 0,
-        }
-    }
 
     // The chromosome of this rank, before its first record.
     pub(crate) fn at(genome: &'g Genome, rank: usize) -> GapCursor<'g>

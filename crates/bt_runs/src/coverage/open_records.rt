@@ -1,8 +1,8 @@
 //! The counted records that are open at a position of a chromosome.
 
-ghost use Rattle.std.specs.Prelude.{◌≡◌, ◌+◌, ◌≤◌, [], ◌∷◌, ◌++◌, All, IsTrue, OnOk, drop, length, max};
+ghost use Rattle.std.specs.Prelude.{◌≡◌, ◌+◌, ◌≤◌, [], ◌∷◌, ◌++◌, All, OnOk, drop, length, max};
 ghost use Rattle.bt_runs.specs.inside.coverage.DepthStep.{still_open};
-ghost use Rattle.bt_runs.specs.inside.coverage.OpenRecords.{StartsEnded, none_open_at, open_from, spans_open};
+ghost use Rattle.bt_runs.specs.inside.coverage.OpenRecords.{none_open_at, open_from, spans_open};
 
 use crate::coverage::open_ends::OpenEnds;
 use std::alloc::{AllocError, Global};
@@ -144,7 +144,7 @@ fn drop_ended(spans: &mut VecDeque<OpenSpan>, position: u64, left: usize)
     requires { left ≡ length (still_open position (spans_open spans.old.items)) }
     ensures { spans_open spans.new.items ≡ still_open position (spans_open spans.old.items) }
 {
-    while left < spans.len() && begins_with_ended(spans, position) {
+    while left < spans.len() && spans[0].stop < position {
         spans.pop_front();
     }
     if left < spans.len() {
@@ -187,15 +187,4 @@ fn drop_from(spans: &mut VecDeque<OpenSpan>, position: u64, first: usize)
         index += 1;
     }
     spans.truncate(kept);
-}
-
-// Whether the first record ended before a position.
-#[inline(always)]
-fn begins_with_ended(spans: &VecDeque<OpenSpan>, position: u64) -> bool
-    ensures { IsTrue result → StartsEnded position (spans_open spans.now.items) }
-{
-    match spans.front() {
-        Some(span) => span.stop < position,
-        None => false,
-    }
 }

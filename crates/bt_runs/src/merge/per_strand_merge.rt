@@ -20,16 +20,16 @@ use std::marker::Model;
 #[derive(Clone, Copy, Debug)]
 pub(crate) struct OnlyRun {
     is_any: bool,
-    strand: Strand,
-    start: u64,
-    stop: u64,
+    run: PendingRun,
 }
 
 const NONE: OnlyRun = OnlyRun {
     is_any: false,
-    strand: Strand::Dot,
-    start: 0,
-    stop: 0,
+    run: PendingRun {
+        strand: Strand::Dot,
+        start: 0,
+        stop: 0,
+    },
 };
 
 // Merges the records of each strand separately. It keeps the runs of one chromosome from the first
@@ -77,6 +77,17 @@ impl PerStrandMerge {
         }
     }
 
+    // How many runs it keeps.
+    pub(crate) fn kept_len(&self) -> usize
+        ensures list { result ≡ length self.now.kept }
+        ensures held { KeepsHeld may_take stands_after self.now held_count result }
+    {
+        if self.only.is_any {
+            return 1;
+        }
+        self.runs.len()
+    }
+
     // Writes all runs, and keeps none.
     fn close<K: Sink>(&mut self, out: &mut Out<K>) -> Result<(), Fault>
         ensures adds { Adds out.old.output (strand_lines self.old.kept) result out.new.output }
@@ -84,7 +95,7 @@ impl PerStrandMerge {
     {
         let chrom = self.chrom.as_slice();
         if self.only.is_any {
-            put_interval(chrom, self.only.start, self.only.stop, out)?;
+            put_interval(chrom, self.only.run.start, self.only.run.stop, out)?;
             self.only.is_any = false;
             self.runs.clear();
             return Ok(());
@@ -114,29 +125,24 @@ impl PerStrandMerge {
         if !on.is_any {
             return match join_among(self.chrom.as_slice(), reach, run, &mut self.runs, out) {
                 Ok(true) => {
-                    *on = only(run);
+                    *on = OnlyRun { is_any: true, run };
                     Ok(())
                 }
                 Ok(false) => Ok(()),
                 Err(failure) => Err(failure.fault()),
             };
         }
-        if on.stop < reach {
-            put_interval(self.chrom.as_slice(), on.start, on.stop, out)?;
-            *on = only(run);
+        if on.run.stop < reach {
+            put_interval(self.chrom.as_slice(), on.run.start, on.run.stop, out)?;
+            on.run = run;
             return Ok(());
         }
-        if on.strand == run.strand {
-            on.stop = on.stop.max(run.stop);
+        if on.run.strand == run.strand {
+            on.run.stop = on.run.stop.max(run.stop);
             return Ok(());
         }
         on.is_any = false;
-        let first = PendingRun {
-            strand: on.strand,
-            start: on.start,
-            stop: on.stop,
-        };
-        match list_both(first, run, &mut self.runs) {
+        match list_both(on.run, run, &mut self.runs) {
             Ok(()) => Ok(()),
             Err(AllocError) => Err(no_memory()),
         }
@@ -153,8 +159,6 @@ impl Rule for PerStrandMerge {
     ghost settled = { settled_lines };
 
     ghost output = { whole_output };
-
-    ghost held = { held_count };
 
     ghost is_after = { stands_after };
 
@@ -201,29 +205,6 @@ impl Rule for PerStrandMerge {
 
     fn finish<K: Sink>(mut self, out: &mut Out<K>) -> Result<(), Fault> {
         self.close(out)
-    }
-
-    fn kept_len(&self) -> usize
-        ensures list { result ≡ length self.now.kept }
-        ensures held { KeepsHeld may_take stands_after self.now held_count result }
-    {
-        if self.only.is_any {
-            return 1;
-        }
-        self.runs.len()
-    }
-}
-
-// A run, as the only one.
-#[inline(always)]
-fn only(run: PendingRun) -> OnlyRun
-    ensures { result ≡ record { is_any = true; strand = run.strand; start = run.start; stop = run.stop } }
-{
-    OnlyRun {
-        is_any: true,
-        strand: run.strand,
-        start: run.start,
-        stop: run.stop,
     }
 }
 

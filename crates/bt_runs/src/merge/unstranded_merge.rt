@@ -67,6 +67,14 @@ impl UnstrandedMerge {
             run: NONE,
         }
     }
+
+    // How many runs it keeps: 0 or 1.
+    pub(crate) fn kept_len(&self) -> usize
+        ensures list { result ≡ length self.now.kept }
+        ensures held { KeepsHeld may_take stands_after self.now held_count result }
+    {
+        usize::from(self.run.stop != 0)
+    }
 }
 
 impl Rule for UnstrandedMerge {
@@ -79,8 +87,6 @@ impl Rule for UnstrandedMerge {
     ghost settled = { settled_lines };
 
     ghost output = { whole_output };
-
-    ghost held = { held_count };
 
     ghost is_after = { stands_after };
 
@@ -136,13 +142,6 @@ impl Rule for UnstrandedMerge {
 
     fn finish<K: Sink>(self, out: &mut Out<K>) -> Result<(), Fault> {
         put_run(self.chrom.as_slice(), self.run, out)
-    }
-
-    fn kept_len(&self) -> usize
-        ensures list { result ≡ length self.now.kept }
-        ensures held { KeepsHeld may_take stands_after self.now held_count result }
-    {
-        usize::from(self.run.stop != 0)
     }
 }
 

@@ -21,7 +21,7 @@ use Rattle.bt_runs.specs.calls.Engine.{AfterEach}
 use Rattle.bt_runs.specs.calls.Ruled.{fault_of}
 use Rattle.bt_runs.specs.model.MergedRuns.{AreTaken, is_closed}
 use Rattle.bt_runs.specs.inside.merge.PendingRuns.{joined_here, left_runs, lengthened, passed_runs, pending_from, place_of, placed_run, placed_runs, with_joined}
-use Rattle.bt_runs.specs.inside.merge.PerStrand.{kept_in, run_at_hand}
+use Rattle.bt_runs.specs.inside.merge.PerStrand.{kept_in}
 use Rattle.bt_runs.specs.inside.walk.Rule.{EnterAnswers, RuleFeeds, RuleFinishes, Taken, WantsMemory}
 use Rattle.bt_runs.specs.model.StrandRuns.{StrandRun, kept_strand_runs, places_of, settled_strand_runs, strand_runs}
 use Rattle.bt_runs.specs.inside.merge.StrandStep.{added_at, left_unsettled, settled_prefix, kept_with, last_place, place_among, run_from, run_with, with_added}
@@ -268,14 +268,14 @@ module _ (old : Stranding) (r : Feature) (out : Output) (runs : List PendingRun)
 
 -- the kept runs, if one is in a local or none
 abbrev pub pending_in : OnlyRun → List PendingRun → List PendingRun
-pending_in only runs = cond only.is_any (run_at_hand only ∷ []) runs
+pending_in only runs = cond only.is_any (only.run ∷ []) runs
 
 by_hand : (chrom : List ℕ) (b : Bool) (w : PendingRun) (runs : List PendingRun) → cond b (placed_run chrom w ∷ []) (placed_runs chrom runs) ≡ placed_runs chrom (cond b (w ∷ []) runs)
 by_hand chrom true w runs = refl
 by_hand chrom false w runs = refl
 
 pub kept_placed : (chrom : List ℕ) (only : OnlyRun) (runs : List PendingRun) → kept_in chrom only (placed_runs chrom runs) ≡ placed_runs chrom (pending_in only runs)
-kept_placed chrom only runs = by_hand chrom only.is_any (run_at_hand only) runs
+kept_placed chrom only runs = by_hand chrom only.is_any only.run runs
 
 none_placed : (chrom other : List ℕ) (runs : List PendingRun) → placed_runs chrom runs ≡ [] → placed_runs other runs ≡ []
 none_placed chrom other [] e = refl
@@ -287,7 +287,7 @@ kept_nowhere chrom other only runs e = kept_placed other only runs ∙ none_plac
 
 -- all runs of the list are written
 pub list_closes : (chrom : List ℕ) (only : OnlyRun) (runs : List PendingRun) → only.is_any ≡ false → placed_runs chrom (passed_runs false 0 runs) ≡ kept_in chrom only (placed_runs chrom runs)
-list_closes chrom only runs f = ap (placed_runs chrom) (passed_every 0 runs) ∙ sym (cond-false only.is_any (placed_run chrom (run_at_hand only) ∷ []) (placed_runs chrom runs) f)
+list_closes chrom only runs f = ap (placed_runs chrom) (passed_every 0 runs) ∙ sym (cond-false only.is_any (placed_run chrom only.run ∷ []) (placed_runs chrom runs) f)
 
 abbrev pub holding : ℕ → List ℕ → List StrandRun → List StrandRun → Stranding
 holding gap chrom kept listed = record { gap = gap; chrom = chrom; kept = kept; listed = listed }
@@ -296,7 +296,7 @@ pub list_closed : (gap : ℕ) (chrom : List ℕ) (only : OnlyRun) (runs now : Li
     → holding gap chrom (kept_in chrom only (placed_runs chrom now)) (placed_runs chrom now) ≡ holding gap chrom [] []
 list_closed gap chrom only runs now f is =
     let listed : placed_runs chrom now ≡ [] = ap (placed_runs chrom) (is ∙ left_none 0 runs) in
-    let kept : kept_in chrom only (placed_runs chrom now) ≡ [] = cond-false only.is_any (placed_run chrom (run_at_hand only) ∷ []) (placed_runs chrom now) f ∙ listed in
+    let kept : kept_in chrom only (placed_runs chrom now) ≡ [] = cond-false only.is_any (placed_run chrom only.run ∷ []) (placed_runs chrom now) f ∙ listed in
     ap₂ (holding gap chrom) kept listed
 
 -- what was put, if that didn't fail
