@@ -87,7 +87,13 @@ impl<'g> Rule for GapRule<'g> {
             return Ok(());
         }
         put_before(&self.cursor, self.limit, rank, out)?;
-        self.cursor = GapCursor::at(genome, rank);
+        self.cursor = GapCursor {
+            genome,
+            rank: Some(rank),
+            name: genome.name(rank),
+            length: genome.length(rank),
+            end: 0,
+        };
         Ok(())
     }
 

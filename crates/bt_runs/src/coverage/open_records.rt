@@ -118,8 +118,7 @@ impl OpenRecords {
         self.ends.first(stop)
     }
 
-    // Adds a record that starts at the position, if it is open there. It is out of line, so that the loop over records
-    // has the registers to itself.
+    // Adds a record that starts at the position, if it is open there. It is out of line, so that the hot loop stays small.
     #[inline(never)]
     pub(crate) fn push(&mut self, stop: u64) -> Result<(), AllocError>
         ensures added { OnOk result (self.new ≡ record { at = self.old.at; spans = self.old.spans ++ still_open self.old.at (record { start = self.old.at; stop = stop } ∷ []) }) }
@@ -170,7 +169,7 @@ fn first_ended(spans: &VecDeque<OpenSpan>, position: u64, left: usize) -> usize
     index
 }
 
-// Drops those from an index on that ended before a position, where none before it did.
+// Drops those from an index on that ended before a position, where none before it ended.
 fn drop_from(spans: &mut VecDeque<OpenSpan>, position: u64, first: usize)
     requires within { first ≤ length spans.old.items }
     requires count { first + length (still_open position (spans_open (drop first spans.old.items))) ≡ length (still_open position (spans_open spans.old.items)) }

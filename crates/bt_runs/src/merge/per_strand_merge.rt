@@ -5,7 +5,7 @@ ghost use Rattle.std.specs.Prelude.{◌≡◌, ◌∷◌, [], length, true, OnOk
 ghost use Rattle.bt_lines.specs.calls.Putting.{Adds};
 ghost use Rattle.bt_runs.specs.calls.Engine.{KeepsHeld};
 ghost use Rattle.bt_runs.specs.inside.merge.PendingRuns.{left_runs, passed_runs, placed_runs};
-ghost use Rattle.bt_runs.specs.calls.Stranding.{StandsAfter, held_count, is_quiet, may_take, settled_lines, stands_after, strand_lines, whole_output};
+ghost use Rattle.bt_runs.specs.calls.Stranding.{held_count, is_quiet, may_take, settled_lines, stands_after, strand_lines, whole_output};
 ghost use Rattle.bt_runs.specs.inside.merge.StrandTaking.{JoinsAmong, TakesNext, wants_memory};
 
 use crate::engine::failure::Failure;
@@ -19,7 +19,7 @@ use std::marker::Model;
 // The only run that waits, in a local. If there is none, or several wait in the list, it is unspecified.
 #[derive(Clone, Copy, Debug)]
 pub(crate) struct OnlyRun {
-    is_any: bool,
+    pub(crate) is_any: bool,
     run: PendingRun,
 }
 
@@ -41,9 +41,9 @@ pub(crate) struct PerStrandMerge {
     // The chromosome of the runs, whose buffer is used again.
     chrom: Vec<u8>,
     // The only run, if no others wait. What the list holds then is unspecified.
-    only: OnlyRun,
+    pub(crate) only: OnlyRun,
     // In the order of their first records; all of them lie on that chromosome.
-    runs: PendingRuns,
+    pub(crate) runs: PendingRuns,
 }
 
 impl Model for PerStrandMerge {
@@ -66,8 +66,7 @@ impl PerStrandMerge {
 
     // A merge that has taken no record.
     pub(crate) fn new(alloc: Global, d: u64) -> PerStrandMerge
-        ensures stands { StandsAfter d [] result }
-        ensures is { result ≡ record { gap = d; chrom = []; kept = []; listed = [] } }
+        ensures { result ≡ record { gap = d; chrom = []; kept = []; listed = [] } }
     {
         PerStrandMerge {
             gap: d,
@@ -75,17 +74,6 @@ impl PerStrandMerge {
             only: NONE,
             runs: PendingRuns::new(alloc),
         }
-    }
-
-    // How many runs it keeps.
-    pub(crate) fn kept_len(&self) -> usize
-        ensures list { result ≡ length self.now.kept }
-        ensures held { KeepsHeld may_take stands_after self.now held_count result }
-    {
-        if self.only.is_any {
-            return 1;
-        }
-        self.runs.len()
     }
 
     // Writes all runs, and keeps none.

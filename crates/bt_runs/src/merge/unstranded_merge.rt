@@ -20,7 +20,7 @@ use std::marker::Model;
 #[derive(Clone, Copy, Debug)]
 pub(crate) struct OpenRun {
     start: u64,
-    stop: u64,
+    pub(crate) stop: u64,
 }
 
 // No run.
@@ -37,7 +37,7 @@ pub(crate) struct UnstrandedMerge {
     strand: MergeStrand,
     // The chromosome that it is on. Its buffer is used again.
     chrom: Vec<u8>,
-    run: OpenRun,
+    pub(crate) run: OpenRun,
 }
 
 impl Model for UnstrandedMerge {
@@ -66,14 +66,6 @@ impl UnstrandedMerge {
             chrom: Vec::new(alloc),
             run: NONE,
         }
-    }
-
-    // How many runs it keeps: 0 or 1.
-    pub(crate) fn kept_len(&self) -> usize
-        ensures list { result ≡ length self.now.kept }
-        ensures held { KeepsHeld may_take stands_after self.now held_count result }
-    {
-        usize::from(self.run.stop != 0)
     }
 }
 

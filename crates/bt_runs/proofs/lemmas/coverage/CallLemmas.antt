@@ -8,7 +8,7 @@ use Rattle.bt_bed.specs.model.feature.Feature.{Feature}
 use Rattle.bt_runs.specs.calls.Calls.{AnswersAgain, KeepsFault, WritesFirst, WritesLeft, WritesLeftPrefix, WritesPrefix, WritesSettled}
 use Rattle.bt_runs.specs.calls.Engine.{Feeds, Finishes, IsWanted}
 
-other_fault : {answer : FaultValue} → answer ≡ no_memory → answer ≡ write_failed → ⊥
+pub other_fault : {answer : FaultValue} → answer ≡ no_memory → answer ≡ write_failed → ⊥
 other_fault memory write = let apart : no_memory.kind ≡ write_failed.kind = ap (λ (t : FaultValue). t.kind) (sym memory ∙ write) in cc
 
 none_before : {A : Type 0} {o : Option A} {x : A} → o ≡ None → o ≡ Some x → ⊥

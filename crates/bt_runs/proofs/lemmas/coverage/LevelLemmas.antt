@@ -363,10 +363,6 @@ abbrev pub BeginsFrom : ℕ → Option Begun → Type 0
 BeginsFrom p None = ⊤
 BeginsFrom p (Some begun) = p ≤ begun.start
 
-abbrev pub StartFrom : ℕ → List Level → Type 0
-StartFrom p [] = ⊤
-StartFrom p (l ∷ ls) = (p ≤ l.start) × StartFrom p ls
-
 below_later : (p q : ℕ) (g : Option Begun) → p ≤ q → BeginsBelow p g → BeginsBelow q g
 below_later p q None h b = tt
 below_later p q (Some begun) h b = omega (arith, b)

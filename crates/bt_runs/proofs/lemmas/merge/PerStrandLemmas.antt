@@ -34,6 +34,7 @@ use Rattle.bt_runs.specs.declared.merge.per_strand_merge.OnlyRun.{OnlyRun}
 use Rattle.bt_runs.proofs.lemmas.merge.PendingRunsLemmas.{is_over, last_place_within, left_none, over_so, passed_every}
 use Rattle.bt_runs.proofs.lemmas.complement.RuleSteps.{quiet_adds_none, rule_cut, rule_finishes, rule_short, rule_taken}
 use Rattle.bt_runs.proofs.lemmas.merge.RunLines.{no_lines}
+use Rattle.bt_runs.proofs.lemmas.merge.UnstrandedLemmas.{last_is}
 use Rattle.bt_runs.proofs.lemmas.merge.StrandSettling.{strand_next, strand_runs_are_all, take_goes}
 
 -- tests that agree
@@ -313,26 +314,12 @@ pub none_first : (runs : List PendingRun) → slice_get runs 0 ≡ None → runs
 none_first [] e = refl
 none_first (w ∷ ws) e = absurd (cc)
 
--- no record is the last of none
-pub none_last : {A : Type 0} (front : List A) (last : A) → [] ≡ front ++ last ∷ [] → ⊥
-none_last [] last e = absurd (cc)
-none_last (x ∷ front) last e = absurd (cc)
-
 places-append : (xs ys : List StrandRun) → strand_lines (xs ++ ys) ≡ strand_lines xs ++ strand_lines ys
 places-append xs ys = ap interval_lines (map-append (λ (item : StrandRun). item.run) xs ys) ∙ flat_map-append interval_line (places_of xs) (places_of ys)
 
 no_items : (items : List StrandRun) → places_of items ≡ [] → items ≡ []
 no_items [] e = refl
 no_items (x ∷ xs) e = absurd (cc)
-
--- the last one of a list
-last_is : {A : Type 0} (xs ys : List A) (x y : A) → xs ++ x ∷ [] ≡ ys ++ y ∷ [] → x ≡ y
-last_is [] [] x y e = cc
-last_is [] (b ∷ []) x y e = absurd (cc)
-last_is [] (b ∷ c ∷ ys) x y e = absurd (cc)
-last_is (a ∷ []) [] x y e = absurd (cc)
-last_is (a ∷ c ∷ xs) [] x y e = absurd (cc)
-last_is (a ∷ xs) (b ∷ ys) x y e = last_is xs ys x y cc
 
 module _ (gap : ℕ) (past : List Feature) (merge : Stranding) (stands : StandsAfter gap past merge) where
   -- the lines of the step are those that the record settles
