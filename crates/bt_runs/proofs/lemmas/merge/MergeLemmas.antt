@@ -152,14 +152,14 @@ module _ {E : Type 0} (merge : E → Merging) (only : (first : Merging) (past : 
       memory = p.memory;
     })
 
--- one that merges all records together, and one that keeps the strands apart
-pub only_together : (first : Merging) (past : List Feature) (old : Ruled unstranded.Unstranded) → stands_after first past (Unstranded old) → (inner : Ruled unstranded.Unstranded) × (Unstranded inner ≡ first)
-only_together (Unstranded first) past old s = (first, refl)
-only_together (PerStrand first) past old s = absurd s
+-- a merge without regard to strands, and one of each strand
+pub only_unstranded : (first : Merging) (past : List Feature) (old : Ruled unstranded.Unstranded) → stands_after first past (Unstranded old) → (inner : Ruled unstranded.Unstranded) × (Unstranded inner ≡ first)
+only_unstranded (Unstranded first) past old s = (first, refl)
+only_unstranded (PerStrand first) past old s = absurd s
 
-pub only_apart : (first : Merging) (past : List Feature) (old : Ruled strands.Stranding) → stands_after first past (PerStrand old) → (inner : Ruled strands.Stranding) × (PerStrand inner ≡ first)
-only_apart (PerStrand first) past old s = (first, refl)
-only_apart (Unstranded first) past old s = absurd s
+pub only_per_strand : (first : Merging) (past : List Feature) (old : Ruled strands.Stranding) → stands_after first past (PerStrand old) → (inner : Ruled strands.Stranding) × (PerStrand inner ≡ first)
+only_per_strand (PerStrand first) past old s = (first, refl)
+only_per_strand (Unstranded first) past old s = absurd s
 
 -- no list ends with an element and is empty
 none_last : {A : Type 0} (xs : List A) (x : A) → [] ≡ xs ++ x ∷ [] → ⊥
