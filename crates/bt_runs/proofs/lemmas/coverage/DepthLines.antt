@@ -8,7 +8,7 @@ use Rattle.bt_lines.specs.declared.fault.Fault.{Fault}
 use Rattle.bt_lines.proofs.lemmas.writer.PuttingLemmas.{line_alone, adds_lines, cut_lines}
 use Rattle.bt_runs.specs.model.Depth.{DepthInterval, depth_line, depth_lines, depth_on}
 use Rattle.bt_runs.specs.inside.coverage.DepthStep.{levels_on, Known, bare_of, depth_walk, depths_left, unknown}
-use Rattle.bt_runs.specs.inside.coverage.DepthText.{depth_text}
+use Rattle.bt_runs.specs.inside.coverage.DepthStep.{depth_text}
 use Rattle.bt_runs.specs.model.Levels.{Level}
 use Rattle.std.proofs.lemmas.Bool.{lt-ltb}
 use Rattle.bt_bed.specs.model.feature.Feature.{Feature}

@@ -1,5 +1,5 @@
 -- What a merge that keeps the strands apart does with one more record is what the definitions say, whatever the past.
-use Rattle.std.proofs.Common.{◌≡◌, ◌⊎◌, ℕ, ◌+◌, ◌-◌, ◌<◌, ◌≤◌, List, [], ◌∷◌, ◌++◌, append-nil, length, length-append, inl, inr, not, cond, ◌||◌, drop, get_or, map, set, take, Bool, true, false, bytes_eq, nat_lt, lt-ltb, le-ltb, Option, None, Some, Result, Ok, Err, refl, sym, ap, ap₂, ◌∙◌, subst, arith}
+use Rattle.std.proofs.Common.{codes, decimal, ◌≡◌, ◌⊎◌, ℕ, ◌+◌, ◌-◌, ◌<◌, ◌≤◌, List, [], ◌∷◌, ◌++◌, append-nil, length, length-append, inl, inr, not, cond, ◌||◌, drop, get_or, map, set, take, Bool, true, false, bytes_eq, nat_lt, lt-ltb, le-ltb, Option, None, Some, Result, Ok, Err, refl, sym, ap, ap₂, ◌∙◌, subst, arith}
 use Rattle.std.specs.List.{prefix_len, slice_get}
 use Rattle.std.specs.Prelude.{is_err, OnOk}
 use Rattle.std.proofs.lemmas.Bool.{cases_Bool, cases_lt, cond-true, cond-false, false≢true, not_from_true}
@@ -13,6 +13,7 @@ use Rattle.bt_lines.specs.calls.Putting.{Adds, FailsToAdd, FailsToPut, Grown}
 use Rattle.bt_lines.specs.declared.fault.Fault.{Fault}
 use Rattle.bt_lines.proofs.lemmas.writer.PuttingLemmas.{grown_more}
 use Rattle.bt_bed.specs.model.feature.Feature.{Feature, interval_of}
+use Rattle.bt_bed.specs.model.feature.Interval.{Interval}
 use Rattle.bt_bed.specs.model.feature.IntervalLine.{interval_line, interval_lines}
 use Rattle.bt_bed.specs.model.feature.Strands.{is_strand}
 use Rattle.bt_bed.proofs.lemmas.write.IntervalLineLemmas.{adds_line}
@@ -33,7 +34,6 @@ use Rattle.bt_runs.specs.declared.merge.pending_runs.PendingRun.{PendingRun}
 use Rattle.bt_runs.specs.declared.merge.per_strand_merge.OnlyRun.{OnlyRun}
 use Rattle.bt_runs.proofs.lemmas.merge.PendingRunsLemmas.{is_over, last_place_within, left_none, over_so, passed_every}
 use Rattle.bt_runs.proofs.lemmas.complement.RuleSteps.{quiet_adds_none, rule_cut, rule_finishes, rule_short, rule_taken}
-use Rattle.bt_runs.proofs.lemmas.merge.RunLines.{no_lines}
 use Rattle.bt_runs.proofs.lemmas.merge.UnstrandedLemmas.{last_is}
 use Rattle.bt_runs.proofs.lemmas.merge.StrandSettling.{strand_next, strand_runs_are_all, take_goes}
 
@@ -316,6 +316,15 @@ none_first (w ∷ ws) e = absurd (cc)
 
 places-append : (xs ys : List StrandRun) → strand_lines (xs ++ ys) ≡ strand_lines xs ++ strand_lines ys
 places-append xs ys = ap interval_lines (map-append (λ (item : StrandRun). item.run) xs ys) ∙ flat_map-append interval_line (places_of xs) (places_of ys)
+
+-- no line of a run is empty
+pushed_some : (xs : List ℕ) (y : ℕ) (ys : List ℕ) → (xs ++ y ∷ []) ++ ys ≡ [] → ⊥
+pushed_some [] y ys e = absurd (cc)
+pushed_some (x ∷ xs) y ys e = absurd (cc)
+
+no_lines : (runs : List Interval) → interval_lines runs ≡ [] → runs ≡ []
+no_lines [] e = refl
+no_lines (run ∷ runs) e = absurd (pushed_some (run.chrom ++ codes "\t" ++ decimal run.start ++ codes "\t" ++ decimal run.stop) 10 (interval_lines runs) e)
 
 no_items : (items : List StrandRun) → places_of items ≡ [] → items ≡ []
 no_items [] e = refl

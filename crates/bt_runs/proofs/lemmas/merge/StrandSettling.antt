@@ -199,6 +199,10 @@ module _ (gap : ℕ) where
   unfolding settled_strand_runs kept_strand_runs strand_runs
   no_strand_runs = refl
 
+  pub no_strand_settled : settled_strand_runs gap [] ≡ []
+  unfolding settled_strand_runs
+  no_strand_settled = refl
+
   -- a run that was closed by the last record is closed by the next one
   still_passed : (past : List Feature) (last : Interval) (r : Feature) (item : StrandRun) → Each (λ p. p.chrom ≡ r.chrom → (last.chrom ≡ r.chrom) × (last.start ≤ r.start)) past → Some_of (λ p. Lies item p) past
       → passes last item ≡ true → passes (interval_of r) item ≡ true

@@ -62,13 +62,7 @@ returns-in_default-rank-clause-enters g c =
     rw (← c.self.view_is) (enters_moved old false m.name.now m.length c.args.chrom.now c.args.out.now.output)
 
 pub name-name-requires-2 : goal.name-name-requires-2
-name-name-requires-2 g c =
-    let at = found_at (entries c.self.inside.chroms.genome.now) c.args.chrom.now c.in-Some-rank.rank (sym c.in-Some-rank.ensures) in
-    let h = at.within in
-    omega arith
+name-name-requires-2 g c = (found_at (entries c.self.inside.chroms.genome.now) c.args.chrom.now c.in-Some-rank.rank (sym c.in-Some-rank.ensures)).within
 
 pub length-length-requires-2 : goal.length-length-requires-2
-length-length-requires-2 g c =
-    let at = found_at (entries c.self.inside.chroms.genome.now) c.args.chrom.now c.in-Some-rank.rank (sym c.in-Some-rank.ensures) in
-    let h = at.within in
-    omega arith
+length-length-requires-2 g c = (found_at (entries c.self.inside.chroms.genome.now) c.args.chrom.now c.in-Some-rank.rank (sym c.in-Some-rank.ensures)).within
