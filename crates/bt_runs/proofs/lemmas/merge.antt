@@ -5,7 +5,6 @@ pub mod MergeLemmas
 pub mod OneStrand
 pub mod PendingRunsLemmas
 pub mod PerStrandLemmas
-pub mod RunLines
 pub mod SettledRuns
 pub mod StrandListing
 pub mod StrandOrder

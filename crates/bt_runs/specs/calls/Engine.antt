@@ -20,6 +20,13 @@ pub record IsQuiet (settled : List Feature → List ℕ) (held : List Feature �
   pub settles : settled (past ++ r ∷ []) ≡ settled past
   pub keeps : held (past ++ r ∷ []) ≤ held past
 
+-- there is a last record of the past, and the record lies on its chromosome
+pub record IsOnLast (past : List Feature) (r : Feature) : Type 0 where
+  pub before : List Feature
+  pub last : Feature
+  pub is : past ≡ before ++ last ∷ []
+  pub same : last.chrom ≡ r.chrom
+
 module _ {E : Type 0} (MayTake : E → List Feature → Type 0)
     (Stands : E → List Feature → E → Type 0) (old : E) where
   -- for every past that the engine is after, if it may take the record next

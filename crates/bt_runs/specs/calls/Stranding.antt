@@ -2,9 +2,8 @@
 use Rattle.std.specs.Prelude.{◌≡◌, ℕ, List, [], ◌∷◌, ◌++◌, length}
 use Rattle.bt_bed.specs.model.feature.Feature.{Feature}
 use Rattle.bt_bed.specs.model.feature.IntervalLine.{interval_lines}
-use Rattle.bt_runs.specs.calls.Engine.{IsQuiet}
+use Rattle.bt_runs.specs.calls.Engine.{IsOnLast, IsQuiet}
 use Rattle.bt_runs.specs.model.MergedRuns.{AreTaken}
-use Rattle.bt_runs.specs.inside.merge.OnLast.{IsOnLast}
 use Rattle.bt_runs.specs.model.StrandRuns.{StrandRun, kept_strand_runs, places_of, settled_strand_runs}
 use Rattle.bt_runs.specs.model.StrandRuns.{strand_runs}
 

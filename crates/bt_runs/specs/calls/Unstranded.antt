@@ -3,9 +3,8 @@ use Rattle.std.specs.Prelude.{◌≡◌, ℕ, List, [], ◌∷◌, ◌++◌, len
 use Rattle.bt_bed.specs.model.feature.Feature.{Feature}
 use Rattle.bt_bed.specs.model.feature.Interval.{Interval}
 use Rattle.bt_bed.specs.model.feature.IntervalLine.{interval_lines}
-use Rattle.bt_runs.specs.calls.Engine.{IsQuiet}
+use Rattle.bt_runs.specs.calls.Engine.{IsOnLast, IsQuiet}
 use Rattle.bt_runs.specs.model.MergedRuns.{AreTaken, kept_runs, merged_runs, settled_runs}
-use Rattle.bt_runs.specs.inside.merge.OnLast.{IsOnLast}
 use Rattle.bt_runs.specs.declared.merge.merge_strand.MergeStrand.{MergeStrand}
 
 -- the gap that it bridges, the records that it counts, the chromosome that it is on, and the run that it keeps, if

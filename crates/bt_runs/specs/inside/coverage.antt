@@ -2,6 +2,5 @@
 pub mod CountSeen
 pub mod CountedDepths
 pub mod DepthStep
-pub mod DepthText
 pub mod OpenEnds
 pub mod OpenRecords

@@ -1,6 +1,5 @@
 -- Words of contracts inside of the crate.
 pub mod MergeStep
-pub mod OnLast
 pub mod PendingRuns
 pub mod PerStrand
 pub mod StrandStep

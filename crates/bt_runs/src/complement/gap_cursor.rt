@@ -26,39 +26,8 @@ pub(crate) struct GapCursor<'g> {
 }
 
 impl<'g> GapCursor<'g> {
-    ghost use Rattle.std.specs.Prelude.{None, OnOk};
-    ghost use Rattle.bt_runs.specs.inside.walk.GapCursor.{Covers, gap_before, seen};
-    ghost use Rattle.bt_runs.specs.inside.walk.Walk.{IsPlaced, entry_at};
-
-    // No chromosome was reached.
-    pub(crate) fn new(genome: &'g Genome) -> GapCursor<'g>
-        ensures entries { entries result.genome.now ≡ entries genome.now }
-        ensures none { seen result ≡ None }
-    {
-        GapCursor {
-            genome,
-            rank: None,
-            name: &[],
-            length: 0,
-            end: 0,
-        }
-    }
-
-    // The chromosome of this rank, before its first record.
-    pub(crate) fn at(genome: &'g Genome, rank: usize) -> GapCursor<'g>
-        requires { IsPlaced (entries genome.now) rank }
-        ensures entries { entries result.genome.now ≡ entries genome.now }
-        ensures seen { seen result ≡ Some (record { rank = rank; known = 0 }) }
-        ensures bases { result.length ≡ (entry_at (entries genome.now) rank).length }
-    {
-        GapCursor {
-            genome,
-            rank: Some(rank),
-            name: genome.name(rank),
-            length: genome.length(rank),
-            end: 0,
-        }
-    }
+    ghost use Rattle.std.specs.Prelude.{OnOk};
+    ghost use Rattle.bt_runs.specs.inside.walk.GapCursor.{Covers, gap_before};
 
     // Takes a record on the chromosome out of its gaps, and writes the gap before it.
     #[inline(always)]

@@ -1,7 +1,7 @@
 //! The rule of `bedtools complement`: a gap is written once a record starts at or past its end, or on a later
 //! chromosome.
 
-ghost use Rattle.std.specs.Prelude.{◌≡◌, ◌≤◌, [], flat_map, length, min, slice_range};
+ghost use Rattle.std.specs.Prelude.{◌≡◌, ◌≤◌, [], flat_map, length, slice_range};
 ghost use Rattle.bt_lines.specs.calls.Putting.{Adds};
 ghost use Rattle.bt_bed.specs.calls.GenomeTable.{entries};
 ghost use Rattle.bt_bed.specs.model.feature.IntervalLine.{interval_lines};
@@ -9,8 +9,8 @@ ghost use Rattle.bt_runs.specs.calls.Complementing.{held_count, is_quiet, kept_i
 ghost use Rattle.bt_runs.specs.calls.Engine.{KeepsHeld};
 ghost use Rattle.bt_runs.specs.inside.walk.GapCursor.{seen};
 ghost use Rattle.bt_runs.specs.inside.walk.GapRule.{CoversRecord, IsOnChrom, complement_at, with_cursor};
-ghost use Rattle.bt_runs.specs.inside.walk.GapStep.{bare_gap, last_gap, whole_of};
-ghost use Rattle.bt_runs.specs.inside.walk.Walk.{begun, left_before, left_of};
+ghost use Rattle.bt_runs.specs.inside.walk.GapStep.{bare_gap, last_gap};
+ghost use Rattle.bt_runs.specs.inside.walk.Walk.{left_before};
 
 use crate::complement::gap_cursor::{GapCursor, put_gap};
 use crate::engine::rule::Rule;
@@ -23,7 +23,7 @@ use std::marker::Model;
 pub(crate) struct GapRule<'g> {
     // Whether chromosomes without a record are left out.
     limit: bool,
-    cursor: GapCursor<'g>,
+    pub(crate) cursor: GapCursor<'g>,
 }
 
 impl<'g> Model for GapRule<'g> {
@@ -42,10 +42,14 @@ impl<'g> GapRule<'g> {
         ensures entries { result.entries ≡ entries genome.now }
         ensures limit { result.limit ≡ limit }
     {
-        GapRule {
-            limit,
-            cursor: GapCursor::new(genome),
-        }
+        let cursor = GapCursor {
+            genome,
+            rank: None,
+            name: &[],
+            length: 0,
+            end: 0,
+        };
+        GapRule { limit, cursor }
     }
 }
 
@@ -57,8 +61,6 @@ impl<'g> Rule for GapRule<'g> {
     ghost settled = { settled_lines };
 
     ghost output = { whole_output };
-
-    ghost held = { held_count };
 
     ghost is_after = { stands_after };
 
@@ -85,7 +87,13 @@ impl<'g> Rule for GapRule<'g> {
             return Ok(());
         }
         put_before(&self.cursor, self.limit, rank, out)?;
-        self.cursor = GapCursor::at(genome, rank);
+        self.cursor = GapCursor {
+            genome,
+            rank: Some(rank),
+            name: genome.name(rank),
+            length: genome.length(rank),
+            end: 0,
+        };
         Ok(())
     }
 
@@ -111,14 +119,6 @@ impl<'g> Rule for GapRule<'g> {
         let GapRule { limit, cursor } = self;
         put_before(&cursor, limit, cursor.genome.count(), out)
     }
-
-    // How many places it keeps: 0 or 1.
-    fn kept_len(&self) -> usize
-        ensures list { result ≡ length (kept_in self.now) }
-        ensures held { KeepsHeld may_take stands_after self.now held_count result }
-    {
-        usize::from(self.cursor.rank.is_some())
-    }
 }
 
 // Writes what is left before the chromosome of the rank `stop`: the last gap of the one that was reached, and
@@ -133,38 +133,23 @@ fn put_before<K: Sink>(
     ensures { Adds out.old.output (interval_lines (left_before last_gap (bare_gap limit) (entries cursor.now.genome.now)
         (seen cursor.now) stop)) result out.new.output }
 {
-    put_left(cursor, out)?;
-    if limit {
-        return Ok(());
-    }
-    put_whole(cursor.genome, first_rank(cursor, stop), stop, out)
+    let Some(rank) = cursor.rank else {
+        return put_bares(cursor.genome, limit, 0, stop, out);
+    };
+    put_gap(cursor.name, cursor.end, cursor.genome.length(rank), out)?;
+    put_bares(
+        cursor.genome,
+        limit,
+        stop.min(rank.saturating_add(1)),
+        stop,
+        out,
+    )
 }
 
-// The rank of the chromosome after the one that was reached, but no more than `stop`.
-fn first_rank(cursor: &GapCursor<'_>, stop: usize) -> usize
-    ensures { result ≡ min (begun (seen cursor.now)) stop }
-{
-    match cursor.rank {
-        None => 0,
-        Some(rank) if rank < stop => rank + 1,
-        Some(_) => stop,
-    }
-}
-
-// Writes the last gap of the chromosome that was reached.
-fn put_left<K: Sink>(cursor: &GapCursor<'_>, out: &mut Out<K>) -> Result<(), Fault>
-    ensures { Adds out.old.output (interval_lines (left_of last_gap (entries cursor.now.genome.now) (seen cursor.now)))
-        result out.new.output }
-{
-    match cursor.rank {
-        None => Ok(()),
-        Some(rank) => put_gap(cursor.name, cursor.end, cursor.genome.length(rank), out),
-    }
-}
-
-// Writes the chromosomes of the ranks from `first` on and below `stop`, each whole.
-fn put_whole<K: Sink>(
+// Writes the chromosomes of the ranks from `first` on and below `stop`, each whole; none with `limit`.
+fn put_bares<K: Sink>(
     genome: &Genome,
+    limit: bool,
     first: usize,
     stop: usize,
     out: &mut Out<K>,
@@ -172,8 +157,11 @@ fn put_whole<K: Sink>(
     requires order { first ≤ stop }
     requires within { stop ≤ length (entries genome.now) }
     ensures { Adds out.old.output (interval_lines
-        (flat_map whole_of (slice_range (entries genome.now) first stop))) result out.new.output }
+        (flat_map (bare_gap limit) (slice_range (entries genome.now) first stop))) result out.new.output }
 {
+    if limit {
+        return Ok(());
+    }
     for rank in first..stop {
         put_gap(genome.name(rank), 0, genome.length(rank), out)?;
     }

@@ -134,7 +134,7 @@ impl Engine for Complement<'_> {
         ensures list { result ≡ length (kept_in self.now.rule) }
         ensures held { KeepsHeld (ruled_takes may_take) (ruled_stands stands_after) self.now (ruled_count held_count) result }
     {
-        self.rule.rule.kept_len()
+        usize::from(self.rule.rule.cursor.rank.is_some())
     }
 }
 

@@ -3,7 +3,7 @@
 ghost use Rattle.std.specs.Prelude.{◌≡◌, ◌+◌, ◌≤◌, drop};
 ghost use Rattle.bt_lines.specs.calls.Putting.{Puts};
 ghost use Rattle.bt_runs.specs.model.Depth.{depth_line};
-ghost use Rattle.bt_runs.specs.inside.coverage.DepthText.{depth_text};
+ghost use Rattle.bt_runs.specs.inside.coverage.DepthStep.{depth_text};
 
 use bt_lines::{COLUMN, Fault, Out, Sink, put_both, write_column};
 

@@ -57,14 +57,14 @@ pub(crate) struct DepthRule<'g> {
     // The strand that is counted; `None` if all records are.
     strand: Option<Strand>,
     // `None` before the first record on a chromosome of the genome file.
-    current: Option<DepthCursor>,
+    pub(crate) current: Option<DepthCursor>,
     // Whether the last record lies there; else the genome file doesn't have its chromosome.
     is_known: bool,
     // The name and the length of the chromosome that the last record lies on.
     name: &'g [u8],
     length: u64,
     // Those of the current chromosome.
-    held: OpenRecords,
+    pub(crate) held: OpenRecords,
 }
 
 impl<'g> Model for DepthRule<'g> {
@@ -111,27 +111,6 @@ impl<'g> DepthRule<'g> {
             held: OpenRecords::new(alloc),
         }
     }
-
-    // Begins another chromosome, if the genome has it. It writes what is left before that.
-    fn begin<K: Sink>(&mut self, chrom: &[u8], out: &mut Out<K>) -> Result<(), Fault>
-        requires { is_on self.old.entries self.old.current chrom.now ≡ false }
-        ensures on { OnOk result (IsOnChrom self.new chrom.now) }
-        ensures enters { EnterAnswers CountsDepths (Taken may_take stands_after settled_lines is_quiet wants_memory CountsDepths) self.old chrom.now out.old.output result self.new out.new.output }
-    {
-        let Some(rank) = self.chroms.genome.rank(chrom) else {
-            self.is_known = false;
-            return Ok(());
-        };
-        let name = self.chroms.genome.name(rank);
-        let length = self.chroms.genome.length(rank);
-        put_before(&self.chroms, self.current, &mut self.held, rank, out)?;
-        self.held.clear(0);
-        self.current = Some(DepthCursor { rank, begun: None });
-        self.is_known = true;
-        self.name = name;
-        self.length = length;
-        Ok(())
-    }
 }
 
 impl<'g> Rule for DepthRule<'g> {
@@ -142,8 +121,6 @@ impl<'g> Rule for DepthRule<'g> {
     ghost settled = { settled_lines };
 
     ghost output = { whole_output };
-
-    ghost held = { held_count };
 
     ghost is_after = { stands_after };
 
@@ -171,7 +148,19 @@ impl<'g> Rule for DepthRule<'g> {
                 return Ok(());
             }
         }
-        self.begin(chrom, out)
+        let Some(rank) = self.chroms.genome.rank(chrom) else {
+            self.is_known = false;
+            return Ok(());
+        };
+        let name = self.chroms.genome.name(rank);
+        let length = self.chroms.genome.length(rank);
+        put_before(&self.chroms, self.current, &mut self.held, rank, out)?;
+        self.held.clear(0);
+        self.current = Some(DepthCursor { rank, begun: None });
+        self.is_known = true;
+        self.name = name;
+        self.length = length;
+        Ok(())
     }
 
     fn on_chrom(&self) -> CurrentChrom<'g> {
@@ -234,17 +223,6 @@ impl<'g> Rule for DepthRule<'g> {
         let count = self.chroms.genome.count();
         let chroms = self.chroms;
         put_before(&chroms, self.current, &mut self.held, count, out)
-    }
-
-    // How many counted records end at the last start or past it; none before the first chromosome.
-    fn kept_len(&self) -> usize
-        ensures list { result ≡ length (kept_in self.now) }
-        ensures held { KeepsHeld may_take stands_after self.now held_count result }
-    {
-        match self.current {
-            None => 0,
-            Some(_) => self.held.len(),
-        }
     }
 }
 
@@ -323,21 +301,8 @@ fn put_rest<K: Sink>(
     ensures adds { Adds out.old.output (depth_lines (levels_on chrom.now.name.now (levels_left chrom.now.zeros chrom.now.length (known_seen begun held.old)))) result out.new.output }
     ensures none { OnOk result (held.new ≡ none_open_at chrom.now.length) }
 {
-    put_left(chrom, begun, held, out)?;
-    held.clear(chrom.length);
-    Ok(())
-}
-
-// Writes what is left of a chromosome.
-fn put_left<K: Sink>(
-    chrom: &CoveredChrom<'_>,
-    begun: Option<OpenInterval>,
-    held: &mut OpenRecords,
-    out: &mut Out<K>,
-) -> Result<(), Fault>
-    ensures { Adds out.old.output (depth_lines (levels_on chrom.now.name.now (levels_left chrom.now.zeros chrom.now.length (known_seen begun held.old)))) result out.new.output }
-{
     let begun = go_on(chrom, begun, held, chrom.length, out)?;
+    held.clear(chrom.length);
     put_ended(chrom.name, begun, chrom.length, out)
 }
 
@@ -354,42 +319,16 @@ fn put_before<K: Sink>(
     requires within { stop ≤ length (entries chroms.now.genome.now) }
     ensures { Adds out.old.output (depth_lines (left_before (depths_left chroms.now.zeros) (bare_of chroms.now.zeros) (entries chroms.now.genome.now) (seen current held.old) stop)) result out.new.output }
 {
-    put_current(chroms, current, held, out)?;
-    put_bares(chroms, first_rank(current, stop), stop, out)
-}
-
-// The rank of the chromosome after the current one, but no more than `stop`.
-fn first_rank(current: Option<DepthCursor>, stop: usize) -> usize
-    ensures { result ≡ min (begun (seen current (none_open_at 0))) stop }
-{
-    match current {
-        None => 0,
-        Some(reached) if reached.rank < stop => reached.rank + 1,
-        Some(_) => stop,
-    }
-}
-
-// Writes what is left of the current chromosome.
-fn put_current<K: Sink>(
-    chroms: &DepthGenome<'_>,
-    current: Option<DepthCursor>,
-    held: &mut OpenRecords,
-    out: &mut Out<K>,
-) -> Result<(), Fault>
-    requires { AreReached (entries chroms.now.genome.now) (seen current held.now) }
-    ensures { Adds out.old.output (depth_lines (left_of (depths_left chroms.now.zeros) (entries chroms.now.genome.now) (seen current held.old))) result out.new.output }
-{
-    match current {
-        None => Ok(()),
-        Some(reached) => {
-            let chrom = CoveredChrom {
-                name: chroms.genome.name(reached.rank),
-                length: chroms.genome.length(reached.rank),
-                zeros: chroms.zeros,
-            };
-            put_left(&chrom, reached.begun, held, out)
-        }
-    }
+    let Some(reached) = current else {
+        return put_bares(chroms, 0, stop, out);
+    };
+    let chrom = CoveredChrom {
+        name: chroms.genome.name(reached.rank),
+        length: chroms.genome.length(reached.rank),
+        zeros: chroms.zeros,
+    };
+    put_rest(&chrom, reached.begun, held, out)?;
+    put_bares(chroms, stop.min(reached.rank.saturating_add(1)), stop, out)
 }
 
 // Writes the chromosomes of the ranks from `first` on and below `stop`, which have no records, if depth 0 is written.

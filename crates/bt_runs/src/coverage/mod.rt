@@ -144,7 +144,10 @@ impl Engine for Coverage<'_> {
         ensures list { result ≡ length (kept_in self.now.rule) }
         ensures held { KeepsHeld (ruled_takes may_take) (ruled_stands stands_after) self.now (ruled_count held_count) result }
     {
-        self.rule.rule.kept_len()
+        match self.rule.rule.current {
+            None => 0,
+            Some(_) => self.rule.rule.held.len(),
+        }
     }
 }
 

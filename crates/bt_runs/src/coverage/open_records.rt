@@ -1,8 +1,8 @@
 //! The counted records that are open at a position of a chromosome.
 
-ghost use Rattle.std.specs.Prelude.{◌≡◌, ◌+◌, ◌≤◌, [], ◌∷◌, ◌++◌, All, IsTrue, OnOk, drop, length, max};
+ghost use Rattle.std.specs.Prelude.{◌≡◌, ◌+◌, ◌≤◌, [], ◌∷◌, ◌++◌, All, OnOk, drop, length, max};
 ghost use Rattle.bt_runs.specs.inside.coverage.DepthStep.{still_open};
-ghost use Rattle.bt_runs.specs.inside.coverage.OpenRecords.{StartsEnded, none_open_at, open_from, spans_open};
+ghost use Rattle.bt_runs.specs.inside.coverage.OpenRecords.{none_open_at, open_from, spans_open};
 
 use crate::coverage::open_ends::OpenEnds;
 use std::alloc::{AllocError, Global};
@@ -118,8 +118,7 @@ impl OpenRecords {
         self.ends.first(stop)
     }
 
-    // Adds a record that starts at the position, if it is open there. It is out of line, so that the loop over records
-    // has the registers to itself.
+    // Adds a record that starts at the position, if it is open there. It is out of line, so that the hot loop stays small.
     #[inline(never)]
     pub(crate) fn push(&mut self, stop: u64) -> Result<(), AllocError>
         ensures added { OnOk result (self.new ≡ record { at = self.old.at; spans = self.old.spans ++ still_open self.old.at (record { start = self.old.at; stop = stop } ∷ []) }) }
@@ -144,7 +143,7 @@ fn drop_ended(spans: &mut VecDeque<OpenSpan>, position: u64, left: usize)
     requires { left ≡ length (still_open position (spans_open spans.old.items)) }
     ensures { spans_open spans.new.items ≡ still_open position (spans_open spans.old.items) }
 {
-    while left < spans.len() && begins_with_ended(spans, position) {
+    while left < spans.len() && spans[0].stop < position {
         spans.pop_front();
     }
     if left < spans.len() {
@@ -170,7 +169,7 @@ fn first_ended(spans: &VecDeque<OpenSpan>, position: u64, left: usize) -> usize
     index
 }
 
-// Drops those from an index on that ended before a position, where none before it did.
+// Drops those from an index on that ended before a position, where none before it ended.
 fn drop_from(spans: &mut VecDeque<OpenSpan>, position: u64, first: usize)
     requires within { first ≤ length spans.old.items }
     requires count { first + length (still_open position (spans_open (drop first spans.old.items))) ≡ length (still_open position (spans_open spans.old.items)) }
@@ -187,15 +186,4 @@ fn drop_from(spans: &mut VecDeque<OpenSpan>, position: u64, first: usize)
         index += 1;
     }
     spans.truncate(kept);
-}
-
-// Whether the first record ended before a position.
-#[inline(always)]
-fn begins_with_ended(spans: &VecDeque<OpenSpan>, position: u64) -> bool
-    ensures { IsTrue result → StartsEnded position (spans_open spans.now.items) }
-{
-    match spans.front() {
-        Some(span) => span.stop < position,
-        None => false,
-    }
 }

@@ -164,8 +164,8 @@ fn worked_rows(rt: HostRuntime) -> Result<(), Fail> {
     check_all(&rt, rt.alloc(), &CASES)
 }
 
-// Records whose ends come in another order than their starts, some at one position. Beside each stands
-// how many are kept with it: those that end at its start or past it.
+// Records whose ends come in another order than their starts, some at one position. Beside each is how many are
+// kept with it: those that end at its start or past it.
 const OUT_OF_ORDER: [(&[u8], usize); 9] = [
     (b"chr1\t0\t12", 1),
     (b"chr1\t0\t3", 2),
@@ -266,7 +266,7 @@ fn short_records_beside_long_ones(rt: HostRuntime) -> Result<(), Fail> {
     Ok(())
 }
 
-// Whether of so many records, each within the one before it, all are kept.
+// Whether all of this many records are kept, if each lies within the one before it.
 fn keeps_all(
     alloc: Global,
     coverage: &mut Coverage<'_>,

@@ -4,7 +4,6 @@ ghost use Rattle.std.specs.Prelude.{◌≡◌, ℕ, List, None, Option, Result, 
 ghost use Rattle.bt_lines.specs.calls.Output.{Output};
 ghost use Rattle.bt_lines.specs.declared.fault.Fault.{Fault};
 ghost use Rattle.bt_bed.specs.model.feature.Feature.{Feature};
-ghost use Rattle.bt_runs.specs.calls.Engine.{KeepsHeld};
 ghost use Rattle.bt_runs.specs.inside.walk.Rule.{EnterAnswers, Follows, RuleFeeds, RuleFinishes, Taken, WantsMemory};
 
 use crate::engine::failure::Failure;
@@ -24,9 +23,6 @@ pub(crate) trait Rule {
 
     // The lines of the output, if these are all records.
     ghost output: { Self → List Feature → List ℕ };
-
-    // How many items are kept after the records.
-    ghost held: { Self → List Feature → ℕ };
 
     // What a rule that began like this has become once it has taken these records.
     ghost is_after: { Self → List Feature → Self → Type 0 };
@@ -78,10 +74,6 @@ pub(crate) trait Rule {
     // Writes the lines that are still unsettled, after the last record.
     fn finish<K: Sink>(self, out: &mut Out<K>) -> Result<(), Fault>
         ensures { RuleFinishes takes is_after settled self output out.old.output result out.new.output };
-
-    // How many items of the output it keeps that aren't written.
-    fn kept_len(&self) -> usize
-        ensures { KeepsHeld takes is_after self.now held result };
 }
 
 // A rule, and the failure that ended it, if there was one.

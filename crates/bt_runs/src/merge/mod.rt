@@ -164,8 +164,9 @@ impl Engine for Merge {
         ensures held { KeepsHeld may_take stands_after self.now held_count result }
     {
         match &self.kind {
-            Kind::Unstranded(merge) => merge.rule.kept_len(),
-            Kind::PerStrand(merge) => merge.rule.kept_len(),
+            Kind::Unstranded(merge) => usize::from(merge.rule.run.stop != 0),
+            Kind::PerStrand(merge) if merge.rule.only.is_any => 1,
+            Kind::PerStrand(merge) => merge.rule.runs.len(),
         }
     }
 }

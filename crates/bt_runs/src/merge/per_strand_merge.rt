@@ -5,7 +5,7 @@ ghost use Rattle.std.specs.Prelude.{◌≡◌, ◌∷◌, [], length, true, OnOk
 ghost use Rattle.bt_lines.specs.calls.Putting.{Adds};
 ghost use Rattle.bt_runs.specs.calls.Engine.{KeepsHeld};
 ghost use Rattle.bt_runs.specs.inside.merge.PendingRuns.{left_runs, passed_runs, placed_runs};
-ghost use Rattle.bt_runs.specs.calls.Stranding.{StandsAfter, held_count, is_quiet, may_take, settled_lines, stands_after, strand_lines, whole_output};
+ghost use Rattle.bt_runs.specs.calls.Stranding.{held_count, is_quiet, may_take, settled_lines, stands_after, strand_lines, whole_output};
 ghost use Rattle.bt_runs.specs.inside.merge.StrandTaking.{JoinsAmong, TakesNext, wants_memory};
 
 use crate::engine::failure::Failure;
@@ -19,17 +19,17 @@ use std::marker::Model;
 // The only run that waits, in a local. If there is none, or several wait in the list, it is unspecified.
 #[derive(Clone, Copy, Debug)]
 pub(crate) struct OnlyRun {
-    is_any: bool,
-    strand: Strand,
-    start: u64,
-    stop: u64,
+    pub(crate) is_any: bool,
+    run: PendingRun,
 }
 
 const NONE: OnlyRun = OnlyRun {
     is_any: false,
-    strand: Strand::Dot,
-    start: 0,
-    stop: 0,
+    run: PendingRun {
+        strand: Strand::Dot,
+        start: 0,
+        stop: 0,
+    },
 };
 
 // Merges the records of each strand separately. It keeps the runs of one chromosome from the first
@@ -41,9 +41,9 @@ pub(crate) struct PerStrandMerge {
     // The chromosome of the runs, whose buffer is used again.
     chrom: Vec<u8>,
     // The only run, if no others wait. What the list holds then is unspecified.
-    only: OnlyRun,
+    pub(crate) only: OnlyRun,
     // In the order of their first records; all of them lie on that chromosome.
-    runs: PendingRuns,
+    pub(crate) runs: PendingRuns,
 }
 
 impl Model for PerStrandMerge {
@@ -66,8 +66,7 @@ impl PerStrandMerge {
 
     // A merge that has taken no record.
     pub(crate) fn new(alloc: Global, d: u64) -> PerStrandMerge
-        ensures stands { StandsAfter d [] result }
-        ensures is { result ≡ record { gap = d; chrom = []; kept = []; listed = [] } }
+        ensures { result ≡ record { gap = d; chrom = []; kept = []; listed = [] } }
     {
         PerStrandMerge {
             gap: d,
@@ -84,7 +83,7 @@ impl PerStrandMerge {
     {
         let chrom = self.chrom.as_slice();
         if self.only.is_any {
-            put_interval(chrom, self.only.start, self.only.stop, out)?;
+            put_interval(chrom, self.only.run.start, self.only.run.stop, out)?;
             self.only.is_any = false;
             self.runs.clear();
             return Ok(());
@@ -114,29 +113,24 @@ impl PerStrandMerge {
         if !on.is_any {
             return match join_among(self.chrom.as_slice(), reach, run, &mut self.runs, out) {
                 Ok(true) => {
-                    *on = only(run);
+                    *on = OnlyRun { is_any: true, run };
                     Ok(())
                 }
                 Ok(false) => Ok(()),
                 Err(failure) => Err(failure.fault()),
             };
         }
-        if on.stop < reach {
-            put_interval(self.chrom.as_slice(), on.start, on.stop, out)?;
-            *on = only(run);
+        if on.run.stop < reach {
+            put_interval(self.chrom.as_slice(), on.run.start, on.run.stop, out)?;
+            on.run = run;
             return Ok(());
         }
-        if on.strand == run.strand {
-            on.stop = on.stop.max(run.stop);
+        if on.run.strand == run.strand {
+            on.run.stop = on.run.stop.max(run.stop);
             return Ok(());
         }
         on.is_any = false;
-        let first = PendingRun {
-            strand: on.strand,
-            start: on.start,
-            stop: on.stop,
-        };
-        match list_both(first, run, &mut self.runs) {
+        match list_both(on.run, run, &mut self.runs) {
             Ok(()) => Ok(()),
             Err(AllocError) => Err(no_memory()),
         }
@@ -153,8 +147,6 @@ impl Rule for PerStrandMerge {
     ghost settled = { settled_lines };
 
     ghost output = { whole_output };
-
-    ghost held = { held_count };
 
     ghost is_after = { stands_after };
 
@@ -201,29 +193,6 @@ impl Rule for PerStrandMerge {
 
     fn finish<K: Sink>(mut self, out: &mut Out<K>) -> Result<(), Fault> {
         self.close(out)
-    }
-
-    fn kept_len(&self) -> usize
-        ensures list { result ≡ length self.now.kept }
-        ensures held { KeepsHeld may_take stands_after self.now held_count result }
-    {
-        if self.only.is_any {
-            return 1;
-        }
-        self.runs.len()
-    }
-}
-
-// A run, as the only one.
-#[inline(always)]
-fn only(run: PendingRun) -> OnlyRun
-    ensures { result ≡ record { is_any = true; strand = run.strand; start = run.start; stop = run.stop } }
-{
-    OnlyRun {
-        is_any: true,
-        strand: run.strand,
-        start: run.start,
-        stop: run.stop,
     }
 }
 

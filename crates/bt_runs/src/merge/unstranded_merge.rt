@@ -20,7 +20,7 @@ use std::marker::Model;
 #[derive(Clone, Copy, Debug)]
 pub(crate) struct OpenRun {
     start: u64,
-    stop: u64,
+    pub(crate) stop: u64,
 }
 
 // No run.
@@ -37,7 +37,7 @@ pub(crate) struct UnstrandedMerge {
     strand: MergeStrand,
     // The chromosome that it is on. Its buffer is used again.
     chrom: Vec<u8>,
-    run: OpenRun,
+    pub(crate) run: OpenRun,
 }
 
 impl Model for UnstrandedMerge {
@@ -79,8 +79,6 @@ impl Rule for UnstrandedMerge {
     ghost settled = { settled_lines };
 
     ghost output = { whole_output };
-
-    ghost held = { held_count };
 
     ghost is_after = { stands_after };
 
@@ -136,13 +134,6 @@ impl Rule for UnstrandedMerge {
 
     fn finish<K: Sink>(self, out: &mut Out<K>) -> Result<(), Fault> {
         put_run(self.chrom.as_slice(), self.run, out)
-    }
-
-    fn kept_len(&self) -> usize
-        ensures list { result ≡ length self.now.kept }
-        ensures held { KeepsHeld may_take stands_after self.now held_count result }
-    {
-        usize::from(self.run.stop != 0)
     }
 }
 

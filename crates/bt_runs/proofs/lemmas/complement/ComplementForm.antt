@@ -10,6 +10,7 @@ use Rattle.bt_bed.specs.model.order.Rank.{rank_order}
 use Rattle.bt_bed.specs.model.order.Contiguous.{has_records}
 use Rattle.bt_runs.specs.model.Gaps.{gaps_of, gaps_on, is_asked, is_over, is_over_at, complement, over_by, settled_gaps}
 use Rattle.bt_runs.specs.inside.walk.GapStep.{bare_gap, gap_between, gap_walk}
+use Rattle.bt_runs.proofs.lemmas.laws.EachLemmas.{filter_map_all, filter_map_none}
 use Rattle.bt_runs.proofs.lemmas.laws.Standing.{has_records-push, compare_same}
 use Rattle.bt_runs.proofs.lemmas.order.ChromosomeLemmas.{spans_on-push_elsewhere, spans_on-none, spans_on-push_here}
 use Rattle.bt_runs.proofs.lemmas.complement.OneGap.{OneGap, no_gap, one_gaps, span_between, EndBy, cover_gap, end_between, end_both, end_later}
@@ -61,24 +62,16 @@ part_here limit records e done kept some one =
 pub part_other : (limit : Bool) (past : List Interval) (r : Interval) (e : Entry) → bytes_eq r.chrom e.name ≡ false → part limit (past ++ r ∷ []) e ≡ part limit past e
 part_other limit past r e f = rw (has_records-push e.name past r f, spans_on-push_elsewhere e.name past r f) refl
 
-filter_placed : (test : Interval → Bool) (name : List ℕ) (spans : List Span) → ((s : Span) → test (placed_on name s) ≡ true) → filter test (map (placed_on name) spans) ≡ map (placed_on name) spans
-filter_placed test name [] all = refl
-filter_placed test name (s ∷ ss) all = rw (all s, filter_placed test name ss all) refl
-
-filter_none : (test : Interval → Bool) (name : List ℕ) (spans : List Span) → ((s : Span) → test (placed_on name s) ≡ false) → filter test (map (placed_on name) spans) ≡ []
-filter_none test name [] all = refl
-filter_none test name (s ∷ ss) all = rw (all s, filter_none test name ss all) refl
-
 -- the gaps of a chromosome before that of the last record are over, and those of one after it aren't
 pub part_before : (names : List (List ℕ)) (last : Interval) (limit : Bool) (records : List Interval) (e : Entry) → (rank_order names).compare e.name last.chrom ≡ Less → filter (is_over names last) (part limit records e) ≡ part limit records e
 part_before names last limit records e less = elim (cases_Bool (is_asked limit records e)) [
-  | inl t ↦ rw t (filter_placed (is_over names last) e.name (gaps_of e.length (spans_on e.name records)) (λ s. ap (λ o. is_over_at o (nat_le s.stop last.start)) less))
+  | inl t ↦ rw t (filter_map_all (placed_on e.name) (is_over names last) (gaps_of e.length (spans_on e.name records)) (λ s. ap (λ o. is_over_at o (nat_le s.stop last.start)) less))
   | inr t ↦ rw t refl
 ]
 
 pub part_after : (names : List (List ℕ)) (last : Interval) (limit : Bool) (records : List Interval) (e : Entry) → (rank_order names).compare e.name last.chrom ≡ Greater → filter (is_over names last) (part limit records e) ≡ []
 part_after names last limit records e greater = elim (cases_Bool (is_asked limit records e)) [
-  | inl t ↦ rw t (filter_none (is_over names last) e.name (gaps_of e.length (spans_on e.name records)) (λ s. ap (λ o. is_over_at o (nat_le s.stop last.start)) greater))
+  | inl t ↦ rw t (filter_map_none (placed_on e.name) (is_over names last) (gaps_of e.length (spans_on e.name records)) (λ s. ap (λ o. is_over_at o (nat_le s.stop last.start)) greater))
   | inr t ↦ rw t refl
 ]
 

@@ -3,7 +3,6 @@ use Rattle.std.proofs.Common.{◌≡◌, ◌⊎◌, ℕ, List, [], ◌∷◌, �
 use Rattle.std.specs.Option.{option_eq}
 use Rattle.std.proofs.lemmas.Bool.{cases_Bool, cond-true, cond-false, eqb-false, eqb-true, le-ltb}
 use Rattle.std.proofs.lemmas.Grind.{flat_map-append}
-use Rattle.bt_lines.specs.model.Fault.{FaultValue, no_memory, write_failed}
 use Rattle.bt_lines.specs.calls.Names.{fault_value}
 use Rattle.bt_lines.specs.calls.Output.{Output}
 use Rattle.bt_lines.specs.calls.Putting.{Adds, FailsToAdd, Grown}
@@ -27,6 +26,7 @@ use Rattle.bt_runs.specs.inside.walk.Walk.{AreReached, IsNamed, IsPlaced, Place,
 use Rattle.bt_runs.specs.declared.complement.gap_cursor.GapCursor.{GapCursor}
 use Rattle.bt_runs.proofs.lemmas.complement.GapSteps.{held_kept, leaves, moves}
 use Rattle.bt_runs.proofs.lemmas.order.GenomeRanks.{found_at, found_entry, name_at, size_ranked}
+use Rattle.bt_runs.proofs.lemmas.coverage.CallLemmas.{other_fault}
 use Rattle.bt_runs.proofs.lemmas.complement.RuleSteps.{quiet_adds_none, rule_cut, rule_finishes, rule_taken}
 use Rattle.bt_runs.proofs.lemmas.laws.Standing.{found}
 use Rattle.bt_runs.proofs.lemmas.complement.Walks.{going_on, going_to, step_goes, step_starts}
@@ -108,9 +108,6 @@ cursor_reached cursor = reached_at (entries cursor.genome.now) cursor.name.now c
 
 same_complement : (a b : Complementing) → a.entries ≡ b.entries → a.limit ≡ b.limit → a.current ≡ b.current → a.bases ≡ b.bases → a ≡ b
 same_complement a b e l c n = rw (e, l, c, n) refl
-
-other_fault : {answer : FaultValue} → answer ≡ no_memory → answer ≡ write_failed → ⊥
-other_fault memory write = let apart : no_memory.kind ≡ write_failed.kind = ap (λ (t : FaultValue). t.kind) (sym memory ∙ write) in cc
 
 abbrev none_wanted : Complementing → Feature → Type 0
 none_wanted rule r = ⊥

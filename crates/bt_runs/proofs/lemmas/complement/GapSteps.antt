@@ -1,29 +1,23 @@
--- What a complement keeps shows which chromosome its walk has reached, and up to where; so its exact step writes what the records settle. The file begins with how what is left before a chromosome is put.
-use Rattle.std.proofs.Common.{◌≡◌, ℕ, List, [], ◌∷◌, ◌++◌, refl, ◌∙◌, subst, sym, min, flat_map, slice_range, append-nil, Bool, true, false, Option, Some, ◌≤◌, ap₂, arith, length, None}
+-- What a complement keeps shows which chromosome its walk has reached, and up to where; so its exact step writes what the records settle.
+use Rattle.std.proofs.Common.{◌≡◌, ℕ, List, [], ◌∷◌, ◌++◌, refl, ◌∙◌, subst, sym, flat_map, Bool, true, Option, Some, ◌≤◌, ap₂, arith, length, None}
 use Rattle.bt_bed.specs.model.feature.Feature.{Feature, intervals_of}
 use Rattle.bt_bed.specs.model.order.Genome.{Entry, genome_names}
 use Rattle.bt_bed.specs.model.feature.Interval.{Interval, last_of}
 use Rattle.bt_bed.specs.model.order.Locus.{Locus}
 use Rattle.bt_bed.specs.model.order.Rank.{AreDistinct}
-use Rattle.bt_runs.specs.inside.walk.GapStep.{bare_gap, last_gap, whole_of}
+use Rattle.bt_runs.specs.inside.walk.GapStep.{bare_gap, last_gap}
 use Rattle.bt_runs.specs.model.Gaps.{AreTaken, complement, kept_at, kept_place, length_in, one_place_is_kept, settled_gaps}
 use Rattle.bt_runs.specs.calls.Settling.{Settles}
-use Rattle.bt_runs.specs.inside.walk.Walk.{AreReached, Place, begun, left_before, left_of, places}
+use Rattle.bt_runs.specs.inside.walk.Walk.{AreReached, Place, left_before, places}
 use Rattle.bt_runs.proofs.lemmas.complement.ComplementForm.{Own, gaps, owes, written}
-use Rattle.bt_runs.proofs.lemmas.order.GenomeRanks.{bares_from, before_from, name_at, size_there}
+use Rattle.bt_runs.proofs.lemmas.order.GenomeRanks.{name_at, size_there}
 use Rattle.bt_runs.proofs.lemmas.laws.Standing.{apart}
 use Rattle.bt_runs.proofs.lemmas.complement.Walks.{Held, Steps, ends, rank_entry, reaches, same_place, settles_items, steps, taken_front}
 
--- how what is left before a chromosome is put: with -L the last gap alone
-no_bares : (entries : List Entry) → flat_map (bare_gap true) entries ≡ []
+-- with -L no chromosome without records is written
+pub no_bares : (entries : List Entry) → flat_map (bare_gap true) entries ≡ []
 no_bares [] = refl
 no_bares (entry ∷ entries) = no_bares entries
-
-pub before_limited : (entries : List Entry) (current : Option (Place ℕ)) (stop : ℕ) (limit : Bool) → limit ≡ true → left_before last_gap (bare_gap limit) entries current stop ≡ left_of last_gap entries current
-before_limited entries current stop limit e = rw (e, no_bares (slice_range entries (begun current) stop)) (append-nil (left_of last_gap entries current))
-
-pub before_all : (entries : List Entry) (current : Option (Place ℕ)) (first stop : ℕ) (limit : Bool) → limit ≡ false → first ≡ min (begun current) stop → left_before last_gap (bare_gap limit) entries current stop ≡ left_of last_gap entries current ++ bares_from whole_of entries first stop
-before_all entries current first stop limit e is = rw e (before_from whole_of entries last_gap current first stop is)
 
 -- the place that a complement shows
 abbrev pub shown_place : List Entry → Option (Place ℕ) → List Locus

@@ -1,14 +1,15 @@
 -- What a call of an engine does, taken apart: from `Feeds` and `Finishes` to a fact for each clause, and back.
 use Rattle.std.proofs.Common.{◌≡◌, ℕ, List, Option, None, Some, Result, Ok, Err, IfErr, sym, ap, ◌∙◌, inl, inr}
+use Rattle.std.specs.Prelude.{MatchResult}
 use Rattle.bt_lines.specs.model.Fault.{FaultValue, no_memory, write_failed}
 use Rattle.bt_lines.specs.calls.Names.{fault_value}
 use Rattle.bt_lines.specs.calls.Output.{Output}
 use Rattle.bt_lines.specs.declared.fault.Fault.{Fault}
 use Rattle.bt_bed.specs.model.feature.Feature.{Feature}
-use Rattle.bt_runs.specs.calls.Calls.{AnswersAgain, KeepsFault, WritesFirst, WritesLeft, WritesLeftPrefix, WritesPrefix, WritesSettled}
+use Rattle.bt_runs.specs.calls.Calls.{KeepsFault, WritesFirst, WritesLeft, WritesLeftPrefix, WritesPrefix, WritesSettled}
 use Rattle.bt_runs.specs.calls.Engine.{Feeds, Finishes, IsWanted}
 
-other_fault : {answer : FaultValue} → answer ≡ no_memory → answer ≡ write_failed → ⊥
+pub other_fault : {answer : FaultValue} → answer ≡ no_memory → answer ≡ write_failed → ⊥
 other_fault memory write = let apart : no_memory.kind ≡ write_failed.kind = ap (λ (t : FaultValue). t.kind) (sym memory ∙ write) in cc
 
 none_before : {A : Type 0} {o : Option A} {x : A} → o ≡ None → o ≡ Some x → ⊥
@@ -44,18 +45,12 @@ module _ {E A : Type 0} {MayTake : E → List Feature → Type 0} {Stands : E �
     | inr (inr ran) ↦ ran
   ]
 
-  pub feeds_again : (result : Result A Fault) → Feeds MayTake Stands fault settled old r out Quiet result new grown → AnswersAgain (fault old) result
-  feeds_again (Ok done) fed = λ before some. none_before fed.answers.was_going some
+  -- a fault that was returned before is returned again, and nothing happens
+  pub feeds_again : (result : Result A Fault) → Feeds MayTake Stands fault settled old r out Quiet result new grown → (before : FaultValue) → fault old ≡ Some before
+      → MatchResult result (λ done. ⊥) (λ answer. fault_value answer ≡ before) × ((new ≡ old) × (grown ≡ out))
+  feeds_again (Ok done) fed = λ before some. absurd (none_before fed.answers.was_going some)
   feeds_again (Err answer) fed = λ before some. elim fed.answers [
-    | inl repeats ↦ let is = repeats.is in cc
-    | inr (inl fails) ↦ absurd (none_before fails.was_going some)
-    | inr (inr ran) ↦ absurd (none_before ran.was_going some)
-  ]
-
-  pub feeds_failed : (result : Result A Fault) → Feeds MayTake Stands fault settled old r out Quiet result new grown → (before : FaultValue) → fault old ≡ Some before → (new ≡ old) × (grown ≡ out)
-  feeds_failed (Ok done) fed = λ before some. absurd (none_before fed.answers.was_going some)
-  feeds_failed (Err answer) fed = λ before some. elim fed.answers [
-    | inl repeats ↦ (repeats.same, repeats.same_output)
+    | inl repeats ↦ (let is = repeats.is in cc, (repeats.same, repeats.same_output))
     | inr (inl fails) ↦ absurd (none_before fails.was_going some)
     | inr (inr ran) ↦ absurd (none_before ran.was_going some)
   ]
@@ -73,17 +68,11 @@ module _ {E A : Type 0} {MayTake : E → List Feature → Type 0} {Stands : E �
     | inr fails ↦ fails
   ]
 
-  pub finishes_again : (result : Result A Fault) → Finishes MayTake Stands fault settled whole last out result grown → AnswersAgain (fault last) result
-  finishes_again (Ok done) ends = λ before some. none_before ends.answers.was_going some
+  pub finishes_again : (result : Result A Fault) → Finishes MayTake Stands fault settled whole last out result grown → (before : FaultValue) → fault last ≡ Some before
+      → MatchResult result (λ done. ⊥) (λ answer. fault_value answer ≡ before) × (grown ≡ out)
+  finishes_again (Ok done) ends = λ before some. absurd (none_before ends.answers.was_going some)
   finishes_again (Err answer) ends = λ before some. elim ends.answers [
-    | inl repeats ↦ let is = repeats.is in cc
-    | inr fails ↦ absurd (none_before fails.was_going some)
-  ]
-
-  pub finishes_failed : (result : Result A Fault) → Finishes MayTake Stands fault settled whole last out result grown → (before : FaultValue) → fault last ≡ Some before → grown ≡ out
-  finishes_failed (Ok done) ends = λ before some. absurd (none_before ends.answers.was_going some)
-  finishes_failed (Err answer) ends = λ before some. elim ends.answers [
-    | inl repeats ↦ repeats.same_output
+    | inl repeats ↦ (let is = repeats.is in cc, repeats.same_output)
     | inr fails ↦ absurd (none_before fails.was_going some)
   ]
 

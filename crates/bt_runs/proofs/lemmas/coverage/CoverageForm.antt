@@ -1,8 +1,8 @@
 -- What a count of depths says of one chromosome, and what it owes of it. It says which intervals are settled by the last start, and what is known for the rest.
-use Rattle.std.proofs.Common.{◌≡◌, ℕ, ◌<◌, ◌≤◌, ◌+◌, List, [], ◌∷◌, ◌++◌, refl, sym, ap, ap₂, ◌∙◌, filter, Bool, true, false, append-nil, Option}
+use Rattle.std.proofs.Common.{◌≡◌, ℕ, ◌<◌, ◌≤◌, ◌+◌, List, [], ◌∷◌, ◌++◌, refl, sym, ap, ap₂, ◌∙◌, filter, nat_lt, Bool, true, false, append-nil, Option}
 use Rattle.std.proofs.lemmas.Bool.{lt-ltb, le-ltb}
 use Rattle.std.proofs.lemmas.List.{map-append}
-use Rattle.std.specs.declared.cmp.Ordering.TheVariants.{Less, Equal, Greater}
+use Rattle.std.specs.declared.cmp.Ordering.TheVariants.{Equal}
 use Rattle.bt_bed.specs.model.feature.Feature.{Feature, interval_of, intervals_of}
 use Rattle.bt_bed.specs.model.order.Genome.{Entry, genome_names}
 use Rattle.bt_bed.specs.model.feature.Interval.{Interval, span_of}
@@ -14,6 +14,8 @@ use Rattle.bt_runs.specs.inside.coverage.DepthStep.{Known, depth_walk, known_by,
 use Rattle.bt_runs.specs.model.Levels.{Level, levels_of}
 use Rattle.bt_runs.proofs.lemmas.order.ByChromosome.{Divides, NoRecords, Owes, Written, picks_by}
 use Rattle.bt_runs.proofs.lemmas.coverage.DepthLemmas.{counted_elsewhere, counted_here, counted_append, counted_none}
+use Rattle.bt_runs.specs.model.Gaps.{is_over_at}
+use Rattle.bt_runs.proofs.lemmas.laws.EachLemmas.{filter_map_all, filter_map_none}
 use Rattle.bt_runs.proofs.lemmas.laws.Standing.{compare_same}
 use Rattle.bt_runs.proofs.lemmas.coverage.OneDepth.{bare_levels, known_at, known_first, known_next, left_end, settled_and_left, settled_at, settled_end, settled_first, settled_next, start_same, with_counted}
 use Rattle.bt_runs.proofs.lemmas.coverage.LevelLemmas.{StopIn}
@@ -25,14 +27,6 @@ counted_next strand name past r is = counted_append strand name past (r ∷ []) 
 
 -- intervals of which all are over, or none
 module _ (names : List (List ℕ)) (last : Interval) (name : List ℕ) where
-  all_before : (levels : List Level) → (rank_order names).compare name last.chrom ≡ Less → filter (is_ended_by names last) (levels_on name levels) ≡ levels_on name levels
-  all_before [] less = refl
-  all_before (l ∷ ls) less = rw (less, all_before ls less) refl
-
-  none_behind : (levels : List Level) → (rank_order names).compare name last.chrom ≡ Greater → filter (is_ended_by names last) (levels_on name levels) ≡ []
-  none_behind [] greater = refl
-  none_behind (l ∷ ls) greater = rw (greater, none_behind ls greater) refl
-
   all_ended : (levels : List Level) → (rank_order names).compare name last.chrom ≡ Equal → StopIn 0 last.start levels → filter (is_ended_by names last) (levels_on name levels) ≡ levels_on name levels
   all_ended [] equal s = refl
   all_ended (l ∷ ls) equal s = rw (equal, lt-ltb l.stop last.start s.1, all_ended ls equal s.2) refl
@@ -119,8 +113,8 @@ module _ (zeros : Bool) (strand : Option Strand) where
       picks = λ last. picks_by (is_ended_by (genome_names entries) last);
       elsewhere = λ entry past r other.
           ap (λ l. levels_on entry.name (levels_of (depth_of zeros l) entry.length)) (counted_append strand entry.name past (r ∷ []) ∙ ap (λ l. counted_on strand entry.name past ++ l) (counted_elsewhere strand entry.name r other) ∙ append-nil (counted_on strand entry.name past));
-      is_before = λ last entry past less. all_before (genome_names entries) last entry.name (levels_of (depth_of zeros (counted_on strand entry.name past)) entry.length) less;
-      is_behind = λ last entry past greater none. none_behind (genome_names entries) last entry.name (levels_of (depth_of zeros (counted_on strand entry.name past)) entry.length) greater;
+      is_before = λ last entry past less. filter_map_all (depth_on entry.name) (is_ended_by (genome_names entries) last) (levels_of (depth_of zeros (counted_on strand entry.name past)) entry.length) (λ l. ap (λ o. is_over_at o (nat_lt l.stop last.start)) less);
+      is_behind = λ last entry past greater none. filter_map_none (depth_on entry.name) (is_ended_by (genome_names entries) last) (levels_of (depth_of zeros (counted_on strand entry.name past)) entry.length) (λ l. ap (λ o. is_over_at o (nat_lt l.stop last.start)) greater);
       none = none_on;
       next = own_next;
       divides = divides_own;

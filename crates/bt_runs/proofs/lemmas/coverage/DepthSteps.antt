@@ -8,7 +8,7 @@ use Rattle.bt_runs.specs.model.Depth.{coverage, settled_depths, DepthInterval, b
 use Rattle.bt_runs.specs.inside.coverage.DepthStep.{Known, bare_of, depths_left, depth_walk, unknown}
 use Rattle.bt_runs.specs.model.Gaps.{AreTaken, length_in}
 use Rattle.bt_runs.specs.calls.Settling.{Settles}
-use Rattle.bt_runs.specs.inside.walk.Walk.{AreReached, Place, entry_at, is_on, left_before, step_from, taking}
+use Rattle.bt_runs.specs.inside.walk.Walk.{AreReached, Place, is_on, left_before, step_from, taking}
 use Rattle.bt_runs.proofs.lemmas.coverage.CoverageForm.{Own, depths, owes, written}
 use Rattle.bt_runs.proofs.lemmas.complement.Walks.{Held, Steps, ends, going_on, going_to, reaches, settles_items, step_goes, steps, rank_entry, same_place, taken_front}
 use Rattle.bt_lines.proofs.lemmas.writer.PuttingLemmas.{adds_lines, cut_lines, grown_none}
@@ -26,11 +26,11 @@ use Rattle.bt_runs.specs.inside.walk.Rule.{EnterAnswers, RuleFeeds, RuleFinishes
 use Rattle.bt_runs.specs.model.Levels.{Begun, levels_of}
 use Rattle.bt_runs.proofs.lemmas.coverage.OneDepth.{across_known, known_at}
 use Rattle.bt_runs.proofs.lemmas.coverage.DepthLemmas.{none_open}
+use Rattle.bt_runs.proofs.lemmas.complement.GapRuleLemmas.{on_found}
 use Rattle.bt_runs.proofs.lemmas.complement.RuleSteps.{rule_cut, rule_finishes, rule_short, rule_taken}
-use Rattle.bt_runs.proofs.lemmas.order.GenomeRanks.{found_at, found_entry, name_at, size_there}
+use Rattle.bt_runs.proofs.lemmas.order.GenomeRanks.{found_at, name_at, size_there}
 use Rattle.bt_runs.proofs.lemmas.coverage.DepthLines.{count_begins}
-use Rattle.bt_bed.proofs.lemmas.parse.NameLemmas.{name_eq}
-use Rattle.bt_runs.proofs.lemmas.laws.Standing.{apart, found}
+use Rattle.bt_runs.proofs.lemmas.laws.Standing.{apart}
 
 module _ (zeros : Bool) (strand : Option Strand) (entries : List Entry) where
   abbrev pub Reaches : List Feature → Option (Place Known) → Type 0
@@ -229,9 +229,7 @@ module _ (old : Covering) where
     before = left_before (depths_left old.zeros) (bare_of old.zeros) old.entries old.current rank
 
     pub is_there : is_on old.entries (Some place_first) chrom ≡ true
-    is_there =
-        let f = found name_at old.entries chrom rank (sym is) in
-        name_eq (entry_at old.entries rank).name chrom (ap (λ (e : Entry). e.name) (found_entry old.entries chrom rank f) ∙ f.is)
+    is_there = on_found old.entries chrom rank (sym is)
 
     module _ (r : Feature) (same : r.chrom ≡ chrom) where
       abbrev taken : Place Known × List DepthInterval

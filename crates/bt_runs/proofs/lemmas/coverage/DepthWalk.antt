@@ -5,7 +5,7 @@ use Rattle.bt_runs.specs.model.Depth.{depth_of, reported}
 use Rattle.bt_runs.specs.inside.coverage.DepthStep.{still_open}
 use Rattle.bt_runs.specs.model.Levels.{Begun, Level, begun_after, ended_after, next_begun, next_ended}
 use Rattle.bt_runs.proofs.lemmas.coverage.OpenLemmas.{all_open, walk_depth}
-use Rattle.bt_runs.proofs.lemmas.coverage.LevelLemmas.{begun_run, begun_split, ended_run, ended_split}
+use Rattle.bt_runs.proofs.lemmas.coverage.LevelLemmas.{scan_run, scan_split}
 
 -- the depth of the positions from one up to the next at which a record ends
 module _ (zeros : Bool) (at position : ℕ) (first now : List Span) (low : at ≤ position) (same : still_open position now ≡ still_open position first) (started : All (λ s. s.start ≤ at) now) (value : Option ℕ) (is : value ≡ reported zeros (length (still_open (position + 1) now))) where
@@ -31,17 +31,17 @@ module _ (u : ℕ → Option ℕ) (from at next : ℕ) (g : Option Begun) (value
   turn_ended =
       let begun = begun_after u from (at - from) g in
       ap (λ n. ended_after u from n g) parts_are
-      ∙ ended_split u (at - from) (next - at) from g
+      ∙ (scan_split u (at - from) (next - at) from g).1
       ∙ ap (λ n. ended_after u from (at - from) g ++ ended_after u n (next - at) begun) here_is
-      ∙ ap (λ l. ended_after u from (at - from) g ++ l) (ended_run u value (next - at) at begun (omega arith) run_is)
+      ∙ ap (λ l. ended_after u from (at - from) g ++ l) (scan_run u value (next - at) at begun (omega arith) run_is).1
 
   pub turn_begun : begun_after u from (next - from) g ≡ next_begun at value (begun_after u from (at - from) g)
   turn_begun =
       let begun = begun_after u from (at - from) g in
       ap (λ n. begun_after u from n g) parts_are
-      ∙ begun_split u (at - from) (next - at) from g
+      ∙ (scan_split u (at - from) (next - at) from g).0
       ∙ ap (λ n. begun_after u n (next - at) begun) here_is
-      ∙ begun_run u value (next - at) at begun (omega arith) run_is
+      ∙ (scan_run u value (next - at) at begun (omega arith) run_is).0
 
 -- no step
 pub no_ended : (u : ℕ → Option ℕ) (p n : ℕ) (g : Option Begun) → n ≡ 0 → ended_after u p n g ≡ []
@@ -67,8 +67,8 @@ turn_more u from at stop g begun value low up is same =
     let ended = ended_after u from (at - from) g in (
       more,
       ap (λ n. ended_after u from n g) parts
-          ∙ ended_split u (at - from) (1 + (stop - (at + 1))) from g
+          ∙ (scan_split u (at - from) (1 + (stop - (at + 1))) from g).1
           ∙ ap₂ (λ n b. ended ++ ended_after u n (1 + (stop - (at + 1))) b) here (sym same)
-          ∙ ap (λ l. ended ++ l) (ended_split u 1 (stop - (at + 1)) at begun ∙ ap (λ l. l ++ more) (one_ended u at begun ∙ ap (λ v. next_ended at v begun) is))
+          ∙ ap (λ l. ended ++ l) ((scan_split u 1 (stop - (at + 1)) at begun).1 ∙ ap (λ l. l ++ more) (one_ended u at begun ∙ ap (λ v. next_ended at v begun) is))
           ∙ sym (append_assoc ended (next_ended at value begun) more),
     )

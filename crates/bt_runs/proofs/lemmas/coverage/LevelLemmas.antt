@@ -252,41 +252,33 @@ levels_of_stretches test size spans h =
     })
 
 -- a scan in two parts
-pub begun_split : (value : ℕ → Option ℕ) (a b p : ℕ) (g : Option Begun) → begun_after value p (a + b) g ≡ begun_after value (p + a) b (begun_after value p a g)
-unfolding begun_after
-begun_split value zero b p g = let here : p + 0 ≡ p = omega arith in let none : 0 + b ≡ b = omega arith in rw (here, none) refl
-begun_split value (suc a) b p g =
-    let next : p + suc a ≡ p + 1 + a = omega arith in
-    let more : suc a + b ≡ suc (a + b) = omega arith in
-    rw (next, more) (begun_split value a b (p + 1) (next_begun p (value p) g))
-
-pub ended_split : (value : ℕ → Option ℕ) (a b p : ℕ) (g : Option Begun) → ended_after value p (a + b) g ≡ ended_after value p a g ++ ended_after value (p + a) b (begun_after value p a g)
+pub scan_split : (value : ℕ → Option ℕ) (a b p : ℕ) (g : Option Begun) → (begun_after value p (a + b) g ≡ begun_after value (p + a) b (begun_after value p a g))
+    × (ended_after value p (a + b) g ≡ ended_after value p a g ++ ended_after value (p + a) b (begun_after value p a g))
 unfolding begun_after ended_after
-ended_split value zero b p g = let here : p + 0 ≡ p = omega arith in let none : 0 + b ≡ b = omega arith in rw (here, none) refl
-ended_split value (suc a) b p g =
+scan_split value zero b p g = let here : p + 0 ≡ p = omega arith in let none : 0 + b ≡ b = omega arith in rw (here, none) (refl, refl)
+scan_split value (suc a) b p g =
     let next : p + suc a ≡ p + 1 + a = omega arith in
     let more : suc a + b ≡ suc (a + b) = omega arith in
     let g' = next_begun p (value p) g in
-    rw (next, more) (ap (λ l. next_ended p (value p) g ++ l) (ended_split value a b (p + 1) g') ∙ sym (append_assoc (next_ended p (value p) g) (ended_after value (p + 1) a g') (ended_after value (p + 1 + a) b (begun_after value (p + 1) a g'))))
+    let rest = scan_split value a b (p + 1) g' in
+    rw (next, more) (rest.0, ap (λ l. next_ended p (value p) g ++ l) rest.1 ∙ sym (append_assoc (next_ended p (value p) g) (ended_after value (p + 1) a g') (ended_after value (p + 1 + a) b (begun_after value (p + 1) a g'))))
 
 pub levels_split : (value : ℕ → Option ℕ) (a b p : ℕ) (g : Option Begun) → levels_from value p (a + b) g ≡ ended_after value p a g ++ levels_from value (p + a) b (begun_after value p a g)
 levels_split value a b p g =
     let end : p + (a + b) ≡ p + a + b = omega arith in
-    rw (end, ended_split value a b p g, begun_split value a b p g) (append_assoc (ended_after value p a g) (ended_after value (p + a) b (begun_after value p a g)) (ended_at (begun_after value (p + a) b (begun_after value p a g)) (p + a + b)))
+    let split = scan_split value a b p g in
+    rw (end, split.1, split.0) (append_assoc (ended_after value p a g) (ended_after value (p + a) b (begun_after value p a g)) (ended_at (begun_after value (p + a) b (begun_after value p a g)) (p + a + b)))
 
 -- scans of the same values
 abbrev pub AreSame : (ℕ → Option ℕ) → (ℕ → Option ℕ) → ℕ → ℕ → Type 0
 AreSame u v p n = (q : ℕ) → p ≤ q → q < p + n → u q ≡ v q
 
-pub begun_same : (u v : ℕ → Option ℕ) (n p : ℕ) (g : Option Begun) → AreSame u v p n → begun_after u p n g ≡ begun_after v p n g
-unfolding begun_after
-begun_same u v zero p g same = refl
-begun_same u v (suc n) p g same = rw (same p (omega arith) (omega arith)) (begun_same u v n (p + 1) (next_begun p (v p) g) (λ q low high. same q (omega arith) (omega arith)))
-
-pub ended_same : (u v : ℕ → Option ℕ) (n p : ℕ) (g : Option Begun) → AreSame u v p n → ended_after u p n g ≡ ended_after v p n g
-unfolding ended_after
-ended_same u v zero p g same = refl
-ended_same u v (suc n) p g same = rw (same p (omega arith) (omega arith)) (ap (λ l. next_ended p (v p) g ++ l) (ended_same u v n (p + 1) (next_begun p (v p) g) (λ q low high. same q (omega arith) (omega arith))))
+pub scan_same : (u v : ℕ → Option ℕ) (n p : ℕ) (g : Option Begun) → AreSame u v p n → (begun_after u p n g ≡ begun_after v p n g) × (ended_after u p n g ≡ ended_after v p n g)
+unfolding begun_after ended_after
+scan_same u v zero p g same = (refl, refl)
+scan_same u v (suc n) p g same =
+    let rest = scan_same u v n (p + 1) (next_begun p (v p) g) (λ q low high. same q (omega arith) (omega arith)) in
+    rw (same p (omega arith) (omega arith)) (rest.0, ap (λ l. next_ended p (v p) g ++ l) rest.1)
 
 -- a scan of one value
 goes_on_now : (value : Option ℕ) (p : ℕ) (g : Option Begun) → goes_on (next_begun p value g) value ≡ true
@@ -299,26 +291,17 @@ goes_on_now (Some v) p (Some b) = elim (cases_Bool (b.value == v)) [
 ]
 
 module _ (u : ℕ → Option ℕ) (value : Option ℕ) where
-  begun_on : (n p : ℕ) (g : Option Begun) → ((q : ℕ) → p ≤ q → q < p + n → u q ≡ value) → goes_on g value ≡ true → begun_after u p n g ≡ g
-  unfolding begun_after
-  begun_on zero p g same on = refl
-  begun_on (suc n) p g same on = rw (same p (omega arith) (omega arith), on) (begun_on n (p + 1) g (λ q low high. same q (omega arith) (omega arith)) on)
+  scan_on : (n p : ℕ) (g : Option Begun) → ((q : ℕ) → p ≤ q → q < p + n → u q ≡ value) → goes_on g value ≡ true → (begun_after u p n g ≡ g) × (ended_after u p n g ≡ [])
+  unfolding begun_after ended_after
+  scan_on zero p g same on = (refl, refl)
+  scan_on (suc n) p g same on = rw (same p (omega arith) (omega arith), on) (scan_on n (p + 1) g (λ q low high. same q (omega arith) (omega arith)) on)
 
-  ended_on : (n p : ℕ) (g : Option Begun) → ((q : ℕ) → p ≤ q → q < p + n → u q ≡ value) → goes_on g value ≡ true → ended_after u p n g ≡ []
-  unfolding ended_after
-  ended_on zero p g same on = refl
-  ended_on (suc n) p g same on = rw (same p (omega arith) (omega arith), on) (ended_on n (p + 1) g (λ q low high. same q (omega arith) (omega arith)) on)
-
-  pub begun_run : (n p : ℕ) (g : Option Begun) → 0 < n → ((q : ℕ) → p ≤ q → q < p + n → u q ≡ value) → begun_after u p n g ≡ next_begun p value g
-  unfolding begun_after
-  begun_run zero p g some same = absurd (omega arith)
-  begun_run (suc n) p g some same = rw (same p (omega arith) (omega arith)) (begun_on n (p + 1) (next_begun p value g) (λ q low high. same q (omega arith) (omega arith)) (goes_on_now value p g))
-
-  pub ended_run : (n p : ℕ) (g : Option Begun) → 0 < n → ((q : ℕ) → p ≤ q → q < p + n → u q ≡ value) → ended_after u p n g ≡ next_ended p value g
-  unfolding ended_after
-  ended_run zero p g some same = absurd (omega arith)
-  ended_run (suc n) p g some same =
-      rw (same p (omega arith) (omega arith)) (ap (λ l. next_ended p value g ++ l) (ended_on n (p + 1) (next_begun p value g) (λ q low high. same q (omega arith) (omega arith)) (goes_on_now value p g)) ∙ append-nil (next_ended p value g))
+  pub scan_run : (n p : ℕ) (g : Option Begun) → 0 < n → ((q : ℕ) → p ≤ q → q < p + n → u q ≡ value) → (begun_after u p n g ≡ next_begun p value g) × (ended_after u p n g ≡ next_ended p value g)
+  unfolding begun_after ended_after
+  scan_run zero p g some same = absurd (omega arith)
+  scan_run (suc n) p g some same =
+      let rest = scan_on n (p + 1) (next_begun p value g) (λ q low high. same q (omega arith) (omega arith)) (goes_on_now value p g) in
+      rw (same p (omega arith) (omega arith)) (rest.0, ap (λ l. next_ended p value g ++ l) rest.1 ∙ append-nil (next_ended p value g))
 
 -- where intervals stop
 abbrev pub StopIn : ℕ → ℕ → List Level → Type 0
@@ -362,10 +345,6 @@ BeginsBelow p (Some begun) = begun.start < p
 abbrev pub BeginsFrom : ℕ → Option Begun → Type 0
 BeginsFrom p None = ⊤
 BeginsFrom p (Some begun) = p ≤ begun.start
-
-abbrev pub StartFrom : ℕ → List Level → Type 0
-StartFrom p [] = ⊤
-StartFrom p (l ∷ ls) = (p ≤ l.start) × StartFrom p ls
 
 below_later : (p q : ℕ) (g : Option Begun) → p ≤ q → BeginsBelow p g → BeginsBelow q g
 below_later p q None h b = tt

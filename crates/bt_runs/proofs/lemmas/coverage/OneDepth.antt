@@ -6,7 +6,7 @@ use Rattle.bt_runs.specs.model.Depth.{depth_of, open_at, reported, begun_across}
 use Rattle.bt_runs.specs.inside.coverage.DepthStep.{Known, bare_level, known_by, levels_by, levels_left, opened, start_from, still_open, unknown}
 use Rattle.bt_runs.specs.model.Levels.{Begun, Level, begun_after, ended_after, ended_at, levels_of, next_begun, next_ended, begun_at, goes_on, levels_from}
 use Rattle.bt_runs.proofs.lemmas.coverage.DepthLemmas.{depth_of-open, depth_of-push, open_append, open_later, open_self}
-use Rattle.bt_runs.proofs.lemmas.coverage.LevelLemmas.{AreSame, StopIn, begun_run, begun_same, begun_split, ended_after-stop, ended_run, ended_same, ended_split, levels_from-stop, stop_wider, BeginsBelow, BeginsFrom, begun_after-below, levels_split, levels_more}
+use Rattle.bt_runs.proofs.lemmas.coverage.LevelLemmas.{AreSame, StopIn, scan_run, scan_same, scan_split, ended_after-stop, levels_from-stop, stop_wider, BeginsBelow, BeginsFrom, begun_after-below, levels_split, levels_more}
 
 -- what is known of a chromosome after these records, by the last start
 abbrev pub known_at : Bool → ℕ → List Span → ℕ → Known
@@ -34,24 +34,19 @@ module _ (zeros : Bool) (size : ℕ) (spans : List Span) (start : ℕ) where
   held_same stop within q low high = depth_of-open zeros size start q spans low (omega arith)
 
   -- the rest of a scan
-  rest_begun : (stop : ℕ) → start ≤ stop → stop ≤ size → start ≤ size → begun_after (depth_of zeros spans) 0 stop None ≡ begun_after (depth_of zeros (open_at size start spans)) start (stop - start) (begun_after (depth_of zeros spans) 0 start None)
-  rest_begun stop up within below =
+  rest_of : (stop : ℕ) → start ≤ stop → stop ≤ size → start ≤ size → (begun_after (depth_of zeros spans) 0 stop None ≡ begun_after (depth_of zeros (open_at size start spans)) start (stop - start) (begun_after (depth_of zeros spans) 0 start None))
+      × (ended_after (depth_of zeros spans) 0 stop None ≡ ended_after (depth_of zeros spans) 0 start None ++ ended_after (depth_of zeros (open_at size start spans)) start (stop - start) (begun_after (depth_of zeros spans) 0 start None))
+  rest_of stop up within below =
       let parts : stop ≡ start + (stop - start) = omega arith in
       let from : 0 + start ≡ start = omega arith in
-      let u = depth_of zeros (open_at size start spans) in
       let v = depth_of zeros spans in
-      ap (λ n. begun_after v 0 n None) parts ∙ begun_split v start (stop - start) 0 None ∙ ap (λ n. begun_after v n (stop - start) (begun_after v 0 start None)) from
-      ∙ sym (begun_same u v (stop - start) start (begun_after v 0 start None) (held_same stop within))
-
-  rest_ended : (stop : ℕ) → start ≤ stop → stop ≤ size → start ≤ size → ended_after (depth_of zeros spans) 0 stop None ≡ ended_after (depth_of zeros spans) 0 start None ++ ended_after (depth_of zeros (open_at size start spans)) start (stop - start) (begun_after (depth_of zeros spans) 0 start None)
-  rest_ended stop up within below =
-      let parts : stop ≡ start + (stop - start) = omega arith in
-      let from : 0 + start ≡ start = omega arith in
-      let u = depth_of zeros (open_at size start spans) in
-      let v = depth_of zeros spans in
+      let begun = begun_after v 0 start None in
       let ended = ended_after v 0 start None in
-      ap (λ n. ended_after v 0 n None) parts ∙ ended_split v start (stop - start) 0 None ∙ ap (λ n. ended ++ ended_after v n (stop - start) (begun_after v 0 start None)) from
-      ∙ ap (λ l. ended ++ l) (sym (ended_same u v (stop - start) start (begun_after v 0 start None) (held_same stop within)))
+      let split = scan_split v start (stop - start) 0 None in
+      let same = scan_same (depth_of zeros (open_at size start spans)) v (stop - start) start begun (held_same stop within) in (
+        ap (λ n. begun_after v 0 n None) parts ∙ split.0 ∙ ap (λ n. begun_after v n (stop - start) begun) from ∙ sym same.0,
+        ap (λ n. ended_after v 0 n None) parts ∙ split.1 ∙ ap (λ n. ended ++ ended_after v n (stop - start) begun) from ∙ ap (λ l. ended ++ l) (sym same.1),
+      )
 
   -- past the length nothing is left
   none_left : levels_left zeros size (record { to = size; begun = None; held = [] }) ≡ []
@@ -70,7 +65,7 @@ module _ (zeros : Bool) (size : ℕ) (spans : List Span) (start : ℕ) where
         let begun = begun_after v 0 start None in
         let all : 0 + size ≡ size = omega arith in
         rw (le-ltb size start within)
-        (ap₂ (λ (l : List Level) (g : Option Begun). l ++ ended_at g (0 + size)) (rest_ended size within (omega arith) within) (rest_begun size within (omega arith) within)
+        (ap₂ (λ (l : List Level) (g : Option Begun). l ++ ended_at g (0 + size)) (rest_of size within (omega arith) within).1 (rest_of size within (omega arith) within).0
         ∙ append_assoc ended (ended_after u start (size - start) begun) (ended_at (begun_after u start (size - start) begun) (0 + size))
         ∙ ap (λ n. ended ++ (ended_after u start (size - start) begun ++ ended_at (begun_after u start (size - start) begun) n)) all)
   ]
@@ -105,20 +100,18 @@ module _ (zeros counted : Bool) (size : ℕ) (spans : List Span) (start : ℕ) (
     | inr f ↦ rw (f, append-nil spans) refl
   ]
 
-  same_begun : (n : ℕ) → n ≤ r.start → begun_after (depth_of zeros (with_counted counted spans r.start r.stop)) 0 n None ≡ begun_after (depth_of zeros spans) 0 n None
-  same_begun n h = begun_same (depth_of zeros (with_counted counted spans r.start r.stop)) (depth_of zeros spans) n 0 None (same_below n h)
-
-  same_ended : (n : ℕ) → n ≤ r.start → ended_after (depth_of zeros (with_counted counted spans r.start r.stop)) 0 n None ≡ ended_after (depth_of zeros spans) 0 n None
-  same_ended n h = ended_same (depth_of zeros (with_counted counted spans r.start r.stop)) (depth_of zeros spans) n 0 None (same_below n h)
+  same_scan : (n : ℕ) → n ≤ r.start → (begun_after (depth_of zeros (with_counted counted spans r.start r.stop)) 0 n None ≡ begun_after (depth_of zeros spans) 0 n None)
+      × (ended_after (depth_of zeros (with_counted counted spans r.start r.stop)) 0 n None ≡ ended_after (depth_of zeros spans) 0 n None)
+  same_scan n h = scan_same (depth_of zeros (with_counted counted spans r.start r.stop)) (depth_of zeros spans) n 0 None (same_below n h)
 
   pub settled_next : settled_at zeros size (with_counted counted spans r.start r.stop) r.start ≡ settled_at zeros size spans start ++ levels_by zeros size (known_at zeros size spans start) r.start
   settled_next = elim (cases_lt size r.start) [
     | inl past ↦
         let lt = lt-ltb size r.start past in
-        rw lt (ap₂ (λ (l : List Level) (g : Option Begun). l ++ ended_at g (0 + size)) (same_ended size (omega arith)) (same_begun size (omega arith)) ∙ settled_and_left zeros size spans start)
+        rw lt (ap₂ (λ (l : List Level) (g : Option Begun). l ++ ended_at g (0 + size)) (same_scan size (omega arith)).1 (same_scan size (omega arith)).0 ∙ settled_and_left zeros size spans start)
     | inr within ↦
         let below : start ≤ size = omega arith in
-        rw (le-ltb size r.start within, le-ltb size start below) (same_ended r.start (omega arith) ∙ rest_ended zeros size spans start r.start up within below)
+        rw (le-ltb size r.start within, le-ltb size start below) ((same_scan r.start (omega arith)).1 ∙ (rest_of zeros size spans start r.start up within below).1)
   ]
 
   open_next : r.start ≤ size → open_at size r.start (with_counted counted spans r.start r.stop) ≡ still_open r.start (open_at size start spans) ++ opened counted size r.start r.stop
@@ -133,7 +126,7 @@ module _ (zeros counted : Bool) (size : ℕ) (spans : List Span) (start : ℕ) (
     | inr within ↦
         let below : start ≤ size = omega arith in
         let make : Option Begun → List Span → Known = λ g l. record { to = r.start; begun = g; held = l } in
-        rw (le-ltb size r.start within, le-ltb size start below) (ap₂ make (same_begun r.start (omega arith) ∙ rest_begun zeros size spans start r.start up within below) (open_next within))
+        rw (le-ltb size r.start within, le-ltb size start below) (ap₂ make ((same_scan r.start (omega arith)).0 ∙ (rest_of zeros size spans start r.start up within below).0) (open_next within))
   ]
 
 -- a chromosome without records has one depth
@@ -159,7 +152,7 @@ bare_levels zeros size = elim (cases_lt 0 size) [
   | inl some ↦
       let value = reported zeros 0 in
       let same : (q : ℕ) → 0 ≤ q → q < 0 + size → depth_of zeros [] q ≡ value = λ q low high. depth_none zeros q in
-      ap₂ (λ (l : List Level) (g : Option Begun). l ++ ended_at g (0 + size)) (ended_run (depth_of zeros []) value size 0 None some same ∙ next_none zeros) (begun_run (depth_of zeros []) value size 0 None some same)
+      ap₂ (λ (l : List Level) (g : Option Begun). l ++ ended_at g (0 + size)) ((scan_run (depth_of zeros []) value size 0 None some same).1 ∙ next_none zeros) (scan_run (depth_of zeros []) value size 0 None some same).0
       ∙ bare_some zeros size some
   | inr none ↦ let is : size ≡ 0 = omega arith in rw is (bare_zero zeros)
 ]

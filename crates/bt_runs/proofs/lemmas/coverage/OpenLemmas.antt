@@ -45,7 +45,7 @@ stay_open position next (s ∷ ss) up all =
     let mine : next ≤ s.stop = All-head (λ s. next ≤ s.stop) s ss all in
     rw (le-leb position s.stop (omega arith)) (ap (λ l. s ∷ l) (stay_open position next ss up (All-tail (λ s. next ≤ s.stop) s ss all)))
 
--- of those that have started, the ones that are open behind a position cover it
+-- of those that have started, the ones that are open past a position cover it
 covers_started : (p : ℕ) (s : Span) → s.start ≤ p → covers p s ≡ nat_le (p + 1) s.stop
 covers_started p s started = elim (cases_lt p s.stop) [
   | inl l ↦ rw (le-leb s.start p started, lt-ltb p s.stop l, le-leb (p + 1) s.stop (omega arith)) refl

@@ -1,6 +1,5 @@
 -- What an engine does that goes by a rule: what the rule does, until it has failed.
-use Rattle.std.proofs.Common.{◌≡◌, ◌⊎◌, ℕ, List, [], ◌∷◌, Option, None, Some, Result, Ok, Err, refl, sym, ap, subst, ◌∙◌, inl, inr, option_map}
-use Rattle.bt_lines.specs.model.Fault.{no_memory, write_failed}
+use Rattle.std.proofs.Common.{◌≡◌, ℕ, List, [], ◌∷◌, Option, None, Some, Result, Ok, Err, refl, sym, ap, subst, ◌∙◌, inl, inr, option_map}
 use Rattle.bt_lines.specs.calls.Names.{fault_value}
 use Rattle.bt_lines.specs.calls.Output.{Output}
 use Rattle.bt_lines.specs.declared.fault.Fault.{Fault}
@@ -70,13 +69,6 @@ module _ {E : Type 0} (takes : E → List Feature → Type 0) (stands : E → Li
       feeds_by old r out {A = Unit {0}} (Ok tt) (going each.0) each.1 (feeds old r out (Ok tt) each.0 each.1 each.2) (λ done e. refl) (λ fault e. absurd (cc)),
       taken_each each.0 each.1 records new grown each.3,
     )
-
-    -- what ended the rule is a failed write, or out of memory
-    pub ends_by : (old : E) (r : Feature) (out : Output) (fault : Fault) (new : E) (grown : Output) → does old r out (Err fault) new grown → (fault_value fault ≡ write_failed) ⊎ (fault_value fault ≡ no_memory)
-    ends_by old r out fault new grown d = elim (feeds old r out (Err fault) new grown d).answers [
-      | inl p ↦ inl p.is
-      | inr p ↦ inr p.is
-    ]
 
     module _ {C : Type 0} (gives : C → List Feature → C → Type 0) (has_ended : C → Type 0) (cursor : C) (out : Output) where
       pub batch_going : (rule : E) (result : Result (Unit {0}) Fault) (new : Ruled E) (passed : C) (grown : Output) → Follows does gives has_ended rule cursor out result new.rule passed grown

@@ -122,6 +122,13 @@ filter_passes {A} test (x ∷ xs) =
       | inr f ↦ let is = cond-false (test x) (x ∷ filter test xs) (filter test xs) f in rw is rest
     ]
 
+-- a filter of mapped elements, which all pass, or none
+pub filter_map_all : {A B : Type 0} (f : A → B) (test : B → Bool) (xs : List A) → ((x : A) → test (f x) ≡ true) → filter test (map f xs) ≡ map f xs
+filter_map_all f test xs all = filter_keeps test (map f xs) (each_map (λ y. test y ≡ true) f xs (each_all (λ x. test (f x) ≡ true) all xs))
+
+pub filter_map_none : {A B : Type 0} (f : A → B) (test : B → Bool) (xs : List A) → ((x : A) → test (f x) ≡ false) → filter test (map f xs) ≡ []
+filter_map_none f test xs all = filter_drops test (map f xs) (each_map (λ y. test y ≡ false) f xs (each_all (λ x. test (f x) ≡ false) all xs))
+
 -- a filter of changed elements, if the change doesn't change the test
 pub filter_changed : {A : Type 0} (f : A → A) (test : A → Bool) (xs : List A) → Each (λ x. test (f x) ≡ test x) xs → filter test (map f xs) ≡ map f (filter test xs)
 filter_changed f test [] e = refl

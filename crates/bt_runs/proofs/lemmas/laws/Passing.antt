@@ -3,6 +3,7 @@ use Rattle.std.proofs.Common.{◌≡◌, ℕ, ◌+◌, ◌<◌, ◌≤◌, List,
 use Rattle.std.proofs.lemmas.Bool.{cond-true, or_from, or_left, or_right, not_from_true, not_from_false, cond-false, or_parts}
 use Rattle.bt_bed.specs.model.feature.Interval.{Interval, Span, placed_on}
 use Rattle.bt_bed.proofs.lemmas.parse.NameLemmas.{name_eq}
+use Rattle.bt_runs.proofs.lemmas.laws.EachLemmas.{filter_map_all}
 use Rattle.bt_runs.specs.model.MergedRuns.{is_closed}
 use Rattle.bt_runs.proofs.lemmas.merge.Bridging.{AreApartBy}
 use Rattle.std.proofs.lemmas.List.{map-append}
@@ -23,11 +24,7 @@ not_passed gap last run same near = or_from (not (bytes_eq run.chrom last.chrom)
 
 -- a record closes all runs on other chromosomes than its own
 pub placed_elsewhere : (gap : ℕ) (last : Interval) (name : List ℕ) (spans : List Span) → bytes_eq name last.chrom ≡ false → filter (is_closed gap last) (map (placed_on name) spans) ≡ map (placed_on name) spans
-placed_elsewhere gap last name [] other = refl
-placed_elsewhere gap last name (s ∷ ss) other =
-    let others : List Interval = filter (is_closed gap last) (map (placed_on name) ss) in
-    cond-true (is_closed gap last (placed_on name s)) (placed_on name s ∷ others) others (passed_elsewhere gap last (placed_on name s) other)
-    ∙ ap (λ runs. placed_on name s ∷ runs) (placed_elsewhere gap last name ss other)
+placed_elsewhere gap last name spans other = filter_map_all (placed_on name) (is_closed gap last) spans (λ s. passed_elsewhere gap last (placed_on name s) other)
 
 first_up_to : (gap first : ℕ) (done : List Span) (run : Span) → AreApartBy gap first (done ++ run ∷ []) → first ≤ run.start
 first_up_to gap first [] run a = a.0

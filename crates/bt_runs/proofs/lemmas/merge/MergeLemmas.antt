@@ -18,7 +18,7 @@ use Rattle.bt_runs.specs.calls.Stranding as strands
 use Rattle.bt_runs.specs.declared.engine.rule.Ruled.{Ruled}
 
 -- A merge of one kind is after records only if it began as one of that kind. All that is said of the engine inside it holds of the merge.
-module _ {E : Type 0} (merge : E → Merging) (only : (first : Merging) (past : List Feature) (old : E) → stands_after first past (merge old) → (inner : E) × (merge inner ≡ first)) (old : E) where
+module _ {E : Type 0} (merge : E → Merging) (only : (first : Merging) (past : List Feature) (old : E) → stands_after first past (merge old) → (inner : E) × (merge inner ≡ first)) where
   abbrev MayTake : E → List Feature → Type 0
   MayTake first past = may_take (merge first) past
 
@@ -34,119 +34,107 @@ module _ {E : Type 0} (merge : E → Merging) (only : (first : Merging) (past : 
   abbrev whole : E → List Feature → List ℕ
   whole first past = whole_output (merge first) past
 
-  after_each : (r : Feature) (P : Merging → List Feature → Type 0) → AfterEach MayTake Stands old r (λ first past. P (merge first) past) → AfterEach may_take stands_after (merge old) r P
-  after_each r P h first past s =
-      let inner = only first past old s in
-      subst (λ (m : Merging). stands_after m past (merge old) → may_take m (past ++ r ∷ []) → P m past) inner.1 (h inner.0 past) s
+  abbrev Quiet : E → List Feature → Feature → Type 0
+  Quiet first past r = is_quiet (merge first) past r
 
-  at_end : (P : Merging → List Feature → Type 0) → AtEnd MayTake Stands old (λ first past. P (merge first) past) → AtEnd may_take stands_after (merge old) P
-  at_end P h first past s =
-      let inner = only first past old s in
-      subst (λ (m : Merging). stands_after m past (merge old) → may_take m past → P m past) inner.1 (h inner.0 past) s
+  abbrev wants : E → Feature → Type 0
+  wants inner r = wants_memory (merge inner) r
 
-  going : ((first : E) (past : List Feature) → Stands first past old → fault old ≡ None) → (first : Merging) (past : List Feature) → stands_after first past (merge old) → kept_fault (merge old) ≡ None
-  going h first past s =
-      let inner = only first past old s in
-      h inner.0 past (subst (λ (m : Merging). stands_after m past (merge old)) (sym inner.1) s)
+  module _ (old : E) where
+    after_each : (r : Feature) (P : Merging → List Feature → Type 0) → AfterEach MayTake Stands old r (λ first past. P (merge first) past) → AfterEach may_take stands_after (merge old) r P
+    after_each r P h first past s =
+        let inner = only first past old s in
+        subst (λ (m : Merging). stands_after m past (merge old) → may_take m (past ++ r ∷ []) → P m past) inner.1 (h inner.0 past) s
 
-  module _ (r : Feature) (out : Output) (new : E) (grown : Output) where
-    not_taken : (e : FaultValue) → NotTaken MayTake Stands fault settled old r out e new grown → NotTaken may_take stands_after kept_fault settled_lines (merge old) r out e (merge new) grown
-    not_taken e (inl p) = inl (record { is = p.is; kind = p.kind; same = ap merge p.same; same_output = p.same_output })
-    not_taken e (inr (inl p)) = inr (inl (record {
-      is = p.is;
-      was_going = p.was_going;
-      kept = p.kept;
-      cuts = after_each r (λ first past. CutsRest (settled_lines first past) (settled_lines first (past ++ r ∷ [])) out grown) p.cuts;
-      failed = p.failed;
-      sink_failed = p.sink_failed;
-    }))
-    not_taken e (inr (inr p)) = inr (inr (record {
-      is = p.is;
-      was_going = p.was_going;
-      kept = p.kept;
-      puts = after_each r (λ first past. PutsRest (settled_lines first past) (settled_lines first (past ++ r ∷ [])) out grown) p.puts;
-      works = p.works;
-    }))
+    at_end : (P : Merging → List Feature → Type 0) → AtEnd MayTake Stands old (λ first past. P (merge first) past) → AtEnd may_take stands_after (merge old) P
+    at_end P h first past s =
+        let inner = only first past old s in
+        subst (λ (m : Merging). stands_after m past (merge old) → may_take m past → P m past) inner.1 (h inner.0 past) s
 
-    answers : {A : Type 0} (result : Result A Fault) → FeedAnswers MayTake Stands fault settled old r out result new grown → FeedAnswers may_take stands_after kept_fault settled_lines (merge old) r out result (merge new) grown
-    answers (Ok done) p = record {
-      was_going = p.was_going;
-      going = p.going;
-      stands = after_each r (λ first past. stands_after first (past ++ r ∷ []) (merge new)) p.stands;
-      puts = after_each r (λ first past. PutsRest (settled_lines first past) (settled_lines first (past ++ r ∷ [])) out grown) p.puts;
-      works = p.works;
-    }
-    answers (Err e) p = not_taken (fault_value e) p
+    going : ((first : E) (past : List Feature) → Stands first past old → fault old ≡ None) → (first : Merging) (past : List Feature) → stands_after first past (merge old) → kept_fault (merge old) ≡ None
+    going h first past s =
+        let inner = only first past old s in
+        h inner.0 past (subst (λ (m : Merging). stands_after m past (merge old)) (sym inner.1) s)
 
-    pub feeds_inside : {A : Type 0} (result : Result A Fault) → Feeds MayTake Stands fault settled old r out (λ first past r. is_quiet (merge first) past r) result new grown → Feeds may_take stands_after kept_fault settled_lines (merge old) r out is_quiet result (merge new) grown
-    feeds_inside result p = record {
-      going = going p.going;
-      answers = answers result p.answers;
-      quiet = after_each r (λ first past. is_quiet first past r → IsOk result × (grown ≡ out)) p.quiet;
-      grows = p.grows;
-      after_failure = p.after_failure;
-    }
+    module _ (r : Feature) (out : Output) (new : E) (grown : Output) where
+      not_taken : (e : FaultValue) → NotTaken MayTake Stands fault settled old r out e new grown → NotTaken may_take stands_after kept_fault settled_lines (merge old) r out e (merge new) grown
+      not_taken e (inl p) = inl (record { is = p.is; kind = p.kind; same = ap merge p.same; same_output = p.same_output })
+      not_taken e (inr (inl p)) = inr (inl (record {
+        is = p.is;
+        was_going = p.was_going;
+        kept = p.kept;
+        cuts = after_each r (λ first past. CutsRest (settled_lines first past) (settled_lines first (past ++ r ∷ [])) out grown) p.cuts;
+        failed = p.failed;
+        sink_failed = p.sink_failed;
+      }))
+      not_taken e (inr (inr p)) = inr (inr (record {
+        is = p.is;
+        was_going = p.was_going;
+        kept = p.kept;
+        puts = after_each r (λ first past. PutsRest (settled_lines first past) (settled_lines first (past ++ r ∷ [])) out grown) p.puts;
+        works = p.works;
+      }))
 
-  module _ (out grown : Output) where
-    end_answers : {A : Type 0} (result : Result A Fault) → FinishAnswers MayTake Stands fault settled whole old out result grown → FinishAnswers may_take stands_after kept_fault settled_lines whole_output (merge old) out result grown
-    end_answers (Ok done) p = record {
-      was_going = p.was_going;
-      puts = at_end (λ first past. PutsRest (settled_lines first past) (whole_output first past) out grown) p.puts;
-      works = p.works;
-    }
-    end_answers (Err e) (inl p) = inl (record { is = p.is; same_output = p.same_output })
-    end_answers (Err e) (inr p) = inr (record {
-      is = p.is;
-      was_going = p.was_going;
-      cuts = at_end (λ first past. CutsRest (settled_lines first past) (whole_output first past) out grown) p.cuts;
-      failed = p.failed;
-      sink_failed = p.sink_failed;
-    })
+      answers : {A : Type 0} (result : Result A Fault) → FeedAnswers MayTake Stands fault settled old r out result new grown → FeedAnswers may_take stands_after kept_fault settled_lines (merge old) r out result (merge new) grown
+      answers (Ok done) p = record {
+        was_going = p.was_going;
+        going = p.going;
+        stands = after_each r (λ first past. stands_after first (past ++ r ∷ []) (merge new)) p.stands;
+        puts = after_each r (λ first past. PutsRest (settled_lines first past) (settled_lines first (past ++ r ∷ [])) out grown) p.puts;
+        works = p.works;
+      }
+      answers (Err e) p = not_taken (fault_value e) p
 
-    pub finishes_inside : {A : Type 0} (result : Result A Fault) → Finishes MayTake Stands fault settled whole old out result grown → Finishes may_take stands_after kept_fault settled_lines whole_output (merge old) out result grown
-    finishes_inside result p = record {
-      going = going p.going;
-      answers = end_answers result p.answers;
-      grows = p.grows;
-      after_failure = p.after_failure;
-    }
+      pub feeds_inside : {A : Type 0} (result : Result A Fault) → Feeds MayTake Stands fault settled old r out Quiet result new grown → Feeds may_take stands_after kept_fault settled_lines (merge old) r out is_quiet result (merge new) grown
+      feeds_inside result p = record {
+        going = going p.going;
+        answers = answers result p.answers;
+        quiet = after_each r (λ first past. is_quiet first past r → IsOk result × (grown ≡ out)) p.quiet;
+        grows = p.grows;
+        after_failure = p.after_failure;
+      }
 
--- what several records do
-module _ {E : Type 0} (merge : E → Merging) (only : (first : Merging) (past : List Feature) (old : E) → stands_after first past (merge old) → (inner : E) × (merge inner ≡ first)) where
-  abbrev MayTakeIn : E → List Feature → Type 0
-  MayTakeIn first past = may_take (merge first) past
+    module _ (out grown : Output) where
+      end_answers : {A : Type 0} (result : Result A Fault) → FinishAnswers MayTake Stands fault settled whole old out result grown → FinishAnswers may_take stands_after kept_fault settled_lines whole_output (merge old) out result grown
+      end_answers (Ok done) p = record {
+        was_going = p.was_going;
+        puts = at_end (λ first past. PutsRest (settled_lines first past) (whole_output first past) out grown) p.puts;
+        works = p.works;
+      }
+      end_answers (Err e) (inl p) = inl (record { is = p.is; same_output = p.same_output })
+      end_answers (Err e) (inr p) = inr (record {
+        is = p.is;
+        was_going = p.was_going;
+        cuts = at_end (λ first past. CutsRest (settled_lines first past) (whole_output first past) out grown) p.cuts;
+        failed = p.failed;
+        sink_failed = p.sink_failed;
+      })
 
-  abbrev StandsIn : E → List Feature → E → Type 0
-  StandsIn first past now = stands_after (merge first) past (merge now)
+      pub finishes_inside : {A : Type 0} (result : Result A Fault) → Finishes MayTake Stands fault settled whole old out result grown → Finishes may_take stands_after kept_fault settled_lines whole_output (merge old) out result grown
+      finishes_inside result p = record {
+        going = going p.going;
+        answers = end_answers result p.answers;
+        grows = p.grows;
+        after_failure = p.after_failure;
+      }
 
-  abbrev fault_in : E → Option FaultValue
-  fault_in inner = kept_fault (merge inner)
-
-  abbrev settled_in : E → List Feature → List ℕ
-  settled_in first past = settled_lines (merge first) past
-
-  abbrev QuietIn : E → List Feature → Feature → Type 0
-  QuietIn first past r = is_quiet (merge first) past r
-
-  abbrev wants_in : E → Feature → Type 0
-  wants_in inner r = wants_memory (merge inner) r
-
-  each_inside : (records : List Feature) (old : E) (out : Output) (new : E) (grown : Output) → TakesEach MayTakeIn StandsIn fault_in settled_in QuietIn old out records new grown
+  -- what several records do
+  each_inside : (records : List Feature) (old : E) (out : Output) (new : E) (grown : Output) → TakesEach MayTake Stands fault settled Quiet old out records new grown
       → TakesEach may_take stands_after kept_fault settled_lines is_quiet (merge old) out records (merge new) grown
   each_inside [] old out new grown is = (ap merge is.0, is.1)
   each_inside (r ∷ records) old out new grown more =
-      (merge more.0, more.1, feeds_inside merge only old r out more.0 more.1 (Ok tt) more.2, each_inside records more.0 more.1 new grown more.3)
+      (merge more.0, more.1, feeds_inside old r out more.0 more.1 (Ok tt) more.2, each_inside records more.0 more.1 new grown more.3)
 
   module _ {C : Type 0} (gives : C → List Feature → C → Type 0) (has_ended : C → Type 0) where
-    given_inside : (old : E) (cursor : C) (out : Output) (new : E) (passed : C) (grown : Output) → TakesGiven MayTakeIn StandsIn fault_in settled_in QuietIn wants_in gives has_ended old cursor out new passed grown
+    given_inside : (old : E) (cursor : C) (out : Output) (new : E) (passed : C) (grown : Output) → TakesGiven MayTake Stands fault settled Quiet wants gives has_ended old cursor out new passed grown
         → TakesGiven may_take stands_after kept_fault settled_lines is_quiet wants_memory gives has_ended (merge old) cursor out (merge new) passed grown
     given_inside old cursor out new passed grown p = record { records = p.records; given = p.given; taken = each_inside p.records old out new grown p.taken }
 
-    pub batch_inside : {A : Type 0} (old : E) (cursor : C) (out : Output) (new : E) (passed : C) (grown : Output) (result : Result A Fault) → FeedsBatch MayTakeIn StandsIn fault_in settled_in QuietIn wants_in gives has_ended old cursor out result new passed grown
+    pub batch_inside : {A : Type 0} (old : E) (cursor : C) (out : Output) (new : E) (passed : C) (grown : Output) (result : Result A Fault) → FeedsBatch MayTake Stands fault settled Quiet wants gives has_ended old cursor out result new passed grown
         → FeedsBatch may_take stands_after kept_fault settled_lines is_quiet wants_memory gives has_ended (merge old) cursor out result (merge new) passed grown
     batch_inside old cursor out new passed grown (Ok done) p = (given_inside old cursor out new passed grown p.0, p.1)
     batch_inside old cursor out new passed grown (Err answer) (inl p) = inl (record {
-      going = going merge only old p.going;
+      going = going old p.going;
       is = p.is;
       kind = p.kind;
       same = ap merge p.same;
@@ -160,18 +148,18 @@ module _ {E : Type 0} (merge : E → Merging) (only : (first : Merging) (past : 
       takes = given_inside old cursor out p.mid p.before p.through p.takes;
       r = p.r;
       given = p.given;
-      fails = feeds_inside merge only p.mid p.r p.through new grown (Err answer) p.fails;
+      fails = feeds_inside p.mid p.r p.through new grown (Err answer) p.fails;
       memory = p.memory;
     })
 
--- one that merges all records together, and one that keeps the strands apart
-pub only_together : (first : Merging) (past : List Feature) (old : Ruled unstranded.Unstranded) → stands_after first past (Unstranded old) → (inner : Ruled unstranded.Unstranded) × (Unstranded inner ≡ first)
-only_together (Unstranded first) past old s = (first, refl)
-only_together (PerStrand first) past old s = absurd s
+-- a merge without regard to strands, and one of each strand
+pub only_unstranded : (first : Merging) (past : List Feature) (old : Ruled unstranded.Unstranded) → stands_after first past (Unstranded old) → (inner : Ruled unstranded.Unstranded) × (Unstranded inner ≡ first)
+only_unstranded (Unstranded first) past old s = (first, refl)
+only_unstranded (PerStrand first) past old s = absurd s
 
-pub only_apart : (first : Merging) (past : List Feature) (old : Ruled strands.Stranding) → stands_after first past (PerStrand old) → (inner : Ruled strands.Stranding) × (PerStrand inner ≡ first)
-only_apart (PerStrand first) past old s = (first, refl)
-only_apart (Unstranded first) past old s = absurd s
+pub only_per_strand : (first : Merging) (past : List Feature) (old : Ruled strands.Stranding) → stands_after first past (PerStrand old) → (inner : Ruled strands.Stranding) × (PerStrand inner ≡ first)
+only_per_strand (PerStrand first) past old s = (first, refl)
+only_per_strand (Unstranded first) past old s = absurd s
 
 -- no list ends with an element and is empty
 none_last : {A : Type 0} (xs : List A) (x : A) → [] ≡ xs ++ x ∷ [] → ⊥

@@ -1,5 +1,5 @@
 -- What a merge that keeps the strands apart does with one more record is what the definitions say, whatever the past.
-use Rattle.std.proofs.Common.{◌≡◌, ◌⊎◌, ℕ, ◌+◌, ◌-◌, ◌<◌, ◌≤◌, List, [], ◌∷◌, ◌++◌, append-nil, length, length-append, inl, inr, not, cond, ◌||◌, drop, get_or, map, set, take, Bool, true, false, bytes_eq, nat_lt, lt-ltb, le-ltb, Option, None, Some, Result, Ok, Err, refl, sym, ap, ap₂, ◌∙◌, subst, arith}
+use Rattle.std.proofs.Common.{codes, decimal, ◌≡◌, ◌⊎◌, ℕ, ◌+◌, ◌-◌, ◌<◌, ◌≤◌, List, [], ◌∷◌, ◌++◌, append-nil, length, length-append, inl, inr, not, cond, ◌||◌, drop, get_or, map, set, take, Bool, true, false, bytes_eq, nat_lt, lt-ltb, le-ltb, Option, None, Some, Result, Ok, Err, refl, sym, ap, ap₂, ◌∙◌, subst, arith}
 use Rattle.std.specs.List.{prefix_len, slice_get}
 use Rattle.std.specs.Prelude.{is_err, OnOk}
 use Rattle.std.proofs.lemmas.Bool.{cases_Bool, cases_lt, cond-true, cond-false, false≢true, not_from_true}
@@ -13,6 +13,7 @@ use Rattle.bt_lines.specs.calls.Putting.{Adds, FailsToAdd, FailsToPut, Grown}
 use Rattle.bt_lines.specs.declared.fault.Fault.{Fault}
 use Rattle.bt_lines.proofs.lemmas.writer.PuttingLemmas.{grown_more}
 use Rattle.bt_bed.specs.model.feature.Feature.{Feature, interval_of}
+use Rattle.bt_bed.specs.model.feature.Interval.{Interval}
 use Rattle.bt_bed.specs.model.feature.IntervalLine.{interval_line, interval_lines}
 use Rattle.bt_bed.specs.model.feature.Strands.{is_strand}
 use Rattle.bt_bed.proofs.lemmas.write.IntervalLineLemmas.{adds_line}
@@ -21,7 +22,7 @@ use Rattle.bt_runs.specs.calls.Engine.{AfterEach}
 use Rattle.bt_runs.specs.calls.Ruled.{fault_of}
 use Rattle.bt_runs.specs.model.MergedRuns.{AreTaken, is_closed}
 use Rattle.bt_runs.specs.inside.merge.PendingRuns.{joined_here, left_runs, lengthened, passed_runs, pending_from, place_of, placed_run, placed_runs, with_joined}
-use Rattle.bt_runs.specs.inside.merge.PerStrand.{kept_in, run_at_hand}
+use Rattle.bt_runs.specs.inside.merge.PerStrand.{kept_in}
 use Rattle.bt_runs.specs.inside.walk.Rule.{EnterAnswers, RuleFeeds, RuleFinishes, Taken, WantsMemory}
 use Rattle.bt_runs.specs.model.StrandRuns.{StrandRun, kept_strand_runs, places_of, settled_strand_runs, strand_runs}
 use Rattle.bt_runs.specs.inside.merge.StrandStep.{added_at, left_unsettled, settled_prefix, kept_with, last_place, place_among, run_from, run_with, with_added}
@@ -33,7 +34,7 @@ use Rattle.bt_runs.specs.declared.merge.pending_runs.PendingRun.{PendingRun}
 use Rattle.bt_runs.specs.declared.merge.per_strand_merge.OnlyRun.{OnlyRun}
 use Rattle.bt_runs.proofs.lemmas.merge.PendingRunsLemmas.{is_over, last_place_within, left_none, over_so, passed_every}
 use Rattle.bt_runs.proofs.lemmas.complement.RuleSteps.{quiet_adds_none, rule_cut, rule_finishes, rule_short, rule_taken}
-use Rattle.bt_runs.proofs.lemmas.merge.RunLines.{no_lines}
+use Rattle.bt_runs.proofs.lemmas.merge.UnstrandedLemmas.{last_is}
 use Rattle.bt_runs.proofs.lemmas.merge.StrandSettling.{strand_next, strand_runs_are_all, take_goes}
 
 -- tests that agree
@@ -268,14 +269,14 @@ module _ (old : Stranding) (r : Feature) (out : Output) (runs : List PendingRun)
 
 -- the kept runs, if one is in a local or none
 abbrev pub pending_in : OnlyRun → List PendingRun → List PendingRun
-pending_in only runs = cond only.is_any (run_at_hand only ∷ []) runs
+pending_in only runs = cond only.is_any (only.run ∷ []) runs
 
 by_hand : (chrom : List ℕ) (b : Bool) (w : PendingRun) (runs : List PendingRun) → cond b (placed_run chrom w ∷ []) (placed_runs chrom runs) ≡ placed_runs chrom (cond b (w ∷ []) runs)
 by_hand chrom true w runs = refl
 by_hand chrom false w runs = refl
 
 pub kept_placed : (chrom : List ℕ) (only : OnlyRun) (runs : List PendingRun) → kept_in chrom only (placed_runs chrom runs) ≡ placed_runs chrom (pending_in only runs)
-kept_placed chrom only runs = by_hand chrom only.is_any (run_at_hand only) runs
+kept_placed chrom only runs = by_hand chrom only.is_any only.run runs
 
 none_placed : (chrom other : List ℕ) (runs : List PendingRun) → placed_runs chrom runs ≡ [] → placed_runs other runs ≡ []
 none_placed chrom other [] e = refl
@@ -287,7 +288,7 @@ kept_nowhere chrom other only runs e = kept_placed other only runs ∙ none_plac
 
 -- all runs of the list are written
 pub list_closes : (chrom : List ℕ) (only : OnlyRun) (runs : List PendingRun) → only.is_any ≡ false → placed_runs chrom (passed_runs false 0 runs) ≡ kept_in chrom only (placed_runs chrom runs)
-list_closes chrom only runs f = ap (placed_runs chrom) (passed_every 0 runs) ∙ sym (cond-false only.is_any (placed_run chrom (run_at_hand only) ∷ []) (placed_runs chrom runs) f)
+list_closes chrom only runs f = ap (placed_runs chrom) (passed_every 0 runs) ∙ sym (cond-false only.is_any (placed_run chrom only.run ∷ []) (placed_runs chrom runs) f)
 
 abbrev pub holding : ℕ → List ℕ → List StrandRun → List StrandRun → Stranding
 holding gap chrom kept listed = record { gap = gap; chrom = chrom; kept = kept; listed = listed }
@@ -296,7 +297,7 @@ pub list_closed : (gap : ℕ) (chrom : List ℕ) (only : OnlyRun) (runs now : Li
     → holding gap chrom (kept_in chrom only (placed_runs chrom now)) (placed_runs chrom now) ≡ holding gap chrom [] []
 list_closed gap chrom only runs now f is =
     let listed : placed_runs chrom now ≡ [] = ap (placed_runs chrom) (is ∙ left_none 0 runs) in
-    let kept : kept_in chrom only (placed_runs chrom now) ≡ [] = cond-false only.is_any (placed_run chrom (run_at_hand only) ∷ []) (placed_runs chrom now) f ∙ listed in
+    let kept : kept_in chrom only (placed_runs chrom now) ≡ [] = cond-false only.is_any (placed_run chrom only.run ∷ []) (placed_runs chrom now) f ∙ listed in
     ap₂ (holding gap chrom) kept listed
 
 -- what was put, if that didn't fail
@@ -313,26 +314,21 @@ pub none_first : (runs : List PendingRun) → slice_get runs 0 ≡ None → runs
 none_first [] e = refl
 none_first (w ∷ ws) e = absurd (cc)
 
--- no record is the last of none
-pub none_last : {A : Type 0} (front : List A) (last : A) → [] ≡ front ++ last ∷ [] → ⊥
-none_last [] last e = absurd (cc)
-none_last (x ∷ front) last e = absurd (cc)
-
 places-append : (xs ys : List StrandRun) → strand_lines (xs ++ ys) ≡ strand_lines xs ++ strand_lines ys
 places-append xs ys = ap interval_lines (map-append (λ (item : StrandRun). item.run) xs ys) ∙ flat_map-append interval_line (places_of xs) (places_of ys)
+
+-- no line of a run is empty
+pushed_some : (xs : List ℕ) (y : ℕ) (ys : List ℕ) → (xs ++ y ∷ []) ++ ys ≡ [] → ⊥
+pushed_some [] y ys e = absurd (cc)
+pushed_some (x ∷ xs) y ys e = absurd (cc)
+
+no_lines : (runs : List Interval) → interval_lines runs ≡ [] → runs ≡ []
+no_lines [] e = refl
+no_lines (run ∷ runs) e = absurd (pushed_some (run.chrom ++ codes "\t" ++ decimal run.start ++ codes "\t" ++ decimal run.stop) 10 (interval_lines runs) e)
 
 no_items : (items : List StrandRun) → places_of items ≡ [] → items ≡ []
 no_items [] e = refl
 no_items (x ∷ xs) e = absurd (cc)
-
--- the last one of a list
-last_is : {A : Type 0} (xs ys : List A) (x y : A) → xs ++ x ∷ [] ≡ ys ++ y ∷ [] → x ≡ y
-last_is [] [] x y e = cc
-last_is [] (b ∷ []) x y e = absurd (cc)
-last_is [] (b ∷ c ∷ ys) x y e = absurd (cc)
-last_is (a ∷ []) [] x y e = absurd (cc)
-last_is (a ∷ c ∷ xs) [] x y e = absurd (cc)
-last_is (a ∷ xs) (b ∷ ys) x y e = last_is xs ys x y cc
 
 module _ (gap : ℕ) (past : List Feature) (merge : Stranding) (stands : StandsAfter gap past merge) where
   -- the lines of the step are those that the record settles

@@ -16,6 +16,7 @@ use Rattle.bt_bed.proofs.lemmas.parse.NameLemmas.{name_eq, name_ne, name_ne-sym,
 use Rattle.bt_runs.specs.model.Counted.{is_counted, counted}
 use Rattle.bt_runs.specs.model.Merged.{runs_of, runs_on, merged, without, chromosomes}
 use Rattle.bt_runs.specs.model.MergedRuns.{runs_come_in_order}
+use Rattle.bt_runs.proofs.lemmas.laws.EachLemmas.{each_all, filter_drops}
 use Rattle.bt_runs.proofs.lemmas.laws.Standing.{known_rank, later_rank}
 use Rattle.bt_runs.proofs.lemmas.order.ChromosomeLemmas.{spans_on-none, among_chromosomes, without-here, without-other}
 
@@ -108,10 +109,6 @@ filter_same p q same (n ∷ ns) =
     let here = same n in
     ap (λ b. cond b (n ∷ filter p ns) (filter p ns)) here ∙ ap (λ ms. cond (q n) (n ∷ ms) ms) rest
 
-filter_none : (names : List (List ℕ)) → filter (λ (n : List ℕ). false) names ≡ []
-filter_none [] = refl
-filter_none (n ∷ ns) = filter_none ns
-
 -- the test, or that the name is c, picks c if it is among names that come before all others that pass
 pick_absent : (c : List ℕ) (q : List ℕ → Bool) (names : List (List ℕ)) → is_among names c ≡ false → filter (λ n. bytes_eq c n || q n) names ≡ filter q names
 pick_absent c q [] f = refl
@@ -168,10 +165,10 @@ or_twice false y = refl
 
 -- the names that have records, in the order of the names, are those in the order of first records
 names_in_order : (names : List (List ℕ)) (records : List Interval) → AreDistinct names → ArePlaced (rank_order names) records → filter (λ n. has_records n records) names ≡ chromosomes records
-names_in_order names [] distinct placed = filter_none names
+names_in_order names [] distinct placed = filter_drops (λ n. false) names (each_all (λ n. false ≡ false) (λ n. refl) names)
 names_in_order names (r ∷ []) distinct placed =
     let rank = known_rank (rank_of names r.chrom) placed.0 in
-    pick_first names r.chrom rank.0 (λ n. false) distinct rank.1 (λ n j h l. refl) ∙ ap (λ ns. r.chrom ∷ ns) (filter_none names)
+    pick_first names r.chrom rank.0 (λ n. false) distinct rank.1 (λ n j h l. refl) ∙ ap (λ ns. r.chrom ∷ ns) (filter_drops (λ n. false) names (each_all (λ n. false ≡ false) (λ n. refl) names))
 names_in_order names (r ∷ s ∷ ss) distinct placed =
     let next = ranks_up_to names r s ss placed in
     let rest = names_in_order names (s ∷ ss) distinct placed.2 in

@@ -1,6 +1,6 @@
 -- What a count of depths keeps and writes as records come, exactly.
 use Rattle.std.specs.Prelude.{ℕ, ◌-◌, min, max, nat_le, nat_lt, Bool, ◌&&◌, cond, Option, None}
-use Rattle.std.specs.Prelude.{List, [], ◌∷◌, ◌++◌, filter, map}
+use Rattle.std.specs.Prelude.{codes, decimal, List, [], ◌∷◌, ◌++◌, filter, map}
 use Rattle.bt_bed.specs.model.feature.Feature.{Feature}
 use Rattle.bt_bed.specs.model.order.Genome.{Entry}
 use Rattle.bt_bed.specs.model.feature.Interval.{Span}
@@ -94,3 +94,10 @@ depth_walk zeros strand = record {
   step = λ entry known r. levels_on entry.name (levels_with zeros entry.length known r);
   after = λ entry known r. known_with zeros (is_counted_by strand r.strand) entry.length known r;
 }
+
+-- what the line of an interval with its depth has after the name: a tab, the start, a tab, the stop, a tab, the depth and
+-- a line feed
+abbrev pub depth_text : ℕ → ℕ → ℕ → List ℕ
+depth_text start stop depth =
+    codes "\t" ++ (decimal start ++ (codes "\t" ++ (decimal stop
+    ++ (codes "\t" ++ (decimal depth ++ codes "\n")))))

@@ -1,6 +1,6 @@
 -- The records that are open at a position of a chromosome, and how the code keeps them.
-use Rattle.std.specs.Prelude.{◌≡◌, ℕ, ◌<◌, ◌≤◌, Bool}
-use Rattle.std.specs.Prelude.{List, [], ◌∷◌, All, filter, length, map}
+use Rattle.std.specs.Prelude.{◌≡◌, ℕ, ◌≤◌, Bool}
+use Rattle.std.specs.Prelude.{List, [], All, filter, length, map}
 use Rattle.bt_bed.specs.model.feature.Interval.{Span}
 use Rattle.bt_runs.specs.inside.coverage.DepthStep.{still_open}
 use Rattle.bt_runs.specs.declared.coverage.open_records.OpenSpan.{OpenSpan}
@@ -34,8 +34,3 @@ CountsEnds ends spans =
 pub record KeepsOpen (at : ℕ) (spans : List Span) (ends : List ℕ) : Type 0 where
   pub started : All (λ s. s.start ≤ at) spans
   pub counts : CountsEnds ends (still_open at spans)
-
--- the first ended before a position
-abbrev pub StartsEnded : ℕ → List Span → Type 0
-StartsEnded position [] = ⊥
-StartsEnded position (s ∷ ss) = s.stop < position

@@ -3,16 +3,11 @@ use Rattle.std.specs.Prelude.{◌≡◌, ℕ, List, [], ◌∷◌, cond}
 use Rattle.bt_runs.specs.inside.merge.PendingRuns.{placed_run}
 use Rattle.bt_runs.specs.model.StrandRuns.{StrandRun}
 use Rattle.bt_runs.specs.calls.Stranding.{Stranding}
-use Rattle.bt_runs.specs.declared.merge.pending_runs.PendingRun.{PendingRun}
 use Rattle.bt_runs.specs.declared.merge.per_strand_merge.OnlyRun.{OnlyRun}
-
--- the only run, as one of a list
-abbrev pub run_at_hand : OnlyRun → PendingRun
-run_at_hand only = record { strand = only.strand; start = only.start; stop = only.stop }
 
 -- the runs that are kept: the one in a local, or else those of the list
 abbrev pub kept_in : List ℕ → OnlyRun → List StrandRun → List StrandRun
-kept_in chrom only listed = cond only.is_any (placed_run chrom (run_at_hand only) ∷ []) listed
+kept_in chrom only listed = cond only.is_any (placed_run chrom only.run ∷ []) listed
 
 -- the merge with this run in a local
 abbrev pub with_on : Stranding → OnlyRun → Stranding

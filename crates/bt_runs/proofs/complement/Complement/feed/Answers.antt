@@ -1,8 +1,5 @@
-use Rattle.bt_runs.proofs.lemmas.coverage.CallLemmas.{feeds_again, feeds_failed, feeds_fault, feeds_prefix, feeds_settled, only_writes}
+use Rattle.bt_runs.proofs.lemmas.coverage.CallLemmas.{feeds_again, feeds_fault, feeds_prefix, feeds_settled, only_writes}
 use Rattle.bt_runs.proofs.complement.Complement.feed.Goals as goal
-
-pub returns-clause-going : goal.returns-clause-going
-returns-clause-going g c = c.feed.ensures.feeds.going
 
 pub returns-clause-written : goal.returns-clause-written
 returns-clause-written g c = feeds_settled _ c.feed.ensures.feeds
@@ -14,19 +11,10 @@ pub returns-clause-prefix : goal.returns-clause-prefix
 returns-clause-prefix g c = feeds_prefix _ c.feed.ensures.feeds
 
 pub returns-clause-again : goal.returns-clause-again
-returns-clause-again g c = feeds_again _ c.feed.ensures.feeds
+returns-clause-again g c = λ before some. (feeds_again _ c.feed.ensures.feeds before some).0
 
 pub returns-clause-stays : goal.returns-clause-stays
-returns-clause-stays g c = feeds_failed _ c.feed.ensures.feeds
-
-pub returns-clause-quiet : goal.returns-clause-quiet
-returns-clause-quiet g c = c.feed.ensures.feeds.quiet
-
-pub returns-clause-grows : goal.returns-clause-grows
-returns-clause-grows g c = c.feed.ensures.feeds.grows
-
-pub returns-clause-after_failure : goal.returns-clause-after_failure
-returns-clause-after_failure g c = c.feed.ensures.feeds.after_failure
+returns-clause-stays g c = λ before some. (feeds_again _ c.feed.ensures.feeds before some).1
 
 pub returns-clause-memory : goal.returns-clause-memory
 returns-clause-memory g c = λ going. only_writes _ going c.feed.ensures.feeds c.feed.ensures.memory

@@ -1,28 +1,32 @@
-use Rattle.std.proofs.Common.{flat_map, slice_range}
+use Rattle.std.proofs.Common.{◌≡◌, ◌+◌, ℕ, Some, arith, flat_map, min, slice_range}
 use Rattle.std.proofs.lemmas.Result.{err_from_is_err_and}
+use Rattle.bt_lines.proofs.lemmas.writer.PuttingLemmas.{adds_lines, cut_lines}
 use Rattle.bt_bed.specs.calls.GenomeTable.{entries}
 use Rattle.bt_bed.specs.model.feature.IntervalLine.{interval_line}
-use Rattle.bt_lines.proofs.lemmas.writer.PuttingLemmas.{adds_lines, cut_lines}
-use Rattle.bt_runs.specs.inside.walk.GapCursor.{seen}
-use Rattle.bt_runs.specs.inside.walk.GapStep.{bare_gap, last_gap, whole_of}
-use Rattle.bt_runs.specs.inside.walk.Walk.{begun, left_of}
-use Rattle.bt_runs.proofs.lemmas.complement.GapSteps.{before_all, before_limited}
-use Rattle.bt_runs.proofs.lemmas.order.GenomeRanks.{bares_from}
+use Rattle.bt_runs.specs.inside.walk.GapStep.{bare_gap, last_gap}
+use Rattle.bt_runs.specs.inside.walk.Walk.{Place, entry_at}
+use Rattle.bt_runs.proofs.lemmas.order.GenomeRanks.{bares_from, before_from, length_read}
 use Rattle.bt_runs.proofs.complement.gap_rule.put_before.Goals as goal
 
-pub returns-in_err-put_left : goal.returns-in_err-put_left
-returns-in_err-put_left g c =
+pub length-requires : goal.length-requires
+length-requires g c = (c.args.cursor.now.named c.in-Some.rank c.in-Some.is).placed.within
+
+pub returns-in_err-put_gap : goal.returns-in_err-put_gap
+returns-in_err-put_gap g c =
     let p = err_from_is_err_and c.from_residual.result c.from_residual.ensures.1 in
     let table = entries c.args.cursor.now.genome.now in
-    let place = seen c.args.cursor.now in
-    rw (p.1, p.2) (cut_lines interval_line _ _ (left_of last_gap table place) (flat_map (bare_gap c.args.limit) (slice_range table (begun place) c.args.stop)) _ c.in_err-put_left.ensures)
-
-pub returns-then-limit : goal.returns-then-limit
-returns-then-limit g c = rw (before_limited (entries c.args.cursor.now.genome.now) (seen c.args.cursor.now) c.args.stop c.args.limit c.if-limit.true) c.in_ok-put_left.ensures
+    let rank = c.in-Some.rank in
+    let named = (c.args.cursor.now.named rank c.in-Some.is).is in
+    let size = length_read table rank c.length.result c.length.ensures.is in
+    rw (p.1, p.2, c.in-Some.is) (cut_lines interval_line _ _ (last_gap (entry_at table rank) c.args.cursor.now.end) (flat_map (bare_gap c.args.limit) (slice_range table (rank + 1) c.args.stop)) _ (rw (named, size) c.in_err-put_gap.ensures))
 
 pub returns : goal.returns
 returns g c =
     let table = entries c.args.cursor.now.genome.now in
-    let place = seen c.args.cursor.now in
-    rw (before_all table place c.first_rank.result c.args.stop c.args.limit c.if-limit.false c.first_rank.ensures)
-    (adds_lines interval_line _ _ _ (left_of last_gap table place) (bares_from whole_of table c.first_rank.result c.args.stop) c.put_whole.result c.in_ok-put_left.ensures c.put_whole.ensures)
+    let rank = c.in-Some.rank in
+    let place : Place ℕ = record { rank = rank; known = c.args.cursor.now.end } in
+    let named = (c.args.cursor.now.named rank c.in-Some.is).is in
+    let size = length_read table rank c.length.result c.length.ensures.is in
+    let first : c.min.result ≡ min (rank + 1) c.args.stop = let is = c.min.ensures in let next = c.saturating_add.ensures in let fits = c.ranges.stop.fits in omega arith in
+    rw (c.in-Some.is, before_from (bare_gap c.args.limit) table last_gap (Some place) c.min.result c.args.stop first)
+    (adds_lines interval_line _ _ _ (last_gap (entry_at table rank) c.args.cursor.now.end) (bares_from (bare_gap c.args.limit) table c.min.result c.args.stop) c.put_bares-2.result (rw (named, size) c.in_ok-put_gap.ensures) c.put_bares-2.ensures)

@@ -2,7 +2,7 @@ use Rattle.std.proofs.Common.{◌≡◌, ℕ, ◌-◌, ◌++◌, List, arith, su
 use Rattle.std.proofs.lemmas.List.{length-drop, take_all}
 use Rattle.bt_lines.specs.calls.Putting.{Puts}
 use Rattle.bt_runs.specs.model.Depth.{DepthInterval, depth_line}
-use Rattle.bt_runs.specs.inside.coverage.DepthText.{depth_text}
+use Rattle.bt_runs.specs.inside.coverage.DepthStep.{depth_text}
 use Rattle.bt_runs.proofs.lemmas.coverage.DepthLines.{line_parts}
 use Rattle.bt_runs.proofs.coverage.depth_line.put_depth.Goals as goal
 

@@ -1,4 +1,4 @@
-use Rattle.std.proofs.Common.{◌≡◌, Err, Ok, arith}
+use Rattle.std.proofs.Common.{Err, Ok, arith}
 use Rattle.std.proofs.lemmas.Result.{err_from_is_err_and}
 use Rattle.bt_lines.specs.calls.Putting.{Adds, Grown}
 use Rattle.bt_lines.proofs.lemmas.writer.PuttingLemmas.{grown_none}
@@ -41,8 +41,3 @@ loop-rank-preserved g c =
       ])
     ] in
     one_bare (bare_of zeros) table depth_line c.args.first rank (omega arith) (omega arith) _ _ _ c.loop-rank.invariant put
-
-pub returns : goal.returns
-returns g c =
-    let same : c.loop-rank.rank ≡ c.args.stop = omega arith in
-    rw (← same) c.loop-rank.invariant

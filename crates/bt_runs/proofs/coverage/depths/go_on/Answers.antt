@@ -1,5 +1,4 @@
 use Rattle.std.proofs.Common.{ℕ, refl, ◌≡◌, ◌-◌, ◌+◌, ◌<◌, ◌≤◌, ◌++◌, List, Ok, All, arith, length, max, sym, subst, ap, ◌∙◌}
-use Rattle.std.proofs.lemmas.List.Elements.{All-weaker}
 use Rattle.std.proofs.lemmas.Result.{err_from_is_err_and}
 use Rattle.bt_lines.proofs.lemmas.writer.PuttingLemmas.{grown_none}
 use Rattle.bt_bed.specs.model.feature.Interval.{Span}
@@ -7,7 +6,7 @@ use Rattle.bt_runs.specs.inside.coverage.CountSeen.{begun_seen}
 use Rattle.bt_runs.specs.model.Depth.{depth_of, reported}
 use Rattle.bt_runs.specs.inside.coverage.DepthStep.{still_open}
 use Rattle.bt_runs.specs.model.Levels.{ended_after, next_begun, next_ended}
-use Rattle.bt_runs.specs.inside.coverage.OpenRecords.{OpenAt, open_from}
+use Rattle.bt_runs.specs.inside.coverage.OpenRecords.{OpenAt}
 use Rattle.bt_runs.proofs.lemmas.coverage.DepthLines.{adds_levels, cut_levels}
 use Rattle.bt_runs.proofs.lemmas.coverage.DepthWalk.{here_depth, no_begun, no_ended, run_depth, turn_begun, turn_ended, turn_more}
 use Rattle.bt_runs.proofs.lemmas.coverage.OpenLemmas.{all_open}
@@ -81,35 +80,3 @@ loop-position-preserved g c =
       puts = adds_levels c.args.chrom.now.name.now c.args.out.now.output c.loop-position.out.output c.put_next.new.out.output (ended_after u held.at (at - held.at) first) (next_ended at value begun) (ended_after u held.at (next - held.at) first) {A = Unit {0}} (Ok tt) ended i.puts c.in_ok-begun.ensures.adds;
       begun = c.in_ok-begun.ensures.begun ∙ ap (next_begun at value) i.begun ∙ sym (turn_begun u held.at at next first value low behind run);
     }
-
-pub settle-requires : goal.settle-requires
-settle-requires g c =
-    let now = c.loop-position.held in
-    All-weaker (λ s. c.loop-position.position ≤ s.stop) (λ s. c.args.stop ≤ s.stop) (λ s low. omega arith) (still_open now.at now.spans) c.loop-position.invariant.left
-
-pub returns-clause-adds : goal.returns-clause-adds
-returns-clause-adds g c =
-    let i = c.loop-position.invariant in
-    let to = i.to in
-    let from = i.from in
-    let all : c.loop-position.position - c.args.held.now.at ≡ c.args.stop - c.args.held.now.at = omega arith in
-    rw (← all) i.puts
-
-pub returns-clause-begun : goal.returns-clause-begun
-returns-clause-begun g c =
-    let i = c.loop-position.invariant in
-    let to = i.to in
-    let from = i.from in
-    let all : c.loop-position.position - c.args.held.now.at ≡ c.args.stop - c.args.held.now.at = omega arith in
-    rw (← all) i.begun
-
-pub returns-clause-held : goal.returns-clause-held
-returns-clause-held g c = λ up.
-    let i = c.loop-position.invariant in
-    let now = c.loop-position.held in
-    let held = c.args.held.now in
-    let from = i.from in
-    let to = i.to in
-    let there : c.loop-position.position ≡ c.args.stop = omega arith in
-    let all : max now.at c.args.stop ≡ c.args.stop = omega (arith, i.here) in
-    c.settle.ensures ∙ ap (λ n. open_from n now) all ∙ ap (λ l. with_at c.args.stop (still_open c.args.stop l)) i.same

@@ -1,4 +1,4 @@
-use Rattle.std.proofs.Common.{sym, ◌∙◌, subst}
+use Rattle.std.proofs.Common.{◌∙◌, subst}
 use Rattle.bt_runs.proofs.lemmas.engine.RuleLemmas.{begins_following, enters_none, follows_all, follows_on, follows_up_to}
 use Rattle.bt_runs.specs.inside.walk.Rule.{Taken}
 use Rattle.bt_runs.proofs.engine.rule.follow.Goals as goal
@@ -16,19 +16,11 @@ loop-fault-init g c = record {
   same_name = c.in-Some.ensures.same;
 }
 
-pub step-requires : goal.step-requires
-step-requires g c =
-    let f = c.loop-fault.invariant.following in
-    subst (g.E.Rule.is_on (g.E.Rule.with_on c.loop-fault.rule c.loop-fault.on)) (sym f.on) f.entered
-
 pub returns-in-Err-step : goal.returns-in-Err-step
 returns-in-Err-step g c =
     rw c.leave.ensures
     (follows_up_to g.E.Rule.does (Taken g.E.Rule.takes g.E.Rule.is_after g.E.Rule.settled g.E.Rule.quiet g.E.Rule.wants g.E.Rule.does) (λ old r out result new grown d. d.exact) g.C.Cursor.gives g.C.Cursor.has_ended g.E.Rule.is_on c.args.rule.now c.args.records.now c.args.out.now.output g.met.C.Cursor.gives_more _ _ _ _ _
     c.loop-fault.invariant.following _ _ _ (record { exact = c.in-Err-step.ensures.does; feeds = c.in-Err-step.ensures.feeds; memory = c.in-Err-step.ensures.memory }))
-
-pub loop-fault-smaller : goal.loop-fault-smaller
-loop-fault-smaller g c = c.in-Some-next.ensures.shrinks
 
 pub loop-fault-preserved : goal.loop-fault-preserved
 loop-fault-preserved g c =

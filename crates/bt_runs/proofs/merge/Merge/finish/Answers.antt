@@ -1,8 +1,5 @@
-use Rattle.bt_runs.proofs.lemmas.coverage.CallLemmas.{finishes_again, finishes_failed, finishes_left, finishes_prefix}
+use Rattle.bt_runs.proofs.lemmas.coverage.CallLemmas.{finishes_again, finishes_left, finishes_prefix}
 use Rattle.bt_runs.proofs.merge.Merge.finish.Goals as goal
-
-pub returns-clause-going : goal.returns-clause-going
-returns-clause-going g c = c.finish.ensures.going
 
 pub returns-clause-written : goal.returns-clause-written
 returns-clause-written g c = finishes_left _ c.finish.ensures
@@ -11,13 +8,7 @@ pub returns-clause-prefix : goal.returns-clause-prefix
 returns-clause-prefix g c = finishes_prefix _ c.finish.ensures
 
 pub returns-clause-again : goal.returns-clause-again
-returns-clause-again g c = finishes_again _ c.finish.ensures
+returns-clause-again g c = λ before some. (finishes_again _ c.finish.ensures before some).0
 
 pub returns-clause-stays : goal.returns-clause-stays
-returns-clause-stays g c = finishes_failed _ c.finish.ensures
-
-pub returns-clause-grows : goal.returns-clause-grows
-returns-clause-grows g c = c.finish.ensures.grows
-
-pub returns-clause-after_failure : goal.returns-clause-after_failure
-returns-clause-after_failure g c = c.finish.ensures.after_failure
+returns-clause-stays g c = λ before some. (finishes_again _ c.finish.ensures before some).1

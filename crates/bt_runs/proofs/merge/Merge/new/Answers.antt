@@ -14,7 +14,7 @@ returns-clause-begun c =
     let pool : Unstranded → Ruled Unstranded = λ rule. record { rule = rule; failure = None } in
     let strands : Stranding → Ruled Stranding = λ rule. record { rule = rule; failure = None } in
     elim c.match-strand.branch [
-      | in-Each w ↦ rw (w.in-Each.is) (ap merging_seen w.kind-is ∙ ap merging.PerStrand (w.new-in-Each.ensures ∙ ap strands w.new.ensures.is))
+      | in-Each w ↦ rw (w.in-Each.is) (ap merging_seen w.kind-is ∙ ap merging.PerStrand (w.new-in-Each.ensures ∙ ap strands w.new.ensures))
       | in-All w ↦ rw (w.in-All.is) (ap merging_seen w.kind-is ∙ ap merging.Unstranded (w.new-in-All-2.ensures ∙ ap pool (w.new-in-All.ensures ∙ ap (λ s. record { gap = c.args.d; strand = s; chrom = []; kept = [] }) w.in-All.is)))
       | in-One w ↦ rw (w.in-One.is) (ap merging_seen w.kind-is ∙ ap merging.Unstranded (w.new-in-One-2.ensures ∙ ap pool (w.new-in-One.ensures ∙ ap (λ s. record { gap = c.args.d; strand = s; chrom = []; kept = [] }) w.in-One.is)))
     ]

@@ -4,4 +4,4 @@ use Rattle.bt_runs.proofs.complement.gap_rule.GapRule.new.Goals as goal
 
 pub returns-clause-stands : goal.returns-clause-stands
 unfolding kept_place
-returns-clause-stands c = record { same_entries = refl; same_limit = refl; kept = rw c.new.ensures.none refl }
+returns-clause-stands c = record { same_entries = refl; same_limit = refl; kept = refl }

@@ -1,12 +1,12 @@
-use Rattle.std.proofs.Common.{arith, refl, sym, ◌∙◌}
+use Rattle.std.proofs.Common.{◌≡◌, ◌∙◌, ℕ, Some, arith, refl, subst, sym}
 use Rattle.std.proofs.lemmas.Result.{err_from_is_err_and}
 use Rattle.bt_bed.specs.calls.GenomeTable.{entries}
 use Rattle.bt_runs.specs.inside.walk.GapCursor.{seen}
 use Rattle.bt_runs.specs.inside.walk.GapRule.{complement_at}
 use Rattle.bt_runs.specs.inside.walk.GapStep.{bare_gap, last_gap}
-use Rattle.bt_runs.specs.inside.walk.Walk.{left_before}
+use Rattle.bt_runs.specs.inside.walk.Walk.{IsNamed, left_before}
 use Rattle.bt_runs.proofs.lemmas.complement.GapRuleLemmas.{cursor_reached, enters_cut, enters_here, enters_next, goes_other, has_chrom, lacks_chrom, on_found, other_rank, rank_placed, same_rank}
-use Rattle.bt_runs.proofs.lemmas.order.GenomeRanks.{length_read}
+use Rattle.bt_runs.proofs.lemmas.order.GenomeRanks.{length_read, name_read}
 use Rattle.bt_runs.proofs.complement.gap_rule.GapRuleRule.enter.Goals as goal
 
 pub returns-in_default-clause-on : goal.returns-in_default-clause-on
@@ -51,22 +51,32 @@ returns-in_err-put_before-clause-enters g c =
     (left_before last_gap (bare_gap limit) (entries cursor.genome.now) (seen cursor) rank) (goes_other limit cursor c.args.chrom.now rank (sym c.in-Some.ensures) other)
     c.in_err-put_before.field-0.0 (complement_at limit cursor) c.put_before.new.out.output c.in_err-put_before.ensures)
 
-pub at-self-inside-requires : goal.at-self-inside-requires
-at-self-inside-requires g c = rank_placed c.self.inside.limit c.self.inside.cursor c.args.chrom.now c.in-Some.rank (sym c.in-Some.ensures)
+pub name-requires : goal.name-requires
+name-requires g c = (rank_placed c.self.inside.limit c.self.inside.cursor c.args.chrom.now c.in-Some.rank (sym c.in-Some.ensures)).within
+
+pub length-requires : goal.length-requires
+length-requires g c = (rank_placed c.self.inside.limit c.self.inside.cursor c.args.chrom.now c.in-Some.rank (sym c.in-Some.ensures)).within
+
+pub invariant_of-self : goal.invariant_of-self
+invariant_of-self g c =
+    let table = entries c.self.inside.cursor.genome.now in
+    let rank = c.in-Some.rank in
+    let placed = rank_placed c.self.inside.limit c.self.inside.cursor c.args.chrom.now rank (sym c.in-Some.ensures) in
+    let here : IsNamed table rank c.name.result.now = record { placed = placed; is = name_read table rank c.name.result.now c.name.ensures } in
+    record { named = λ r is. let same : rank ≡ r = cc in subst (λ (r : ℕ). IsNamed table r c.name.result.now) same here }
 
 pub returns-clause-on : goal.returns-clause-on
 returns-clause-on g c =
-    let at = c.at-self-inside.ensures in
-    rw at.entries (has_chrom c.self.inside.limit c.self.inside.cursor c.args.chrom.now c.in-Some.rank (sym c.in-Some.ensures) 0 c.at-self-inside.result.length (seen c.at-self-inside.result) at.seen (sym at.bases))
+    let size = length_read (entries c.self.inside.cursor.genome.now) c.in-Some.rank c.length.result c.length.ensures.is in
+    has_chrom c.self.inside.limit c.self.inside.cursor c.args.chrom.now c.in-Some.rank (sym c.in-Some.ensures) 0 c.length.result (Some (record { rank = c.in-Some.rank; known = 0 })) refl size
 
 pub returns-clause-enters : goal.returns-clause-enters
 returns-clause-enters g c =
     let cursor = c.self.inside.cursor in
     let limit = c.self.inside.limit in
     let rank = c.in-Some.rank in
-    let at = c.at-self-inside.ensures in
     let other = other_rank cursor.rank rank c.eq.result c.eq.ensures c.if-eq.false in
-    rw (← c.self.view_is, at.entries, at.seen)
+    rw (← c.self.view_is)
     (enters_next (complement_at limit cursor) (cursor_reached cursor) c.args.out.now.output c.args.chrom.now (record { rank = rank; known = 0 })
     (left_before last_gap (bare_gap limit) (entries cursor.genome.now) (seen cursor) rank) (goes_other limit cursor c.args.chrom.now rank (sym c.in-Some.ensures) other)
-    c.at-self-inside.result.length c.put_before.new.out.output (on_found (entries cursor.genome.now) c.args.chrom.now rank (sym c.in-Some.ensures)) c.in_ok-put_before.ensures)
+    c.length.result c.put_before.new.out.output (on_found (entries cursor.genome.now) c.args.chrom.now rank (sym c.in-Some.ensures)) c.in_ok-put_before.ensures)

@@ -5,7 +5,7 @@ use Rattle.bt_lines.specs.calls.Putting.{FailsToPut}
 use Rattle.bt_lines.specs.declared.fault.Fault.{Fault}
 use Rattle.bt_bed.proofs.lemmas.order.ResultLemmas.{passed_on}
 use Rattle.bt_bed.specs.model.feature.IntervalLine.{interval_line}
-use Rattle.bt_runs.specs.inside.merge.PerStrand.{kept_in, run_at_hand}
+use Rattle.bt_runs.specs.inside.merge.PerStrand.{kept_in}
 use Rattle.bt_runs.specs.inside.merge.PendingRuns.{pending_from, placed_run, placed_runs}
 use Rattle.bt_runs.specs.inside.merge.StrandTaking.{JoinsAmong, TakesNext}
 use Rattle.bt_runs.specs.calls.Stranding.{Stranding}
@@ -20,7 +20,7 @@ returns-then-not-on-clause-does g c =
     let chrom = c.self.inside.chrom.items in
     let r = g.R.Record.feature c.args.«record».now in
     let on = c.args.on.now in
-    let kept : kept_in chrom on (placed_runs chrom c.self.inside.runs) ≡ placed_runs chrom c.self.inside.runs = cond-false on.is_any (placed_run chrom (run_at_hand on) ∷ []) (placed_runs chrom c.self.inside.runs) c.if-not-on.true in
+    let kept : kept_in chrom on (placed_runs chrom c.self.inside.runs) ≡ placed_runs chrom c.self.inside.runs = cond-false on.is_any (placed_run chrom on.run ∷ []) (placed_runs chrom c.self.inside.runs) c.if-not-on.true in
     let lies : chrom ≡ r.chrom = ap (λ (m : Stranding). m.chrom) c.self.view_is ∙ c.requires in
     let listed = placed_runs chrom c.join_among.new.runs in
     let old = holding c.self.inside.gap chrom (kept_in chrom on (placed_runs chrom c.self.inside.runs)) (placed_runs chrom c.self.inside.runs) in
@@ -30,10 +30,10 @@ returns-then-not-on-clause-does g c =
     let there = rw (c.as_slice.ensures.value, c.saturating_sub-reach.ensures, c.start.ensures, c.strand.ensures, c.stop.ensures.is) at said in
     subst (λ (answer : Result Bool Failure). JoinsAmong chrom (r.start - c.self.inside.gap) c.self.inside.runs (pending_from r) c.args.out.now.output answer c.join_among.new.runs c.join_among.new.out.output) is there in
     let stays : c.match-join_among.on ≡ on → kept_in chrom c.match-join_among.on listed ≡ listed =
-    λ is. ap (λ (o : OnlyRun). kept_in chrom o listed) is ∙ cond-false on.is_any (placed_run chrom (run_at_hand on) ∷ []) listed c.if-not-on.true in
+    λ is. ap (λ (o : OnlyRun). kept_in chrom o listed) is ∙ cond-false on.is_any (placed_run chrom on.run ∷ []) listed c.if-not-on.true in
     rw (← c.self.view_is) (elim c.match-join_among.branch [
       | in-Ok-true w ↦
-          let kept_now : kept_in chrom c.match-join_among.on listed ≡ placed_run chrom (pending_from r) ∷ [] = ap (λ (o : OnlyRun). kept_in chrom o listed) (w.on-is ∙ w.only.ensures) ∙ rw (c.start.ensures, c.strand.ensures, c.stop.ensures.is) refl in
+          let kept_now : kept_in chrom c.match-join_among.on listed ≡ placed_run chrom (pending_from r) ∷ [] = ap (λ (o : OnlyRun). kept_in chrom o listed) w.on-is ∙ rw (c.start.ensures, c.strand.ensures, c.stop.ensures.is) refl in
           rw (w.result-is) (takes_alone old r c.args.out.now.output c.self.inside.runs kept lies c.join_among.new.runs new c.join_among.new.out.output (joins (Ok true) (search rules)) refl refl kept_now)
       | in-Ok-false w ↦
           rw (w.result-is) (takes_left old r c.args.out.now.output c.self.inside.runs kept lies c.join_among.new.runs new c.join_among.new.out.output (joins (Ok false) (search rules)) refl refl (stays w.on-is))
@@ -48,11 +48,11 @@ returns-in_err-put_interval-clause-does g c =
     let on = c.args.on.now in
     let listed = placed_runs chrom c.self.inside.runs in
     let old = holding c.self.inside.gap chrom (kept_in chrom on listed) listed in
-    let kept : kept_in chrom on listed ≡ placed_run chrom (run_at_hand on) ∷ [] = cond-true on.is_any (placed_run chrom (run_at_hand on) ∷ []) listed c.if-not-on.false in
+    let kept : kept_in chrom on listed ≡ placed_run chrom on.run ∷ [] = cond-true on.is_any (placed_run chrom on.run ∷ []) listed c.if-not-on.false in
     let lies : chrom ≡ r.chrom = ap (λ (m : Stranding). m.chrom) c.self.view_is ∙ c.requires in
-    let far : on.stop < r.start - c.self.inside.gap = rw (c.saturating_sub-reach.ensures, c.start.ensures) at c.if-on-reach.true in
-    let cut : FailsToPut c.args.out.now.output (interval_line (placed_run chrom (run_at_hand on)).run) (fault_value c.in_err-put_interval.field-0.0) c.put_interval.new.out.output = rw (c.as_slice-then-on-reach.ensures.value) at c.in_err-put_interval.ensures in
+    let far : on.run.stop < r.start - c.self.inside.gap = rw (c.saturating_sub-reach.ensures, c.start.ensures) at c.if-on-reach.true in
+    let cut : FailsToPut c.args.out.now.output (interval_line (placed_run chrom on.run).run) (fault_value c.in_err-put_interval.field-0.0) c.put_interval.new.out.output = rw (c.as_slice-then-on-reach.ensures.value) at c.in_err-put_interval.ensures in
     rw (← c.self.view_is)
     (passed_on (λ (result : Result (Unit {0}) Fault). TakesNext old r c.args.out.now.output result old c.put_interval.new.out.output)
     c.from_residual.result c.in_err-put_interval.field-0.0 c.from_residual.ensures.1
-    (fails_alone old r c.args.out.now.output (run_at_hand on) kept lies far c.in_err-put_interval.field-0.0 old c.put_interval.new.out.output cut))
+    (fails_alone old r c.args.out.now.output on.run kept lies far c.in_err-put_interval.field-0.0 old c.put_interval.new.out.output cut))

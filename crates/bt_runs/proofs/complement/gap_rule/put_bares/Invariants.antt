@@ -3,7 +3,7 @@ use Rattle.bt_bed.specs.calls.GenomeTable.{entries}
 use Rattle.bt_runs.specs.inside.walk.GapStep.{whole_of}
 use Rattle.bt_bed.specs.model.feature.IntervalLine.{interval_lines}
 use Rattle.bt_lines.specs.calls.Putting.{Grown}
-use Rattle.bt_runs.proofs.complement.gap_rule.put_whole.Given as goal
+use Rattle.bt_runs.proofs.complement.gap_rule.put_bares.Given as goal
 
 -- the chromosomes so far were written
 abbrev pub invariant-loop-rank : goal.invariant-loop-rank

@@ -1,12 +1,17 @@
-use Rattle.std.proofs.Common.{◌≡◌, ℕ, Err, List, arith, subst, sym}
+use Rattle.std.proofs.Common.{◌≡◌, ℕ, Err, List, arith, slice_range, subst, sym}
 use Rattle.std.proofs.lemmas.Result.{err_from_is_err_and}
 use Rattle.bt_bed.specs.calls.GenomeTable.{entries}
 use Rattle.bt_bed.specs.model.feature.IntervalLine.{interval_line, interval_lines}
 use Rattle.bt_lines.specs.calls.Putting.{Adds, Grown}
+use Rattle.bt_lines.proofs.lemmas.writer.PuttingLemmas.{grown_none}
 use Rattle.bt_runs.specs.inside.walk.GapStep.{gap_between, whole_of}
 use Rattle.bt_runs.specs.inside.walk.Walk.{entry_at}
+use Rattle.bt_runs.proofs.lemmas.complement.GapSteps.{no_bares}
 use Rattle.bt_runs.proofs.lemmas.order.GenomeRanks.{bare_cut, length_read, name_read, one_bare}
-use Rattle.bt_runs.proofs.complement.gap_rule.put_whole.Goals as goal
+use Rattle.bt_runs.proofs.complement.gap_rule.put_bares.Goals as goal
+
+pub returns-then-limit : goal.returns-then-limit
+returns-then-limit g c = rw (c.if-limit.true, no_bares (slice_range (entries c.args.genome.now) c.args.first c.args.stop)) (grown_none c.args.out.now.output)
 
 pub returns-in_err-put_gap : goal.returns-in_err-put_gap
 returns-in_err-put_gap g c =
@@ -18,7 +23,7 @@ returns-in_err-put_gap g c =
     let gap = λ (name : List ℕ) (n : ℕ). interval_lines (gap_between name 0 n) in
     let cut = subst (λ n. Adds {A = Unit {0}} c.loop-rank.out.output (gap (entry_at table rank).name n) (Err c.in_err-put_gap.field-0.0) c.put_gap.new.out.output) (sym size)
     (subst (λ name. Adds {A = Unit {0}} c.loop-rank.out.output (gap name c.length.result) (Err c.in_err-put_gap.field-0.0) c.put_gap.new.out.output) (sym named) c.in_err-put_gap.ensures) in
-    rw (p.1, p.2) (bare_cut whole_of table interval_line c.args.first rank (omega arith) (omega arith) _ _ _ c.loop-rank.invariant c.args.stop c.in_err-put_gap.field-0.0 (omega arith) cut)
+    rw (p.1, p.2, c.if-limit.false) (bare_cut whole_of table interval_line c.args.first rank (omega arith) (omega arith) _ _ _ c.loop-rank.invariant c.args.stop c.in_err-put_gap.field-0.0 (omega arith) cut)
 
 pub loop-rank-preserved : goal.loop-rank-preserved
 loop-rank-preserved g c =
@@ -34,4 +39,4 @@ loop-rank-preserved g c =
 pub returns : goal.returns
 returns g c =
     let same : c.loop-rank.rank ≡ c.args.stop = omega arith in
-    rw (← same) c.loop-rank.invariant
+    rw (c.if-limit.false, ← same) c.loop-rank.invariant
