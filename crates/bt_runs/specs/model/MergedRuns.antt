@@ -38,7 +38,7 @@ kept_runs gap strand records =
 -- records that a merge may take: those of one chromosome are contiguous, their starts don't fall,
 -- and each has a base
 pub record AreTaken (records : List Feature) : Type 0 where
-  pub together : AreContiguous (intervals_of records)
+  pub contiguous : AreContiguous (intervals_of records)
   pub full : AreNonEmpty (intervals_of records)
 
 -- what is settled begins what is settled later

@@ -44,15 +44,15 @@ unfoldable pub strand_runs : ℕ → List Feature → List StrandRun
 strand_runs gap records = listed_behind (runs_of_strand gap records) [] records
 
 -- the first of the listed runs, as long as the last record closes them
-abbrev pub passed_prefix : ℕ → List StrandRun → Option Interval → List StrandRun
-passed_prefix gap items None = []
-passed_prefix gap items (Some last) = take_while (λ item. is_closed gap last item.run) items
+abbrev pub closed_prefix : ℕ → List StrandRun → Option Interval → List StrandRun
+closed_prefix gap items None = []
+closed_prefix gap items (Some last) = take_while (λ item. is_closed gap last item.run) items
 
 -- the runs that are settled after the records: a run that is finished isn't settled while one that
 -- is listed before it is open
 unfoldable pub settled_strand_runs : ℕ → List Feature → List StrandRun
 settled_strand_runs gap records =
-    passed_prefix gap (strand_runs gap records) (last_of (intervals_of records))
+    closed_prefix gap (strand_runs gap records) (last_of (intervals_of records))
 
 -- the runs that come after the settled ones
 unfoldable pub kept_strand_runs : ℕ → List Feature → List StrandRun

@@ -164,6 +164,7 @@ impl Engine for Merge {
         ensures held { KeepsHeld may_take stands_after self.now held_count result }
     {
         match &self.kind {
+            // No run is open if its end is 0.
             Kind::Unstranded(merge) => usize::from(merge.rule.run.stop != 0),
             Kind::PerStrand(merge) if merge.rule.only.is_any => 1,
             Kind::PerStrand(merge) => merge.rule.runs.len(),

@@ -28,7 +28,7 @@ same_names (n ∷ ns) = ap (λ ms. n ∷ ms) (same_names ns)
 -- the first records of those that may be taken
 pub taken_front : (past more : List Feature) → AreTaken (past ++ more) → AreTaken past
 taken_front past more t = record {
-  together = together_front (intervals_of past) (intervals_of more) (subst AreContiguous (map-append interval_of past more) t.together);
+  contiguous = together_front (intervals_of past) (intervals_of more) (subst AreContiguous (map-append interval_of past more) t.contiguous);
   full = full_front past more t.full;
 }
 
@@ -47,7 +47,7 @@ module _ (gap : ℕ) (strand : MergeStrand) where
   ordered all t =
       let names = chromosomes (intervals_of all) in
       let distinct = distinct_chromosomes (intervals_of all) in
-      let placed = placed_own (intervals_of all) t.together in
+      let placed = placed_own (intervals_of all) t.contiguous in
       let same = sym (same_names names) in
       record {
         keys = names;

@@ -157,7 +157,7 @@ module _ (gap : ℕ) (past : List Feature) (r : Feature) (taken : AreTaken (past
 
   pub up : Each (λ p. p.chrom ≡ r.chrom → p.start ≤ r.start) past
   up = each_unmap (λ p. p.chrom ≡ r.chrom → p.start ≤ r.start) interval_of past
-      (up_to (intervals_of past) (interval_of r) (subst AreContiguous (intervals_next past r) taken.together))
+      (up_to (intervals_of past) (interval_of r) (subst AreContiguous (intervals_next past r) taken.contiguous))
 
   pub some_base : Each (λ p. p.start < p.stop) past
   some_base = each_unmap (λ p. p.start < p.stop) interval_of past (recursion_from_All (λ p. p.start < p.stop) (intervals_of past) (full_front past (r ∷ []) taken.full))

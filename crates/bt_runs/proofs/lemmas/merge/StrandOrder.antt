@@ -343,8 +343,8 @@ start_with_records gap records taken =
 
 pub in_order : strand_runs_come_in_order
 in_order order gap records total placed full =
-    let together = placed_together order (intervals_of records) total placed in
-    let taken : AreTaken records = record { together = together; full = full } in
+    let contiguous = placed_together order (intervals_of records) total placed in
+    let taken : AreTaken records = record { contiguous = contiguous; full = full } in
     placed_more gap order total [] records taken
     (subst (λ (l : List StrandRun). ArePlaced order (places_of l ++ intervals_of records))
     (sym (no_runs gap)) placed)

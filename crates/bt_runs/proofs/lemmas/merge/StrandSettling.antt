@@ -14,7 +14,7 @@ use Rattle.bt_bed.proofs.lemmas.order.TogetherLemmas.{last_of-push}
 use Rattle.bt_bed.specs.model.feature.Strands.{is_strand}
 use Rattle.bt_runs.specs.model.MergedRuns.{AreTaken, is_closed}
 use Rattle.bt_runs.specs.calls.Settling.{Settles}
-use Rattle.bt_runs.specs.model.StrandRuns.{StrandRun, kept_strand_runs, passed_prefix, settled_strand_runs, strand_runs, strand_runs_begin, strand_runs_divide, strand_runs_stay, strands_stay_in_order}
+use Rattle.bt_runs.specs.model.StrandRuns.{StrandRun, kept_strand_runs, closed_prefix, settled_strand_runs, strand_runs, strand_runs_begin, strand_runs_divide, strand_runs_stay, strands_stay_in_order}
 use Rattle.bt_runs.specs.inside.merge.StrandStep.{added_at, left_unsettled, settled_prefix, kept_with, last_place, place_among, run_from, run_with, with_added}
 use Rattle.bt_runs.proofs.lemmas.order.ByChromosome.{full_last, intervals_next}
 use Rattle.bt_runs.proofs.lemmas.laws.EachLemmas.{Each, Some_of, each_append, each_both, each_front, each_unmap, each_weaker, map_leaves, none_each, none_from, some_each, some_out}
@@ -178,14 +178,14 @@ last_near (q ∷ qs) r last taken is =
     let e : last_from (interval_of q) (intervals_of qs) ≡ last = cc in
     subst (λ (l : Interval). Each (λ p. p.chrom ≡ r.chrom → (l.chrom ≡ r.chrom) × (l.start ≤ r.start)) (q ∷ qs)) e
     (each_unmap (λ p. p.chrom ≡ r.chrom → ((last_from (interval_of q) (intervals_of qs)).chrom ≡ r.chrom) × ((last_from (interval_of q) (intervals_of qs)).start ≤ r.start)) interval_of (q ∷ qs)
-    (last_there (interval_of q) (intervals_of qs) (interval_of r) (subst AreContiguous (intervals_next (q ∷ qs) r) taken.together)))
+    (last_there (interval_of q) (intervals_of qs) (interval_of r) (subst AreContiguous (intervals_next (q ∷ qs) r) taken.contiguous)))
 
 module _ (gap : ℕ) where
   -- whether a record closes a run
   abbrev passes : Interval → StrandRun → Bool
   passes last item = is_closed gap last item.run
 
-  front_parts : (items : List StrandRun) (last : Option Interval) → items ≡ passed_prefix gap items last ++ drop (length (passed_prefix gap items last)) items
+  front_parts : (items : List StrandRun) (last : Option Interval) → items ≡ closed_prefix gap items last ++ drop (length (closed_prefix gap items last)) items
   front_parts items None = refl
   front_parts items (Some last) = front_and_behind (passes last) items
 
@@ -222,10 +222,10 @@ module _ (gap : ℕ) where
     listed : Listed gap past
     listed = are_listed gap past (taken_front past (r ∷ []) taken)
 
-    settled_still : (last : Option Interval) → last_of (intervals_of past) ≡ last → Each (λ item. passes (interval_of r) item ≡ true) (passed_prefix gap (strand_runs gap past) last)
+    settled_still : (last : Option Interval) → last_of (intervals_of past) ≡ last → Each (λ item. passes (interval_of r) item ≡ true) (closed_prefix gap (strand_runs gap past) last)
     settled_still None is = tt
     settled_still (Some last) is =
-        let front = passed_prefix gap (strand_runs gap past) (Some last) in
+        let front = closed_prefix gap (strand_runs gap past) (Some last) in
         let Has : StrandRun → Type 0 = λ item. Some_of (λ p. Lies item p) past in
         let has = each_front Has front (drop (length front) (strand_runs gap past)) (subst (λ (l : List StrandRun). Each Has l) (front_and_behind (passes last) (strand_runs gap past)) listed.has) in
         each_weaker (λ item. (passes last item ≡ true) × Has item) (λ item. passes (interval_of r) item ≡ true)
@@ -291,7 +291,7 @@ module _ (gap : ℕ) where
         ∙ ap (λ l. map (joined_to gap r) l ++ new_run (list_any (reaches gap r) l) r) whole
         ∙ grown_behind front rest passed ∙ ap (λ l. front ++ l) (sym added) in
         let last = ap last_of (intervals_next past r) ∙ last_of-push (intervals_of past) x in
-        let is : settled_strand_runs gap (past ++ r ∷ []) ≡ front = ap (passed_prefix gap (strand_runs gap (past ++ r ∷ []))) last ∙ ap (take_while (passes x)) all ∙ front_is (passes x) front next passed stops in
+        let is : settled_strand_runs gap (past ++ r ∷ []) ≡ front = ap (closed_prefix gap (strand_runs gap (past ++ r ∷ []))) last ∙ ap (take_while (passes x)) all ∙ front_is (passes x) front next passed stops in
         record {
           settled = is;
           kept = ap₂ (λ (a b : List StrandRun). drop (length a) b) is all ∙ drop_at front next (length front) refl;

@@ -5,11 +5,11 @@ use Rattle.bt_bed.specs.model.feature.Feature.{Feature, interval_of}
 use Rattle.bt_bed.specs.model.feature.Strands.{is_strand}
 use Rattle.bt_runs.specs.model.MergedRuns.{is_closed}
 use Rattle.bt_runs.specs.inside.merge.MergeStep.{joined_run}
-use Rattle.bt_runs.specs.model.StrandRuns.{StrandRun, passed_prefix}
+use Rattle.bt_runs.specs.model.StrandRuns.{StrandRun, closed_prefix}
 
 -- the runs that the record settles: those up to the first that it doesn't close
 abbrev pub settled_prefix : ℕ → List StrandRun → Feature → List StrandRun
-settled_prefix gap items r = passed_prefix gap items (Some (interval_of r))
+settled_prefix gap items r = closed_prefix gap items (Some (interval_of r))
 
 -- and those after them
 abbrev pub left_unsettled : ℕ → List StrandRun → Feature → List StrandRun

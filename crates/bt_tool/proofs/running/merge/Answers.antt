@@ -15,7 +15,7 @@ drive-requires-clause-nothing g c = merge_begins c.new-engine.result
 pub drive-requires-clause-takes : goal.drive-requires-clause-takes
 drive-requires-clause-takes g c = λ past placed full.
     let names = names_of c.in-Some.genome in
-    record { together = placed_together (rank_order names) (intervals_of past) (ranks_total names) placed; full = full }
+    record { contiguous = placed_together (rank_order names) (intervals_of past) (ranks_total names) placed; full = full }
 
 pub drive-requires-clause-stays : goal.drive-requires-clause-stays
 drive-requires-clause-stays g c = merge_stays c.new-engine.result
@@ -28,7 +28,7 @@ drive-requires-in-None-clause-nothing g c = merge_begins c.new-engine.result
 
 pub drive-requires-in-None-clause-takes : goal.drive-requires-in-None-clause-takes
 drive-requires-in-None-clause-takes g c = λ past placed full.
-    record { together = placed_together byte_order (intervals_of past) bytes_total placed; full = full }
+    record { contiguous = placed_together byte_order (intervals_of past) bytes_total placed; full = full }
 
 pub drive-requires-in-None-clause-stays : goal.drive-requires-in-None-clause-stays
 drive-requires-in-None-clause-stays g c = merge_stays c.new-engine.result

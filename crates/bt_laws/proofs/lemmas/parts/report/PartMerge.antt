@@ -31,7 +31,7 @@ use Rattle.std.proofs.lemmas.List.Sums.{take_while-cons}
 use Rattle.std.proofs.lemmas.Bool.{and_left}
 use Rattle.bt_bed.specs.model.feature.Strands.{is_strand}
 use Rattle.bt_bed.specs.declared.record.strand.Strand.{Strand}
-use Rattle.bt_runs.specs.model.StrandRuns.{StrandRun, begun_by, is_in, listed_behind, passed_prefix, places_of, runs_of_strand, settled_strand_runs, strand_runs, kept_strand_runs}
+use Rattle.bt_runs.specs.model.StrandRuns.{StrandRun, begun_by, is_in, listed_behind, closed_prefix, places_of, runs_of_strand, settled_strand_runs, strand_runs, kept_strand_runs}
 use Rattle.bt_runs.specs.declared.merge.merge_strand.MergeStrand.TheVariants.{One}
 use Rattle.bt_runs.proofs.lemmas.merge.StrandListing.{listed_append}
 use Rattle.bt_runs.proofs.lemmas.merge.StrandSettling.{divide}
@@ -138,7 +138,7 @@ module _ (gap : ℕ) where
 
       pub pooled_split : Splits (pooled_written order gap strand) (pooled_written order gap strand) (pooled_written order gap strand) ones twos
       pooled_split =
-          let front = begin_by ones twos (record { together = placed_together order (intervals_of ones) total one; full = full }) away in
+          let front = begin_by ones twos (record { contiguous = placed_together order (intervals_of ones) total one; full = full }) away in
           record {
             all = ap interval_lines (come (ones ++ twos) both_placed ∙ runs_both ones twos away ∙ ap₂ (λ a b. a ++ b) (sym (come ones one)) (sym (come twos two))) ∙ flat_map-append interval_line (ordered_runs order gap strand ones) (ordered_runs order gap strand twos);
             first = refl;
@@ -253,7 +253,7 @@ module _ (gap : ℕ) where
   settled_both ones s twos away =
       let last = last_from (interval_of s) (intervals_of twos) in
       let test : StrandRun → Bool = λ item. is_closed gap last item.run in
-      ap (passed_prefix gap (strand_runs gap (ones ++ s ∷ twos))) (ap last_of (map-append interval_of ones (s ∷ twos)) ∙ last_behind (intervals_of ones) (interval_of s) (intervals_of twos))
+      ap (closed_prefix gap (strand_runs gap (ones ++ s ∷ twos))) (ap last_of (map-append interval_of ones (s ∷ twos)) ∙ last_behind (intervals_of ones) (interval_of s) (intervals_of twos))
       ∙ ap (take_while test) (strand_runs_both ones (s ∷ twos) away)
       ∙ take_front test (strand_runs gap ones) (strand_runs gap (s ∷ twos))
       (all_so (Elsewhere last.chrom) (λ item. test item ≡ true) (strand_runs gap ones) (λ item out. passed_elsewhere gap last item.run out)
