@@ -1,8 +1,11 @@
 -- Words of contracts inside of the crate.
+pub mod Endings
 pub mod MaskLoop
+pub mod MaskRun
 pub mod MaskTurns
 pub mod Pair
 pub mod Progress
-pub mod Endings
+pub mod Rounds
 pub mod SweepLoop
+pub mod SweepRun
 pub mod SweepSteps

@@ -1,23 +1,22 @@
-//! The loop over two sorted inputs: a sweep is given the records of both.
+//! Sweeping two sorted inputs: a sweep is given the records of both.
 
 ghost use Rattle.std.specs.Prelude.{◌≡◌, None, Some, option_map};
 ghost use Rattle.bt_lines.specs.calls.Names.{fault_value};
 ghost use Rattle.bt_lines.specs.calls.Output.{HoldsBlock};
 ghost use Rattle.bt_lines.specs.calls.Reader.{HasRead};
-ghost use Rattle.bt_bed.specs.model.input.GoodBed.{bed_format};
 ghost use Rattle.bt_bed.specs.model.feature.LineKind.{IsBedKind};
 ghost use Rattle.bt_bed.specs.model.order.Order.{IsTotal};
 ghost use Rattle.bt_bed.specs.calls.Records.{below, buffered_in, fault_kept, order_in, view_of};
-ghost use Rattle.bt_bed.specs.model.order.Sorting.{sorting_of};
 ghost use Rattle.bt_sweep.specs.calls.SweepView.{order_of, state_of};
 ghost use Rattle.bt_tool.specs.model.report.Behaviour.{of_intersect};
 ghost use Rattle.bt_tool.specs.inside.feed.Passed.{HasTaken, KeepsOwnFault};
-ghost use Rattle.bt_tool.specs.inside.pair.SweepLoop.{FinishesBoth, ReadsRest, Sweeps, SweepsOrStops, config_of};
-ghost use Rattle.bt_tool.specs.inside.pair.SweepSteps.{AdvancesBoth, FillsWanted};
+ghost use Rattle.bt_tool.specs.inside.pair.SweepLoop.{ReadsRest};
+ghost use Rattle.bt_tool.specs.inside.pair.SweepSteps.{AdvancesBoth};
 ghost use Rattle.bt_tool.specs.calls.run.OwnReads.{AnswersNoRead, IsOwnFailure, ReadsServe, TellsNoRead, TellsOwnReads};
 ghost use Rattle.bt_tool.specs.calls.run.Writing.{WritesBy};
 
 use crate::loops::sources::Sources;
+use crate::loops::two_inputs::{TwoInputEngine, run_two};
 use bt_bed::{ChromOrder, Records};
 use bt_lines::{Fault, Input, LineReader, Out, Sink, Source};
 use bt_sweep::{Held, HeldIndex, HitRule, Shape, Sweep, Want};
@@ -30,37 +29,6 @@ pub(crate) struct SweepConfig {
     pub(crate) rule: HitRule,
     // `None` if there is no limit.
     pub(crate) limit: Option<u64>,
-}
-
-// Makes a record of the input that the sweep wants buffered, or gives it that input's end. It returns false once nothing
-// is wanted.
-fn fill_wanted<A: Source, B: Source, O: ChromOrder, H: Held, K: Sink>(
-    first: &mut Records<'_, A, O>,
-    second: &mut Records<'_, B, O>,
-    sweep: &mut Sweep<'_, H, O>,
-    out: &mut Out<K>,
-) -> Result<bool, Fault>
-    ensures fills { FillsWanted A.Source B.Source (order_of sweep.old)
-        first.old second.old (state_of sweep.old) out.old.output result first.new second.new (state_of sweep.new) out.new.output }
-    ensures order { order_of sweep.new ≡ order_of sweep.old }
-{
-    match sweep.want() {
-        Want::A => {
-            if first.fill()? {
-                return Ok(true);
-            }
-            sweep.end_a();
-            Ok(true)
-        }
-        Want::B => {
-            if second.fill()? {
-                return Ok(true);
-            }
-            sweep.end_b(out)?;
-            Ok(true)
-        }
-        Want::Nothing => Ok(false),
-    }
 }
 
 // Gives the sweep what both inputs have buffered, and consumes what it took.
@@ -86,33 +54,6 @@ fn advance_both<A: Source, B: Source, O: ChromOrder, H: Held, K: Sink>(
     swept
 }
 
-// Gives the sweep what it wants, until nothing is wanted.
-fn sweep_all<A: Source, B: Source, O: ChromOrder, H: Held, K: Sink>(
-    first: &mut Records<'_, A, O>,
-    second: &mut Records<'_, B, O>,
-    sweep: &mut Sweep<'_, H, O>,
-    out: &mut Out<K>,
-) -> Result<(), Fault>
-    requires total { IsTotal (order_in first.old) }
-    requires second { order_in second.old ≡ order_in first.old }
-    requires sweep { order_of sweep.old ≡ order_in first.old }
-    requires sorted { (view_of first.old).format ≡ bed_format (sorting_of (order_in first.old)) }
-    requires sorted_second { (view_of second.old).format ≡ bed_format (sorting_of (order_in second.old)) }
-    requires starts { Sweeps A.Source B.Source (order_in first.old)
-        (config_of (state_of sweep.old)) first.old second.old out.old.output first.old second.old (state_of sweep.old) out.old.output }
-    ensures sweeps { SweepsOrStops A.Source B.Source (order_in first.old)
-        (config_of (state_of sweep.old)) first.old second.old out.old.output result first.new second.new (state_of sweep.new) out.new.output }
-    ensures reads_first { AnswersNoRead result → HasRead A.is_read (below first.old) (below first.new) }
-    ensures reads_second { AnswersNoRead result → HasRead B.is_read (below second.old) (below second.new) }
-    ensures own_failure { KeepsOwnFault A.is_read (below first.old) (view_of first.new) }
-    ensures own_failure_second { KeepsOwnFault B.is_read (below second.old) (view_of second.new) }
-{
-    while fill_wanted(first, second, sweep, out)? {
-        advance_both(first, second, sweep, out)?;
-    }
-    Ok(())
-}
-
 // Consumes all records that are buffered.
 fn consume_buffered<B: Source, O: ChromOrder>(second: &mut Records<'_, B, O>)
     ensures takes { HasTaken B.Source (view_of second.old) (buffered_in second.old) (view_of second.new) }
@@ -136,29 +77,53 @@ fn check_rest<B: Source, O: ChromOrder>(second: &mut Records<'_, B, O>) -> Resul
     Ok(())
 }
 
-// Sweeps both inputs, and reads the second to its end.
-fn read_both<A: Source, B: Source, O: ChromOrder, H: Held, K: Sink>(
-    first: &mut Records<'_, A, O>,
-    second: &mut Records<'_, B, O>,
-    sweep: &mut Sweep<'_, H, O>,
-    out: &mut Out<K>,
-) -> Result<(), Fault>
-    requires total { IsTotal (order_in first.old) }
-    requires second { order_in second.old ≡ order_in first.old }
-    requires sweep { order_of sweep.old ≡ order_in first.old }
-    requires sorted { (view_of first.old).format ≡ bed_format (sorting_of (order_in first.old)) }
-    requires sorted_second { (view_of second.old).format ≡ bed_format (sorting_of (order_in second.old)) }
-    requires starts { Sweeps A.Source B.Source (order_in first.old)
-        (config_of (state_of sweep.old)) first.old second.old out.old.output first.old second.old (state_of sweep.old) out.old.output }
-    ensures finishes { FinishesBoth A.Source B.Source (order_in first.old)
-        (config_of (state_of sweep.old)) first.old second.old out.old.output result first.new second.new out.new.output }
-    ensures reads_first { AnswersNoRead result → HasRead A.is_read (below first.old) (below first.new) }
-    ensures reads_second { AnswersNoRead result → HasRead B.is_read (below second.old) (below second.new) }
-    ensures own_failure { KeepsOwnFault A.is_read (below first.old) (view_of first.new) }
-    ensures own_failure_second { KeepsOwnFault B.is_read (below second.old) (view_of second.new) }
-{
-    sweep_all(first, second, sweep, out)?;
-    check_rest(second)
+// Two readers of records, and the sweep that is given these.
+struct SweepInputs<'o, A, B, O: ChromOrder> {
+    first: Records<'o, A, O>,
+    second: Records<'o, B, O>,
+    sweep: Sweep<'o, HeldIndex, O>,
+}
+
+impl<'o, A: Source, B: Source, O: ChromOrder> TwoInputEngine for SweepInputs<'o, A, B, O> {
+    ghost use Rattle.bt_tool.specs.inside.pair.SweepRun.{SweepComes, SweepIsOver, is_swept_ready, left_to_sweep, wanted_of};
+
+    ghost comes = { SweepComes A.Source B.Source };
+
+    ghost ends = { SweepIsOver A.Source B.Source };
+
+    ghost wants = { wanted_of };
+
+    ghost is_ready = { is_swept_ready };
+
+    ghost left = { left_to_sweep };
+
+    fn want(&self) -> Want {
+        self.sweep.want()
+    }
+
+    fn fill_first(&mut self) -> Result<(), Fault> {
+        if self.first.fill()? {
+            return Ok(());
+        }
+        self.sweep.end_a();
+        Ok(())
+    }
+
+    fn fill_second<K: Sink>(&mut self, out: &mut Out<K>) -> Result<(), Fault> {
+        if self.second.fill()? {
+            return Ok(());
+        }
+        self.sweep.end_b(out)
+    }
+
+    fn give_buffered<K: Sink>(&mut self, out: &mut Out<K>) -> Result<(), Fault> {
+        advance_both(&mut self.first, &mut self.second, &mut self.sweep, out)
+    }
+
+    // A fault after the last record that was wanted is reported.
+    fn finish(&mut self) -> Result<(), Fault> {
+        check_rest(&mut self.second)
+    }
 }
 
 /// Sweeps two inputs, in an order of their chromosomes, and writes the lines of a shape by a rule of what
@@ -184,9 +149,9 @@ pub(crate) fn sweep<A: Source, B: Source, O: ChromOrder, K: Sink>(
         (IsOwnFailure B.is_read sources.second result.1.second) (option_map fault_value result.0) }
 {
     let Sources { first, second } = sources;
-    let mut firsts = Records::new(alloc, LineReader::new(alloc, first, Input::First), order);
-    let mut seconds = Records::new(alloc, LineReader::new(alloc, second, Input::Second), order);
-    let mut sweep = Sweep::new(
+    let firsts = Records::new(alloc, LineReader::new(alloc, first, Input::First), order);
+    let seconds = Records::new(alloc, LineReader::new(alloc, second, Input::Second), order);
+    let sweep = Sweep::new(
         alloc,
         HeldIndex::new(alloc),
         config.shape,
@@ -194,12 +159,18 @@ pub(crate) fn sweep<A: Source, B: Source, O: ChromOrder, K: Sink>(
         config.limit,
         order,
     );
-    let swept = read_both(&mut firsts, &mut seconds, &mut sweep, out);
+    let mut inputs = SweepInputs {
+        first: firsts,
+        second: seconds,
+        sweep,
+    };
+    let fault = run_two(&mut inputs, out);
+    let SweepInputs {
+        first: firsts,
+        second: seconds,
+        sweep: _sweep,
+    } = inputs;
     let first = firsts.into_reader().into_source();
     let second = seconds.into_reader().into_source();
-    let sources = Sources { first, second };
-    match swept {
-        Ok(()) => (None, sources),
-        Err(fault) => (Some(fault), sources),
-    }
+    (fault, Sources { first, second })
 }

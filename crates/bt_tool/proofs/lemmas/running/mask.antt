@@ -5,5 +5,6 @@ pub mod MaskFacts
 pub mod MaskFills
 pub mod MaskGiven
 pub mod MaskKinds
+pub mod MaskRounds
 pub mod MaskStart
 pub mod MaskedLemmas

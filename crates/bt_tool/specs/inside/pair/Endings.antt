@@ -4,7 +4,7 @@ use Rattle.std.specs.Prelude.{Some, None, IfSome, IsSome, length, option_to_list
 use Rattle.bt_lines.specs.model.Fault.{FaultValue, no_memory, read_failed, write_failed}
 use Rattle.bt_lines.specs.calls.Output.{Output, Grows}
 use Rattle.bt_lines.specs.calls.Putting.{WorksAsBefore}
-use Rattle.bt_lines.specs.calls.Reader.{Hands, lines_given, lines_left, source_of}
+use Rattle.bt_lines.specs.calls.Reader.{HasRead, Hands, lines_given, lines_left, source_of}
 use Rattle.bt_lines.specs.declared.fault.Input.{Input}
 use Rattle.bt_lines.specs.declared.fault.Input.TheVariants.{Second}
 use Rattle.bt_lines.specs.declared.fault.Kind.{Kind}
@@ -13,8 +13,9 @@ use Rattle.bt_bed.specs.model.feature.LineKind.{fault_at_line}
 use Rattle.bt_bed.specs.calls.Reading.{MemberReader, good_coming}
 use Rattle.bt_tool.specs.inside.feed.Feeding.{CutsLines, PutsLines, TookButBlock, member_items}
 use Rattle.bt_tool.specs.inside.pair.Pair.{JoinDef, Pair, Serves, Settles}
-use Rattle.bt_tool.specs.inside.feed.Passed.{AreAll, HasFaultBehind, IsReadFor, IsReadTo}
+use Rattle.bt_tool.specs.inside.feed.Passed.{AreAll, HasFaultBehind, IsReadFor, IsReadTo, KeepsOwnFault}
 use Rattle.bt_tool.specs.calls.run.FaultSource.{IsFaultButWrite}
+use Rattle.bt_tool.specs.calls.run.OwnReads.{TellsNoRead}
 
 -- the members of the second input are known
 abbrev pub IsKnown : {A B X Y U V : Type 0} → Pair A B X Y U V → Type 0
@@ -184,3 +185,18 @@ module _ {A B X Y U V : Type 0} (join : JoinDef X Y) (pair : Pair A B X Y U V)
     pub near : StaysNear first second grown
     -- at a fault, unless a write failed, those bytes were put
     pub exact : IsFaultButWrite fault → PutsLines out near.bytes grown
+
+module _ {A B X Y U V : Type 0} (pair : Pair A B X Y U V) where
+  -- all reads since the beginning served
+  abbrev pub HaveRead : MemberReader A X U → MemberReader B Y V → Type 0
+  HaveRead first second =
+      HasRead pair.source_a.is_read pair.first.below first.below
+      × HasRead pair.source_b.is_read pair.second.below second.below
+
+  -- the run is over, and a failed read is reported only if one of its reads failed
+  pub record IsOverWith (join : JoinDef X Y) (out : Output) (fault : Option FaultValue)
+      (first : MemberReader A X U) (second : MemberReader B Y V) (grown : Output) : Type 0 where
+    pub finishes : Finishes join pair out fault first second grown
+    pub reads : TellsNoRead fault → HaveRead first second
+    pub own_first : KeepsOwnFault pair.source_a.is_read pair.first.below first
+    pub own_second : KeepsOwnFault pair.source_b.is_read pair.second.below second

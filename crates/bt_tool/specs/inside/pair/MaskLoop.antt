@@ -1,14 +1,12 @@
 -- How far masking the lines of a reader by the records of another has come, and how it ends.
-use Rattle.std.specs.Prelude.{◌≡◌, ◌⊎◌, ⊤, Bool, true, not, List, [], Option, Some, None}
-use Rattle.std.specs.Prelude.{IsTrue, is_some, Result, Ok, Err}
+use Rattle.std.specs.Prelude.{◌≡◌, ◌⊎◌, ⊤, Bool, true, not, List, [], Option, Some}
+use Rattle.std.specs.Prelude.{IsTrue, is_some}
 use Rattle.std.specs.List.{list_any}
 use Rattle.bt_lines.specs.declared.device.Source.{Ghosts as Source}
 use Rattle.bt_lines.specs.model.Fault.{FaultValue}
-use Rattle.bt_lines.specs.calls.Names.{fault_value}
 use Rattle.bt_lines.specs.calls.Output.{Output}
 use Rattle.bt_lines.specs.calls.Reader.{has_ended, input_of}
 use Rattle.bt_lines.specs.declared.fault.Input.TheVariants.{First}
-use Rattle.bt_lines.specs.declared.fault.Fault.{Fault}
 use Rattle.bt_lines.specs.declared.reader.line_reader.LineReader.{LineReader}
 use Rattle.bt_bed.specs.model.feature.Feature.{Feature}
 use Rattle.bt_bed.specs.model.input.Good.{Member}
@@ -28,7 +26,7 @@ use Rattle.bt_tool.specs.model.report.MaskReport.{is_fasta_kind, is_mask_kind, l
 use Rattle.bt_tool.specs.inside.pair.Pair.{JoinDef, Pair, item_ahead}
 use Rattle.bt_tool.specs.inside.pair.Progress.{Comes, Stage as PairStage}
 use Rattle.bt_tool.specs.inside.pair.Endings.{Finishes}
-use Rattle.bt_tool.specs.inside.feed.Passed.{IsKeptBelow, lines_read}
+use Rattle.bt_tool.specs.inside.feed.Passed.{lines_read}
 
 -- a reader of lines as one of the lines of sequences, if those that were given have come so far
 abbrev pub line_members : {S : Type 0} → Bool → Reached → LineReader S
@@ -115,20 +113,3 @@ module _ {A B : Type 0} (source_a : Source A) (source_b : Source B)
       -- the record ahead, if one is known to be, is the next one
       pub kept_ahead : (r : Feature) → stage.ahead ≡ Some r → item_ahead second ≡ Some r
       pub lines_over : stage.lines_ended ≡ true → has_ended first.below ≡ true
-
--- what giving an engine all that it wants does
-abbrev pub FinishesMask : {A B T : Type 0} → Source A → Source B → MaskHow → Bool → LineReader A
-    → MemberReader B Feature (Option Locus) → Output
-    → Result T Fault → LineReader A → MemberReader B Feature (Option Locus) → Output → Type 0
-FinishesMask {A} {B} {T} source_a source_b how full old_first old_second
-    out (Ok done) first second grown =
-    (members : MemberReader A SequenceLine Reached) × (members.below ≡ first)
-    × MaskEnds source_a source_b how full
-    (line_members full nothing_reached old_first) old_second out None members
-    second grown × IsKeptBelow members first
-FinishesMask {A} {B} {T} source_a source_b how full old_first old_second
-    out (Err fault) first second grown =
-    (members : MemberReader A SequenceLine Reached) × (members.below ≡ first)
-    × MaskEnds source_a source_b how full
-    (line_members full nothing_reached old_first) old_second out
-    (Some (fault_value fault)) members second grown × IsKeptBelow members first

@@ -62,15 +62,11 @@ module _ {A B : Type 0} (source_a : Source A) (source_b : Source B) (run : MaskR
   module _ (old : LineReader A) (old_second : MemberReader B Feature (Option Locus))
       (old_mask : Masking) where
     -- what is wanted was made buffered, or the end of that input was given
-    abbrev pub Fills : Result Bool Fault → LineReader A → MemberReader B Feature (Option Locus)
-        → Masking → Output → Type 0
-    Fills (Ok true) lines second mask grown = GoesOn lines second mask grown
+    abbrev pub Fills : LineReader A → MemberReader B Feature (Option Locus) → Masking → Output → Type 0
+    Fills lines second mask grown = GoesOn lines second mask grown
         × ((left_to_ask lines second mask < left_to_ask old old_second old_mask)
         ⊎ ((left_to_ask lines second mask ≤ left_to_ask old old_second old_mask)
         × IsThere mask.want lines second))
-    Fills (Ok false) lines second mask grown =
-        GoesOn lines second mask grown × (mask.want ≡ Nothing)
-    Fills (Err fault) lines second mask grown = Ends (Some (fault_value fault)) lines second grown
 
     -- what is buffered was given, as far as it is wanted
     abbrev pub Gives : {T : Type 0} → Result T Fault → LineReader A

@@ -24,8 +24,7 @@ use Rattle.bt_sweep.specs.model.Deciding.{decided}
 use Rattle.bt_sweep.specs.model.IntersectLines.{lines_for}
 use Rattle.bt_sweep.specs.model.Limit.{are_too_many, cut_behind, limited}
 use Rattle.bt_sweep.specs.calls.Standing.{Stage, StandsAt, given, leaves_some}
-use Rattle.bt_sweep.specs.calls.SweepState.{Sweeping, want_in}
-use Rattle.bt_sweep.specs.declared.sweep.want.Want.TheVariants.{Nothing}
+use Rattle.bt_sweep.specs.calls.SweepState.{Sweeping}
 use Rattle.bt_tool.specs.declared.loops.sweeping.SweepConfig.{SweepConfig}
 use Rattle.bt_tool.specs.model.report.SweepReport.{IsSweptKind, bytes_up_to, decider}
 use Rattle.bt_tool.specs.inside.pair.Pair.{JoinDef, Pair}
@@ -109,19 +108,6 @@ module _ {A B O : Type 0} {g : Ghosts O} (source_a : Source A) (source_b : Sourc
     pub second_begins : last_locus old_second ≡ None
     pub fits : IsKnown (records_pair source_a source_b old_first old_second)
         → AreWithin order config.limit (given stage) past_second
-
-  -- what giving a sweep all that it needs does
-  abbrev pub SweepsOrStops : {T : Type 0} → Result T Fault → Records A O g → Records B O g
-      → Sweeping → Output → Type 0
-  SweepsOrStops (Ok done) first second sweep grown =
-      Sweeps first second sweep grown × (want_in sweep ≡ Nothing)
-  SweepsOrStops (Err fault) first second sweep grown = SweepEnds (Some (fault_value fault)) first second grown
-
-  -- and what reading the second input to its end then does
-  abbrev pub FinishesBoth : {T : Type 0} → Result T Fault → Records A O g → Records B O g
-      → Output → Type 0
-  FinishesBoth (Ok done) first second grown = SweepEnds None first second grown
-  FinishesBoth (Err fault) first second grown = SweepEnds (Some (fault_value fault)) first second grown
 
 module _ {S A State : Type 0} (device : Source S)
     (old : MemberReader S A State) (past : List (Member A)) (before : MemberReader S A State) where

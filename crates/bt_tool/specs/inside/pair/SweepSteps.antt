@@ -1,24 +1,23 @@
--- What one round of a sweep over two readers does: a record is buffered of the input that is wanted, or
--- its end is given, and then what both have buffered is given.
-use Rattle.std.specs.Prelude.{◌≡◌, ◌⊎◌, ◌<◌, Bool, true, false, List, [], ◌++◌, Option, Some, Result, Ok, Err}
+-- What giving a sweep the records that two readers have buffered does.
+use Rattle.std.specs.Prelude.{◌≡◌, ◌⊎◌, ◌<◌, true, List, [], ◌++◌, Option, Some, Result, Ok, Err}
 use Rattle.std.specs.Prelude.{None, ⊤, is_some, option_to_list}
 use Rattle.bt_lines.specs.declared.device.Source.{Ghosts as Source}
 use Rattle.bt_lines.specs.model.Fault.{FaultValue, no_memory}
 use Rattle.bt_lines.specs.calls.Names.{fault_value}
 use Rattle.bt_lines.specs.calls.Output.{Output}
-use Rattle.bt_lines.specs.calls.Putting.{FailsToAdd, Grown}
+use Rattle.bt_lines.specs.calls.Putting.{FailsToAdd}
 use Rattle.bt_lines.specs.declared.fault.Fault.{Fault}
 use Rattle.bt_bed.specs.model.feature.Feature.{Feature}
 use Rattle.bt_bed.specs.model.input.Good.{Member}
 use Rattle.bt_bed.specs.model.order.Order.{Order}
 use Rattle.bt_bed.specs.calls.Reading.{ahead_in}
-use Rattle.bt_bed.specs.calls.Records.{FillsRecords, order_in, view_of}
+use Rattle.bt_bed.specs.calls.Records.{order_in, view_of}
 use Rattle.bt_bed.specs.declared.order.ChromOrder.{Ghosts}
 use Rattle.bt_bed.specs.declared.read.records.Records.{Records}
 use Rattle.bt_sweep.specs.calls.Advancing.{AtEach, PutsEach, Settles, stage_after}
-use Rattle.bt_sweep.specs.model.IntersectLines.{intersect, lines_for}
+use Rattle.bt_sweep.specs.model.IntersectLines.{intersect}
 use Rattle.bt_sweep.specs.calls.Taking.{CannotBeHeld, TakenEach}
-use Rattle.bt_sweep.specs.calls.Standing.{IsInOrder, MovesTo, Stage, StandsAt, with_a_ended, with_b_ended}
+use Rattle.bt_sweep.specs.calls.Standing.{MovesTo}
 use Rattle.bt_sweep.specs.calls.SweepState.{Sweeping, want_in}
 use Rattle.bt_sweep.specs.declared.sweep.phase.Phase.TheVariants.{Both}
 use Rattle.bt_sweep.specs.declared.sweep.want.Want.{Want}
@@ -28,84 +27,6 @@ use Rattle.bt_tool.specs.inside.feed.Passed.{HasTaken}
 
 module _ {A B O : Type 0} {g : Ghosts O} (source_a : Source A) (source_b : Source B) (order : Order)
     (first : Records A O g) (second : Records B O g) (sweep : Sweeping) (out : Output) where
-  -- the sweep is given the end of the first input, if it has ended
-  abbrev pub EndsFirst : Bool → Sweeping → Type 0
-  EndsFirst true swept = swept ≡ sweep
-  EndsFirst false swept =
-      (stage : Stage) → StandsAt order stage sweep → MovesTo order sweep (with_a_ended stage) swept
-
-  -- the same of the second, and the lines of the waiting record are written then
-  abbrev pub EndsSecond : Bool → Sweeping → Output → Type 0
-  EndsSecond true swept grown = (swept ≡ sweep) × (grown ≡ out)
-  EndsSecond false swept grown =
-      (stage : Stage) (a : Feature) → StandsAt order stage sweep → stage.waiting ≡ Some a
-      → IsInOrder order stage
-      → MovesTo order sweep (with_b_ended stage) swept
-      × Grown out (lines_for sweep.shape sweep.rule a stage.taken) grown
-
-  -- a record of the first input is buffered, or it has ended
-  pub record FillsFirst (new : Records A O g) (new_second : Records B O g) (swept : Sweeping)
-      (grown : Output) : Type 0 where
-    pub wants : want_in sweep ≡ WantA
-    pub answer : Bool
-    pub fills : FillsRecords source_a first (Ok answer) new
-    pub ends : EndsFirst answer swept
-    pub same_second : new_second ≡ second
-    pub same_output : grown ≡ out
-
-  pub record FillsSecond (new_first : Records A O g) (new : Records B O g) (swept : Sweeping)
-      (grown : Output) : Type 0 where
-    pub wants : want_in sweep ≡ WantB
-    pub answer : Bool
-    pub fills : FillsRecords source_b
-        second (Ok answer) new
-    pub ends : EndsSecond answer swept grown
-    pub same_first : new_first ≡ first
-
-  pub record NoneWanted (new_first : Records A O g) (new_second : Records B O g) (swept : Sweeping)
-      (grown : Output) : Type 0 where
-    pub wants : want_in sweep ≡ Nothing
-    pub same_first : new_first ≡ first
-    pub same_second : new_second ≡ second
-    pub same_sweep : swept ≡ sweep
-    pub same_output : grown ≡ out
-
-  -- the input couldn't be read on
-  pub record StopsFirst (fault : Fault) (new : Records A O g) (new_second : Records B O g)
-      (grown : Output) : Type 0 where
-    pub wants : want_in sweep ≡ WantA
-    pub fills : FillsRecords source_a first (Err fault) new
-    pub same_second : new_second ≡ second
-    pub same_output : grown ≡ out
-
-  pub record StopsSecond (fault : Fault) (new_first : Records A O g) (new : Records B O g)
-      (grown : Output) : Type 0 where
-    pub wants : want_in sweep ≡ WantB
-    pub fills : FillsRecords source_b
-        second (Err fault) new
-    pub same_first : new_first ≡ first
-    pub same_output : grown ≡ out
-
-  -- at the end of the second the lines of the waiting record weren't written
-  pub record FailsAtEnd (fault : Fault) (new_first : Records A O g) (new : Records B O g)
-      (grown : Output) : Type 0 where
-    pub wants : want_in sweep ≡ WantB
-    pub fills : FillsRecords source_b
-        second (Ok false) new
-    pub same_first : new_first ≡ first
-    pub fails : (stage : Stage) (a : Feature) → StandsAt order stage sweep → stage.waiting ≡ Some a
-        → IsInOrder order stage
-        → FailsToAdd out (lines_for sweep.shape sweep.rule a stage.taken) (fault_value fault) grown
-
-  -- whether anything is wanted
-  abbrev pub FillsWanted : Result Bool Fault → Records A O g → Records B O g → Sweeping → Output → Type 0
-  FillsWanted (Ok true) new_first new_second swept grown =
-      FillsFirst new_first new_second swept grown ⊎ FillsSecond new_first new_second swept grown
-  FillsWanted (Ok false) new_first new_second swept grown = NoneWanted new_first new_second swept grown
-  FillsWanted (Err fault) new_first new_second swept grown =
-      StopsFirst fault new_first new_second grown
-      ⊎ (StopsSecond fault new_first new_second grown ⊎ FailsAtEnd fault new_first new_second grown)
-
   -- records of both that were buffered are taken
   pub record TakesBoth (firsts seconds : List Feature) (new_first : Records A O g)
       (new_second : Records B O g) : Type 0 where

@@ -1,6 +1,6 @@
 -- Lemmas on a round of masking in which an input is read on: a line or a record is buffered, or its end is given.
 use Rattle.std.proofs.Common.{◌≡◌, ℕ, ◌≤◌, ◌<◌, Bool, true, false, List, [], ◌∷◌, length, Option, None, Some, Ok, Err, refl, sym, ap, ◌∙◌, subst, arith, inl, inr}
-use Rattle.std.specs.Prelude.{◌⊎◌, is_some}
+use Rattle.std.specs.Prelude.{is_some}
 use Rattle.bt_lines.specs.declared.device.Source.{Ghosts as Source}
 use Rattle.bt_lines.specs.calls.Names.{fault_value}
 use Rattle.bt_lines.specs.calls.Output.{Output}
@@ -20,7 +20,7 @@ use Rattle.bt_seq.specs.model.Sequences.{Reached, SequenceLine}
 use Rattle.bt_seq.specs.declared.mask.mask_want.MaskWant.{MaskWant}
 use Rattle.bt_seq.specs.declared.mask.mask_want.MaskWant.TheVariants.{Line as WantLine, Bed as WantBed, Nothing}
 use Rattle.bt_tool.specs.inside.pair.MaskLoop.{MaskRun}
-use Rattle.bt_tool.specs.inside.pair.MaskTurns.{Fills, GoesOnAt, IsThere, asks}
+use Rattle.bt_tool.specs.inside.pair.MaskTurns.{Ends, Fills, GoesOnAt, IsThere, asks}
 use Rattle.bt_tool.specs.inside.feed.Passed.{IsFilled, IsOver}
 use Rattle.bt_tool.proofs.lemmas.running.members.LineMembers.{gives_over}
 use Rattle.bt_tool.proofs.lemmas.running.mask.MaskBoth.{asks_few, waits_is}
@@ -47,15 +47,10 @@ some_there : (line : ℕ) (records : List Feature) (m : Member Feature) → firs
 some_there line [] m e = absurd (let apart : None ≡ Some m = e in cc)
 some_there line (r ∷ records) m e = omega arith
 
--- a round leaves less to be wanted
-pub turn_falls : (before filled after : ℕ) (There : Type 0) → (filled < before) ⊎ ((filled ≤ before) × There) → after ≤ filled → (There → after < filled) → after < before
-turn_falls before filled after There (inl less) few some = omega (arith, less, few)
-turn_falls before filled after There (inr at) few some = omega (arith, at.0, some at.1)
-
 module _ {A B : Type 0} (source_a : Source A) (source_b : Source B) (run : MaskRun A B) (at : Reached) (lines : LineReader A)
     (second : MemberReader B Feature (Option Locus)) (mask : Masking) (out : Output) (s : GoesOnAt source_a source_b run at lines second mask out) where
   module _ (wants : mask.want ≡ WantLine) (new : LineReader A) (kept : IsKept source_a lines → IsKept source_a new) where
-    pub line_filled : MakesLine source_a lines new → Fills source_a source_b run lines second mask (Ok true) new second mask out
+    pub line_filled : MakesLine source_a lines new → Fills source_a source_b run lines second mask new second mask out
     line_filled makes = (
       (at, line_made source_a source_b run at lines second mask out s wants new makes kept),
       inr (
@@ -64,7 +59,7 @@ module _ {A B : Type 0} (source_a : Source A) (source_b : Source B) (run : MaskR
       ),
     )
 
-    pub lines_ended : GivesEnd source_a lines new → (masked : Masking) → MaskMovesTo mask.how mask.full (with_lines_ended s.stage) masked → Fills source_a source_b run lines second mask (Ok true) new second masked out
+    pub lines_ended : GivesEnd source_a lines new → (masked : Masking) → MaskMovesTo mask.how mask.full (with_lines_ended s.stage) masked → Fills source_a source_b run lines second mask new second masked out
     lines_ended ends masked stands =
         let over = gives_over source_a run.full at lines new kept ends in
         let none = ap is_some (none_waits source_a source_b run at lines second mask out s wants) in (
@@ -78,7 +73,7 @@ module _ {A B : Type 0} (source_a : Source A) (source_b : Source B) (run : MaskR
         )
 
   module _ (wants : mask.want ≡ WantBed) (second_now : MemberReader B Feature (Option Locus)) where
-    pub record_filled : IsFilled source_b second second_now → Fills source_a source_b run lines second mask (Ok true) lines second_now mask out
+    pub record_filled : IsFilled source_b second second_now → Fills source_a source_b run lines second mask lines second_now mask out
     record_filled filled = (
       (at, record_made source_a source_b run at lines second mask out s wants second_now filled),
       inr (
@@ -90,7 +85,7 @@ module _ {A B : Type 0} (source_a : Source A) (source_b : Source B) (run : MaskR
     module _ (over : IsOver source_b second second_now) (masked : Masking) (now : Output) where
       ends_by : (o : Option SequenceLine) → s.stage.waiting ≡ o → {T : Type 0} (done : T)
           → ((waiting : SequenceLine) → s.stage.waiting ≡ Some waiting → EndsRecords mask.how mask.full s.stage waiting out (Ok done) masked now) → (s.stage.waiting ≡ None → EndsCheck mask.how mask.full s.stage out (Ok done) masked now)
-          → Fills source_a source_b run lines second mask (Ok true) lines second_now masked now
+          → Fills source_a source_b run lines second mask lines second_now masked now
       ends_by (Some a) e done waits none =
           let ends = waits a e in (
             (at, ends_waiting source_a source_b run at lines second mask out s wants second_now over a e masked now ends.0 ends.1),
@@ -114,15 +109,15 @@ module _ {A B : Type 0} (source_a : Source A) (source_b : Source B) (run : MaskR
           )
 
       pub records_ended : {T : Type 0} (done : T) → ((waiting : SequenceLine) → s.stage.waiting ≡ Some waiting → EndsRecords mask.how mask.full s.stage waiting out (Ok done) masked now) → (s.stage.waiting ≡ None → EndsCheck mask.how mask.full s.stage out (Ok done) masked now)
-          → Fills source_a source_b run lines second mask (Ok true) lines second_now masked now
+          → Fills source_a source_b run lines second mask lines second_now masked now
       records_ended done waits none = ends_by s.stage.waiting refl done waits none
 
       unended_by : (o : Option SequenceLine) → s.stage.waiting ≡ o → (fault : Fault)
           → ((waiting : SequenceLine) → s.stage.waiting ≡ Some waiting → EndsRecords {A = Unit {0}} mask.how mask.full s.stage waiting out (Err fault) masked now) → (s.stage.waiting ≡ None → EndsCheck {A = Unit {0}} mask.how mask.full s.stage out (Err fault) masked now)
-          → Fills source_a source_b run lines second mask (Err fault) lines second_now masked now
+          → Ends source_a source_b run (Some (fault_value fault)) lines second_now now
       unended_by (Some a) e fault waits none = fails_at_end source_a source_b run at lines second mask out s wants second_now over a e (fault_value fault) now (waits a e).1
       unended_by None e fault waits none = absurd (none e)
 
       pub records_unended : (fault : Fault) → ((waiting : SequenceLine) → s.stage.waiting ≡ Some waiting → EndsRecords {A = Unit {0}} mask.how mask.full s.stage waiting out (Err fault) masked now)
-          → (s.stage.waiting ≡ None → EndsCheck {A = Unit {0}} mask.how mask.full s.stage out (Err fault) masked now) → Fills source_a source_b run lines second mask (Err fault) lines second_now masked now
+          → (s.stage.waiting ≡ None → EndsCheck {A = Unit {0}} mask.how mask.full s.stage out (Err fault) masked now) → Ends source_a source_b run (Some (fault_value fault)) lines second_now now
       records_unended fault waits none = unended_by s.stage.waiting refl fault waits none

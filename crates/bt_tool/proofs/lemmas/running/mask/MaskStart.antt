@@ -24,8 +24,8 @@ use Rattle.bt_seq.specs.model.Sequences.{Reached, SequenceLine, sequence_format}
 use Rattle.bt_seq.specs.declared.mask.mask_how.MaskHow.{MaskHow}
 use Rattle.bt_tool.specs.inside.feed.Feeding.{IsFresh}
 use Rattle.bt_lines.specs.model.Fault.{FaultValue}
-use Rattle.bt_tool.specs.inside.pair.MaskLoop.{MaskEnds, Masks, line_members, mask_join, mask_pair, nothing_reached}
-use Rattle.bt_tool.specs.inside.feed.Passed.{IsKeptBelow}
+use Rattle.bt_tool.specs.inside.pair.Endings.{IsOverWith}
+use Rattle.bt_tool.specs.inside.pair.MaskLoop.{Masks, line_members, mask_join, mask_pair, nothing_reached}
 use Rattle.bt_tool.proofs.lemmas.running.members.CameMembers.{BeginsAt}
 use Rattle.bt_tool.proofs.lemmas.running.members.BlockMembers.{blocks_going}
 use Rattle.bt_tool.proofs.lemmas.running.members.MemberLemmas.{passes_start}
@@ -104,13 +104,12 @@ module _ {A B : Type 0} (source_a : Source A) (source_b : Source B) where
       (subst (λ (h : MaskHow). MaskMovesTo h mask.full first_stage mask) (sym stands.how_is) (subst (λ (f : Bool). MaskMovesTo how f first_stage mask) (sym stands.full_is) stands))
 
   -- and how it ends
+  abbrev Over : LineReader A → MemberReader B Feature (Option Locus) → Output → Option FaultValue → LineReader A → MemberReader B Feature (Option Locus) → Output → MaskHow → Bool → Type 0
+  Over lines second out fault new second_now grown how full = (members : MemberReader A SequenceLine Reached) × (members.below ≡ new)
+      × IsOverWith (mask_pair source_a source_b how full (line_members full nothing_reached lines) second) (mask_join how) out fault members second_now grown
+
   pub as_asked : (lines : LineReader A) (second : MemberReader B Feature (Option Locus)) (out : Output) (fault : Option FaultValue) (new : LineReader A) (second_now : MemberReader B Feature (Option Locus)) (grown : Output)
       (own : MaskHow) (own_full : Bool) (how : MaskHow) (full : Bool) → own ≡ how → own_full ≡ full
-      → (members : MemberReader A SequenceLine Reached) × (members.below ≡ new) × MaskEnds source_a source_b own own_full (line_members own_full nothing_reached lines) second out fault members second_now grown × IsKeptBelow members new
-      → (members : MemberReader A SequenceLine Reached) × (members.below ≡ new) × MaskEnds source_a source_b how full (line_members full nothing_reached lines) second out fault members second_now grown × IsKeptBelow members new
-  as_asked lines second out fault new second_now grown own own_full how full same same_full ends = (
-    ends.0,
-    ends.1,
-    rw (← same) (subst (λ (f : Bool). MaskEnds source_a source_b own f (line_members f nothing_reached lines) second out fault ends.0 second_now grown) same_full ends.2),
-    ends.3,
-  )
+      → Over lines second out fault new second_now grown own own_full → Over lines second out fault new second_now grown how full
+  as_asked lines second out fault new second_now grown own own_full how full same same_full ends =
+      subst (λ (h : MaskHow). Over lines second out fault new second_now grown h full) same (subst (λ (f : Bool). Over lines second out fault new second_now grown own f) same_full ends)

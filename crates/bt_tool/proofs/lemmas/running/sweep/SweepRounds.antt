@@ -1,41 +1,41 @@
 -- Lemmas on the rounds of a sweep over two readers: how far each comes, what it reads, and how much is still wanted.
-use Rattle.std.proofs.Common.{◌≡◌, ℕ, zero, suc, ◌+◌, ◌*◌, ◌≤◌, ◌<◌, Bool, true, false, List, [], length, length-append, Option, None, Some, Ok, Err, refl, sym, ap, ◌∙◌, subst, arith, inl, inr, option_to_list}
-use Rattle.std.specs.Prelude.{◌⊎◌, is_some}
+use Rattle.std.proofs.Common.{◌≡◌, ℕ, zero, suc, ◌+◌, ◌*◌, ◌≤◌, ◌<◌, Bool, true, false, List, length, length-append, Option, None, Some, Ok, Err, refl, sym, ap, ◌∙◌, subst, arith, inl, inr, option_to_list}
+use Rattle.std.specs.Prelude.{◌⊎◌, IsErrAnd, Result, is_some}
 use Rattle.std.proofs.lemmas.Bool.{false≢true}
 use Rattle.bt_lines.specs.declared.device.Source.{Ghosts as Source}
-use Rattle.bt_lines.proofs.lemmas.reader.block.ReadsLemmas.{reads_same}
+use Rattle.bt_lines.proofs.lemmas.reader.block.ReadsLemmas.{has_read_then, reads_same}
 use Rattle.bt_lines.specs.calls.Names.{fault_value}
 use Rattle.bt_lines.specs.calls.Output.{Output}
 use Rattle.bt_lines.specs.calls.Reader.{HasRead}
 use Rattle.bt_lines.specs.declared.fault.Fault.{Fault}
 use Rattle.bt_bed.specs.model.feature.Feature.{Feature}
+use Rattle.bt_bed.specs.model.feature.LineKind.{IsBedKind}
 use Rattle.bt_bed.specs.model.order.Order.{Order}
 use Rattle.bt_bed.specs.calls.Records.{FillsRecords, below, fault_kept, order_in, room, view_of}
+use Rattle.bt_bed.proofs.lemmas.order.ResultLemmas.{passed_on}
 use Rattle.bt_bed.specs.declared.order.ChromOrder.{Ghosts}
 use Rattle.bt_bed.specs.declared.read.records.Records.{Records}
+use Rattle.bt_sweep.specs.calls.Standing.{IsInOrder, MovesTo, Stage, StandsAt, with_a_ended}
+use Rattle.bt_sweep.specs.calls.Steps.{EndsB}
 use Rattle.bt_sweep.specs.calls.SweepState.{Sweeping, is_over as is_done, want_in, want_of}
+use Rattle.bt_sweep.specs.calls.SweepView.{order_of, state_of}
 use Rattle.bt_sweep.specs.declared.sweep.want.Want.{Want}
 use Rattle.bt_sweep.specs.declared.sweep.want.Want.TheVariants.{A as WantA, B as WantB, Nothing}
-use Rattle.bt_tool.specs.declared.loops.sweeping.SweepConfig.{SweepConfig}
-use Rattle.bt_tool.specs.calls.run.OwnReads.{TellsNoRead}
+use Rattle.bt_tool.specs.declared.loops.sweeping.SweepInputs.{SweepInputs}
+use Rattle.bt_tool.specs.calls.run.OwnReads.{AnswersNoRead, TellsNoRead}
 use Rattle.bt_tool.specs.inside.feed.Passed.{KeepsOwnFault}
-use Rattle.bt_tool.specs.inside.pair.SweepLoop.{SweepEnds, Sweeps}
-use Rattle.bt_tool.specs.inside.pair.SweepSteps.{AdvancesBoth, EndsFirst, EndsSecond, FailsAmong, FillsWanted, GivesBoth, NotBuffered, TakesBoth}
-use Rattle.bt_tool.proofs.lemmas.running.whole.OwnFailureLemmas.{none_kept, told_kept}
-use Rattle.bt_tool.proofs.lemmas.running.pair.RestLemmas.{reads_taken, some_buffered}
-use Rattle.bt_tool.proofs.lemmas.running.sweep.SweepBegun.{At, Begun}
-use Rattle.bt_tool.proofs.lemmas.running.sweep.SweptLemmas.{ends_first, ends_second, fails_at_end, fails_both, fills_first, fills_second, goes_both, none_waits, over_is, placed_first, placed_second, in_order, stops_first, stops_second, waiting}
+use Rattle.bt_tool.specs.inside.pair.Endings.{HaveRead}
+use Rattle.bt_tool.specs.inside.pair.Rounds.{IsFilled, IsGiven, LeadsTo, fault_of}
+use Rattle.bt_tool.specs.inside.pair.SweepLoop.{ReadsRest, SweepEnds, Sweeps, config_of, records_pair}
+use Rattle.bt_tool.specs.inside.pair.SweepRun.{IsReady, SweepComes, SweepIsOver, asks, is_swept_ready, left_to_sweep}
+use Rattle.bt_tool.specs.inside.pair.SweepSteps.{AdvancesBoth, GivesBoth, NotBuffered, TakesBoth}
+use Rattle.bt_tool.proofs.lemmas.running.members.PassedLemmas.{taken_reads}
+use Rattle.bt_tool.proofs.lemmas.running.whole.OwnFailureLemmas.{none_kept, own_then, told_kept}
+use Rattle.bt_tool.proofs.lemmas.running.pair.RestLemmas.{some_buffered}
+use Rattle.bt_tool.proofs.lemmas.running.sweep.SweepBegun.{At, Begun, at_of, begun_of}
+use Rattle.bt_tool.proofs.lemmas.running.sweep.SweptLemmas.{ends_first, ends_second, fails_at_end, fails_both, fills_first, fills_second, finishes_both, goes_both, none_waits, over_is, placed_first, placed_second, in_order, stops_first, stops_second, waiting}
 
 -- ---- how much is still wanted
-
--- a record that waits is to be written, and then the first input is wanted
-abbrev pub asks : Bool → Bool → ℕ
-asks true done = 2
-asks false true = 0
-asks false false = 1
-
-abbrev pub left_to_ask : {A B O : Type 0} {g : Ghosts O} → Records A O g → Records B O g → Sweeping → ℕ
-left_to_ask first second sweep = 2 * (room first + room second) + asks (is_some sweep.current) (is_done sweep.phase)
 
 asks_first : (waits done : Bool) → want_of waits done ≡ WantA → asks waits done ≡ 1
 asks_first true done e = absurd (let apart : WantB ≡ WantA = e in cc)
@@ -84,318 +84,294 @@ want_cases WantA = inl refl
 want_cases WantB = inr (inl refl)
 want_cases Nothing = inr (inr refl)
 
-module _ {A B O : Type 0} {g : Ghosts O} (source_a : Source A) (source_b : Source B)
-    (order : Order) (at : At A B O g) where
-  -- ---- what a round reads
+-- no more is wanted, if as many were taken as wait now
+asks_few : (o n : Option Feature) (done now : Bool) (k : ℕ) → now ≡ done → length (option_to_list n) ≤ length (option_to_list o) + k → asks (is_some n) now ≤ asks (is_some o) done + 2 * k
+asks_few (Some a) n done now k same few = omega (arith, asks_two (is_some n) now)
+asks_few None (Some c) done now k same few = omega (arith, few)
+asks_few None None done now k same few = omega (arith, ap (asks false) same)
 
-  abbrev ReadBoth : Records A O g → Records B O g → Type 0
-  ReadBoth new_first new_second = HasRead source_a.is_read (below at.first) (below new_first) × HasRead source_b.is_read (below at.second) (below new_second)
+answers_none : {T : Type 0} (answer : Result T Fault) → TellsNoRead (fault_of answer) → AnswersNoRead answer
+answers_none (Ok done) never = tt
+answers_none (Err fault) never = never
 
-  abbrev OwnBoth : Records A O g → Records B O g → Type 0
-  OwnBoth new_first new_second = KeepsOwnFault source_a.is_read (below at.first) (view_of new_first) × KeepsOwnFault source_b.is_read (below at.second) (view_of new_second)
+number_cases : (n : ℕ) → (n ≡ 0) ⊎ (0 < n)
+number_cases zero = inl refl
+number_cases (suc n) = inr (omega arith)
 
-  abbrev Fills : Bool → Records A O g → Records B O g → Sweeping → Output → Type 0
-  Fills answer = FillsWanted source_a source_b order at.first at.second at.sweep at.out (Ok answer)
+none_in : (w : Option Feature) (done : Bool) → want_of (is_some w) done ≡ WantA → length (option_to_list w) ≡ 0
+none_in None done e = refl
+none_in (Some a) done e = absurd (let apart : WantB ≡ WantA = e in cc)
 
-  abbrev FillStops : Fault → Records A O g → Records B O g → Sweeping → Output → Type 0
-  FillStops fault = FillsWanted source_a source_b order at.first at.second at.sweep at.out (Err fault)
+module _ {A B O : Type 0} {g : Ghosts O} (source_a : Source A) (source_b : Source B) (start : SweepInputs A B O g) (out : Output) (old : SweepInputs A B O g) (grown : Output)
+    (s : SweepComes source_a source_b start out old grown) where
+  abbrev begun : Begun A B O g
+  begun = begun_of (state_of start.sweep) start.first start.second out s.total s.same_order s.is_bed s.is_bed_second
 
-  same_first : (new_first : Records A O g) → new_first ≡ at.first → HasRead source_a.is_read (below at.first) (below new_first)
-  same_first new_first e = reads_same source_a.is_read (below at.first) (below new_first) (ap (λ (r : Records A O g). below r) e)
-
-  same_second : (new_second : Records B O g) → new_second ≡ at.second → HasRead source_b.is_read (below at.second) (below new_second)
-  same_second new_second e = reads_same source_b.is_read (below at.second) (below new_second) (ap (λ (r : Records B O g). below r) e)
-
-  pub reads_filled : (answer : Bool) (new : At A B O g) → Fills answer new.first new.second new.sweep new.out → ReadBoth new.first new.second
-  reads_filled true new (inl f) = (f.fills.own_failure, same_second new.second f.same_second)
-  reads_filled true new (inr f) = (same_first new.first f.same_first, f.fills.own_failure)
-  reads_filled false new none = (same_first new.first none.same_first, same_second new.second none.same_second)
-
-  module _ (none : fault_kept at.first ≡ None) (none_second : fault_kept at.second ≡ None) where
-    pub reads_stopped : (fault : Fault) (new : At A B O g) → FillStops fault new.first new.second new.sweep new.out → TellsNoRead (Some (fault_value fault)) → ReadBoth new.first new.second
-    reads_stopped fault new (inl f) never = ((f.fills.own_failure none).read never, same_second new.second f.same_second)
-    reads_stopped fault new (inr (inl f)) never = (same_first new.first f.same_first, (f.fills.own_failure none_second).read never)
-    reads_stopped fault new (inr (inr f)) never = (same_first new.first f.same_first, f.fills.own_failure)
-
-    none_first : (new_first : Records A O g) → new_first ≡ at.first → KeepsOwnFault source_a.is_read (below at.first) (view_of new_first)
-    none_first new_first e = none_kept source_a.is_read (below at.first) (view_of new_first).fault (below new_first) (ap (λ (r : Records A O g). fault_kept r) e ∙ none)
-
-    pub own_stopped : (fault : Fault) (new : At A B O g) → FillStops fault new.first new.second new.sweep new.out → OwnBoth new.first new.second
-    own_stopped fault new (inl f) = (
-      told_kept source_a.is_read (fault_kept at.first) (view_of new.first).fault (below at.first) (below new.first) fault f.fills.answers.kept none f.fills.own_failure,
-      none_kept source_b.is_read (below at.second) (view_of new.second).fault (below new.second) (ap (λ (r : Records B O g). fault_kept r) f.same_second ∙ none_second),
-    )
-    own_stopped fault new (inr (inl f)) = (
-      none_first new.first f.same_first,
-      told_kept source_b.is_read (fault_kept at.second) (view_of new.second).fault (below at.second) (below new.second) fault f.fills.answers.kept none_second f.fills.own_failure,
-    )
-    own_stopped fault new (inr (inr f)) = (
-      none_first new.first f.same_first,
-      none_kept source_b.is_read (below at.second) (view_of new.second).fault (below new.second) f.fills.answers.goes,
-    )
-
-    module _ (fs ss : List Feature) (new_first : Records A O g) (new_second : Records B O g) (takes : TakesBoth source_a source_b order at.first at.second at.sweep at.out fs ss new_first new_second) where
-      own_taken : OwnBoth new_first new_second
-      own_taken = (
-        none_kept source_a.is_read (below at.first) (view_of new_first).fault (below new_first) (takes.first_taken.takes.goes ∙ none),
-        none_kept source_b.is_read (below at.second) (view_of new_second).fault (below new_second) (takes.second_taken.takes.goes ∙ none_second),
-      )
-
-    pub own_advanced : (fault : Fault) (new : At A B O g)
-        → AdvancesBoth source_a source_b order at.first at.second at.sweep at.out {T = Unit {0}} (Err fault) new.first new.second new.sweep new.out → OwnBoth new.first new.second
-    own_advanced fault new f = own_taken f.firsts f.seconds new.first new.second f.takes
-
-  reads_both : (fs ss : List Feature) (new_first : Records A O g) (new_second : Records B O g) → TakesBoth source_a source_b order at.first at.second at.sweep at.out fs ss new_first new_second → ReadBoth new_first new_second
-  reads_both fs ss new_first new_second takes = (
-    reads_taken source_a (below at.first) fs (view_of at.first) (view_of new_first) takes.first_taken (reads_same source_a.is_read (below at.first) (below at.first) refl),
-    reads_taken source_b (below at.second) ss (view_of at.second) (view_of new_second) takes.second_taken (reads_same source_b.is_read (below at.second) (below at.second) refl),
-  )
-
-  pub reads_given : (new : At A B O g) → GivesBoth source_a source_b order at.first at.second at.sweep at.out new.first new.second new.sweep new.out → ReadBoth new.first new.second
-  reads_given new gives = reads_both gives.firsts gives.seconds new.first new.second gives.takes
-
-  pub reads_failed : (fault : Fault) (new : At A B O g)
-      → AdvancesBoth source_a source_b order at.first at.second at.sweep at.out {T = Unit {0}} (Err fault) new.first new.second new.sweep new.out → ReadBoth new.first new.second
-  reads_failed fault new f = reads_both f.firsts f.seconds new.first new.second f.takes
-
--- ---- how far it comes
-
-module _ {A B O : Type 0} {g : Ghosts O} (source_a : Source A) (source_b : Source B) (begun : Begun A B O g) (at : At A B O g) (order : Order) (is_order : order ≡ order_in begun.first)
-    (s : Sweeps source_a source_b (order_in begun.first) begun.config begun.first begun.second begun.out at.first at.second at.sweep at.out) where
-  abbrev config : SweepConfig
-  config = begun.config
-
-  abbrev old_first : Records A O g
-  old_first = begun.first
-
-  abbrev old_second : Records B O g
-  old_second = begun.second
-
-  abbrev out : Output
-  out = begun.out
-
-  abbrev first : Records A O g
-  first = at.first
-
-  abbrev second : Records B O g
-  second = at.second
+  abbrev at : At A B O g
+  at = at_of old.first old.second (state_of old.sweep) grown
 
   abbrev sweep : Sweeping
-  sweep = at.sweep
+  sweep = state_of old.sweep
 
-  abbrev grown : Output
-  grown = at.out
+  abbrev order : Order
+  order = order_of old.sweep
 
-  abbrev Going : Records A O g → Records B O g → Sweeping → Output → Type 0
-  Going = Sweeps source_a source_b (order_in old_first) config old_first old_second out
+  abbrev Goes : SweepInputs A B O g → Output → Type 0
+  Goes = SweepComes source_a source_b start out
 
-  abbrev Ends : Fault → Records A O g → Records B O g → Output → Type 0
-  Ends fault = SweepEnds source_a source_b (order_in old_first) config old_first old_second out (Some (fault_value fault))
+  abbrev Ends : Fault → SweepInputs A B O g → Output → Type 0
+  Ends fault = SweepIsOver source_a source_b start out (Some (fault_value fault))
 
-  -- a record is buffered of the input that is wanted, or the sweep was given its end
-  abbrev IsReady : Records A O g → Records B O g → Sweeping → Type 0
-  IsReady new_first new_second swept =
-      ((0 < length (view_of new_first).buffered) × (swept ≡ sweep) × (want_in sweep ≡ WantA))
-      ⊎ (((0 < length (view_of new_second).buffered) × (swept ≡ sweep) × (want_in sweep ≡ WantB))
-      ⊎ ((((view_of new_first).buffered ≡ []) × (swept.current ≡ None) × (is_done swept.phase ≡ true) × (want_in sweep ≡ WantA))
-      ⊎ ((swept.current ≡ None) × (want_in sweep ≡ WantB))))
+  abbrev IsLess : SweepInputs A B O g → Type 0
+  IsLess new = left_to_sweep new < left_to_sweep old
 
-  pub record Filled (new_first : Records A O g) (new_second : Records B O g) (swept : Sweeping) (later : Output) : Type 0 where
-    pub going : Going new_first new_second swept later
-    pub less : room new_first + room new_second ≤ room first + room second
-    pub ready : IsReady new_first new_second swept
+  abbrev Filled : SweepInputs A B O g → Type 0
+  Filled = IsFilled is_swept_ready left_to_sweep old
 
-  filled_first : (answer : Bool) (new_first : Records A O g) (new_second : Records B O g) (swept : Sweeping) (later : Output)
-      → want_in sweep ≡ WantA → FillsRecords source_a first (Ok answer) new_first → EndsFirst source_a source_b (order_in old_first) first second sweep grown answer swept
-      → new_second ≡ second → later ≡ grown → Filled new_first new_second swept later
-  filled_first true new_first new_second swept later wants fills ends same same_output =
-      rw (same, same_output, ends) (record {
-        going = fills_first source_a source_b begun at s wants new_first fills;
-        less = omega (arith, fills.answers.1.read.shrinks);
-        ready = inl (some_buffered _ (view_of new_first).buffered _ fills.answers.1.read.ahead, refl, wants);
-      })
-  filled_first false new_first new_second swept later wants fills ends same same_output =
-      let moves = ends s.stage s.stands in
-      rw (same, same_output) (record {
-        going = ends_first source_a source_b begun at s wants new_first swept fills moves;
-        less = omega (arith, fills.answers.shrinks);
-        ready = inr (inr (inl (
-          fills.answers.none_buffered,
-          moves.stands.current_is ∙ none_waits source_a source_b begun at s wants,
-          ap is_done moves.stands.phase_is ∙ over_is true s.stage.b_ended,
-          wants,
-        )));
-      })
+  abbrev Given : SweepInputs A B O g → Type 0
+  Given = IsGiven is_swept_ready left_to_sweep old
 
-  filled_second : (answer : Bool) (new_first : Records A O g) (new_second : Records B O g) (swept : Sweeping) (later : Output)
-      → want_in sweep ≡ WantB → FillsRecords source_b second (Ok answer) new_second → EndsSecond source_a source_b (order_in old_first) first second sweep grown answer swept later
-      → new_first ≡ first → Filled new_first new_second swept later
-  filled_second true new_first new_second swept later wants fills ends same =
-      rw (same, ends.0, ends.1) (record {
-        going = fills_second source_a source_b begun at s wants new_second fills;
-        less = omega (arith, fills.answers.1.read.shrinks);
-        ready = inr (inl (some_buffered _ (view_of new_second).buffered _ fills.answers.1.read.ahead, refl, wants));
-      })
-  filled_second false new_first new_second swept later wants fills ends same =
-      let w = waiting source_a source_b begun at s wants in
-      let ended = ends s.stage w.0 s.stands w.1 (in_order source_a source_b begun at s) in
-      rw same (record {
-        going = ends_second source_a source_b begun at s wants new_second swept later fills ended.0 ended.1;
-        less = omega (arith, fills.answers.shrinks);
-        ready = inr (inr (inr (ended.0.stands.current_is, wants)));
-      })
+  abbrev Leads : {T : Type 0} → (SweepInputs A B O g → Type 0) → Result T Fault → SweepInputs A B O g → Output → Type 0
+  Leads = LeadsTo (SweepComes source_a source_b) (SweepIsOver source_a source_b) start out
 
-  filled_at : (new_first : Records A O g) (new_second : Records B O g) (swept : Sweeping) (later : Output) → FillsWanted source_a source_b (order_in old_first) first second sweep grown (Ok true) new_first new_second swept later
-      → Filled new_first new_second swept later
-  filled_at new_first new_second swept later (inl f) = filled_first f.answer new_first new_second swept later f.wants f.fills f.ends f.same_second f.same_output
-  filled_at new_first new_second swept later (inr f) = filled_second f.answer new_first new_second swept later f.wants f.fills f.ends f.same_first
+  -- it has come to these
+  abbrev comes_to : (new : SweepInputs A B O g) (later : Output) → Sweeps source_a source_b (order_in start.first) (config_of (state_of start.sweep)) start.first start.second out new.first new.second (state_of new.sweep) later
+      → order_of new.sweep ≡ order → HaveRead (records_pair source_a source_b old.first old.second) (view_of new.first) (view_of new.second) → Goes new later
+  comes_to new later sweeps same read = record {
+    total = s.total;
+    same_order = s.same_order;
+    is_bed = s.is_bed;
+    is_bed_second = s.is_bed_second;
+    sweeps = sweeps;
+    order_is = same ∙ s.order_is;
+    reads = (
+      has_read_then source_a.is_read (below start.first) (below old.first) (below new.first) s.reads.0 read.0,
+      has_read_then source_b.is_read (below start.second) (below old.second) (below new.second) s.reads.1 read.1,
+    );
+  }
 
-  pub filled : (new : At A B O g) → FillsWanted source_a source_b order first second sweep grown (Ok true) new.first new.second new.sweep new.out
-      → Filled new.first new.second new.sweep new.out
-  filled new fills =
-      filled_at new.first new.second new.sweep new.out (subst (λ (o : Order). FillsWanted source_a source_b o first second sweep grown (Ok true) new.first new.second new.sweep new.out) is_order fills)
+  -- it has ended with these
+  abbrev ends_with : (fault : Fault) (new : SweepInputs A B O g) (later : Output)
+      → SweepEnds source_a source_b (order_in start.first) (config_of (state_of start.sweep)) start.first start.second out (Some (fault_value fault)) new.first new.second later
+      → (TellsNoRead (Some (fault_value fault)) → HaveRead (records_pair source_a source_b old.first old.second) (view_of new.first) (view_of new.second))
+      → KeepsOwnFault source_a.is_read (below old.first) (view_of new.first) → KeepsOwnFault source_b.is_read (below old.second) (view_of new.second) → Ends fault new later
+  ends_with fault new later ends read own own_second = record {
+    finishes = ends;
+    reads = λ never. (
+      has_read_then source_a.is_read (below start.first) (below old.first) (below new.first) s.reads.0 (read never).0,
+      has_read_then source_b.is_read (below start.second) (below old.second) (below new.second) s.reads.1 (read never).1,
+    );
+    own_first = own_then source_a.is_read (below start.first) (below old.first) (view_of new.first).fault (below new.first) s.reads.0 own;
+    own_second = own_then source_b.is_read (below start.second) (below old.second) (view_of new.second).fault (below new.second) s.reads.1 own_second;
+  }
 
-  stops_at : (fault : Fault) (new_first : Records A O g) (new_second : Records B O g) (swept : Sweeping) (later : Output) → FillsWanted source_a source_b (order_in old_first) first second sweep grown (Err fault) new_first new_second swept later
-      → Ends fault new_first new_second later
-  stops_at fault new_first new_second swept later (inl f) =
-      rw (f.same_second, f.same_output) (stops_first source_a source_b begun at s f.wants fault new_first f.fills)
-  stops_at fault new_first new_second swept later (inr (inl f)) =
-      rw (f.same_first, f.same_output) (stops_second source_a source_b begun at s f.wants fault new_second f.fills)
-  stops_at fault new_first new_second swept later (inr (inr f)) =
-      let w = waiting source_a source_b begun at s f.wants in
-      rw f.same_first
-      (fails_at_end source_a source_b begun at s f.wants (fault_value fault) new_second later f.fills
-      (f.fails s.stage w.0 s.stands w.1 (in_order source_a source_b begun at s)))
+  none_first : fault_kept old.first ≡ None
+  none_first = s.sweeps.comes.first_passes.going
 
-  pub fill_stops : (fault : Fault) (new : At A B O g) → FillsWanted source_a source_b order first second sweep grown (Err fault) new.first new.second new.sweep new.out
-      → Ends fault new.first new.second new.out
-  fill_stops fault new fills =
-      stops_at fault new.first new.second new.sweep new.out (subst (λ (o : Order). FillsWanted source_a source_b o first second sweep grown (Err fault) new.first new.second new.sweep new.out) is_order fills)
+  none_second : fault_kept old.second ≡ None
+  none_second = s.sweeps.comes.second_passes.going
 
-  pub gave_both : (new : At A B O g) → GivesBoth source_a source_b order first second sweep grown new.first new.second new.sweep new.out
-      → Going new.first new.second new.sweep new.out
-  gave_both new gives =
-      goes_both source_a source_b begun at s new.first new.second new.sweep new.out
-      (subst (λ (o : Order). GivesBoth source_a source_b o first second sweep grown new.first new.second new.sweep new.out) is_order gives)
+  same_first : HasRead source_a.is_read (below old.first) (below old.first)
+  same_first = reads_same source_a.is_read (below old.first) (below old.first) refl
 
-  pub failed_both : (fault : Fault) (new : At A B O g) → FailsAmong source_a source_b order first second sweep grown (fault_value fault) new.first new.second new.out
-      → Ends fault new.first new.second new.out
-  failed_both fault new fails =
-      fails_both source_a source_b begun at s (fault_value fault) new.first new.second new.out
-      (subst (λ (o : Order). FailsAmong source_a source_b o first second sweep grown (fault_value fault) new.first new.second new.out) is_order fails)
+  same_second : HasRead source_b.is_read (below old.second) (below old.second)
+  same_second = reads_same source_b.is_read (below old.second) (below old.second) refl
 
-  -- whether the first input has ended doesn't change
-  done_at : (new_first : Records A O g) (new_second : Records B O g) (swept : Sweeping) (later : Output) → GivesBoth source_a source_b (order_in old_first) first second sweep grown new_first new_second swept later
-      → is_done swept.phase ≡ is_done sweep.phase
-  done_at new_first new_second swept later gives =
-      let placed = placed_first source_a source_b begun at s new_first new_second gives.firsts gives.seconds gives.takes in
-      let placed_seconds = placed_second source_a source_b begun at s new_first new_second gives.firsts gives.seconds gives.takes in
-      ap is_done (gives.stands s.stage s.stands placed placed_seconds).stands.phase_is ∙ ap is_done (sym s.stands.phase_is)
+  own_first : KeepsOwnFault source_a.is_read (below old.first) (view_of old.first)
+  own_first = none_kept source_a.is_read (below old.first) (view_of old.first).fault (below old.first) none_first
 
-  pub still_done : (new : At A B O g) → GivesBoth source_a source_b order first second sweep grown new.first new.second new.sweep new.out
-      → is_done new.sweep.phase ≡ is_done sweep.phase
-  still_done new gives =
-      done_at new.first new.second new.sweep new.out (subst (λ (o : Order). GivesBoth source_a source_b o first second sweep grown new.first new.second new.sweep new.out) is_order gives)
+  own_second : KeepsOwnFault source_b.is_read (below old.second) (view_of old.second)
+  own_second = none_kept source_b.is_read (below old.second) (view_of old.second).fault (below old.second) none_second
 
-  -- ---- a round leaves less to be wanted
+  -- ---- the first input is read on
 
-  module _ (middle last : At A B O g) (f : Filled middle.first middle.second middle.sweep middle.out)
-      (gives : GivesBoth source_a source_b order middle.first middle.second middle.sweep middle.out last.first last.second last.sweep last.out) (same_done : is_done last.sweep.phase ≡ is_done middle.sweep.phase) where
-    abbrev mid_first : Records A O g
-    mid_first = middle.first
+  module _ (wants : want_in sweep ≡ WantA) (first_now : Records A O g) where
+    abbrev with_first : SweepInputs A B O g
+    with_first = record old { first = first_now }
 
-    abbrev new_first : Records A O g
-    new_first = last.first
+    pub first_filled : FillsRecords source_a old.first (Ok true) first_now → Goes with_first grown × Filled with_first
+    first_filled fills = (
+      comes_to with_first grown (fills_first source_a source_b begun at s.sweeps wants first_now fills) refl (fills.own_failure, same_second),
+      inr (
+        omega (arith, fills.answers.1.read.shrinks),
+        subst (λ (w : Want). IsReady w with_first) (sym wants) (some_buffered _ (view_of first_now).buffered _ fills.answers.1.read.ahead),
+      ),
+    )
 
-    abbrev mid_second : Records B O g
-    mid_second = middle.second
+    module _ (now : SweepInputs A B O g) (same : now.first ≡ first_now) (same_second_now : now.second ≡ old.second) (same_order : order_of now.sweep ≡ order) where
+      pub first_ended : FillsRecords source_a old.first (Ok false) first_now
+          → ((stage : Stage) → StandsAt order stage sweep → MovesTo order sweep (with_a_ended stage) (state_of now.sweep)) → Goes now grown × Filled now
+      first_ended fills ends =
+          let moves : MovesTo (order_in start.first) sweep (with_a_ended s.sweeps.stage) (state_of now.sweep) =
+          subst (λ (o : Order). (stage : Stage) → StandsAt o stage sweep → MovesTo o sweep (with_a_ended stage) (state_of now.sweep)) s.order_is ends s.sweeps.stage s.sweeps.stands in
+          let none : (state_of now.sweep).current ≡ None = moves.stands.current_is ∙ none_waits source_a source_b begun at s.sweeps wants in
+          let done : is_done (state_of now.sweep).phase ≡ true = ap is_done moves.stands.phase_is ∙ over_is true s.sweeps.stage.b_ended in (
+            comes_to now grown (rw (same, same_second_now) (ends_first source_a source_b begun at s.sweeps wants first_now (state_of now.sweep) fills moves)) same_order (rw same fills.own_failure, rw same_second_now same_second),
+            inl (rw (same, same_second_now) (omega (
+              arith,
+              fills.answers.shrinks,
+              asks_done (state_of now.sweep).current (is_done (state_of now.sweep).phase) done (none_of (state_of now.sweep).current none),
+              asks_first (is_some sweep.current) (is_done sweep.phase) wants,
+            ))),
+          )
 
-    abbrev new_second : Records B O g
-    new_second = last.second
+    pub first_stopped : {T : Type 0} (fault : Fault) (result : Result T Fault) → IsErrAnd result (λ e. e ≡ fault) → FillsRecords source_a old.first (Err fault) first_now → Leads Filled result with_first grown
+    first_stopped {T} fault result is fills =
+        passed_on (λ (r : Result T Fault). Leads Filled r with_first grown) result fault is
+        (ends_with fault with_first grown (stops_first source_a source_b begun at s.sweeps wants fault first_now fills)
+        (λ never. ((fills.own_failure none_first).read never, same_second))
+        (told_kept source_a.is_read (fault_kept old.first) (view_of first_now).fault (below old.first) (below first_now) fault fills.answers.kept none_first fills.own_failure) own_second)
 
-    abbrev mid : Sweeping
-    mid = middle.sweep
+  -- ---- the second is
 
-    abbrev swept : Sweeping
-    swept = last.sweep
+  module _ (wants : want_in sweep ≡ WantB) (second_now : Records B O g) where
+    abbrev with_second : SweepInputs A B O g
+    with_second = record old { second = second_now }
 
-    abbrev before : Output
-    before = middle.out
+    pub second_filled : FillsRecords source_b old.second (Ok true) second_now → Goes with_second grown × Filled with_second
+    second_filled fills = (
+      comes_to with_second grown (fills_second source_a source_b begun at s.sweeps wants second_now fills) refl (same_first, fills.own_failure),
+      inr (
+        omega (arith, fills.answers.1.read.shrinks),
+        subst (λ (w : Want). IsReady w with_second) (sym wants) (some_buffered _ (view_of second_now).buffered _ fills.answers.1.read.ahead),
+      ),
+    )
 
-    abbrev waits : Sweeping → ℕ
-    waits sweep = length (option_to_list sweep.current)
+    pub second_stopped : {T : Type 0} (fault : Fault) (result : Result T Fault) → IsErrAnd result (λ e. e ≡ fault) → FillsRecords source_b old.second (Err fault) second_now → Leads Filled result with_second grown
+    second_stopped {T} fault result is fills =
+        passed_on (λ (r : Result T Fault). Leads Filled r with_second grown) result fault is
+        (ends_with fault with_second grown (stops_second source_a source_b begun at s.sweeps wants fault second_now fills)
+        (λ never. (same_first, (fills.own_failure none_second).read never))
+        own_first (told_kept source_b.is_read (fault_kept old.second) (view_of second_now).fault (below old.second) (below second_now) fault fills.answers.kept none_second fills.own_failure))
 
-    counted : waits mid + length gives.firsts ≡ length gives.newly + waits swept
-    counted = sym (length-append (option_to_list mid.current) gives.firsts) ∙ ap length gives.are ∙ length-append gives.newly (option_to_list swept.current)
+    module _ (fills : FillsRecords source_b old.second (Ok false) second_now) (now : SweepInputs A B O g) (same_first_now : now.first ≡ old.first) (same : now.second ≡ second_now) (later : Output) where
+      abbrev Ending : {T : Type 0} → Result T Fault → Type 0
+      Ending answer = (stage : Stage) (a : Feature) → StandsAt order stage sweep → stage.waiting ≡ Some a → IsInOrder order stage → EndsB order stage a sweep grown answer (state_of now.sweep) later
 
-    first_left : length (view_of mid_first).buffered ≡ length gives.firsts + length (view_of new_first).buffered
-    first_left = ap length gives.takes.first_taken.takes.buffered ∙ length-append gives.firsts (view_of new_first).buffered
+      ending : {T : Type 0} (answer : Result T Fault) → Ending answer → EndsB (order_in start.first) s.sweeps.stage (waiting source_a source_b begun at s.sweeps wants).0 sweep grown answer (state_of now.sweep) later
+      ending answer ends =
+          let w = waiting source_a source_b begun at s.sweeps wants in
+          subst (λ (o : Order). (stage : Stage) (a : Feature) → StandsAt o stage sweep → stage.waiting ≡ Some a → IsInOrder o stage → EndsB o stage a sweep grown answer (state_of now.sweep) later) s.order_is ends
+          s.sweeps.stage w.0 s.sweeps.stands w.1 (in_order source_a source_b begun at s.sweeps)
 
-    second_left : length (view_of mid_second).buffered ≡ length gives.seconds + length (view_of new_second).buffered
-    second_left = ap length gives.takes.second_taken.takes.buffered ∙ length-append gives.seconds (view_of new_second).buffered
+      pub second_over : {T : Type 0} (answer : Result T Fault) → order_of now.sweep ≡ order → Ending answer → Leads Filled answer now later
+      second_over (Ok done) same_order ends =
+          let ended = ending (Ok done) ends in (
+            comes_to now later (rw (same_first_now, same) (ends_second source_a source_b begun at s.sweeps wants second_now (state_of now.sweep) later fills ended.0 ended.1)) same_order (rw same_first_now same_first, rw same fills.own_failure),
+            inl (rw (same_first_now, same) (omega (
+              arith,
+              fills.answers.shrinks,
+              asks_most (state_of now.sweep).current (is_done (state_of now.sweep).phase),
+              none_of (state_of now.sweep).current ended.0.stands.current_is,
+              asks_second (is_some sweep.current) (is_done sweep.phase) wants,
+            ))),
+          )
+      second_over {T} (Err fault) same_order ends =
+          let ended = ending {T = T} (Err fault) ends in
+          ends_with fault now later (rw (same_first_now, same) (fails_at_end source_a source_b begun at s.sweeps wants (fault_value fault) second_now later fills ended.1))
+          (λ never. (rw same_first_now same_first, rw same fills.own_failure)) (rw same_first_now own_first)
+          (rw same (none_kept source_b.is_read (below old.second) (view_of second_now).fault (below second_now) fills.answers.goes))
 
-    rooms : room new_first + room new_second + length gives.firsts + length gives.seconds ≤ room first + room second
-    rooms = omega (arith, f.less, gives.takes.first_taken.takes.shrinks, gives.takes.second_taken.takes.shrinks)
+  -- ---- what both have buffered was given
 
-    abbrev Less : Type 0
-    Less = left_to_ask new_first new_second swept < left_to_ask first second sweep
+  module _ (new : SweepInputs A B O g) (later : Output) where
+    abbrev Advances : {T : Type 0} → Order → Result T Fault → Type 0
+    Advances by answer = AdvancesBoth source_a source_b by old.first old.second sweep grown answer new.first new.second (state_of new.sweep) later
 
-    most : asks (is_some swept.current) (is_done swept.phase) ≤ waits swept + 1
-    most = asks_most swept.current (is_done swept.phase)
+    have_read : (fs ss : List Feature) → TakesBoth source_a source_b (order_in start.first) old.first old.second sweep grown fs ss new.first new.second → HaveRead (records_pair source_a source_b old.first old.second) (view_of new.first) (view_of new.second)
+    have_read fs ss takes = (taken_reads source_a (view_of old.first) fs (view_of new.first) takes.first_taken, taken_reads source_b (view_of old.second) ss (view_of new.second) takes.second_taken)
 
-    -- none of the first was taken, though one was buffered
-    stopped_a : (w : Want) → want_in swept ≡ w → 0 < length (view_of mid_first).buffered → mid ≡ sweep → want_in sweep ≡ WantA → waits mid ≡ 0 → length gives.firsts ≡ 0
-        → NotBuffered source_a source_b order mid_first mid_second mid before w new_first new_second → Less
-    stopped_a WantA e some same wants none few none_left = absurd (omega (arith, some, first_left, few, ap length none_left))
-    stopped_a WantB e some same wants none few none_left = absurd (omega (arith, waits_some swept.current (is_done swept.phase) e, counted, few, none))
-    stopped_a Nothing e some same wants none few none_left =
-        omega (arith, rooms, asks_nothing (is_some swept.current) (is_done swept.phase) e, asks_first (is_some sweep.current) (is_done sweep.phase) wants)
+    module _ (gives : GivesBoth source_a source_b (order_in start.first) old.first old.second sweep grown new.first new.second (state_of new.sweep) later) where
+      abbrev swept : Sweeping
+      swept = state_of new.sweep
 
-    stopped_b : (w : Want) → want_in swept ≡ w → 0 < length (view_of mid_second).buffered → want_in sweep ≡ WantB → length gives.seconds ≡ 0
-        → NotBuffered source_a source_b order mid_first mid_second mid before w new_first new_second → Less
-    stopped_b WantB e some wants few none_left = absurd (omega (arith, some, second_left, few, ap length none_left))
-    stopped_b WantA e some wants few none_left = omega (arith, rooms, asks_first (is_some swept.current) (is_done swept.phase) e, asks_second (is_some sweep.current) (is_done sweep.phase) wants)
-    stopped_b Nothing e some wants few none_left = omega (arith, rooms, asks_nothing (is_some swept.current) (is_done swept.phase) e, asks_second (is_some sweep.current) (is_done sweep.phase) wants)
+      -- whether the first input has ended doesn't change
+      same_done : is_done swept.phase ≡ is_done sweep.phase
+      same_done =
+          let placed = placed_first source_a source_b begun at s.sweeps new.first new.second gives.firsts gives.seconds gives.takes in
+          let placed_seconds = placed_second source_a source_b begun at s.sweeps new.first new.second gives.firsts gives.seconds gives.takes in
+          ap is_done (gives.stands s.sweeps.stage s.sweeps.stands placed placed_seconds).stands.phase_is ∙ ap is_done (sym s.sweeps.stands.phase_is)
 
-    number_cases : (n : ℕ) → (n ≡ 0) ⊎ (0 < n)
-    number_cases zero = inl refl
-    number_cases (suc n) = inr (omega arith)
+      abbrev waits : Sweeping → ℕ
+      waits sweep = length (option_to_list sweep.current)
 
-    none_in : (w : Option Feature) (done : Bool) → want_of (is_some w) done ≡ WantA → length (option_to_list w) ≡ 0
-    none_in None done e = refl
-    none_in (Some a) done e = absurd (let apart : WantB ≡ WantA = e in cc)
+      counted : waits sweep + length gives.firsts ≡ length gives.newly + waits swept
+      counted = sym (length-append (option_to_list sweep.current) gives.firsts) ∙ ap length gives.are ∙ length-append gives.newly (option_to_list swept.current)
 
-    less_by : IsReady mid_first mid_second mid → Less
-    less_by (inl (some, same, wants)) =
-        let none : waits mid ≡ 0 = ap waits same ∙ none_in sweep.current (is_done sweep.phase) wants in
-        elim (number_cases (length gives.firsts)) [
-          | inl few ↦ elim gives.stops [
-            | inl for ↦ stopped_a (want_in swept) refl some same wants none few for
-            | inr written ↦ absurd (omega (arith, none, some_waits mid.current written.0))
+      first_left : length (view_of old.first).buffered ≡ length gives.firsts + length (view_of new.first).buffered
+      first_left = ap length gives.takes.first_taken.takes.buffered ∙ length-append gives.firsts (view_of new.first).buffered
+
+      second_left : length (view_of old.second).buffered ≡ length gives.seconds + length (view_of new.second).buffered
+      second_left = ap length gives.takes.second_taken.takes.buffered ∙ length-append gives.seconds (view_of new.second).buffered
+
+      rooms : room new.first + room new.second + length gives.firsts + length gives.seconds ≤ room old.first + room old.second
+      rooms = omega (arith, gives.takes.first_taken.takes.shrinks, gives.takes.second_taken.takes.shrinks)
+
+      few : left_to_sweep new ≤ left_to_sweep old
+      few = omega (arith, rooms, asks_few sweep.current swept.current (is_done sweep.phase) (is_done swept.phase) (length gives.firsts) same_done (omega (arith, counted)))
+
+      most : asks (is_some swept.current) (is_done swept.phase) ≤ waits swept + 1
+      most = asks_most swept.current (is_done swept.phase)
+
+      -- none of the first was taken, though one was buffered
+      stopped_a : (w : Want) → want_in swept ≡ w → 0 < length (view_of old.first).buffered → want_in sweep ≡ WantA → waits sweep ≡ 0 → length gives.firsts ≡ 0
+          → NotBuffered source_a source_b (order_in start.first) old.first old.second sweep grown w new.first new.second → IsLess new
+      stopped_a WantA e some wants none taken none_left = absurd (omega (arith, some, first_left, taken, ap length none_left))
+      stopped_a WantB e some wants none taken none_left = absurd (omega (arith, waits_some swept.current (is_done swept.phase) e, counted, taken, none))
+      stopped_a Nothing e some wants none taken none_left =
+          omega (arith, rooms, asks_nothing (is_some swept.current) (is_done swept.phase) e, asks_first (is_some sweep.current) (is_done sweep.phase) wants)
+
+      stopped_b : (w : Want) → want_in swept ≡ w → 0 < length (view_of old.second).buffered → want_in sweep ≡ WantB → length gives.seconds ≡ 0
+          → NotBuffered source_a source_b (order_in start.first) old.first old.second sweep grown w new.first new.second → IsLess new
+      stopped_b WantB e some wants taken none_left = absurd (omega (arith, some, second_left, taken, ap length none_left))
+      stopped_b WantA e some wants taken none_left = omega (arith, rooms, asks_first (is_some swept.current) (is_done swept.phase) e, asks_second (is_some sweep.current) (is_done sweep.phase) wants)
+      stopped_b Nothing e some wants taken none_left = omega (arith, rooms, asks_nothing (is_some swept.current) (is_done swept.phase) e, asks_second (is_some sweep.current) (is_done sweep.phase) wants)
+
+      less_by : (w : Want) → want_in sweep ≡ w → IsReady w old → IsLess new
+      less_by WantA wants some =
+          let none : waits sweep ≡ 0 = none_in sweep.current (is_done sweep.phase) wants in
+          elim (number_cases (length gives.firsts)) [
+            | inl taken ↦ elim gives.stops [
+              | inl for ↦ stopped_a (want_in swept) refl some wants none taken for
+              | inr written ↦ absurd (omega (arith, none, some_waits sweep.current written.0))
+            ]
+            | inr more ↦ omega (arith, rooms, most, counted, none, more, asks_first (is_some sweep.current) (is_done sweep.phase) wants)
           ]
-          | inr more ↦ omega (arith, rooms, most, counted, none, more, asks_first (is_some sweep.current) (is_done sweep.phase) wants)
-        ]
-    less_by (inr (inl (some, same, wants))) =
-        elim (number_cases (length gives.seconds)) [
-          | inl few ↦ elim gives.stops [
-            | inl for ↦ stopped_b (want_in swept) refl some wants few for
-            | inr written ↦ omega (arith, rooms, most, none_of swept.current written.1, asks_second (is_some sweep.current) (is_done sweep.phase) wants)
+      less_by WantB wants some =
+          elim (number_cases (length gives.seconds)) [
+            | inl taken ↦ elim gives.stops [
+              | inl for ↦ stopped_b (want_in swept) refl some wants taken for
+              | inr written ↦ omega (arith, rooms, most, none_of swept.current written.1, asks_second (is_some sweep.current) (is_done sweep.phase) wants)
+            ]
+            | inr more ↦ omega (arith, rooms, asks_two (is_some swept.current) (is_done swept.phase), more, asks_second (is_some sweep.current) (is_done sweep.phase) wants)
           ]
-          | inr more ↦ omega (arith, rooms, asks_two (is_some swept.current) (is_done swept.phase), more, asks_second (is_some sweep.current) (is_done sweep.phase) wants)
-        ]
-    less_by (inr (inr (inl (empty, none, done, wants)))) =
-        let few : length gives.firsts ≡ 0 = omega (arith, first_left, ap length empty) in
-        omega (
-          arith,
-          rooms,
-          asks_done swept.current (is_done swept.phase) (same_done ∙ done) (omega (arith, counted, few, none_of mid.current none)),
-          asks_first (is_some sweep.current) (is_done sweep.phase) wants,
-        )
-    less_by (inr (inr (inr (none, wants)))) =
-        elim (number_cases (length gives.firsts)) [
-          | inl few ↦ omega (arith, rooms, most, counted, few, none_of mid.current none, asks_second (is_some sweep.current) (is_done sweep.phase) wants)
-          | inr more ↦ omega (arith, rooms, asks_two (is_some swept.current) (is_done swept.phase), more, asks_second (is_some sweep.current) (is_done sweep.phase) wants)
-        ]
+      less_by Nothing wants some = absurd some
 
-    pub round_is_less : Less
-    round_is_less = less_by f.ready
+      came_further : order_of new.sweep ≡ order → Goes new later × Given new
+      came_further same = (
+        comes_to new later (goes_both source_a source_b begun at s.sweeps new.first new.second swept later gives) same (have_read gives.firsts gives.seconds gives.takes),
+        (few, less_by (want_in sweep) refl),
+      )
+
+    gave : {T : Type 0} (answer : Result T Fault) → order_of new.sweep ≡ order → Advances (order_in start.first) answer → Leads Given answer new later
+    gave (Ok done) same gives = came_further gives same
+    gave (Err fault) same fails =
+        ends_with fault new later (fails_both source_a source_b begun at s.sweeps (fault_value fault) new.first new.second later fails)
+        (λ never. have_read fails.firsts fails.seconds fails.takes)
+        (none_kept source_a.is_read (below old.first) (view_of new.first).fault (below new.first) (fails.takes.first_taken.takes.goes ∙ none_first))
+        (none_kept source_b.is_read (below old.second) (view_of new.second).fault (below new.second) (fails.takes.second_taken.takes.goes ∙ none_second))
+
+    pub gave_both : {T : Type 0} (answer : Result T Fault) → order_of new.sweep ≡ order → Advances order answer → Leads Given answer new later
+    gave_both {T} answer same advances = gave answer same (subst (λ (o : Order). Advances {T = T} o answer) s.order_is advances)
+
+  -- ---- the first input has ended
+
+  pub finished : {T : Type 0} (answer : Result T Fault) → want_in sweep ≡ Nothing → (second_now : Records B O g) → ReadsRest source_b (IsBedKind (order_in old.second)) (view_of old.second) answer (view_of second_now)
+      → (fault_kept old.second ≡ None → AnswersNoRead answer → HasRead source_b.is_read (below old.second) (below second_now)) → (fault_kept old.second ≡ None → KeepsOwnFault source_b.is_read (below old.second) (view_of second_now))
+      → SweepIsOver source_a source_b start out (fault_of answer) (record old { second = second_now }) grown
+  finished {T} answer wants second_now reads read own = record {
+    finishes = finishes_both source_a source_b begun at s.sweeps wants {T = T} answer second_now reads;
+    reads = λ never. (s.reads.0, has_read_then source_b.is_read (below start.second) (below old.second) (below second_now) s.reads.1 (read none_second (answers_none answer never)));
+    own_first = own_then source_a.is_read (below start.first) (below old.first) (view_of old.first).fault (below old.first) s.reads.0 own_first;
+    own_second = own_then source_b.is_read (below start.second) (below old.second) (view_of second_now).fault (below second_now) s.reads.1 (own none_second);
+  }

@@ -49,7 +49,8 @@ use Rattle.bt_tool.specs.inside.feed.Feeding.{member_items}
 use Rattle.bt_tool.specs.inside.pair.Pair.{JoinDef, Pair, Settles, item_ahead}
 use Rattle.bt_tool.specs.inside.pair.Progress.{Comes, TakesFurther}
 use Rattle.bt_tool.specs.inside.pair.Endings.{AsksFor, IsKnown}
-use Rattle.bt_tool.specs.inside.pair.SweepLoop.{AreWithin, FinishesBoth, ReadsRest, SweepEnds, Sweeps, config_of, records_pair, stage_of, sweep_join}
+use Rattle.bt_tool.specs.inside.pair.Rounds.{fault_of}
+use Rattle.bt_tool.specs.inside.pair.SweepLoop.{AreWithin, ReadsRest, SweepEnds, Sweeps, config_of, records_pair, stage_of, sweep_join}
 use Rattle.bt_tool.specs.inside.pair.SweepSteps.{FailsAmong, GivesBoth, TakesBoth}
 use Rattle.bt_tool.specs.inside.feed.Passed.{Passes, StopsAfter}
 use Rattle.bt_tool.proofs.lemmas.running.sweep.AdvanceLemmas.{ahead_placed}
@@ -574,7 +575,7 @@ module _ {A B O : Type 0} {g : Ghosts O} (source_a : Source A) (source_b : Sourc
       done = sym (over_is stage.a_ended stage.b_ended) ∙ ap is_done (sym s.stands.phase_is) ∙ done_by sweep.current (is_done sweep.phase) wants
 
       pub finishes_both : {T : Type 0} (result : Result T Fault) (second_now : Records B O g) → ReadsRest source_b (IsBedKind (order_in second)) (view_of second) result (view_of second_now)
-          → FinishesBoth source_a source_b order config old_first old_second out result first second_now grown
+          → Ends (fault_of result) first second_now grown
       finishes_both {T} (Ok unit) second_now reads =
           let checks = subst (λ (o : Order). ReadsRest {T = T} source_b (IsBedKind o) (view_of second) (Ok unit) (view_of second_now)) (s.second_order ∙ same_order) reads (view_of old_second) s.past_second s.comes.second_passes wrong_bed in
           stop.ends_rest join pair out (stage_of stage) s.past_first s.past_second (view_of first) (view_of second) grown s.comes asks_here s.fits done (view_of second_now) (λ some. absurd (false≢true (ap is_some (sym checks.passes.going) ∙ some))) checks.passes.bytes (s.past_second ++ checks.more) None

@@ -8,7 +8,7 @@ use Rattle.bt_tool.proofs.lemmas.running.members.BlockMembers.{blocks_given, blo
 use Rattle.bt_tool.proofs.lemmas.running.members.CursorLemmas.{lines_consumed, lines_numbered}
 use Rattle.bt_tool.proofs.lemmas.running.mask.MaskBoth.{gives_both}
 use Rattle.bt_tool.proofs.lemmas.running.members.PassedLemmas.{taken_reads}
-use Rattle.bt_tool.proofs.loops.masking.give_buffered.Goals as goal
+use Rattle.bt_tool.proofs.loops.masking.advance_buffered.Goals as goal
 
 pub consume-requires : goal.consume-requires
 consume-requires g c =

@@ -1,0 +1,6 @@
+use Rattle.bt_tool.proofs.lemmas.running.sweep.SweepRounds.{finished}
+use Rattle.bt_tool.proofs.loops.sweeping.SweepInputsTwoInputEngine.finish.Goals as goal
+
+pub returns : goal.returns
+returns g c = λ grown start out s.
+    finished g.A.Source g.B.Source start out c.args.self.now grown s c.check_rest.result c.requires c.check_rest.new.second c.check_rest.ensures.reads c.check_rest.ensures.rest c.check_rest.ensures.own_failure

@@ -1,0 +1,41 @@
+use Rattle.bt_bed.proofs.lemmas.order.ResultLemmas.{passed_on}
+use Rattle.bt_tool.specs.inside.pair.Rounds.{fault_of}
+use Rattle.bt_tool.proofs.lemmas.running.pair.RoundLemmas.{round_is_less}
+use Rattle.bt_tool.proofs.loops.two_inputs.give_all.Goals as goal
+
+pub loop-engine-init : goal.loop-engine-init
+loop-engine-init g c = c.requires
+
+pub returns-in_err-fill_wanted : goal.returns-in_err-fill_wanted
+returns-in_err-fill_wanted g c =
+    passed_on (λ r. g.E.TwoInputEngine.ends c.args.engine.now c.args.out.now.output (fault_of r) c.fill_wanted.new.engine c.fill_wanted.new.out.output)
+    c.from_residual.result c.in_err-fill_wanted.field-0.0 c.from_residual.ensures.1
+    (c.in_err-fill_wanted.ensures c.args.engine.now c.args.out.now.output c.loop-engine.invariant)
+
+pub give_buffered-requires : goal.give_buffered-requires
+give_buffered-requires g c =
+    let filled = (rw c.if-branch.true at c.in_ok-fill_wanted.ensures) c.args.engine.now c.args.out.now.output c.loop-engine.invariant in
+    (c.args.engine.now, c.args.out.now.output, filled.0)
+
+pub loop-engine-smaller : goal.loop-engine-smaller
+loop-engine-smaller g c =
+    let filled = (rw c.if-branch.true at c.in_ok-fill_wanted.ensures) c.args.engine.now c.args.out.now.output c.loop-engine.invariant in
+    let given = c.in_ok-give_buffered.ensures c.args.engine.now c.args.out.now.output filled.0 in
+    round_is_less g.E.TwoInputEngine.is_ready g.E.TwoInputEngine.left c.loop-engine.engine c.fill_wanted.new.engine c.give_buffered.new.self filled.1 given.1
+
+pub loop-engine-preserved : goal.loop-engine-preserved
+loop-engine-preserved g c =
+    let filled = (rw c.if-branch.true at c.in_ok-fill_wanted.ensures) c.args.engine.now c.args.out.now.output c.loop-engine.invariant in
+    (c.in_ok-give_buffered.ensures c.args.engine.now c.args.out.now.output filled.0).0
+
+pub returns-in_err-give_buffered : goal.returns-in_err-give_buffered
+returns-in_err-give_buffered g c =
+    let filled = (rw c.if-branch.true at c.in_ok-fill_wanted.ensures) c.args.engine.now c.args.out.now.output c.loop-engine.invariant in
+    passed_on (λ r. g.E.TwoInputEngine.ends c.args.engine.now c.args.out.now.output (fault_of r) c.give_buffered.new.self c.give_buffered.new.out.output)
+    c.from_residual-in_err-give_buffered.result c.in_err-give_buffered.field-0.0 c.from_residual-in_err-give_buffered.ensures.1
+    (c.in_err-give_buffered.ensures c.args.engine.now c.args.out.now.output filled.0)
+
+pub returns : goal.returns
+returns g c =
+    let none = rw c.if-branch.false at c.in_ok-fill_wanted.ensures in
+    c.finish.ensures c.fill_wanted.new.out.output c.args.engine.now c.args.out.now.output (rw (none.1, none.2) c.loop-engine.invariant)

@@ -1,0 +1,92 @@
+//! The loop over two inputs: an engine is given what it wants of both.
+
+ghost use Rattle.std.specs.Prelude.{◌≡◌, ℕ, Option, option_map};
+ghost use Rattle.bt_lines.specs.calls.Names.{fault_value};
+ghost use Rattle.bt_lines.specs.calls.Output.{Output};
+ghost use Rattle.bt_lines.specs.model.Fault.{FaultValue};
+ghost use Rattle.bt_sweep.specs.declared.sweep.want.Want.{Want};
+ghost use Rattle.bt_tool.specs.inside.pair.Rounds.{Finishes, Gives, Reads, Wants, fault_of};
+
+use bt_lines::{Fault, Out, Sink};
+use bt_sweep::Want;
+
+// Two readers, and the engine that is given what they have buffered.
+pub(crate) trait TwoInputEngine {
+    // If it began with this output, it has come to this state and this output.
+    ghost comes: { Self → Output → Self → Output → Type 0 };
+
+    // If it began with this output, it has ended with this fault or none, in this state and with this output.
+    ghost ends: { Self → Output → Option FaultValue → Self → Output → Type 0 };
+
+    // The input that is wanted.
+    ghost wants: { Self → Want };
+
+    // Something of that input is buffered.
+    ghost is_ready: { Self → Type 0 };
+
+    // How much is still wanted.
+    ghost left: { Self → ℕ };
+
+    // The input that is wanted next.
+    fn want(&self) -> Want
+        ensures { result ≡ wants self.now };
+
+    // Makes something of the first input buffered, or gives the engine the end of that input.
+    fn fill_first(&mut self) -> Result<(), Fault>
+        requires { wants self.old ≡ Want.A }
+        ensures { (grown : Output) → Reads comes ends is_ready left self.old grown result self.new grown };
+
+    // The same of the second input. At its end the engine may write.
+    fn fill_second<K: Sink>(&mut self, out: &mut Out<K>) -> Result<(), Fault>
+        requires { wants self.old ≡ Want.B }
+        ensures { Reads comes ends is_ready left self.old out.old.output result self.new out.new.output };
+
+    // Gives the engine what both inputs have buffered, as far as it wants it, and consumes that.
+    fn give_buffered<K: Sink>(&mut self, out: &mut Out<K>) -> Result<(), Fault>
+        requires { (start : Self) × (before : Output) × comes start before self.old out.old.output }
+        ensures { Gives comes ends is_ready left self.old out.old.output result self.new out.new.output };
+
+    // Reads what isn't wanted but is to be checked.
+    fn finish(&mut self) -> Result<(), Fault>
+        requires { wants self.old ≡ Want.Nothing }
+        ensures { (grown : Output) → Finishes comes ends self.old grown result self.new };
+}
+
+// Reads on the input that is wanted, and returns false if none is.
+fn fill_wanted<E: TwoInputEngine, K: Sink>(engine: &mut E, out: &mut Out<K>) -> Result<bool, Fault>
+    ensures { Wants E.comes E.ends E.is_ready E.left E.wants engine.old out.old.output result engine.new out.new.output }
+{
+    match engine.want() {
+        Want::A => {
+            engine.fill_first()?;
+            Ok(true)
+        }
+        Want::B => {
+            engine.fill_second(out)?;
+            Ok(true)
+        }
+        Want::Nothing => Ok(false),
+    }
+}
+
+// Gives an engine all that it wants.
+fn give_all<E: TwoInputEngine, K: Sink>(engine: &mut E, out: &mut Out<K>) -> Result<(), Fault>
+    requires { E.comes engine.old out.old.output engine.old out.old.output }
+    ensures { E.ends engine.old out.old.output (fault_of result) engine.new out.new.output }
+{
+    while fill_wanted(engine, out)? {
+        engine.give_buffered(out)?;
+    }
+    engine.finish()
+}
+
+// Runs an engine to its end, and returns the fault that it ends with, if there is one.
+pub(crate) fn run_two<E: TwoInputEngine, K: Sink>(engine: &mut E, out: &mut Out<K>) -> Option<Fault>
+    requires { E.comes engine.old out.old.output engine.old out.old.output }
+    ensures { E.ends engine.old out.old.output (option_map fault_value result) engine.new out.new.output }
+{
+    match give_all(engine, out) {
+        Ok(()) => None,
+        Err(fault) => Some(fault),
+    }
+}
