@@ -5,4 +5,3 @@ pub mod HeaderLemmas
 pub mod Kept
 pub mod NameKeyLemmas
 pub mod NameLemmas
-pub mod TabLemmas

@@ -1,10 +1,9 @@
 -- The first columns of a line that are in order.
-use Rattle.std.specs.Prelude.{◌≡◌, ℕ, ◌<◌, ◌≤◌, ◌+◌, ◌==◌, Bool, true, false, List, ◌∷◌, ◌++◌}
+use Rattle.std.specs.Prelude.{◌≡◌, ℕ, ◌<◌, ◌≤◌, ◌+◌, ◌==◌, true, false, List, ◌∷◌, ◌++◌}
 use Rattle.std.specs.Prelude.{length, take, drop, get_or, Some}
 use Rattle.std.specs.Char.{is_ascii_digit}
 use Rattle.std.specs.List.{All, list_all}
 use Rattle.std.specs.Str.Parse.{digits_value}
-use Rattle.bt_lines.specs.model.Lines.{pieces}
 use Rattle.bt_lines.specs.model.Number.{value_of}
 use Rattle.bt_bed.specs.model.feature.Header.{is_header}
 use Rattle.bt_bed.specs.model.feature.Record.{IsName}
@@ -63,14 +62,3 @@ pub record HasColumns (bytes name : List ℕ) (start stop : ParsedNumber) : Type
   pub second : BeginsWith (drop (length name + start.end + 2) bytes) stop
   pub some_second : 0 < stop.end
   pub below : start.value < stop.value
-
--- whether a byte is a tab
-abbrev pub is_tab : ℕ → Bool
-is_tab byte = byte == 9
-
--- the second tab is here: it divides the first two columns from the others
-pub record CutsTwo (text : List ℕ) (at : ℕ) : Type 0 where
-  pub within : at < length text
-  pub first : List ℕ
-  pub second : List ℕ
-  pub cut : pieces 9 text ≡ first ∷ second ∷ pieces 9 (drop (at + 1) text)

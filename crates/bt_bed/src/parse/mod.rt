@@ -8,4 +8,3 @@ pub(crate) mod names;
 pub(crate) mod packed_name;
 pub(crate) mod parsed_number;
 pub(crate) mod parsing;
-pub(crate) mod tabs;

@@ -1,14 +1,28 @@
-use Rattle.std.proofs.Common.{ℕ, ◌≡◌, ◌+◌, ◌∙◌, drop, sym, ap, arith}
-use Rattle.std.proofs.lemmas.List.{drop-drop}
+use Rattle.std.proofs.Common.{arith, refl, take}
+use Rattle.bt_lines.proofs.lemmas.reader.lines.PiecesLemmas.{before_tab, without_tab}
 use Rattle.bt_bed.proofs.record.kept_strand.third_column.Goals as goal
 
-pub returns-in-Some : goal.returns-in-Some
-returns-in-Some c =
-    let text = c.args.text.now in
-    let from = c.args.from in
-    let second = c.in-Some.second in
-    let two = c.in-Some.ensures in
-    let place : from + (second + 1) ≡ from + second + 1 = omega arith in
-    let last : drop (second + 1) (drop from text) ≡ c.behind.result.now =
-    drop-drop (second + 1) from text ∙ ap (λ (m : ℕ). drop m text) place ∙ sym c.behind.ensures in
-    rw (two.cut, last) (c.first_column.ensures two.first two.second)
+pub returns-then-first-text : goal.returns-then-first-text
+returns-then-first-text c = rw (without_tab c.args.text.now c.length_before-first.result c.length_before-first.ensures c.if-first-text.true) refl
+
+pub returns-then-second-text : goal.returns-then-second-text
+returns-then-second-text c =
+    let first = c.length_before-first in
+    let second = c.length_before-second in
+    rw (
+      before_tab c.args.text.now first.result first.ensures (omega (arith, first.ensures.within, c.if-first-text.false)),
+      ← c.behind-text.ensures,
+      without_tab c.behind-text.result.now second.result second.ensures c.if-second-text.true,
+    ) refl
+
+pub returns : goal.returns
+returns c =
+    let first = c.length_before-first in
+    let second = c.length_before-second in
+    let rest = c.behind-text.result.now in
+    rw (
+      before_tab c.args.text.now first.result first.ensures (omega (arith, first.ensures.within, c.if-first-text.false)),
+      ← c.behind-text.ensures,
+      before_tab rest second.result second.ensures (omega (arith, second.ensures.within, c.if-second-text.false)),
+      ← c.behind.ensures,
+    ) (c.first_column.ensures (take first.result c.args.text.now) (take second.result rest))

@@ -1,12 +1,13 @@
 -- Lemmas on the pieces of a text between separators.
-use Rattle.std.proofs.Common.{◌≡◌, ℕ, zero, ◌+◌, ◌<◌, false, List, [], ◌∷◌, ◌++◌, length, take, drop, get_or, Option, Some, None, sym, ap, ◌∙◌, arith, eqb}
-use Rattle.std.proofs.lemmas.List.{take-append-drop, drop_more, get_or-take, get_or_default, length-take-le}
+use Rattle.std.proofs.Common.{◌≡◌, ℕ, zero, ◌+◌, ◌<◌, false, List, [], ◌∷◌, ◌++◌, length, take, drop, get_or, Option, Some, None, refl, sym, ap, ◌∙◌, subst, arith, eqb}
+use Rattle.std.proofs.lemmas.List.{take-append-drop, drop_more, get_or-take, get_or_default, length-take-le, take_all}
 use Rattle.std.proofs.lemmas.List.Splits.{slice_split_at, slice_split_none}
 use Rattle.std.specs.List.{All}
 use Rattle.std.proofs.lemmas.Bool.{false_from_ne_true}
 use Rattle.memchr.specs.Find.{FindsNeedle, IsFirstByte, OccursAt, Passes, is_byte}
 use Rattle.std.specs.Prelude.{IfSome, slice_index}
 use Rattle.std.proofs.lemmas.Bool.{eq-eqb, eqb-true}
+use Rattle.bt_lines.specs.calls.FirstByte.{IsBefore, Lacks}
 use Rattle.bt_lines.specs.calls.Columns.{CutAt, IsFirstTab}
 use Rattle.bt_lines.specs.model.Lines.{pieces}
 
@@ -37,6 +38,14 @@ tab_divides text (Some i) first = (
   record { within = first.0.high; tab = eqb-true (get_or text i 0) 9 first.1; column = clear_before 9 text i first },
   pieces_cut 9 text i first,
 )
+
+-- the first column ends before the first tab
+pub before_tab : (text : List ℕ) (end : ℕ) → IsBefore 9 text end → end < length text → pieces 9 text ≡ take end text ∷ pieces 9 (drop (end + 1) text)
+before_tab text end is below = ap (pieces 9) (is.cut below) ∙ slice_split_at (λ x. eqb x 9) (take end text) 9 (drop (end + 1) text) is.clear refl
+
+-- a text without a tab is one column
+pub without_tab : (text : List ℕ) (end : ℕ) → IsBefore 9 text end → end ≡ length text → pieces 9 text ≡ text ∷ []
+without_tab text end is all = slice_split_none (λ x. eqb x 9) text (subst (Lacks 9) (take_all end text (omega (arith, all))) is.clear)
 
 -- a needle of one byte
 module _ (hay : List ℕ) (b : ℕ) where
