@@ -13,7 +13,7 @@ use crate::reader::read_buffer::ReadBuffer;
 const BOUND: u64 = (1 << 63) - 1;
 
 // Why the reading of a line stopped.
-#[derive(Clone, Copy, Debug)]
+#[derive(Clone, Copy)]
 pub(crate) enum Stop {
     // A line feed.
     LineFeed,
@@ -28,7 +28,7 @@ pub(crate) enum Stop {
 }
 
 // The outcome of a read for more bytes.
-#[derive(Clone, Copy, Debug)]
+#[derive(Clone, Copy)]
 pub(crate) enum More {
     // Bytes, in the block.
     Bytes,
