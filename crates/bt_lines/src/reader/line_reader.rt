@@ -230,6 +230,15 @@ impl<S: Source> LineReader<S> {
         ensures moved { result ≡ true → Moves S.Source self.old self.new }
         ensures stopped { result ≡ false → Stops S.Source self.old self.new }
     {
+        self.step()
+    }
+
+    // The same, without the mark that it is rarely called, with which little is inlined into it.
+    fn step(&mut self) -> bool
+        requires { complete self.old.buffer ≡ [] }
+        ensures moved { result ≡ true → Moves S.Source self.old self.new }
+        ensures stopped { result ≡ false → Stops S.Source self.old self.new }
+    {
         match self.fill() {
             Ok(true) => {
                 self.cuts_line();

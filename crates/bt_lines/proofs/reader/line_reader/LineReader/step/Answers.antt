@@ -1,6 +1,6 @@
 use Rattle.std.proofs.Common.{◌∙◌, Ok, ap}
 use Rattle.bt_lines.proofs.lemmas.reader.block.FillLemmas.{moves_by, stops_by}
-use Rattle.bt_lines.proofs.reader.line_reader.LineReader.moves_on.Goals as goal
+use Rattle.bt_lines.proofs.reader.line_reader.LineReader.step.Goals as goal
 
 pub returns-in-Err-clause-stopped : goal.returns-in-Err-clause-stopped
 returns-in-Err-clause-stopped g c = λ e. stops_by _ c.args.self.now _ c.in-Err._fault c.in-Err.ensures.fills c.in-Err.ensures.own_failure
