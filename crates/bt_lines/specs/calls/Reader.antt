@@ -5,7 +5,7 @@ use Rattle.std.specs.Prelude.{IfSome, IsSome, take, drop, ⊤}
 use Rattle.std.specs.Io.KnownBytes.{Consumes, IsAtEnd, prepend_known}
 use Rattle.bt_lines.specs.declared.device.Source.{Ghosts as Source}
 use Rattle.bt_lines.specs.inside.ReadBuffer.{complete, text_in, unread}
-use Rattle.bt_lines.specs.inside.ReaderState.{ended_at, fault_at, going_at, open_at, taken_at, text_at, told_at}
+use Rattle.bt_lines.specs.inside.ReaderState.{ended_at, fault_at, open_at, taken_at, text_at, told_at}
 use Rattle.bt_lines.specs.inside.Shape.{held_at, is_fed}
 use Rattle.bt_lines.specs.calls.Buffered.{buffered_lines}
 use Rattle.bt_lines.specs.calls.Device.{ReadsCounted, ReadsFail}
@@ -58,10 +58,6 @@ module _ {S : Type 0} where
 
   unfoldable pub fault_kept : LineReader S → Option FaultValue
   fault_kept reader = fault_at reader.state reader.input reader.lines
-
-  -- whether it goes on
-  abbrev pub is_going : LineReader S → Bool
-  is_going reader = going_at reader.state
 
   -- whether the end was reported to it
   unfoldable pub end_told : LineReader S → Bool
@@ -241,17 +237,6 @@ module _ {S : Type 0} where
   abbrev pub StepsTo : Source S → LineReader S → Option TextLine → LineReader S → Type 0
   StepsTo device old (Some line) new = GivesLine device old line new
   StepsTo device old None new = GivesEnd device old new
-
-  abbrev pub StepAnswers : {A : Type 0} → Source S → LineReader S
-      → Result A Fault → LineReader S → Type 0
-  StepAnswers device old (Ok done) new = StepsTo device old (line_at new) new
-  StepAnswers device old (Err fault) new = GivesFault device old (fault_value fault) new
-
-  -- the same call of `next`, with the line held instead of borrowed
-  pub record Stepped {A : Type 0} (device : Source S)
-      (old : LineReader S) (answer : Result A Fault) (new : LineReader S) : Type 0 where
-    pub answers : StepAnswers device old answer new
-    pub sound : IsSound device old → IsSound device new
 
   -- a step that met no fault
   pub record Moves (device : Source S) (old new : LineReader S) : Type 0 where

@@ -8,7 +8,3 @@ IsFirstOf value bytes None = Lacks value bytes
 IsFirstOf value bytes (Some at) =
     (at < length bytes) × (bytes ≡ take at bytes ++ value ∷ drop (at + 1) bytes)
     × Lacks value (take at bytes)
-
--- some bytes, cut at their first line feed
-abbrev pub IsFirstFeed : List ℕ → Option ℕ → Type 0
-IsFirstFeed bytes found = IsFirstOf 10 bytes found

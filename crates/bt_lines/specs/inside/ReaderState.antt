@@ -60,15 +60,6 @@ taken_at ReadFailed taken = taken
 taken_at TooLong taken = suc taken
 taken_at NoMemory taken = taken
 
--- whether the reader goes on
-abbrev pub going_at : State → Bool
-going_at Reading = true
-going_at LastLine = false
-going_at Ended = false
-going_at ReadFailed = false
-going_at TooLong = false
-going_at NoMemory = false
-
 -- the text of the line that the reader is at, once it has given this many
 abbrev pub text_at : State → ℕ → List ℕ → Option (List ℕ)
 text_at Reading lines text = if nat_lt 0 lines then Some text else None

@@ -66,34 +66,6 @@ module _ {S : Type 0} (IsRead : S → Option ℕ → S → Type 0) where
   AreCounted TooLong old old_taken new taken = ReadsCounted IsRead old old_taken new (suc taken)
   AreCounted NoMemory old old_taken new taken = ReadsCounted IsRead old old_taken new taken
 
--- what was read of the line, what follows it, and where the reading stopped
-abbrev pub StopsAt : Stop → Option (List ℕ) → Bool → Bool → Bool → List ℕ → List ℕ → List ℕ → ℕ → Type 0
-StopsAt LineFeed left was_failed is_failed told text behind unread taken =
-    ((line : List ℕ) × NoLineFeed line × (text ≡ line ++ 10 ∷ [])) × (behind ≡ unread) × (is_failed ≡ was_failed)
-StopsAt End left was_failed is_failed told text behind unread taken =
-    NoLineFeed text × (behind ≡ []) × (unread ≡ []) × (is_failed ≡ was_failed) × (told ≡ true) × IsAtEnd left
-StopsAt Failed left was_failed is_failed told text behind unread taken =
-    NoLineFeed text × (behind ≡ []) × (unread ≡ []) × (is_failed ≡ true)
-StopsAt TooLong left was_failed is_failed told text behind unread taken =
-    NoLineFeed text × (length behind ≡ 1) × (unread ≡ []) × (taken ≡ 2 ^ 63 - 1)
-StopsAt NoMemory left was_failed is_failed told text behind unread taken =
-    NoLineFeed text × (behind ≡ unread) × (is_failed ≡ was_failed)
-
-module _ {S : Type 0} (device : Source S) where
-  -- what was read after the lines, and the bytes read after that, were moved to a line except `behind`
-  pub record Fills (old : S) (old_unread : List ℕ) (old_taken : ℕ) (stop : Stop)
-      (new : S) (unread text : List ℕ) (taken : ℕ) : Type 0 where
-    pub bytes : List ℕ
-    pub consumed : Consumes (device.left old) (device.left new) bytes
-    pub counted : taken + uncounted stop ≡ old_taken + length bytes
-    pub within : taken < 2 ^ 63
-    -- those that follow the line
-    pub behind : List ℕ
-    pub joined : old_unread ++ bytes ≡ text ++ behind
-    pub stopped : StopsAt stop (device.left new)
-        (device.has_failed old) (device.has_failed new) (device.end_told new)
-        text behind unread taken
-
 -- a last piece with a line feed; an empty one is no line
 abbrev pub closed : List ℕ → List ℕ
 closed [] = []

@@ -4,6 +4,7 @@ ghost use Rattle.std.specs.Prelude.{◌≡◌, ℕ, ◌+◌, ◌<◌, ◌≤◌,
 ghost use Rattle.std.specs.Io.KnownBytes.{Keeps, WriteAppends};
 ghost use Rattle.bt_lines.specs.calls.Script.{is_spent, takes_of};
 
+use crate::device::script_source::let_through;
 use crate::device::{DeviceFailed, Sink};
 use std::alloc::Global;
 use std::marker::Model;
@@ -58,30 +59,6 @@ impl ScriptSink {
     {
         self.taken.as_slice()
     }
-
-    // Whether the good bytes are used up.
-    fn is_spent(&self) -> bool
-        ensures { result ≡ is_spent self.now.good (length self.now.taken) }
-    {
-        match self.good {
-            Some(good) => good <= self.taken.len(),
-            None => false,
-        }
-    }
-
-    // How many of the bytes offered the next write takes.
-    fn count_of(&self, offered: usize) -> usize
-        requires { is_spent self.now.good (length self.now.taken) ≡ false }
-        ensures count { result ≡ takes_of self.now offered }
-        ensures within { result ≤ offered }
-        ensures some { 0 < offered → 0 < result }
-    {
-        let count = self.step.min(offered);
-        match self.good {
-            Some(good) => count.min(good - self.taken.len()),
-            None => count,
-        }
-    }
 }
 
 impl Sink for ScriptSink {
@@ -112,11 +89,11 @@ impl Sink for ScriptSink {
         if bytes.is_empty() {
             return Ok(0);
         }
-        if self.is_spent() {
+        let most = self.step.min(bytes.len());
+        let Some(count) = let_through(self.good, self.taken.len(), most) else {
             self.has_failed = true;
             return Err(DeviceFailed);
-        }
-        let count = self.count_of(bytes.len());
+        };
         if self.taken.extend_from_slice(&bytes[..count]).is_err() {
             self.has_failed = true;
             return Err(DeviceFailed);

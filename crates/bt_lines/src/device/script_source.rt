@@ -1,9 +1,9 @@
 //! A source that plays a script, for tests.
 
-ghost use Rattle.std.specs.Prelude.{◌≡◌, ℕ, ◌<◌, ◌≤◌, ◌↔◌, IsTrue, length, IfOk, OnOk, OnErr, Some, true, false, drop, take, IsErr, ◌+◌};
+ghost use Rattle.std.specs.Prelude.{◌≡◌, ℕ, ◌<◌, ◌≤◌, ◌↔◌, IsTrue, length, IfNone, IfSome, IfOk, OnOk, OnErr, Some, true, false, drop, take, IsErr, ◌+◌};
 ghost use Rattle.std.specs.Io.KnownBytes.{ReadConsumes};
 ghost use Rattle.bt_lines.specs.calls.Device.{TellsEnd};
-ghost use Rattle.bt_lines.specs.calls.Script.{IsScriptRead, is_spent, hands_over};
+ghost use Rattle.bt_lines.specs.calls.Script.{IsScriptRead, is_spent, hands_over, let_through};
 
 use crate::device::{DeviceFailed, Source};
 use std::marker::Model;
@@ -73,30 +73,20 @@ impl<'a> ScriptSource<'a> {
     {
         self.given
     }
+}
 
-    // Whether the next read fails.
-    fn is_spent(&self) -> bool
-        ensures { result ≡ is_spent self.now.good self.now.given }
-    {
-        match self.good {
-            Some(good) => good <= self.given,
-            None => false,
-        }
-    }
-
-    // How many bytes the next read hands over into a block with this room.
-    fn count_for(&self, room: usize) -> usize
-        requires { is_spent self.now.good self.now.given ≡ false }
-        ensures count { result ≡ hands_over self.now room }
-        ensures room { result ≤ room }
-        ensures text { self.now.given + result ≤ length self.now.bytes }
-        ensures some { 0 < room → self.now.given < length self.now.bytes → 0 < result }
-    {
-        let count = self.step.min(room).min(self.bytes.len() - self.given);
-        match self.good {
-            Some(good) => count.min(good - self.given),
-            None => count,
-        }
+// How many of `most` bytes a script lets pass that has moved some, or none if its good bytes are used up.
+pub(crate) fn let_through(good: Option<usize>, moved: usize, most: usize) -> Option<usize>
+    ensures spent { IfNone result (is_spent good moved ≡ true) }
+    ensures works { IfSome result (λ n. is_spent good moved ≡ false) }
+    ensures count { IfSome result (λ n. n ≡ let_through good moved most) }
+    ensures within { IfSome result (λ n. n ≤ most) }
+    ensures some { IfSome result (λ n. 0 < most → 0 < n) }
+{
+    match good {
+        Some(good) if good <= moved => None,
+        Some(good) => Some(most.min(good - moved)),
+        None => Some(most),
     }
 }
 
@@ -138,12 +128,12 @@ impl Source for ScriptSource<'_> {
         ensures same_script { (self.new.bytes ≡ self.old.bytes) × (self.new.step ≡ self.old.step)
             × (self.new.good ≡ self.old.good) }
     {
-        if self.is_spent() {
+        let room = block.len();
+        let most = self.step.min(room).min(self.bytes.len() - self.given);
+        let Some(count) = let_through(self.good, self.given, most) else {
             self.has_failed = true;
             return Err(DeviceFailed);
-        }
-        let room = block.len();
-        let count = self.count_for(room);
+        };
         copy_front(&self.bytes[self.given..self.given + count], block);
         self.given += count;
         if count == 0 && room > 0 {

@@ -53,13 +53,6 @@ pub enum Kind {
 }
 
 impl Kind {
-    // Whether a fault of this kind lies at a line of an input: a failed write and no memory don't.
-    pub(crate) fn has_place(self) -> bool
-        ensures { result ≡ has_place self }
-    {
-        !matches!(self, Kind::WriteFailed | Kind::NoMemory)
-    }
-
     /// The words for it on a fault line.
     pub fn text(self) -> &'static [u8]
         ensures { result.now ≡ text_of self }

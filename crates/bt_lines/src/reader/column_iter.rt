@@ -22,18 +22,11 @@ impl<'a> Iterator for Columns<'a> {
 
     fn next(&mut self) -> Option<&'a [u8]> {
         let rest = self.rest?;
-        let (column, rest) = first_column(rest);
-        self.rest = rest;
-        Some(column)
-    }
-}
-
-// The first column of a text, and what follows its tab, if it has one.
-fn first_column(text: &[u8]) -> (&[u8], Option<&[u8]>)
-    ensures { pieces 9 text.now ≡ result.0.now ∷ columns_of_rest result.1 }
-{
-    match first_tab(text) {
-        Some(end) => (&text[..end], Some(&text[end + 1..])),
-        None => (text, None),
+        let Some(end) = first_tab(rest) else {
+            self.rest = None;
+            return Some(rest);
+        };
+        self.rest = Some(&rest[end + 1..]);
+        Some(&rest[..end])
     }
 }

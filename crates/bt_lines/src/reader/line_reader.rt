@@ -15,7 +15,7 @@ use crate::reader::spill::{Stop, read_lines};
 use std::alloc::Global;
 
 // How far a reader is.
-#[derive(Clone, Copy, Debug)]
+#[derive(Clone, Copy)]
 pub(crate) enum State {
     // Before the end of the text.
     Reading,
@@ -61,7 +61,7 @@ impl<S: Source> LineReader<S> {
     ghost use Rattle.std.specs.Borrow.{sem};
     ghost use Rattle.std.specs.Io.BufRead.{Rests};
     ghost use Rattle.bt_lines.specs.contracts.reader.line_reader.LineReader.{the_row};
-    ghost use Rattle.bt_lines.specs.calls.Reader.{CutsFirst, FillsLines, IsPrefix, IsTaken, TakesLines, buffered_bytes, buffered_in, is_open, HasRead, IsSound, Moves, NextLine, Stepped, Stops, TellsOwnFailure, line_at, feeds_taken, is_going, source_of, input_of, lines_given, bytes_taken, held, fault_kept, has_ended, lines_left};
+    ghost use Rattle.bt_lines.specs.calls.Reader.{CutsFirst, FillsLines, IsPrefix, IsTaken, TakesLines, buffered_bytes, buffered_in, is_open, HasRead, IsSound, Moves, NextLine, Stops, TellsOwnFailure, line_at, feeds_taken, source_of, input_of, lines_given, bytes_taken, held, fault_kept, has_ended, lines_left};
     ghost use Rattle.bt_lines.specs.calls.Buffered.{BeginsLines, lines_in};
     ghost use Rattle.bt_lines.specs.calls.LentLine.{line_seen};
     ghost use Rattle.bt_lines.specs.model.Lines.{text_lines};
@@ -145,7 +145,7 @@ impl<S: Source> LineReader<S> {
     fn line(&self) -> Option<Line<'_>>
         ensures { option_map line_seen result ≡ line_at self.now }
     {
-        if self.lines == 0 || !self.is_open() && !self.is_going() {
+        if self.lines == 0 || !matches!(self.state, State::Reading | State::LastLine) {
             return None;
         }
         Some(self.last_line())
@@ -195,13 +195,6 @@ impl<S: Source> LineReader<S> {
         }
     }
 
-    // Whether neither the end nor a fault has come.
-    fn is_going(&self) -> bool
-        ensures { result ≡ is_going self.now }
-    {
-        matches!(self.state, State::Reading)
-    }
-
     // Whether the last line buffered has no line feed of its own.
     fn is_open(&self) -> bool
         ensures { result ≡ open_at self.now.state }
@@ -237,37 +230,41 @@ impl<S: Source> LineReader<S> {
         ensures moved { result ≡ true → Moves S.Source self.old self.new }
         ensures stopped { result ≡ false → Stops S.Source self.old self.new }
     {
-        match self.step() {
-            Ok(()) => true,
+        self.step()
+    }
+
+    // The same, without the mark that it is rarely called, with which little is inlined into it.
+    fn step(&mut self) -> bool
+        requires { complete self.old.buffer ≡ [] }
+        ensures moved { result ≡ true → Moves S.Source self.old self.new }
+        ensures stopped { result ≡ false → Stops S.Source self.old self.new }
+    {
+        match self.fill() {
+            Ok(true) => {
+                self.cuts_line();
+                true
+            }
+            Ok(false) => true,
             Err(_fault) => false,
         }
     }
 
-    // The fault that ended the reading.
+    // The fault that ended the reading: a failed read lies at the line after those given.
     #[inline(always)]
     fn fault(&self) -> Fault
         requires { IsSome (fault_kept self.now) }
         ensures { fault_kept self.now ≡ Some (fault_value result) }
     {
-        match self.state {
-            State::ReadFailed | State::TooLong => self.read_failed(),
-            _ => no_memory(),
+        if matches!(self.state, State::NoMemory) {
+            return no_memory();
         }
-    }
-
-    // Moves on if no line is buffered: reads one, if there is one.
-    fn step(&mut self) -> Result<(), Fault>
-        requires { complete self.old.buffer ≡ [] }
-        ensures steps { Stepped S.Source self.old result self.new }
-        ensures own_failure { TellsOwnFailure S.is_read self.old result self.new }
-    {
-        match self.fill() {
-            Ok(true) => {
-                self.cuts_line();
-                Ok(())
-            }
-            Ok(false) => Ok(()),
-            Err(fault) => Err(fault),
+        let place = Place {
+            input: self.input,
+            line: self.lines + 1,
+        };
+        Fault {
+            kind: Kind::ReadFailed,
+            place: Some(place),
         }
     }
 
@@ -286,15 +283,14 @@ impl<S: Source> LineReader<S> {
                 Ok(false)
             }
             State::Ended => Ok(false),
-            State::ReadFailed | State::TooLong => Err(self.read_failed()),
-            State::NoMemory => Err(no_memory()),
+            State::ReadFailed | State::TooLong | State::NoMemory => Err(self.fault()),
         }
     }
 
     // The same before the end.
     fn read_more(&mut self) -> Result<bool, Fault>
         requires none { complete self.old.buffer ≡ [] }
-        requires going { is_going self.old ≡ true }
+        requires going { self.old.state ≡ State.Reading }
         ensures fills { FillsLines S.Source self.old result self.new }
         ensures own_failure { TellsOwnFailure S.is_read self.old result self.new }
     {
@@ -310,30 +306,16 @@ impl<S: Source> LineReader<S> {
             }
             Stop::Failed => {
                 self.state = State::ReadFailed;
-                Err(self.read_failed())
+                Err(self.fault())
             }
             Stop::TooLong => {
                 self.state = State::TooLong;
-                Err(self.read_failed())
+                Err(self.fault())
             }
             Stop::NoMemory => {
                 self.state = State::NoMemory;
-                Err(no_memory())
+                Err(self.fault())
             }
-        }
-    }
-
-    // The fault of a failed read, at the line after those given.
-    fn read_failed(&self) -> Fault
-        ensures { fault_value result ≡ read_failed (input_of self.now) (suc (lines_given self.now)) }
-    {
-        let place = Place {
-            input: self.input,
-            line: self.lines + 1,
-        };
-        Fault {
-            kind: Kind::ReadFailed,
-            place: Some(place),
         }
     }
 }

@@ -2,24 +2,12 @@
 
 ghost use Rattle.std.specs.Prelude.{◌≡◌, ◌≤◌, length, take};
 ghost use Rattle.bt_lines.specs.calls.FirstByte.{IsBefore, Lacks};
-ghost use Rattle.bt_lines.specs.inside.Newline.{IsFirstFeed, IsFirstOf};
+ghost use Rattle.bt_lines.specs.inside.Newline.{IsFirstOf};
 
 use memchr::memchr;
 
 // How many bytes are searched at once.
 const NEAR: usize = 32;
-
-// Where the first line feed of a text is.
-#[inline(always)]
-pub(crate) fn find_newline(text: &[u8]) -> Option<usize>
-    ensures { IsFirstFeed text.now result }
-{
-    let length = line_length(text);
-    if length < text.len() {
-        return Some(length);
-    }
-    None
-}
 
 // How many bytes come before the first line feed, or in all. Most lines end in the first sixty-four bytes.
 #[inline(always)]

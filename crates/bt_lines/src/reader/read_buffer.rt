@@ -6,7 +6,7 @@ ghost use Rattle.bt_lines.specs.calls.Output.{block_size};
 ghost use Rattle.bt_lines.specs.inside.Shape.{AreComplete, IsSearched};
 
 use crate::device::{DeviceFailed, Source};
-use crate::reader::newline::find_newline;
+use crate::reader::newline::line_length;
 use memchr::memrchr;
 use std::alloc::{AllocError, Global};
 
@@ -77,13 +77,6 @@ impl ReadBuffer {
         &self.bytes[self.start..self.whole]
     }
 
-    // What was read after them.
-    pub(crate) fn unread(&self) -> &[u8]
-        ensures { result.now ≡ unread self.now }
-    {
-        &self.bytes[self.whole..self.end]
-    }
-
     // The text of the line that was taken last.
     pub(crate) fn text(&self) -> &[u8]
         ensures { result.now ≡ text_in self.now }
@@ -146,13 +139,6 @@ impl ReadBuffer {
         self.end - self.whole == BLOCK
     }
 
-    // Whether nothing was read after the lines.
-    pub(crate) fn is_line_start(&self) -> bool
-        ensures { result ≡ nat_eq (length (unread self.now)) 0 }
-    {
-        self.whole == self.end
-    }
-
     // If no complete line is left, moves what was read after them to the start of the block, and reads up to `most`
     // bytes after it.
     pub(crate) fn read_more<S: Source>(
@@ -180,32 +166,9 @@ impl ReadBuffer {
         self.move_front();
         let room = BLOCK - self.end;
         let most = (room as u64).min(most) as usize;
-        match read_behind(source, &mut self.bytes, self.end, most) {
-            Ok(count) => {
-                self.end += count;
-                Ok(count)
-            }
-            Err(failed) => Err(failed),
-        }
-    }
-
-    // If no complete line is left, ends what was read after them by a line feed: it is a line then.
-    pub(crate) fn end_line(&mut self)
-        requires none { complete self.old ≡ [] }
-        requires room { length (unread self.old) < block_size }
-        requires front { self.old.whole ≡ 0 }
-        ensures lines { complete self.new ≡ unread self.old ++ 10 ∷ [] }
-        ensures unread { unread self.new ≡ [] }
-        ensures plain { self.new.is_spilled ≡ false }
-    {
-        self.bytes[self.end] = b'\n';
-        self.is_spilled = false;
-        self.from = 0;
-        self.stop = 0;
-        self.start = self.whole;
-        self.end += 1;
-        self.whole = self.end;
-        self.searched = self.end;
+        let count = read_behind(source, &mut self.bytes, self.end, most)?;
+        self.end += count;
+        Ok(count)
     }
 
     // If no complete line is left, ends the text: a last line without a line feed is given one.
@@ -216,9 +179,17 @@ impl ReadBuffer {
         ensures lines { complete self.new ≡ closed (unread self.old) }
         ensures unread { unread self.new ≡ [] }
     {
-        if !self.is_line_start() {
-            self.end_line();
+        if self.whole == self.end {
+            return;
         }
+        self.bytes[self.end] = b'\n';
+        self.is_spilled = false;
+        self.from = 0;
+        self.stop = 0;
+        self.start = self.whole;
+        self.end += 1;
+        self.whole = self.end;
+        self.searched = self.end;
     }
 
     // Clears the vector for a line that is longer than the block.
@@ -243,21 +214,18 @@ impl ReadBuffer {
         ensures plain { self.new.is_spilled ≡ false }
     {
         let from = self.whole;
-        match find_newline(self.unread()) {
-            Some(length) => {
-                let line = from + length + 1;
-                append_part(&mut self.spilled, &self.bytes, from, line)?;
-                self.whole = line;
-                self.start = line;
-                self.searched = line;
-                Ok(true)
-            }
-            None => {
-                append_part(&mut self.spilled, &self.bytes, from, self.end)?;
-                self.clear_unread();
-                Ok(false)
-            }
+        let feed = from + line_length(&self.bytes[from..self.end]);
+        if feed == self.end {
+            append_part(&mut self.spilled, &self.bytes, from, self.end)?;
+            self.clear_unread();
+            return Ok(false);
         }
+        let line = feed + 1;
+        append_part(&mut self.spilled, &self.bytes, from, line)?;
+        self.whole = line;
+        self.start = line;
+        self.searched = line;
+        Ok(true)
     }
 
     // Drops what was read after the lines.

@@ -4,7 +4,7 @@ ghost use Rattle.std.specs.Prelude.{◌≡◌, ◌<◌, ◌^◌, [], false, leng
 ghost use Rattle.bt_lines.specs.calls.Output.{block_size};
 ghost use Rattle.bt_lines.specs.inside.ReadBuffer.{complete, unread};
 ghost use Rattle.bt_lines.specs.calls.LentLine.{NoLineFeed};
-ghost use Rattle.bt_lines.specs.inside.Spill.{AreCounted, AsksMore, Buffers, Fills, IsCounted};
+ghost use Rattle.bt_lines.specs.inside.Spill.{AreCounted, AsksMore, Buffers, IsCounted};
 
 use crate::device::Source;
 use crate::reader::read_buffer::ReadBuffer;
@@ -13,7 +13,7 @@ use crate::reader::read_buffer::ReadBuffer;
 const BOUND: u64 = (1 << 63) - 1;
 
 // Why the reading of a line stopped.
-#[derive(Clone, Copy, Debug)]
+#[derive(Clone, Copy)]
 pub(crate) enum Stop {
     // A line feed.
     LineFeed,
@@ -28,7 +28,7 @@ pub(crate) enum Stop {
 }
 
 // The outcome of a read for more bytes.
-#[derive(Clone, Copy, Debug)]
+#[derive(Clone, Copy)]
 pub(crate) enum More {
     // Bytes, in the block.
     Bytes,
@@ -69,7 +69,7 @@ pub(crate) fn read_lines<S: Source>(
     Stop::LineFeed
 }
 
-// The same if what was read of a line fills the block.
+// The same if what was read of a line fills the block: moves it to a vector, and reads on up to its line feed.
 fn read_long<S: Source>(source: &mut S, buffer: &mut ReadBuffer, taken: &mut u64) -> Stop
     requires counted { taken.old < 2 ^ 63 }
     requires none { complete buffer.old ≡ [] }
@@ -80,45 +80,24 @@ fn read_long<S: Source>(source: &mut S, buffer: &mut ReadBuffer, taken: &mut u64
     ensures counted { AreCounted S.is_read result source.old taken.old source.new taken.new }
 {
     buffer.begin_spill();
-    match read_spilled(source, buffer, taken) {
-        Stop::LineFeed => {
-            buffer.use_spilled();
-            Stop::LineFeed
-        }
-        Stop::End => match buffer.end_spilled() {
-            Ok(()) => {
-                buffer.use_spilled();
-                Stop::End
-            }
-            Err(_refused) => Stop::NoMemory,
-        },
-        Stop::Failed => Stop::Failed,
-        Stop::TooLong => Stop::TooLong,
-        Stop::NoMemory => Stop::NoMemory,
-    }
-}
-
-// Moves what was read of a line to an empty vector, and reads on up to its line feed. It counts all bytes that it takes.
-fn read_spilled<S: Source>(source: &mut S, buffer: &mut ReadBuffer, taken: &mut u64) -> Stop
-    requires counted { taken.old < 2 ^ 63 }
-    requires empty { buffer.old.spilled.items ≡ [] }
-    requires none { complete buffer.old ≡ [] }
-    requires plain { buffer.old.is_spilled ≡ false }
-    ensures fills { Fills S.Source source.old (unread buffer.old) taken.old result
-        source.new (unread buffer.new) buffer.new.spilled.items taken.new }
-    ensures none { complete buffer.new ≡ [] }
-    ensures plain { buffer.new.is_spilled ≡ false }
-    ensures counted { AreCounted S.is_read result source.old taken.old source.new taken.new }
-{
     'reads: loop {
         match buffer.spill() {
             Err(_refused) => return Stop::NoMemory,
-            Ok(true) => return Stop::LineFeed,
+            Ok(true) => {
+                buffer.use_spilled();
+                return Stop::LineFeed;
+            }
             Ok(false) => {}
         }
         match ask_more(source, buffer, taken) {
             More::Bytes => {}
-            More::NoBytes => return Stop::End,
+            More::NoBytes => match buffer.end_spilled() {
+                Ok(()) => {
+                    buffer.use_spilled();
+                    return Stop::End;
+                }
+                Err(_refused) => return Stop::NoMemory,
+            },
             More::BadRead => return Stop::Failed,
             More::PastBound => return Stop::TooLong,
         }

@@ -395,7 +395,7 @@ const FAULT_LINES: [Reported; 13] = [
 
 // The fault, if its kind goes with its place.
 fn fault_of(kind: Kind, place: Option<Place>) -> Option<Fault> {
-    if place.is_some() != kind.has_place() {
+    if place.is_some() == matches!(kind, Kind::WriteFailed | Kind::NoMemory) {
         return None;
     }
     Some(Fault { kind, place })

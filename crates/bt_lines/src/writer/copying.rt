@@ -53,14 +53,14 @@ pub(crate) fn copy_wide(to: &mut [u8], piece: &[u8])
     let size = piece.len();
     if size > 16 {
         if size > 32 {
-            copy_thirty_twos(to, piece);
+            copy_ends::<32>(to, piece);
         } else {
-            copy_sixteens(to, piece);
+            copy_ends::<16>(to, piece);
         }
     } else if size > 8 {
-        copy_eights(to, piece);
+        copy_ends::<8>(to, piece);
     } else {
-        copy_fours(to, piece);
+        copy_ends::<4>(to, piece);
     }
 }
 
@@ -94,19 +94,10 @@ pub(crate) fn copy_end(to: &mut [u8], piece: &[u8])
     ensures { to.new ≡ piece.now }
 {
     if piece.len() == 1 {
-        copy_byte(to, piece);
+        to[0] = piece[0];
     } else {
         copy_wide(to, piece);
     }
-}
-
-// Copies a single byte.
-fn copy_byte(to: &mut [u8], piece: &[u8])
-    requires to { length to.old ≡ 1 }
-    requires piece { length piece.now ≡ 1 }
-    ensures { to.new ≡ piece.now }
-{
-    to[0] = piece[0];
 }
 
 // Copies the first byte, the middle one and the last.
@@ -123,48 +114,15 @@ fn copy_few(to: &mut [u8], piece: &[u8])
     to[last] = piece[last];
 }
 
-// Copies the first and the last four bytes.
-fn copy_fours(to: &mut [u8], piece: &[u8])
+// Copies the first bytes and the last ones, `N` of each.
+fn copy_ends<const N: usize>(to: &mut [u8], piece: &[u8])
     requires same { length to.old ≡ length piece.now }
-    requires covers { Covers 4 (length piece.now) }
+    requires covers { Covers N (length piece.now) }
     ensures { to.new ≡ piece.now }
 {
-    let last = piece.len() - 4;
-    u8x4::from_slice(piece).copy_to_slice(to);
-    u8x4::from_slice(&piece[last..]).copy_to_slice(&mut to[last..]);
-}
-
-// Copies the first and the last eight bytes.
-fn copy_eights(to: &mut [u8], piece: &[u8])
-    requires same { length to.old ≡ length piece.now }
-    requires covers { Covers 8 (length piece.now) }
-    ensures { to.new ≡ piece.now }
-{
-    let last = piece.len() - 8;
-    u8x8::from_slice(piece).copy_to_slice(to);
-    u8x8::from_slice(&piece[last..]).copy_to_slice(&mut to[last..]);
-}
-
-// Copies the first and the last sixteen bytes.
-fn copy_sixteens(to: &mut [u8], piece: &[u8])
-    requires same { length to.old ≡ length piece.now }
-    requires covers { Covers 16 (length piece.now) }
-    ensures { to.new ≡ piece.now }
-{
-    let last = piece.len() - 16;
-    u8x16::from_slice(piece).copy_to_slice(to);
-    u8x16::from_slice(&piece[last..]).copy_to_slice(&mut to[last..]);
-}
-
-// Copies the first and the last thirty-two bytes.
-fn copy_thirty_twos(to: &mut [u8], piece: &[u8])
-    requires same { length to.old ≡ length piece.now }
-    requires covers { Covers 32 (length piece.now) }
-    ensures { to.new ≡ piece.now }
-{
-    let last = piece.len() - 32;
-    u8x32::from_slice(piece).copy_to_slice(to);
-    u8x32::from_slice(&piece[last..]).copy_to_slice(&mut to[last..]);
+    let last = piece.len() - N;
+    Simd::<u8, N>::from_slice(piece).copy_to_slice(to);
+    Simd::<u8, N>::from_slice(&piece[last..]).copy_to_slice(&mut to[last..]);
 }
 
 #[cfg(test)]

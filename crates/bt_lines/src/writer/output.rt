@@ -125,7 +125,7 @@ impl<K: Sink> Out<K> {
     }
 
     // Puts two short pieces, as `try_put_pair` does, and no others: so nothing is called where they are put.
-    #[inline(always)]
+    #[inline(never)]
     pub(crate) fn hold_short(&mut self, piece: &[u8], next: &[u8]) -> bool
         ensures held { result ≡ true → PutsAll self.old.output (piece.now ++ next.now) self.new.output }
         ensures unasked { self.new.sink ≡ self.old.sink }
@@ -179,7 +179,7 @@ impl<K: Sink> Out<K> {
         if self.has_failed {
             return Err(write_failed());
         }
-        if send_all(&mut self.sink, &mut self.held).is_err() {
+        if send(&mut self.sink, &mut self.held).is_err() || self.sink.flush().is_err() {
             self.has_failed = true;
             return Err(write_failed());
         }
@@ -226,44 +226,11 @@ fn put_across<K: Sink>(
     let room = held.room();
     held.append(&piece[..room]);
     send(sink, held)?;
-    put_blocks(sink, held, &piece[room..])
-}
-
-// Hands the full blocks of a piece to the sink, and holds back what is left of it.
-fn put_blocks<K: Sink>(
-    sink: &mut K,
-    held: &mut WriteBuffer,
-    piece: &[u8],
-) -> Result<(), DeviceFailed>
-    requires { held.old ≡ [] }
-    ensures put { OnOk result (Appends (K.took sink.old) (append_known (K.took sink.new) held.new) piece.now) }
-    ensures rest { OnOk result (length held.new ≡ length piece.now % block_size) }
-    ensures block { length held.new ≤ block_size }
-    ensures front { OnErr result (IsPrefixOf (K.took sink.new) (K.took sink.old) piece.now) }
-    ensures grows { Grows (K.took sink.old) (K.took sink.new) }
-    ensures served { OnOk result (K.has_failed sink.new ≡ K.has_failed sink.old) }
-    ensures failed { OnErr result (K.has_failed sink.new ≡ true) }
-{
-    let whole = piece.len() - piece.len() % BLOCK;
-    write_whole(sink, &piece[..whole])?;
-    held.append(&piece[whole..]);
+    let rest = &piece[room..];
+    let whole = rest.len() - rest.len() % BLOCK;
+    write_whole(sink, &rest[..whole])?;
+    held.append(&rest[whole..]);
     Ok(())
-}
-
-// Hands on the bytes that are held back, and flushes the sink.
-fn send_all<K: Sink>(sink: &mut K, held: &mut WriteBuffer) -> Result<(), DeviceFailed>
-    ensures taken { OnOk result
-        (Keeps (append_known (K.took sink.old) held.old) (K.took sink.new)) }
-    ensures empty { held.new ≡ [] }
-    ensures flushed { OnOk result (K.is_flushed sink.new ≡ true) }
-    ensures front { OnErr result
-        (IsPrefixOf (K.took sink.new) (append_known (K.took sink.old) held.old) []) }
-    ensures grows { Grows (K.took sink.old) (K.took sink.new) }
-    ensures served { OnOk result (K.has_failed sink.new ≡ K.has_failed sink.old) }
-    ensures failed { OnErr result (K.has_failed sink.new ≡ true) }
-{
-    send(sink, held)?;
-    sink.flush()
 }
 
 // Hands on the bytes that are held back. If the sink fails they are lost, and never sent again.

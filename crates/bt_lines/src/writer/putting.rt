@@ -37,19 +37,10 @@ pub fn put_line<K: Sink>(text: &[u8], end: &[u8], out: &mut Out<K>) -> Result<()
 pub fn put_both<K: Sink>(piece: &[u8], next: &[u8], out: &mut Out<K>) -> Result<(), Fault>
     ensures { Puts out.old.output (piece.now ++ next.now) result out.new.output }
 {
-    if hold_pieces(piece, next, out) || put_across(piece, next, out) {
+    if out.hold_short(piece, next) || put_across(piece, next, out) {
         return Ok(());
     }
     Err(write_failed())
-}
-
-// Puts both and returns true, if they are short and there is room for them.
-#[inline(never)]
-fn hold_pieces<K: Sink>(piece: &[u8], next: &[u8], out: &mut Out<K>) -> bool
-    ensures held { result ≡ true → PutsAll out.old.output (piece.now ++ next.now) out.new.output }
-    ensures unchanged { result ≡ false → out.new.output ≡ out.old.output }
-{
-    out.hold_short(piece, next)
 }
 
 // Puts both if there is no room for them, or one is long, and returns true if it could. A `Result` with a fault would

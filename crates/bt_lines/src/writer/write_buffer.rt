@@ -93,14 +93,6 @@ impl WriteBuffer {
         self.len = stop;
     }
 
-    // How many bytes are held back.
-    fn len(&self) -> usize
-        ensures is { result ≡ length self.now }
-        ensures within { length self.now ≤ block_size }
-    {
-        self.len
-    }
-
     // Holds back two short pieces too.
     #[inline(always)]
     pub(crate) fn append_short(&mut self, piece: &[u8], next: &[u8])

@@ -1,9 +1,11 @@
 -- Lemmas on eight bytes that are read as one number, the first in its lowest byte.
-use Rattle.std.proofs.Common.{zero, suc, inl, inr, ◌≡◌, ℕ, ◌+◌, ◌-◌, ◌*◌, ◌/◌, ◌%◌, ◌^◌, ◌<◌, ◌≤◌, true, false, List, [], ◌∷◌, length, get_or, Some, None, refl, sym, ap, ◌∙◌, arith, bit_and, bit_or, bit_xor, take, w64, ltb, leb}
+use Rattle.std.proofs.Common.{zero, suc, inl, inr, ◌≡◌, ℕ, ◌+◌, ◌-◌, ◌*◌, ◌/◌, ◌%◌, ◌^◌, ◌<◌, ◌≤◌, true, false, List, [], ◌∷◌, ◌++◌, drop, length, get_or, length-take-le, subst, Some, None, refl, sym, ap, ◌∙◌, arith, bit_and, bit_or, bit_xor, take, w64, ltb, leb}
 use Rattle.std.proofs.lemmas.Bool.{cases_Bool, and_parts}
 use Rattle.std.proofs.lemmas.Bool.Decides.{nat_tests}
-use Rattle.std.proofs.lemmas.Nat.{and_assoc, and_block, and_comm, and_le_l, and_le_r, and_mask, and_or_apart, and_or_self, mod_below, or_comm, shr_split, xor_block, xor_of_8}
+use Rattle.std.proofs.lemmas.Nat.{and_assoc, and_block, and_comm, and_le_l, and_le_r, and_mask, and_or_apart, and_or_self, mod_below, or_comm, pow-add, shr_split, xor_block, xor_of_8}
 use Rattle.std.proofs.lemmas.Nat.Bits.{and_high}
+use Rattle.std.proofs.Math.Nat.{mul_assoc, pow-suc}
+use Rattle.std.proofs.lemmas.List.{take-append-drop}
 use Rattle.std.specs.Char.{is_ascii_digit, digit_value}
 use Rattle.std.specs.Int.{from_le_bytes}
 use Rattle.std.specs.Int.Bits.{and_zero_r, xor_add_and, xor_zero_r}
@@ -165,18 +167,24 @@ pub record Eight (bytes : List ℕ) : Type 0 where
   sixes : worth (all_of 6 bytes) ≡ 434041037028460038
   nines : worth (all_of 9 bytes) ≡ 651061555542690057
   fifteens : worth (all_of 15 bytes) ≡ 1085102592571150095
+  most : worth (all_of 255 bytes) ≡ 18446744073709551615
+
+by_eight : (P : List ℕ → Type 0) → ((a b c d e f g h : ℕ) → P (a ∷ b ∷ c ∷ d ∷ e ∷ f ∷ g ∷ h ∷ [])) → (bytes : List ℕ) → length bytes ≡ 8 → P bytes
+by_eight P all (a ∷ b ∷ c ∷ d ∷ e ∷ f ∷ g ∷ h ∷ []) n = all a b c d e f g h
+by_eight P all [] n = absurd (omega arith)
+by_eight P all (a ∷ []) n = absurd (omega arith)
+by_eight P all (a ∷ b ∷ []) n = absurd (omega arith)
+by_eight P all (a ∷ b ∷ c ∷ []) n = absurd (omega arith)
+by_eight P all (a ∷ b ∷ c ∷ d ∷ []) n = absurd (omega arith)
+by_eight P all (a ∷ b ∷ c ∷ d ∷ e ∷ []) n = absurd (omega arith)
+by_eight P all (a ∷ b ∷ c ∷ d ∷ e ∷ f ∷ []) n = absurd (omega arith)
+by_eight P all (a ∷ b ∷ c ∷ d ∷ e ∷ f ∷ g ∷ []) n = absurd (omega arith)
+by_eight P all (a ∷ b ∷ c ∷ d ∷ e ∷ f ∷ g ∷ h ∷ i ∷ more) n = absurd (omega arith)
 
 eight : (bytes : List ℕ) → length bytes ≡ 8 → Eight bytes
-eight (a ∷ b ∷ c ∷ d ∷ e ∷ f ∷ g ∷ h ∷ []) n = record { word = (let sum : from_le_bytes w64 (a ∷ b ∷ c ∷ d ∷ e ∷ f ∷ g ∷ h ∷ []) ≡ a + b * 256 + c * 65536 + d * 16777216 + e * 4294967296 + f * 1099511627776 + g * 281474976710656 + h * 72057594037927936 = refl in omega arith); uppers = refl; zeros = refl; sixes = refl; nines = refl; fifteens = refl }
-eight [] n = absurd (omega arith)
-eight (a ∷ []) n = absurd (omega arith)
-eight (a ∷ b ∷ []) n = absurd (omega arith)
-eight (a ∷ b ∷ c ∷ []) n = absurd (omega arith)
-eight (a ∷ b ∷ c ∷ d ∷ []) n = absurd (omega arith)
-eight (a ∷ b ∷ c ∷ d ∷ e ∷ []) n = absurd (omega arith)
-eight (a ∷ b ∷ c ∷ d ∷ e ∷ f ∷ []) n = absurd (omega arith)
-eight (a ∷ b ∷ c ∷ d ∷ e ∷ f ∷ g ∷ []) n = absurd (omega arith)
-eight (a ∷ b ∷ c ∷ d ∷ e ∷ f ∷ g ∷ h ∷ i ∷ more) n = absurd (omega arith)
+eight = by_eight Eight (λ a b c d e f g h.
+    let sum : from_le_bytes w64 (a ∷ b ∷ c ∷ d ∷ e ∷ f ∷ g ∷ h ∷ []) ≡ a + b * 256 + c * 65536 + d * 16777216 + e * 4294967296 + f * 1099511627776 + g * 281474976710656 + h * 72057594037927936 = refl in
+    record { word = omega arith; uppers = refl; zeros = refl; sixes = refl; nines = refl; fifteens = refl; most = refl })
 
 no_digits : (bytes : List ℕ) → list_all is_ascii_digit bytes ≡ false → None ≡ value_of bytes
 unfolding value_of
@@ -348,186 +356,15 @@ value_of_eight a b c d e f g h (a1, a2, (b1, b2, (c1, c2, (d1, d2, (e1, e2, (f1,
     (place_values (a - 48) (b - 48) (c - 48) (d - 48) (e - 48) (f - 48) (g - 48) (h - 48))
 
 eight_small : (bytes : List ℕ) → length bytes ≡ 8 → AreWithin 48 57 bytes → (value_in (pairs_in (ones_in bytes)) ≡ digits_value 10 bytes) × (digits_value 10 bytes ≤ 999999999999)
-eight_small (a ∷ b ∷ c ∷ d ∷ e ∷ f ∷ g ∷ h ∷ []) n all =
+eight_small = by_eight (λ bytes. AreWithin 48 57 bytes → (value_in (pairs_in (ones_in bytes)) ≡ digits_value 10 bytes) × (digits_value 10 bytes ≤ 999999999999)) (λ a b c d e f g h all.
     let is = value_of_eight a b c d e f g h all in
-    (is, rw (← is) (value_small (pairs_in (ones_in (a ∷ b ∷ c ∷ d ∷ e ∷ f ∷ g ∷ h ∷ [])))))
-eight_small [] n all = absurd (omega arith)
-eight_small (a ∷ []) n all = absurd (omega arith)
-eight_small (a ∷ b ∷ []) n all = absurd (omega arith)
-eight_small (a ∷ b ∷ c ∷ []) n all = absurd (omega arith)
-eight_small (a ∷ b ∷ c ∷ d ∷ []) n all = absurd (omega arith)
-eight_small (a ∷ b ∷ c ∷ d ∷ e ∷ []) n all = absurd (omega arith)
-eight_small (a ∷ b ∷ c ∷ d ∷ e ∷ f ∷ []) n all = absurd (omega arith)
-eight_small (a ∷ b ∷ c ∷ d ∷ e ∷ f ∷ g ∷ []) n all = absurd (omega arith)
-eight_small (a ∷ b ∷ c ∷ d ∷ e ∷ f ∷ g ∷ h ∷ i ∷ more) n all = absurd (omega arith)
+    (is, rw (← is) (value_small (pairs_in (ones_in (a ∷ b ∷ c ∷ d ∷ e ∷ f ∷ g ∷ h ∷ []))))))
 
 -- eight digits denote their value
 pub value_of_eight_digits : (bytes : List ℕ) → length bytes ≡ 8 → AreWithin 48 57 bytes → Some (digits_value 10 bytes) ≡ value_of bytes
 value_of_eight_digits bytes n all =
     let is = eight_small bytes n all in
     value_of_digits bytes (omega arith) (within_digits bytes all) is.1
-
--- the first `count` of eight bytes, padded with zeros on the left
-pub record Behind (bytes : List ℕ) (count : ℕ) : Type 0 where
-  pub padded : List ℕ
-  pub size : length padded ≡ 8
-  pub within : AreWithin 0 255 padded
-  pub shifted : ones_in bytes * 2 ^ (64 - 8 * count) % 18446744073709551616 ≡ ones_in padded
-  pub digits : AreWithin 48 57 (take count bytes) → AreWithin 48 57 padded
-  pub same : digits_value 10 padded ≡ digits_value 10 (take count bytes)
-
-shift_1 : (a b c d e f g h : ℕ) → AreWithin 0 255 (a ∷ b ∷ c ∷ d ∷ e ∷ f ∷ g ∷ h ∷ [])
-    → worth (a ∷ b ∷ c ∷ d ∷ e ∷ f ∷ g ∷ h ∷ []) * 72057594037927936 % 18446744073709551616 ≡ worth (0 ∷ 0 ∷ 0 ∷ 0 ∷ 0 ∷ 0 ∷ 0 ∷ a ∷ [])
-shift_1 a b c d e f g h (a1, a2, (b1, b2, (c1, c2, (d1, d2, (e1, e2, (f1, f2, (g1, g2, (h1, h2, none)))))))) = omega arith
-
-shift_2 : (a b c d e f g h : ℕ) → AreWithin 0 255 (a ∷ b ∷ c ∷ d ∷ e ∷ f ∷ g ∷ h ∷ [])
-    → worth (a ∷ b ∷ c ∷ d ∷ e ∷ f ∷ g ∷ h ∷ []) * 281474976710656 % 18446744073709551616 ≡ worth (0 ∷ 0 ∷ 0 ∷ 0 ∷ 0 ∷ 0 ∷ a ∷ b ∷ [])
-shift_2 a b c d e f g h (a1, a2, (b1, b2, (c1, c2, (d1, d2, (e1, e2, (f1, f2, (g1, g2, (h1, h2, none)))))))) = omega arith
-
-shift_3 : (a b c d e f g h : ℕ) → AreWithin 0 255 (a ∷ b ∷ c ∷ d ∷ e ∷ f ∷ g ∷ h ∷ [])
-    → worth (a ∷ b ∷ c ∷ d ∷ e ∷ f ∷ g ∷ h ∷ []) * 1099511627776 % 18446744073709551616 ≡ worth (0 ∷ 0 ∷ 0 ∷ 0 ∷ 0 ∷ a ∷ b ∷ c ∷ [])
-shift_3 a b c d e f g h (a1, a2, (b1, b2, (c1, c2, (d1, d2, (e1, e2, (f1, f2, (g1, g2, (h1, h2, none)))))))) = omega arith
-
-shift_4 : (a b c d e f g h : ℕ) → AreWithin 0 255 (a ∷ b ∷ c ∷ d ∷ e ∷ f ∷ g ∷ h ∷ [])
-    → worth (a ∷ b ∷ c ∷ d ∷ e ∷ f ∷ g ∷ h ∷ []) * 4294967296 % 18446744073709551616 ≡ worth (0 ∷ 0 ∷ 0 ∷ 0 ∷ a ∷ b ∷ c ∷ d ∷ [])
-shift_4 a b c d e f g h (a1, a2, (b1, b2, (c1, c2, (d1, d2, (e1, e2, (f1, f2, (g1, g2, (h1, h2, none)))))))) = omega arith
-
-shift_5 : (a b c d e f g h : ℕ) → AreWithin 0 255 (a ∷ b ∷ c ∷ d ∷ e ∷ f ∷ g ∷ h ∷ [])
-    → worth (a ∷ b ∷ c ∷ d ∷ e ∷ f ∷ g ∷ h ∷ []) * 16777216 % 18446744073709551616 ≡ worth (0 ∷ 0 ∷ 0 ∷ a ∷ b ∷ c ∷ d ∷ e ∷ [])
-shift_5 a b c d e f g h (a1, a2, (b1, b2, (c1, c2, (d1, d2, (e1, e2, (f1, f2, (g1, g2, (h1, h2, none)))))))) = omega arith
-
-shift_6 : (a b c d e f g h : ℕ) → AreWithin 0 255 (a ∷ b ∷ c ∷ d ∷ e ∷ f ∷ g ∷ h ∷ [])
-    → worth (a ∷ b ∷ c ∷ d ∷ e ∷ f ∷ g ∷ h ∷ []) * 65536 % 18446744073709551616 ≡ worth (0 ∷ 0 ∷ a ∷ b ∷ c ∷ d ∷ e ∷ f ∷ [])
-shift_6 a b c d e f g h (a1, a2, (b1, b2, (c1, c2, (d1, d2, (e1, e2, (f1, f2, (g1, g2, (h1, h2, none)))))))) = omega arith
-
-shift_7 : (a b c d e f g h : ℕ) → AreWithin 0 255 (a ∷ b ∷ c ∷ d ∷ e ∷ f ∷ g ∷ h ∷ [])
-    → worth (a ∷ b ∷ c ∷ d ∷ e ∷ f ∷ g ∷ h ∷ []) * 256 % 18446744073709551616 ≡ worth (0 ∷ a ∷ b ∷ c ∷ d ∷ e ∷ f ∷ g ∷ [])
-shift_7 a b c d e f g h (a1, a2, (b1, b2, (c1, c2, (d1, d2, (e1, e2, (f1, f2, (g1, g2, (h1, h2, none)))))))) = omega arith
-
-behind : (a b c d e f g h count : ℕ) → 0 < count → count ≤ 8 → AreWithin 0 255 (a ∷ b ∷ c ∷ d ∷ e ∷ f ∷ g ∷ h ∷ []) → Behind (a ∷ b ∷ c ∷ d ∷ e ∷ f ∷ g ∷ h ∷ []) count
-behind a b c d e f g h zero some few all = absurd (omega (arith, some))
-behind a b c d e f g h (suc zero) some few (a1, a2, (b1, b2, (c1, c2, (d1, d2, (e1, e2, (f1, f2, (g1, g2, (h1, h2, none)))))))) =
-    let all : AreWithin 0 255 (a ∷ b ∷ c ∷ d ∷ e ∷ f ∷ g ∷ h ∷ []) = (a1, a2, (b1, b2, (c1, c2, (d1, d2, (e1, e2, (f1, f2, (g1, g2, (h1, h2, tt)))))))) in
-    let within : AreWithin 0 255 (48 ∷ 48 ∷ 48 ∷ 48 ∷ 48 ∷ 48 ∷ 48 ∷ a ∷ []) = (omega arith, omega arith, (omega arith, omega arith, (omega arith, omega arith, (omega arith, omega arith, (omega arith, omega arith, (omega arith, omega arith, (omega arith, omega arith, (a1, a2, tt)))))))) in
-    record {
-      padded = (48 ∷ 48 ∷ 48 ∷ 48 ∷ 48 ∷ 48 ∷ 48 ∷ a ∷ []);
-      size = refl;
-      within = within;
-      shifted =
-          ap (λ n. n * 72057594037927936 % 18446744073709551616) (ones_are (a ∷ b ∷ c ∷ d ∷ e ∷ f ∷ g ∷ h ∷ []) refl all)
-          ∙ shift_1 (bit_xor a 48) (bit_xor b 48) (bit_xor c 48) (bit_xor d 48) (bit_xor e 48) (bit_xor f 48) (bit_xor g 48) (bit_xor h 48) (flipped_within (a ∷ b ∷ c ∷ d ∷ e ∷ f ∷ g ∷ h ∷ []) all)
-          ∙ sym (ones_are (48 ∷ 48 ∷ 48 ∷ 48 ∷ 48 ∷ 48 ∷ 48 ∷ a ∷ []) refl within);
-      digits = λ digits. (omega arith, omega arith, (omega arith, omega arith, (omega arith, omega arith, (omega arith, omega arith, (omega arith, omega arith, (omega arith, omega arith, (omega arith, omega arith, digits)))))));
-      same = refl;
-    }
-behind a b c d e f g h (suc (suc zero)) some few (a1, a2, (b1, b2, (c1, c2, (d1, d2, (e1, e2, (f1, f2, (g1, g2, (h1, h2, none)))))))) =
-    let all : AreWithin 0 255 (a ∷ b ∷ c ∷ d ∷ e ∷ f ∷ g ∷ h ∷ []) = (a1, a2, (b1, b2, (c1, c2, (d1, d2, (e1, e2, (f1, f2, (g1, g2, (h1, h2, tt)))))))) in
-    let within : AreWithin 0 255 (48 ∷ 48 ∷ 48 ∷ 48 ∷ 48 ∷ 48 ∷ a ∷ b ∷ []) = (omega arith, omega arith, (omega arith, omega arith, (omega arith, omega arith, (omega arith, omega arith, (omega arith, omega arith, (omega arith, omega arith, (a1, a2, (b1, b2, tt)))))))) in
-    record {
-      padded = (48 ∷ 48 ∷ 48 ∷ 48 ∷ 48 ∷ 48 ∷ a ∷ b ∷ []);
-      size = refl;
-      within = within;
-      shifted =
-          ap (λ n. n * 281474976710656 % 18446744073709551616) (ones_are (a ∷ b ∷ c ∷ d ∷ e ∷ f ∷ g ∷ h ∷ []) refl all)
-          ∙ shift_2 (bit_xor a 48) (bit_xor b 48) (bit_xor c 48) (bit_xor d 48) (bit_xor e 48) (bit_xor f 48) (bit_xor g 48) (bit_xor h 48) (flipped_within (a ∷ b ∷ c ∷ d ∷ e ∷ f ∷ g ∷ h ∷ []) all)
-          ∙ sym (ones_are (48 ∷ 48 ∷ 48 ∷ 48 ∷ 48 ∷ 48 ∷ a ∷ b ∷ []) refl within);
-      digits = λ digits. (omega arith, omega arith, (omega arith, omega arith, (omega arith, omega arith, (omega arith, omega arith, (omega arith, omega arith, (omega arith, omega arith, digits))))));
-      same = refl;
-    }
-behind a b c d e f g h (suc (suc (suc zero))) some few (a1, a2, (b1, b2, (c1, c2, (d1, d2, (e1, e2, (f1, f2, (g1, g2, (h1, h2, none)))))))) =
-    let all : AreWithin 0 255 (a ∷ b ∷ c ∷ d ∷ e ∷ f ∷ g ∷ h ∷ []) = (a1, a2, (b1, b2, (c1, c2, (d1, d2, (e1, e2, (f1, f2, (g1, g2, (h1, h2, tt)))))))) in
-    let within : AreWithin 0 255 (48 ∷ 48 ∷ 48 ∷ 48 ∷ 48 ∷ a ∷ b ∷ c ∷ []) = (omega arith, omega arith, (omega arith, omega arith, (omega arith, omega arith, (omega arith, omega arith, (omega arith, omega arith, (a1, a2, (b1, b2, (c1, c2, tt)))))))) in
-    record {
-      padded = (48 ∷ 48 ∷ 48 ∷ 48 ∷ 48 ∷ a ∷ b ∷ c ∷ []);
-      size = refl;
-      within = within;
-      shifted =
-          ap (λ n. n * 1099511627776 % 18446744073709551616) (ones_are (a ∷ b ∷ c ∷ d ∷ e ∷ f ∷ g ∷ h ∷ []) refl all)
-          ∙ shift_3 (bit_xor a 48) (bit_xor b 48) (bit_xor c 48) (bit_xor d 48) (bit_xor e 48) (bit_xor f 48) (bit_xor g 48) (bit_xor h 48) (flipped_within (a ∷ b ∷ c ∷ d ∷ e ∷ f ∷ g ∷ h ∷ []) all)
-          ∙ sym (ones_are (48 ∷ 48 ∷ 48 ∷ 48 ∷ 48 ∷ a ∷ b ∷ c ∷ []) refl within);
-      digits = λ digits. (omega arith, omega arith, (omega arith, omega arith, (omega arith, omega arith, (omega arith, omega arith, (omega arith, omega arith, digits)))));
-      same = refl;
-    }
-behind a b c d e f g h (suc (suc (suc (suc zero)))) some few (a1, a2, (b1, b2, (c1, c2, (d1, d2, (e1, e2, (f1, f2, (g1, g2, (h1, h2, none)))))))) =
-    let all : AreWithin 0 255 (a ∷ b ∷ c ∷ d ∷ e ∷ f ∷ g ∷ h ∷ []) = (a1, a2, (b1, b2, (c1, c2, (d1, d2, (e1, e2, (f1, f2, (g1, g2, (h1, h2, tt)))))))) in
-    let within : AreWithin 0 255 (48 ∷ 48 ∷ 48 ∷ 48 ∷ a ∷ b ∷ c ∷ d ∷ []) = (omega arith, omega arith, (omega arith, omega arith, (omega arith, omega arith, (omega arith, omega arith, (a1, a2, (b1, b2, (c1, c2, (d1, d2, tt)))))))) in
-    record {
-      padded = (48 ∷ 48 ∷ 48 ∷ 48 ∷ a ∷ b ∷ c ∷ d ∷ []);
-      size = refl;
-      within = within;
-      shifted =
-          ap (λ n. n * 4294967296 % 18446744073709551616) (ones_are (a ∷ b ∷ c ∷ d ∷ e ∷ f ∷ g ∷ h ∷ []) refl all)
-          ∙ shift_4 (bit_xor a 48) (bit_xor b 48) (bit_xor c 48) (bit_xor d 48) (bit_xor e 48) (bit_xor f 48) (bit_xor g 48) (bit_xor h 48) (flipped_within (a ∷ b ∷ c ∷ d ∷ e ∷ f ∷ g ∷ h ∷ []) all)
-          ∙ sym (ones_are (48 ∷ 48 ∷ 48 ∷ 48 ∷ a ∷ b ∷ c ∷ d ∷ []) refl within);
-      digits = λ digits. (omega arith, omega arith, (omega arith, omega arith, (omega arith, omega arith, (omega arith, omega arith, digits))));
-      same = refl;
-    }
-behind a b c d e f g h (suc (suc (suc (suc (suc zero))))) some few (a1, a2, (b1, b2, (c1, c2, (d1, d2, (e1, e2, (f1, f2, (g1, g2, (h1, h2, none)))))))) =
-    let all : AreWithin 0 255 (a ∷ b ∷ c ∷ d ∷ e ∷ f ∷ g ∷ h ∷ []) = (a1, a2, (b1, b2, (c1, c2, (d1, d2, (e1, e2, (f1, f2, (g1, g2, (h1, h2, tt)))))))) in
-    let within : AreWithin 0 255 (48 ∷ 48 ∷ 48 ∷ a ∷ b ∷ c ∷ d ∷ e ∷ []) = (omega arith, omega arith, (omega arith, omega arith, (omega arith, omega arith, (a1, a2, (b1, b2, (c1, c2, (d1, d2, (e1, e2, tt)))))))) in
-    record {
-      padded = (48 ∷ 48 ∷ 48 ∷ a ∷ b ∷ c ∷ d ∷ e ∷ []);
-      size = refl;
-      within = within;
-      shifted =
-          ap (λ n. n * 16777216 % 18446744073709551616) (ones_are (a ∷ b ∷ c ∷ d ∷ e ∷ f ∷ g ∷ h ∷ []) refl all)
-          ∙ shift_5 (bit_xor a 48) (bit_xor b 48) (bit_xor c 48) (bit_xor d 48) (bit_xor e 48) (bit_xor f 48) (bit_xor g 48) (bit_xor h 48) (flipped_within (a ∷ b ∷ c ∷ d ∷ e ∷ f ∷ g ∷ h ∷ []) all)
-          ∙ sym (ones_are (48 ∷ 48 ∷ 48 ∷ a ∷ b ∷ c ∷ d ∷ e ∷ []) refl within);
-      digits = λ digits. (omega arith, omega arith, (omega arith, omega arith, (omega arith, omega arith, digits)));
-      same = refl;
-    }
-behind a b c d e f g h (suc (suc (suc (suc (suc (suc zero)))))) some few (a1, a2, (b1, b2, (c1, c2, (d1, d2, (e1, e2, (f1, f2, (g1, g2, (h1, h2, none)))))))) =
-    let all : AreWithin 0 255 (a ∷ b ∷ c ∷ d ∷ e ∷ f ∷ g ∷ h ∷ []) = (a1, a2, (b1, b2, (c1, c2, (d1, d2, (e1, e2, (f1, f2, (g1, g2, (h1, h2, tt)))))))) in
-    let within : AreWithin 0 255 (48 ∷ 48 ∷ a ∷ b ∷ c ∷ d ∷ e ∷ f ∷ []) = (omega arith, omega arith, (omega arith, omega arith, (a1, a2, (b1, b2, (c1, c2, (d1, d2, (e1, e2, (f1, f2, tt)))))))) in
-    record {
-      padded = (48 ∷ 48 ∷ a ∷ b ∷ c ∷ d ∷ e ∷ f ∷ []);
-      size = refl;
-      within = within;
-      shifted =
-          ap (λ n. n * 65536 % 18446744073709551616) (ones_are (a ∷ b ∷ c ∷ d ∷ e ∷ f ∷ g ∷ h ∷ []) refl all)
-          ∙ shift_6 (bit_xor a 48) (bit_xor b 48) (bit_xor c 48) (bit_xor d 48) (bit_xor e 48) (bit_xor f 48) (bit_xor g 48) (bit_xor h 48) (flipped_within (a ∷ b ∷ c ∷ d ∷ e ∷ f ∷ g ∷ h ∷ []) all)
-          ∙ sym (ones_are (48 ∷ 48 ∷ a ∷ b ∷ c ∷ d ∷ e ∷ f ∷ []) refl within);
-      digits = λ digits. (omega arith, omega arith, (omega arith, omega arith, digits));
-      same = refl;
-    }
-behind a b c d e f g h (suc (suc (suc (suc (suc (suc (suc zero))))))) some few (a1, a2, (b1, b2, (c1, c2, (d1, d2, (e1, e2, (f1, f2, (g1, g2, (h1, h2, none)))))))) =
-    let all : AreWithin 0 255 (a ∷ b ∷ c ∷ d ∷ e ∷ f ∷ g ∷ h ∷ []) = (a1, a2, (b1, b2, (c1, c2, (d1, d2, (e1, e2, (f1, f2, (g1, g2, (h1, h2, tt)))))))) in
-    let within : AreWithin 0 255 (48 ∷ a ∷ b ∷ c ∷ d ∷ e ∷ f ∷ g ∷ []) = (omega arith, omega arith, (a1, a2, (b1, b2, (c1, c2, (d1, d2, (e1, e2, (f1, f2, (g1, g2, tt)))))))) in
-    record {
-      padded = (48 ∷ a ∷ b ∷ c ∷ d ∷ e ∷ f ∷ g ∷ []);
-      size = refl;
-      within = within;
-      shifted =
-          ap (λ n. n * 256 % 18446744073709551616) (ones_are (a ∷ b ∷ c ∷ d ∷ e ∷ f ∷ g ∷ h ∷ []) refl all)
-          ∙ shift_7 (bit_xor a 48) (bit_xor b 48) (bit_xor c 48) (bit_xor d 48) (bit_xor e 48) (bit_xor f 48) (bit_xor g 48) (bit_xor h 48) (flipped_within (a ∷ b ∷ c ∷ d ∷ e ∷ f ∷ g ∷ h ∷ []) all)
-          ∙ sym (ones_are (48 ∷ a ∷ b ∷ c ∷ d ∷ e ∷ f ∷ g ∷ []) refl within);
-      digits = λ digits. (omega arith, omega arith, digits);
-      same = refl;
-    }
-behind a b c d e f g h (suc (suc (suc (suc (suc (suc (suc (suc zero)))))))) some few all =
-    let most : ones_in (a ∷ b ∷ c ∷ d ∷ e ∷ f ∷ g ∷ h ∷ []) ≤ 18446744073709551615 =
-    rw (ones_are (a ∷ b ∷ c ∷ d ∷ e ∷ f ∷ g ∷ h ∷ []) refl all) (worth_up_to (flipped (a ∷ b ∷ c ∷ d ∷ e ∷ f ∷ g ∷ h ∷ [])) 0 255 (flipped_within (a ∷ b ∷ c ∷ d ∷ e ∷ f ∷ g ∷ h ∷ []) all)) in
-    record {
-      padded = (a ∷ b ∷ c ∷ d ∷ e ∷ f ∷ g ∷ h ∷ []);
-      size = refl;
-      within = all;
-      shifted = omega arith;
-      digits = λ digits. digits;
-      same = refl;
-    }
-behind a b c d e f g h (suc (suc (suc (suc (suc (suc (suc (suc (suc count))))))))) some few all = absurd (omega (arith, few))
-
-pub few_behind : (bytes : List ℕ) (count : ℕ) → length bytes ≡ 8 → 0 < count → count ≤ 8 → AreWithin 0 255 bytes → Behind bytes count
-few_behind (a ∷ b ∷ c ∷ d ∷ e ∷ f ∷ g ∷ h ∷ []) count n some few all = behind a b c d e f g h count some few all
-few_behind [] count n some few all = absurd (omega arith)
-few_behind (a ∷ []) count n some few all = absurd (omega arith)
-few_behind (a ∷ b ∷ []) count n some few all = absurd (omega arith)
-few_behind (a ∷ b ∷ c ∷ []) count n some few all = absurd (omega arith)
-few_behind (a ∷ b ∷ c ∷ d ∷ []) count n some few all = absurd (omega arith)
-few_behind (a ∷ b ∷ c ∷ d ∷ e ∷ []) count n some few all = absurd (omega arith)
-few_behind (a ∷ b ∷ c ∷ d ∷ e ∷ f ∷ []) count n some few all = absurd (omega arith)
-few_behind (a ∷ b ∷ c ∷ d ∷ e ∷ f ∷ g ∷ []) count n some few all = absurd (omega arith)
-few_behind (a ∷ b ∷ c ∷ d ∷ e ∷ f ∷ g ∷ h ∷ i ∷ more) count n some few all = absurd (omega arith)
 
 -- eight digits' values are so large at most
 ones_of_digits : (bytes : List ℕ) → length bytes ≡ 8 → AreWithin 48 57 bytes → ones_in bytes ≤ 651061555542690057
@@ -543,7 +380,97 @@ ones_read bytes n all = (ones_of_digits bytes n all, (n, within_digits bytes all
 pub joined_value : (digits : List ℕ) (ones : ℕ) → AreOnes digits ones → value_in (pairs_in ones) ≡ digits_value 10 digits
 joined_value digits ones (n, all, is) = rw is ((eight_small digits n (digits_within digits all)).0)
 
--- the digits that come first, padded with zeros
-pub few_read : (bytes : List ℕ) (count : ℕ) (b : Behind bytes count) → list_all is_ascii_digit (take count bytes) ≡ true
-    → (ones_in b.padded ≤ 651061555542690057) × AreOnes b.padded (ones_in b.padded)
-few_read bytes count b all = ones_read b.padded b.size (b.digits (digits_within (take count bytes) all))
+-- bytes after this many of one value
+abbrev pub after : ℕ → ℕ → List ℕ → List ℕ
+after zero byte bytes = bytes
+after (suc k) byte bytes = byte ∷ after k byte bytes
+
+after_length : (k byte : ℕ) (bytes : List ℕ) → length (after k byte bytes) ≡ k + length bytes
+after_length zero byte bytes = omega arith
+after_length (suc k) byte bytes = let rest = after_length k byte bytes in omega arith
+
+after_append : (k byte : ℕ) (xs ys : List ℕ) → after k byte (xs ++ ys) ≡ after k byte xs ++ ys
+after_append zero byte xs ys = refl
+after_append (suc k) byte xs ys = ap (λ l. byte ∷ l) (after_append k byte xs ys)
+
+after_within : (k byte low high : ℕ) (bytes : List ℕ) → low ≤ byte → byte ≤ high → AreWithin low high bytes → AreWithin low high (after k byte bytes)
+after_within zero byte low high bytes l h all = all
+after_within (suc k) byte low high bytes l h all = (l, h, after_within k byte low high bytes l h all)
+
+-- zeros before them change nothing of their value
+after_value : (k : ℕ) (bytes : List ℕ) → digits_value 10 (after k 48 bytes) ≡ digits_value 10 bytes
+after_value zero bytes = refl
+after_value (suc k) bytes = after_value k bytes
+
+after_flipped : (k : ℕ) (bytes : List ℕ) → flipped (after k 48 bytes) ≡ after k 0 (flipped bytes)
+after_flipped zero bytes = refl
+after_flipped (suc k) bytes = ap (λ l. 0 ∷ l) (after_flipped k bytes)
+
+-- bytes of 0 before them shift them
+after_worth : (k : ℕ) (bytes : List ℕ) → worth (after k 0 bytes) ≡ worth bytes * 256 ^ k
+after_worth zero bytes = omega arith
+after_worth (suc k) bytes =
+    let rest = after_worth k bytes in
+    let power : worth bytes * 256 ^ suc k ≡ worth bytes * 256 ^ k * 256 = ap (λ p. worth bytes * p) (pow-suc 256 k) ∙ sym (mul_assoc (worth bytes) (256 ^ k) 256) in
+    rw power (omega (arith, rest))
+
+pow_bytes : (k : ℕ) → 2 ^ (8 * k) ≡ 256 ^ k
+pow_bytes zero = refl
+pow_bytes (suc k) =
+    let sum : 8 * suc k ≡ 8 * k + 8 = omega arith in
+    ap (λ n. 2 ^ n) sum ∙ pow-add 2 (8 * k) 8 ∙ ap (λ p. p * 256) (pow_bytes k) ∙ sym (pow-suc 256 k)
+
+worth_append : (xs ys : List ℕ) → worth (xs ++ ys) ≡ worth xs + worth ys * 256 ^ length xs
+worth_append [] ys = omega arith
+worth_append (x ∷ xs) ys =
+    let rest = worth_append xs ys in
+    let power : worth ys * 256 ^ suc (length xs) ≡ worth ys * 256 ^ length xs * 256 = ap (λ p. worth ys * p) (pow-suc 256 (length xs)) ∙ sym (mul_assoc (worth ys) (256 ^ length xs) 256) in
+    rw power (omega (arith, rest))
+
+flipped_take : (n : ℕ) (bytes : List ℕ) → take n (flipped bytes) ≡ flipped (take n bytes)
+flipped_take zero bytes = refl
+flipped_take (suc n) [] = refl
+flipped_take (suc n) (byte ∷ bytes) = ap (λ l. bit_xor byte 48 ∷ l) (flipped_take n bytes)
+
+take_within : (n low high : ℕ) (bytes : List ℕ) → AreWithin low high bytes → AreWithin low high (take n bytes)
+take_within zero low high bytes all = tt
+take_within (suc n) low high [] all = tt
+take_within (suc n) low high (byte ∷ bytes) all = (all.0, all.1, take_within n low high bytes all.2)
+
+-- the first `count` of eight bytes, after zeros
+module _ (bytes : List ℕ) (count : ℕ) (n : length bytes ≡ 8) (few : count ≤ 8) where
+  abbrev pub padded : List ℕ
+  padded = after (8 - count) 48 (take count bytes)
+
+  padded_length : length padded ≡ 8
+  padded_length = omega (arith, after_length (8 - count) 48 (take count bytes), length-take-le count bytes (omega arith))
+
+  pub padded_value : digits_value 10 padded ≡ digits_value 10 (take count bytes)
+  padded_value = after_value (8 - count) (take count bytes)
+
+  -- they are what is left when the others are shifted out
+  pub shifted : AreWithin 0 255 bytes → ones_in bytes * 2 ^ (64 - 8 * count) % 18446744073709551616 ≡ ones_in padded
+  shifted all =
+      let fs = flipped bytes in
+      let front = after (8 - count) 0 (take count fs) in
+      let within : AreWithin 0 255 padded = after_within (8 - count) 48 0 255 (take count bytes) (omega arith) (omega arith) (take_within count 0 255 bytes all) in
+      let is : flipped padded ≡ front = after_flipped (8 - count) (take count bytes) ∙ ap (after (8 - count) 0) (sym (flipped_take count bytes)) in
+      let size : length front ≡ 8 = ap length (sym is) ∙ flipped_length padded ∙ padded_length in
+      let small : worth front ≤ 18446744073709551615 =
+      subst (λ l. worth l ≤ 18446744073709551615) is (rw (← (masks padded padded_length).most) (worth_up_to (flipped padded) 0 255 (flipped_within padded within))) in
+      let bits : 64 - 8 * count ≡ 8 * (8 - count) = omega arith in
+      let power : 2 ^ (64 - 8 * count) ≡ 256 ^ (8 - count) = ap (λ k. 2 ^ k) bits ∙ pow_bytes (8 - count) in
+      let all_are : ones_in bytes * 2 ^ (64 - 8 * count) ≡ worth front + worth (drop count fs) * 18446744073709551616 =
+      ap (λ p. ones_in bytes * p) power ∙ ap (λ w. w * 256 ^ (8 - count)) (ones_are bytes n all)
+      ∙ sym (after_worth (8 - count) fs)
+      ∙ ap (λ l. worth (after (8 - count) 0 l)) (sym (take-append-drop count fs))
+      ∙ ap worth (after_append (8 - count) 0 (take count fs) (drop count fs))
+      ∙ worth_append front (drop count fs)
+      ∙ ap (λ k. worth front + worth (drop count fs) * 256 ^ k) size in
+      rw all_are (omega (arith, small))
+      ∙ ap worth (sym is) ∙ sym (ones_are padded padded_length within)
+
+  -- what is read of them, if they are digits
+  pub few_read : list_all is_ascii_digit (take count bytes) ≡ true → (ones_in padded ≤ 651061555542690057) × AreOnes padded (ones_in padded)
+  few_read all =
+      ones_read padded padded_length (after_within (8 - count) 48 48 57 (take count bytes) (omega arith) (omega arith) (digits_within (take count bytes) all))

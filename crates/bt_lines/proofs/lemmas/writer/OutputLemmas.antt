@@ -23,24 +23,39 @@ pub front_held : (took : Option (List ℕ)) (held more : List ℕ) → IsPrefixO
 front_held None held more = tt
 front_held (Some took) held more = (held ++ more, sym (append_assoc took held more))
 
--- a prefix of the first bytes of a piece is one of the piece
-pub front_first : (old new : Option (List ℕ)) (piece : List ℕ) (n : ℕ) → IsPrefixOf new old (take n piece) → IsPrefixOf new old piece
-front_first None None piece n h = tt
-front_first (Some old) None piece n h = tt
-front_first None (Some new) piece n h = tt
-front_first (Some old) (Some new) piece n h = (
-  h.0 ++ drop n piece,
-  sym (append_assoc new h.0 (drop n piece)) ∙ ap (λ l. l ++ drop n piece) h.1 ∙ append_assoc old (take n piece) (drop n piece)
-      ∙ ap (λ l. old ++ l) (take-append-drop n piece),
-)
-
 -- a prefix of what is held back and of the first bytes of a piece
 pub front_filled : (old new : Option (List ℕ)) (held piece : List ℕ) (n : ℕ) → IsPrefixOf new old (held ++ take n piece) → IsPrefixOf new (append_known old held) piece
 front_filled None None held piece n h = tt
 front_filled (Some old) None held piece n h = tt
 front_filled None (Some new) held piece n h = tt
-front_filled (Some old) (Some new) held piece n h =
-    front_first (Some (old ++ held)) (Some new) piece n (h.0, h.1 ∙ sym (append_assoc old held (take n piece)))
+front_filled (Some old) (Some new) held piece n h = (
+  h.0 ++ drop n piece,
+  sym (append_assoc new h.0 (drop n piece)) ∙ ap (λ l. l ++ drop n piece) h.1 ∙ append_assoc old (held ++ take n piece) (drop n piece)
+      ∙ ap (λ l. old ++ l) (append_assoc held (take n piece) (drop n piece) ∙ ap (λ l. held ++ l) (take-append-drop n piece)) ∙ sym (append_assoc old held piece),
+)
+
+-- what is held back was sent with the first bytes of a piece, then the next ones, and the others are left
+module _ (held piece : List ℕ) (n k : ℕ) where
+  abbrev pub rest : List ℕ
+  rest = drop n piece
+
+  all_over : (old mid : List ℕ) → mid ≡ old ++ (held ++ take n piece) → (mid ++ take k rest) ++ drop k rest ≡ (old ++ held) ++ piece
+  all_over old mid p =
+      append_assoc mid (take k rest) (drop k rest) ∙ ap (λ l. mid ++ l) (take-append-drop k rest) ∙ ap (λ l. l ++ rest) p ∙ append_assoc old (held ++ take n piece) rest
+      ∙ ap (λ l. old ++ l) (append_assoc held (take n piece) rest ∙ ap (λ l. held ++ l) (take-append-drop n piece)) ∙ sym (append_assoc old held piece)
+
+  pub put_over : (old mid new : Option (List ℕ)) → Appends old mid (held ++ take n piece) → Appends mid new (take k rest) → Appends (append_known old held) (append_known new (drop k rest)) piece
+  put_over None mid new p q = tt
+  put_over (Some old) None new p q = absurd p
+  put_over (Some old) (Some mid) None p q = absurd q
+  put_over (Some old) (Some mid) (Some new) p q = ap (λ l. l ++ drop k rest) q ∙ all_over old mid p
+
+  pub front_over : (old mid new : Option (List ℕ)) → Appends old mid (held ++ take n piece) → IsPrefixOf new mid (take k rest) → IsPrefixOf new (append_known old held) piece
+  front_over old mid None p f = tt
+  front_over None mid (Some new) p f = tt
+  front_over (Some old) None (Some new) p f = absurd p
+  front_over (Some old) (Some mid) (Some new) p f =
+      (f.0 ++ drop k rest, sym (append_assoc new f.0 (drop k rest)) ∙ ap (λ l. l ++ drop k rest) f.1 ∙ all_over old mid p)
 
 -- what was taken grows, and grows again
 pub grows_both : (old mid new : Option (List ℕ)) → Grows old mid → Grows mid new → Grows old new

@@ -10,7 +10,7 @@ use Rattle.bt_lines.proofs.lemmas.reader.block.BlockLemmas.{consumed}
 use Rattle.bt_lines.proofs.lemmas.reader.lines.TextLemmas.{line_feeds-append}
 use Rattle.bt_lines.specs.calls.LentLine.{NoLineFeed}
 use Rattle.bt_lines.specs.model.Lines.{line_feeds}
-use Rattle.bt_lines.specs.inside.Newline.{IsFirstFeed}
+use Rattle.bt_lines.specs.calls.FirstByte.{IsBefore}
 use Rattle.bt_lines.specs.calls.Output.{block_size}
 use Rattle.bt_lines.specs.inside.Shape.{AreComplete, IsSearched, is_fed}
 
@@ -279,15 +279,16 @@ pub record Piece (bytes : List ℕ) (whole end size : ℕ) : Type 0 where
   pub moved : slice_range bytes whole (whole + size + 1) ≡ take size (slice_range bytes whole end) ++ 10 ∷ []
   pub cut : slice_range bytes whole end ≡ take size (slice_range bytes whole end) ++ 10 ∷ slice_range bytes (whole + size + 1) end
 
-pub piece : (bytes : List ℕ) (whole end size : ℕ) → IsFirstFeed (slice_range bytes whole end) (Some size) → Piece bytes whole end size
-piece bytes whole end size first =
+pub piece : (bytes : List ℕ) (whole end size : ℕ) → IsBefore 10 (slice_range bytes whole end) size → size < length (slice_range bytes whole end)
+    → Piece bytes whole end size
+piece bytes whole end size is below =
     let all = slice_range bytes whole end in
-    let fits : whole + (size + 1) ≤ end = omega (arith, first.0, length-take (end - whole) (drop whole bytes)) in
+    let fits : whole + (size + 1) ≤ end = omega (arith, below, length-take (end - whole) (drop whole bytes)) in
     let parts : whole + size + 1 - whole ≡ size + 1 = omega arith in
-    let whole_is : all ≡ (take size all ++ 10 ∷ []) ++ drop (size + 1) all = first.1 ∙ sym (append_assoc (take size all) (10 ∷ []) (drop (size + 1) all)) in
-    let count : length (take size all ++ 10 ∷ []) ≡ size + 1 = omega (arith, first.0, length-append (take size all) (10 ∷ []), length-take-le size all (omega (arith, first.0))) in
+    let whole_is : all ≡ (take size all ++ 10 ∷ []) ++ drop (size + 1) all = is.cut below ∙ sym (append_assoc (take size all) (10 ∷ []) (drop (size + 1) all)) in
+    let count : length (take size all ++ 10 ∷ []) ≡ size + 1 = omega (arith, below, length-append (take size all) (10 ∷ []), length-take-le size all is.within) in
     record {
       moved = ap (λ (n : ℕ). take n (drop whole bytes)) parts ∙ shorter (drop whole bytes) (size + 1) (end - whole) (omega (arith, fits))
           ∙ ap (take (size + 1)) whole_is ∙ take_at (take size all ++ 10 ∷ []) (drop (size + 1) all) (size + 1) count;
-      cut = first.1 ∙ ap (λ (l : List ℕ). take size all ++ 10 ∷ l) (sym (consumed bytes whole end (size + 1) fits) ∙ ap (λ (n : ℕ). slice_range bytes n end) (sum whole size));
+      cut = is.cut below ∙ ap (λ (l : List ℕ). take size all ++ 10 ∷ l) (sym (consumed bytes whole end (size + 1) fits) ∙ ap (λ (n : ℕ). slice_range bytes n end) (sum whole size));
     }

@@ -1,8 +1,7 @@
 -- Lemmas on reads that buffer lines.
-use Rattle.std.proofs.Common.{◌≡◌, inl, ℕ, zero, suc, nat_eq, ◌+◌, ◌-◌, ◌^◌, ◌<◌, ◌≤◌, Bool, true, false, List, [], ◌∷◌, ◌++◌, length, Option, refl, sym, ap, ◌∙◌, append_assoc, append-nil, length-append, add-zero, eqb, arith}
+use Rattle.std.proofs.Common.{◌≡◌, inl, ℕ, zero, suc, nat_eq, ◌+◌, ◌-◌, ◌^◌, ◌<◌, ◌≤◌, Bool, true, false, List, [], ◌∷◌, ◌++◌, length, Option, refl, sym, ap, ◌∙◌, append_assoc, append-nil, length-append, add-zero, arith}
 use Rattle.std.proofs.KnownBytes.{Consumes-nil, Consumes-trans}
 use Rattle.std.proofs.lemmas.Bool.Decides.{nat_tests}
-use Rattle.std.proofs.lemmas.List.Elements.{All-nil}
 use Rattle.std.specs.Io.KnownBytes.{Consumes}
 use Rattle.bt_lines.specs.declared.device.Source.{Ghosts as Source}
 use Rattle.bt_lines.proofs.lemmas.reader.block.BufferLemmas.{fed_push}
@@ -12,7 +11,7 @@ use Rattle.bt_lines.specs.calls.Device.{ReadsCounted}
 use Rattle.bt_lines.specs.calls.LentLine.{NoLineFeed}
 use Rattle.bt_lines.specs.model.Lines.{line_feeds}
 use Rattle.bt_lines.specs.inside.Shape.{is_fed}
-use Rattle.bt_lines.specs.inside.Spill.{AreCounted, AsksMore, Buffers, Fills, StopsWith, closed}
+use Rattle.bt_lines.specs.inside.Spill.{AreCounted, AsksMore, Buffers, StopsWith, closed}
 use Rattle.bt_lines.specs.declared.reader.spill.More.TheVariants.{Bytes, NoBytes, BadRead, PastBound}
 use Rattle.bt_lines.specs.declared.reader.spill.Stop.{Stop}
 use Rattle.bt_lines.specs.declared.reader.spill.Stop.TheVariants.{LineFeed, End, Failed, TooLong, NoMemory}
@@ -34,7 +33,7 @@ then_counted IsRead a b c m n k Failed one two = fails_then IsRead a b c m n one
 then_counted IsRead a b c m n k TooLong one two = counts_then IsRead a b c m n (suc k) one two
 then_counted IsRead a b c m n k NoMemory one two = counts_then IsRead a b c m n k one two
 
-zero_of : (n : ℕ) → (0 < n → ⊥) → n ≡ 0
+pub zero_of : (n : ℕ) → (0 < n → ⊥) → n ≡ 0
 zero_of zero h = refl
 zero_of (suc n) h = absurd (h (omega arith))
 
@@ -160,98 +159,3 @@ module _ {S : Type 0} (device : Source S) where
         first = inl (zero_of _ never);
         stopped = then_stopped stop (device.left new) (device.has_failed old) (device.has_failed mid) (device.has_failed new) (device.end_told new) (old_unread ++ (so_far.bytes ++ long.bytes)) (same ++ long.bytes) complete rest next_taken (all long.bytes) so_far.served long.stopped;
       }
-
-  -- a line that is longer than a block
-  module _ (old : S) (old_unread : List ℕ) (old_taken : ℕ) (new : S) (unread text : List ℕ) (taken : ℕ) (clear : NoLineFeed old_unread) (some : 0 < length old_unread) where
-    never_held : 0 < line_feeds old_unread → ⊥
-    never_held h = omega (arith, h, line_feeds-none old_unread clear)
-
-    pub long_line : (complete rest : List ℕ) → Fills device old old_unread old_taken LineFeed new unread text taken → complete ≡ text → rest ≡ unread
-        → Buffers device old old_unread old_taken LineFeed new complete rest taken
-    long_line complete rest fills lines same =
-        let line = fills.stopped.0 in
-        record {
-          bytes = fills.bytes;
-          consumed = fills.consumed;
-          counted = fills.counted;
-          within = fills.within;
-          ready = λ h. absurd (never_held h);
-          first = inl (zero_of _ never_held);
-          stopped = (
-            rw (lines, same) (fills.joined ∙ ap (λ l. text ++ l) fills.stopped.1),
-            rw (lines, line.2) (omega (arith, length-append line.0 (10 ∷ []))),
-            fills.stopped.2,
-          );
-        }
-
-    whole_text : (fills : Fills device old old_unread old_taken End new unread text taken) → old_unread ++ fills.bytes ≡ text
-    whole_text fills = fills.joined ∙ ap (λ l. text ++ l) fills.stopped.1 ∙ append-nil text
-
-    pub long_last : (complete rest : List ℕ) → Fills device old old_unread old_taken End new unread text taken → complete ≡ text ++ 10 ∷ [] → rest ≡ unread
-        → Buffers device old old_unread old_taken End new complete rest taken
-    long_last complete rest fills lines same =
-        let all = whole_text fills in
-        let size : 0 < length text = omega (arith, some, ap length all, length-append old_unread fills.bytes) in
-        record {
-          bytes = fills.bytes;
-          consumed = fills.consumed;
-          counted = fills.counted;
-          within = fills.within;
-          ready = λ h. absurd (never_held h);
-          first = inl (zero_of _ never_held);
-          stopped = (rw all fills.stopped.0, rw all (lines ∙ sym (closed_some text size)), same ∙ fills.stopped.2, fills.stopped.3, fills.stopped.4, fills.stopped.5);
-        }
-
-    pub long_last_refused : (complete rest : List ℕ) → Fills device old old_unread old_taken End new unread text taken → complete ≡ [] → rest ≡ unread
-        → Buffers device old old_unread old_taken NoMemory new complete rest taken
-    long_last_refused complete rest fills none same = record {
-      bytes = fills.bytes;
-      consumed = fills.consumed;
-      counted = fills.counted;
-      within = fills.within;
-      ready = λ h. absurd (never_held h);
-      first = inl (zero_of _ never_held);
-      stopped = ((text, fills.stopped.0, whole_text fills ∙ sym (append-nil text) ∙ ap (λ l. text ++ l) (sym (same ∙ fills.stopped.2))), none, fills.stopped.3);
-    }
-
-    pub long_failed : (complete : List ℕ) → Fills device old old_unread old_taken Failed new unread text taken → complete ≡ []
-        → Buffers device old old_unread old_taken Failed new complete unread taken
-    long_failed complete fills none = record {
-      bytes = fills.bytes;
-      consumed = fills.consumed;
-      counted = fills.counted;
-      within = fills.within;
-      ready = λ h. absurd (never_held h);
-      first = inl (zero_of _ never_held);
-      stopped = (
-        rw (fills.joined ∙ ap (λ l. text ++ l) fills.stopped.1 ∙ append-nil text) fills.stopped.0,
-        none,
-        rw fills.stopped.2 (All-nil (λ b. eqb b 10 ≡ false)),
-        fills.stopped.3,
-        (text, fills.joined ∙ ap (λ l. text ++ l) (fills.stopped.1 ∙ sym fills.stopped.2)),
-      );
-    }
-
-    pub long_too_long : (complete : List ℕ) → Fills device old old_unread old_taken TooLong new unread text taken → complete ≡ []
-        → Buffers device old old_unread old_taken TooLong new complete unread taken
-    long_too_long complete fills none = record {
-      bytes = fills.bytes;
-      consumed = fills.consumed;
-      counted = fills.counted;
-      within = fills.within;
-      ready = λ h. absurd (never_held h);
-      first = inl (zero_of _ never_held);
-      stopped = ((text, fills.behind, fills.stopped.0, fills.joined, fills.stopped.1), none, fills.stopped.2, fills.stopped.3);
-    }
-
-    pub long_refused : (complete : List ℕ) → Fills device old old_unread old_taken NoMemory new unread text taken → complete ≡ []
-        → Buffers device old old_unread old_taken NoMemory new complete unread taken
-    long_refused complete fills none = record {
-      bytes = fills.bytes;
-      consumed = fills.consumed;
-      counted = fills.counted;
-      within = fills.within;
-      ready = λ h. absurd (never_held h);
-      first = inl (zero_of _ never_held);
-      stopped = ((text, fills.stopped.0, fills.joined ∙ ap (λ l. text ++ l) fills.stopped.1), none, fills.stopped.2);
-    }

@@ -5,7 +5,7 @@ use Rattle.std.proofs.lemmas.Bool.{false≢true}
 use Rattle.std.proofs.KnownBytes.{Consumes-nil}
 use Rattle.bt_lines.specs.declared.device.Source.{Ghosts as Source}
 use Rattle.bt_lines.proofs.lemmas.reader.lines.ReaderLemmas.{hands_both, hands_none}
-use Rattle.bt_lines.proofs.lemmas.reader.block.ReadsLemmas.{has_read_then}
+use Rattle.bt_lines.proofs.lemmas.reader.block.ReadsLemmas.{has_read_then, some_is}
 use Rattle.bt_lines.proofs.lemmas.reader.lines.StateLemmas.{some_state}
 use Rattle.bt_lines.proofs.lemmas.reader.lines.StepLemmas.{none_told, some_length}
 use Rattle.bt_lines.proofs.lemmas.reader.lines.TextLemmas.{line_feeds-append}
@@ -14,7 +14,7 @@ use Rattle.bt_lines.specs.calls.LentLine.{GivesFirst}
 use Rattle.bt_lines.specs.model.Lines.{TextLine, line_feeds, lines_from}
 use Rattle.bt_lines.specs.calls.Names.{fault_value}
 use Rattle.bt_lines.specs.inside.ReadBuffer.{complete, unread}
-use Rattle.bt_lines.specs.calls.Reader.{CutsFirst, FillsLines, HasRead, TellsOwnFailure, GivesLine, MakesLine, SameLines, Stepped, StepsTo, buffered_bytes, bytes_left, bytes_taken, end_told, fault_kept, feeds_taken, has_ended, held, input_of, left_at, lines_given, lines_left, source_of}
+use Rattle.bt_lines.specs.calls.Reader.{CutsFirst, FillsLines, HasRead, TellsOwnFailure, GivesLine, MakesLine, GivesFault, Moves, SameLines, StepsTo, Stops, TellsReads, buffered_bytes, bytes_left, bytes_taken, end_told, fault_kept, feeds_taken, has_ended, held, input_of, left_at, lines_given, lines_left, source_of}
 use Rattle.bt_lines.specs.inside.ReaderState.{ended_at, fault_at, lends_at, open_at, taken_at}
 use Rattle.bt_lines.specs.inside.Shape.{held_at}
 use Rattle.bt_lines.specs.declared.fault.Fault.{Fault}
@@ -159,18 +159,16 @@ module _ {S : Type 0} (device : Source S) where
         goes = gives.goes;
       }
 
-  pub steps_on : (old mid new : LineReader S) → FillsLines device old (Ok true) mid → CutsFirst device mid new → Stepped device old (Ok (tt {0})) new
-  steps_on old mid new fills cuts = record {
-    answers = subst (λ l. StepsTo device old l new) (sym cuts.at) (gives_after old mid new cuts.line fills.answers cuts.gives);
-    sound = λ h. cuts.sound (fills.kept (record { end = h.end; within = h.within }));
-  }
-
-  pub steps_to_fault : (old new : LineReader S) (fault : Fault) → FillsLines device old (Err fault) new → Stepped {A = Unit {0}} device old (Err fault) new
-  steps_to_fault old new fault fills = record {
-    answers = fills.answers;
-    sound = λ h. let kept = fills.kept (record { end = h.end; within = h.within }) in
-        record { end = kept.end; within = kept.within; near = λ e. absurd (some_told fault (fault_kept new) fills.answers.kept e) };
-  }
+  pub stops_by : (old new : LineReader S) (fault : Fault) → FillsLines device old (Err fault) new → TellsOwnFailure {A = Bool} device.is_read old (Err fault) new → Stops device old new
+  stops_by old new fault fills tells =
+      let same : (other : Fault) → fault_kept new ≡ Some (fault_value other) → fault_value fault ≡ fault_value other = λ other e. some_is (fault_value fault) (fault_value other) (sym fills.answers.kept ∙ e) in
+      record {
+        kept = rw fills.answers.kept refl;
+        answers = λ other e. subst (λ v. GivesFault device old v new) (same other e) fills.answers;
+        own_failure = λ other e none. subst (λ v. TellsReads device.is_read old (Some v) new) (same other e) (tells none);
+        sound = λ h. let kept = fills.kept (record { end = h.end; within = h.within }) in
+            record { end = kept.end; within = kept.within; near = λ e. absurd (some_told fault (fault_kept new) fills.answers.kept e) };
+      }
 
   cuts_by : (b : Bool) (mid : LineReader S) → 0 < length (buffered_bytes mid) → (b ≡ false → complete mid.buffer ≡ []) → b ≡ true
   unfolding buffered_bytes
@@ -184,12 +182,15 @@ module _ {S : Type 0} (device : Source S) where
   pub is_cut : (old mid : LineReader S) (answer : Result Bool Fault) (b : Bool) → answer ≡ Ok true → FillsLines device old answer mid → (b ≡ false → complete mid.buffer ≡ []) → b ≡ true
   is_cut old mid answer b e fills none = let made = (filled old mid answer e fills).answers in cuts_by b mid made.some none
 
-  pub steps_by : (old mid new : LineReader S) (answer : Result Bool Fault) (b : Bool) → answer ≡ Ok true → FillsLines device old answer mid → (b ≡ false → complete mid.buffer ≡ [])
-      → (b ≡ true → CutsFirst device mid new) → Stepped device old (Ok (tt {0})) new
-  steps_by old mid new answer b e fills none cuts = steps_on old mid new (filled old mid answer e fills) (cuts (is_cut old mid answer b e fills none))
-
-  pub reads_by : (old mid new : LineReader S) (answer : Result Bool Fault) (b : Bool) → answer ≡ Ok true → FillsLines device old answer mid
-      → (b ≡ false → complete mid.buffer ≡ []) → TellsOwnFailure device.is_read old answer mid → (b ≡ true → HasRead device.is_read mid new) → HasRead device.is_read old new
-  reads_by old mid new answer b e fills none read then =
-      let first : HasRead device.is_read old mid = subst (λ (r : Result Bool Fault). TellsOwnFailure device.is_read old r mid) e read in
-      has_read_then device.is_read old mid new first (then (is_cut old mid answer b e fills none))
+  pub moves_by : (old mid new : LineReader S) (answer : Result Bool Fault) (b : Bool) → answer ≡ Ok true → FillsLines device old answer mid → (b ≡ false → complete mid.buffer ≡ [])
+      → (b ≡ true → CutsFirst device mid new) → TellsOwnFailure device.is_read old answer mid → (b ≡ true → HasRead device.is_read mid new) → Moves device old new
+  moves_by old mid new answer b e fills none cuts read then =
+      let filled = filled old mid answer e fills in
+      let cut = is_cut old mid answer b e fills none in
+      let first = cuts cut in
+      let reads : HasRead device.is_read old mid = subst (λ (r : Result Bool Fault). TellsOwnFailure device.is_read old r mid) e read in
+      record {
+        steps = subst (λ l. StepsTo device old l new) (sym first.at) (gives_after old mid new first.line filled.answers first.gives);
+        read = has_read_then device.is_read old mid new reads (then cut);
+        sound = λ h. first.sound (filled.kept (record { end = h.end; within = h.within }));
+      }

@@ -1,7 +1,7 @@
 -- Lemmas on the first byte of a value among some bytes.
-use Rattle.std.proofs.Common.{◌≡◌, ℕ, ◌+◌, ◌-◌, ◌<◌, ◌≤◌, false, List, [], ◌∷◌, ◌++◌, length, take, drop, Some, None, sym, ap, ◌∙◌, subst, append_assoc, length-append, eqb, arith}
+use Rattle.std.proofs.Common.{◌≡◌, ℕ, ◌+◌, ◌-◌, ◌≤◌, false, List, [], ◌∷◌, ◌++◌, length, take, drop, Some, sym, ap, ◌∙◌, subst, append_assoc, length-append, eqb, arith}
 use Rattle.std.proofs.Math.Seq.{take-add, take-length}
-use Rattle.std.proofs.lemmas.List.{take-append-drop, take_at, drop_at, length-take-le, length-drop, take_all}
+use Rattle.std.proofs.lemmas.List.{take-append-drop, take_at, drop_at, length-take-le, length-drop}
 use Rattle.std.proofs.lemmas.List.Elements.{All-append}
 use Rattle.bt_lines.specs.calls.FirstByte.{IsBefore, Lacks}
 use Rattle.bt_lines.specs.inside.Newline.{IsFirstOf}
@@ -51,12 +51,6 @@ module _ (value : ℕ) (text : List ℕ) (at : ℕ) (inside : at ≤ length text
 -- the count of bytes before it
 pub before_feed : (value : ℕ) (text : List ℕ) (n : ℕ) → IsFirstOf value text (Some n) → IsBefore value text n
 before_feed value text n first = record { within = omega (arith, first.0); clear = first.2; cut = λ h. first.1 }
-
-pub before_all : (value : ℕ) (text : List ℕ) (n : ℕ) → n ≡ length text → Lacks value (take n text) → IsBefore value text n
-before_all value text n e clear = record { within = omega (arith, e); clear = clear; cut = λ h. absurd (omega (arith, h, e)) }
-
-pub none_of : (value : ℕ) (text : List ℕ) (n : ℕ) → IsBefore value text n → (n < length text → ⊥) → IsFirstOf value text None
-none_of value text n is none = subst (Lacks value) (take_all n text (omega arith)) is.clear
 
 -- the first one among the first bytes
 pub feed_first : (value : ℕ) (text near : List ℕ) (n place : ℕ) → near ≡ take n text → n ≤ length text → IsFirstOf value near (Some place) → IsFirstOf value text (Some place)

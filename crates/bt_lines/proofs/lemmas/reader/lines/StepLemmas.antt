@@ -14,20 +14,18 @@ use Rattle.bt_lines.proofs.lemmas.reader.lines.TextLemmas.{line_feeds-append, li
 use Rattle.bt_lines.specs.inside.ReadBuffer.{complete, unread}
 use Rattle.bt_lines.specs.model.Lines.{TextLine, fed_line, last_line, lines_from, line_feeds, bytes_in, spelled}
 use Rattle.bt_lines.specs.model.Fault.{FaultValue, read_failed, no_memory}
-use Rattle.bt_lines.specs.inside.ReaderState.{ended_at, fault_at, going_at, open_at, taken_at, told_at}
 use Rattle.bt_lines.specs.inside.Shape.{held_at}
 use Rattle.bt_lines.specs.inside.Spill.{Buffers, closed}
 use Rattle.bt_lines.specs.calls.Output.{block_size}
 use Rattle.bt_lines.specs.calls.LentLine.{GivesFirst, NoLineFeed}
 use Rattle.bt_lines.specs.calls.Names.{fault_value}
-use Rattle.bt_lines.specs.calls.Reader.{FillsLines, IsKept, IsSound, MakesLine, SameLines, buffered_bytes, is_going, Hands, IsNear, FailsToRead, end_told, GivesLine, line_at, source_of, input_of, lines_given, bytes_taken, held, fault_kept, has_ended, bytes_left, feeds_taken}
+use Rattle.bt_lines.specs.calls.Reader.{FillsLines, IsKept, IsSound, MakesLine, SameLines, buffered_bytes, Hands, IsNear, FailsToRead, end_told, GivesLine, line_at, source_of, input_of, lines_given, bytes_taken, held, fault_kept, has_ended, bytes_left, feeds_taken}
 use Rattle.bt_lines.specs.declared.fault.Fault.{Fault}
 use Rattle.bt_lines.specs.declared.fault.Input.{Input}
 use Rattle.bt_lines.specs.declared.reader.spill.Stop.{Stop}
 use Rattle.bt_lines.specs.declared.reader.spill.Stop.TheVariants.{Failed, LineFeed as StopLineFeed, End as StopEnd, TooLong as StopTooLong, NoMemory as StopNoMemory}
 use Rattle.bt_lines.specs.declared.reader.line.LineEnd.TheVariants.{Absent, Cr}
 use Rattle.bt_lines.specs.declared.reader.line_reader.LineReader.{LineReader}
-use Rattle.bt_lines.specs.declared.reader.line_reader.State.{State}
 use Rattle.bt_lines.specs.declared.reader.line_reader.State.TheVariants.{Reading, LastLine, Ended, ReadFailed, TooLong, NoMemory}
 
 -- ---- what a reader shows, by how far it is
@@ -40,20 +38,9 @@ pub record Goes {S : Type 0} (reader : LineReader S) : Type 0 where
   pub untold : end_told reader ≡ false
   pub taken : bytes_taken reader ≡ reader.taken
 
-goes_at : (state : State) → going_at state ≡ true → (input : Input) (lines taken : ℕ)
-    → (open_at state ≡ false) × (fault_at state input lines ≡ None) × (ended_at state ≡ false) × (told_at state ≡ false) × (taken_at state taken ≡ taken)
-goes_at Reading e input lines taken = (refl, refl, refl, refl, refl)
-goes_at LastLine e input lines taken = absurd (false≢true e)
-goes_at Ended e input lines taken = absurd (false≢true e)
-goes_at ReadFailed e input lines taken = absurd (false≢true e)
-goes_at TooLong e input lines taken = absurd (false≢true e)
-goes_at NoMemory e input lines taken = absurd (false≢true e)
-
-pub goes : {S : Type 0} (reader : LineReader S) → is_going reader ≡ true → Goes reader
+pub goes : {S : Type 0} (reader : LineReader S) → reader.state ≡ Reading → Goes reader
 unfolding held fault_kept has_ended end_told bytes_taken
-goes reader e =
-    let at = goes_at reader.state e reader.input reader.lines reader.taken in
-    record { holds = rw at.0 refl; good = at.1; open_ended = at.2; untold = at.3; taken = at.4 }
+goes reader e = record { holds = rw e refl; good = rw e refl; open_ended = rw e refl; untold = rw e refl; taken = rw e refl }
 
 -- a reader to which the end was reported
 pub record IsTold {S : Type 0} (reader : LineReader S) : Type 0 where
@@ -448,7 +435,7 @@ closed_none : (xs : List ℕ) → closed xs ≡ [] → xs ≡ []
 closed_none [] e = refl
 closed_none (x ∷ xs) e = absurd (omega (arith, ap length e))
 
-module _ {S : Type 0} (device : Source S) (old new : LineReader S) (going : is_going old ≡ true) (none : complete old.buffer ≡ [])
+module _ {S : Type 0} (device : Source S) (old new : LineReader S) (going : old.state ≡ Reading) (none : complete old.buffer ≡ [])
     (same : new.input ≡ old.input) (same_lines : new.lines ≡ old.lines) (stop : Stop)
     (buffers : Buffers device old.source (unread old.buffer) old.taken stop new.source (complete new.buffer) (unread new.buffer) new.taken) where
   old_holds : held old ≡ unread old.buffer
@@ -463,7 +450,7 @@ module _ {S : Type 0} (device : Source S) (old new : LineReader S) (going : is_g
   line_step is state =
       let b = rw is at buffers in
       let was = goes old going in
-      let now = goes new (rw state refl) in
+      let now = goes new state in
       let counted : new.taken ≡ old.taken + length b.bytes = omega (arith, b.counted) in
       makes_line device old new b.bytes was same same_lines b.consumed (now.taken ∙ counted ∙ ap (λ n. n + length b.bytes) (sym was.taken))
       (now.holds ∙ sym b.stopped.0 ∙ ap (λ l. l ++ b.bytes) (sym old_holds)) now.good (λ h. b.ready (rw old_holds at h)) b.stopped.2 b.stopped.1 (rw now.taken b.within) nothing_buffered now.untold

@@ -1,45 +1,80 @@
-use Rattle.std.proofs.Common.{◌∙◌}
-use Rattle.bt_lines.proofs.lemmas.reader.block.BuffersLemmas.{fed_line, long_failed, long_last, long_last_refused, long_line, long_refused, long_too_long, one_line}
+use Rattle.std.proofs.Common.{[], ◌∷◌, ◌++◌, ◌∙◌, refl, ap, arith, length, Ok}
+use Rattle.bt_lines.proofs.lemmas.reader.block.BuffersLemmas.{fed_line, one_line}
+use Rattle.bt_lines.proofs.lemmas.reader.block.SpillLemmas.{at_first, at_feed, at_refusal, feed_fed, feed_one, more_came, no_feed, none_came, none_refused, read_failed, past_bound}
+use Rattle.bt_lines.proofs.lemmas.reader.block.ReadsLemmas.{counts_none, counts_then, fails_then}
 use Rattle.bt_lines.proofs.reader.spill.read_long.Goals as goal
 
-pub use_spilled-requires-clause-fed : goal.use_spilled-requires-clause-fed
-use_spilled-requires-clause-fed g c = let line = c.in-LineFeed.ensures.fills.stopped.0 in fed_line _ line.0 line.2
+pub reads-init : goal.reads-init
+reads-init g c =
+    (at_first _ _ _ _ _ c.begin_spill.ensures.empty c.requires.counted, counts_none g.S.Source.is_read _ _ _ _ refl refl, c.begin_spill.ensures.none, c.begin_spill.ensures.plain)
 
-pub use_spilled-requires-clause-one : goal.use_spilled-requires-clause-one
-use_spilled-requires-clause-one g c = let line = c.in-LineFeed.ensures.fills.stopped.0 in one_line _ line.0 line.1 line.2
+pub returns-in-Err-clause-buffers : goal.returns-in-Err-clause-buffers
+returns-in-Err-clause-buffers g c = at_refusal _ _ _ _ c.requires.some c.requires.clear _ _ _ _ (rw c.begin_spill.ensures.unread at c.reads.invariant.0) _ _ _ c.spill.ensures.moves _ _ c.in-Err.is c.spill.ensures.none
+
+pub use_spilled-requires : goal.use_spilled-requires
+use_spilled-requires g c =
+    let is = c.in-Ok-true.is ∙ ap Ok c.in-Ok-true.field-0-test in record {
+      fed = feed_fed _ _ _ _ c.requires.some c.requires.clear _ _ _ _ (rw c.begin_spill.ensures.unread at c.reads.invariant.0) _ _ _ c.spill.ensures.moves is;
+      one = feed_one _ _ _ _ c.requires.some c.requires.clear _ _ _ _ (rw c.begin_spill.ensures.unread at c.reads.invariant.0) _ _ _ c.spill.ensures.moves is;
+    }
+
+pub returns-in-Ok-true-clause-buffers : goal.returns-in-Ok-true-clause-buffers
+returns-in-Ok-true-clause-buffers g c =
+    at_feed _ _ _ _ c.requires.some c.requires.clear _ _ _ _ (rw c.begin_spill.ensures.unread at c.reads.invariant.0) _ _ _ c.spill.ensures.moves _ _ (c.in-Ok-true.is ∙ ap Ok c.in-Ok-true.field-0-test) c.use_spilled.ensures.lines c.use_spilled.ensures.unread
+
+pub ask_more-requires : goal.ask_more-requires
+ask_more-requires g c = record {
+  counted = c.reads.invariant.0.within;
+  none = c.spill.ensures.none;
+  room = let moves = rw (c.in-Ok-false.is ∙ ap Ok c.in-Ok-false.field-0-test) at c.spill.ensures.moves in omega (arith, ap length moves.1);
+}
+
+pub reads-preserved : goal.reads-preserved
+reads-preserved g c = (
+  rw c.begin_spill.ensures.unread (more_came _ _ _ _ c.requires.some c.requires.clear _ _ _ _ (rw c.begin_spill.ensures.unread at c.reads.invariant.0) _ _ _ c.spill.ensures.moves (c.in-Ok-false.is ∙ ap Ok c.in-Ok-false.field-0-test) _ _ _ _ c.in-Bytes.ensures.spilled c.in-Bytes.ensures.asks),
+  counts_then g.S.Source.is_read _ _ _ _ _ _ c.reads.invariant.1 c.in-Bytes.ensures.counted,
+  c.in-Bytes.ensures.none,
+  c.in-Bytes.ensures.plain,
+)
+
+pub returns-in-BadRead-clause-buffers : goal.returns-in-BadRead-clause-buffers
+returns-in-BadRead-clause-buffers g c =
+    read_failed _ _ _ _ c.requires.some c.requires.clear _ _ _ _ (rw c.begin_spill.ensures.unread at c.reads.invariant.0) _ _ _ c.spill.ensures.moves (c.in-Ok-false.is ∙ ap Ok c.in-Ok-false.field-0-test) _ _ _ _ c.in-BadRead.ensures.asks c.in-BadRead.ensures.none
+
+pub returns-in-PastBound-clause-buffers : goal.returns-in-PastBound-clause-buffers
+returns-in-PastBound-clause-buffers g c =
+    past_bound _ _ _ _ c.requires.some c.requires.clear _ _ _ _ (rw c.begin_spill.ensures.unread at c.reads.invariant.0) _ _ _ c.spill.ensures.moves (c.in-Ok-false.is ∙ ap Ok c.in-Ok-false.field-0-test) _ _ _ _ c.in-PastBound.ensures.asks c.in-PastBound.ensures.none
+
+pub returns-in-Err-clause-counted : goal.returns-in-Err-clause-counted
+returns-in-Err-clause-counted g c = c.reads.invariant.1
+
+pub returns-in-Ok-true-clause-counted : goal.returns-in-Ok-true-clause-counted
+returns-in-Ok-true-clause-counted g c = c.reads.invariant.1
+
+pub returns-in-BadRead-clause-counted : goal.returns-in-BadRead-clause-counted
+returns-in-BadRead-clause-counted g c = fails_then g.S.Source.is_read _ _ _ _ _ c.reads.invariant.1 c.in-BadRead.ensures.counted
+
+pub returns-in-PastBound-clause-counted : goal.returns-in-PastBound-clause-counted
+returns-in-PastBound-clause-counted g c = counts_then g.S.Source.is_read _ _ _ _ _ _ c.reads.invariant.1 c.in-PastBound.ensures.counted
+
+pub returns-in-Err-end_spilled-clause-buffers : goal.returns-in-Err-end_spilled-clause-buffers
+returns-in-Err-end_spilled-clause-buffers g c =
+    none_refused _ _ _ _ c.requires.some c.requires.clear _ _ _ _ (rw c.begin_spill.ensures.unread at c.reads.invariant.0) _ _ _ c.spill.ensures.moves (c.in-Ok-false.is ∙ ap Ok c.in-Ok-false.field-0-test) _ _ _ _ _ c.in-NoBytes.ensures.asks (c.end_spilled.ensures.lines ∙ c.in-NoBytes.ensures.none) c.end_spilled.ensures.unread
 
 pub use_spilled-requires-in-Ok-clause-fed : goal.use_spilled-requires-in-Ok-clause-fed
 use_spilled-requires-in-Ok-clause-fed g c = fed_line _ _ c.in-Ok.ensures.ended
 
 pub use_spilled-requires-in-Ok-clause-one : goal.use_spilled-requires-in-Ok-clause-one
-use_spilled-requires-in-Ok-clause-one g c = one_line _ _ c.in-End.ensures.fills.stopped.0 c.in-Ok.ensures.ended
-
-pub returns-in-LineFeed-clause-buffers : goal.returns-in-LineFeed-clause-buffers
-returns-in-LineFeed-clause-buffers g c =
-    let fills = rw c.begin_spill.ensures.unread at c.in-LineFeed.ensures.fills in
-    long_line _ _ _ _ _ _ _ _ c.requires.clear c.requires.some _ _ fills c.use_spilled.ensures.lines c.use_spilled.ensures.unread
+use_spilled-requires-in-Ok-clause-one g c =
+    one_line _ _ (rw c.in-NoBytes.ensures.spilled (no_feed _ _ _ _ c.requires.some c.requires.clear _ _ _ _ (rw c.begin_spill.ensures.unread at c.reads.invariant.0) _ _ _ c.spill.ensures.moves (c.in-Ok-false.is ∙ ap Ok c.in-Ok-false.field-0-test))) c.in-Ok.ensures.ended
 
 pub returns-in-Ok-clause-buffers : goal.returns-in-Ok-clause-buffers
 returns-in-Ok-clause-buffers g c =
-    let fills = rw c.begin_spill.ensures.unread at c.in-End.ensures.fills in
-    long_last _ _ _ _ _ _ _ _ c.requires.clear c.requires.some _ _ fills (c.use_spilled-in-Ok.ensures.lines ∙ c.in-Ok.ensures.ended) (c.use_spilled-in-Ok.ensures.unread ∙ c.end_spilled.ensures.unread)
+    none_came _ _ _ _ c.requires.some c.requires.clear _ _ _ _ (rw c.begin_spill.ensures.unread at c.reads.invariant.0) _ _ _ c.spill.ensures.moves (c.in-Ok-false.is ∙ ap Ok c.in-Ok-false.field-0-test) _ _ _ _ _ c.in-NoBytes.ensures.asks
+    (c.use_spilled-in-Ok.ensures.lines ∙ c.in-Ok.ensures.ended ∙ ap (λ l. l ++ 10 ∷ []) c.in-NoBytes.ensures.spilled) (c.use_spilled-in-Ok.ensures.unread ∙ c.end_spilled.ensures.unread)
 
-pub returns-in-Err-clause-buffers : goal.returns-in-Err-clause-buffers
-returns-in-Err-clause-buffers g c =
-    let fills = rw c.begin_spill.ensures.unread at c.in-End.ensures.fills in
-    long_last_refused _ _ _ _ _ _ _ _ c.requires.clear c.requires.some _ _ fills (c.end_spilled.ensures.lines ∙ c.in-End.ensures.none) c.end_spilled.ensures.unread
+pub returns-in-Err-end_spilled-clause-counted : goal.returns-in-Err-end_spilled-clause-counted
+returns-in-Err-end_spilled-clause-counted g c = counts_then g.S.Source.is_read _ _ _ _ _ _ c.reads.invariant.1 c.in-NoBytes.ensures.counted
 
-pub returns-in-Failed-clause-buffers : goal.returns-in-Failed-clause-buffers
-returns-in-Failed-clause-buffers g c =
-    let fills = rw c.begin_spill.ensures.unread at c.in-Failed.ensures.fills in
-    long_failed _ _ _ _ _ _ _ _ c.requires.clear c.requires.some _ fills c.in-Failed.ensures.none
-
-pub returns-in-TooLong-clause-buffers : goal.returns-in-TooLong-clause-buffers
-returns-in-TooLong-clause-buffers g c =
-    let fills = rw c.begin_spill.ensures.unread at c.in-TooLong.ensures.fills in
-    long_too_long _ _ _ _ _ _ _ _ c.requires.clear c.requires.some _ fills c.in-TooLong.ensures.none
-
-pub returns-in-NoMemory-clause-buffers : goal.returns-in-NoMemory-clause-buffers
-returns-in-NoMemory-clause-buffers g c =
-    let fills = rw c.begin_spill.ensures.unread at c.in-NoMemory.ensures.fills in
-    long_refused _ _ _ _ _ _ _ _ c.requires.clear c.requires.some _ fills c.in-NoMemory.ensures.none
+pub returns-in-Ok-clause-counted : goal.returns-in-Ok-clause-counted
+returns-in-Ok-clause-counted g c = counts_then g.S.Source.is_read _ _ _ _ _ _ c.reads.invariant.1 c.in-NoBytes.ensures.counted

@@ -1,9 +1,10 @@
 use Rattle.std.proofs.Common.{◌∙◌, ◌++◌, ap, eqb, length, refl, sym}
 use Rattle.std.proofs.lemmas.Bool.{eqb-true, false≢true}
+use Rattle.bt_lines.specs.calls.Reader.{fault_kept, input_of, lines_given}
 use Rattle.bt_lines.specs.inside.ReadBuffer.{complete, unread}
-use Rattle.bt_lines.proofs.lemmas.reader.lines.StateLemmas.{last_closed, last_going, last_of_none, quiet_going, reading_of, spaced, spaced_fault, spaced_last}
+use Rattle.bt_lines.proofs.lemmas.reader.lines.StateLemmas.{last_closed, last_going, last_of_none, quiet_going, spaced, spaced_fault, spaced_last}
 use Rattle.bt_lines.proofs.lemmas.reader.lines.StepLemmas.{line_step, last_step, end_step, failed_step, long_step, refused_step}
-use Rattle.bt_lines.proofs.lemmas.reader.block.ReadsLemmas.{tells_unread, unread_by}
+use Rattle.bt_lines.proofs.lemmas.reader.block.ReadsLemmas.{some_is, tells_unread, unread_by}
 use Rattle.bt_lines.proofs.reader.line_reader.LineReader.read_more.Goals as goal
 
 pub invariant_of-self : goal.invariant_of-self
@@ -52,7 +53,7 @@ invariant_of-self-in-NoMemory g c =
 
 pub returns-in-LineFeed-clause-fills : goal.returns-in-LineFeed-clause-fills
 returns-in-LineFeed-clause-fills g c =
-    line_step _ c.args.self.now _ c.requires.going c.requires.none refl refl _ c.in-LineFeed.ensures.buffers refl (reading_of c.args.self.now.state c.requires.going)
+    line_step _ c.args.self.now _ c.requires.going c.requires.none refl refl _ c.in-LineFeed.ensures.buffers refl c.requires.going
 
 pub returns-in-End-clause-fills : goal.returns-in-End-clause-fills
 returns-in-End-clause-fills g c =
@@ -65,17 +66,21 @@ returns-in-End-2-clause-fills g c =
     (λ e. false≢true (c.if-is_empty.ensures ∙ ap (λ n. eqb n 0) (ap length c.lines.ensures ∙ e))) refl
 
 pub returns-in-Failed-clause-fills : goal.returns-in-Failed-clause-fills
+unfolding fault_kept input_of lines_given
 returns-in-Failed-clause-fills g c =
-    failed_step _ c.args.self.now _ c.requires.going c.requires.none refl refl _ c.in-Failed.ensures.buffers c.read_failed.result refl c.read_failed.ensures refl
+    failed_step _ c.args.self.now _ c.requires.going c.requires.none refl refl _ c.in-Failed.ensures.buffers c.fault.result refl (sym (some_is _ _ c.fault.ensures)) refl
 
 pub returns-in-TooLong-clause-fills : goal.returns-in-TooLong-clause-fills
+unfolding fault_kept input_of lines_given
 returns-in-TooLong-clause-fills g c =
-    long_step _ c.args.self.now _ c.requires.going c.requires.none refl refl _ c.in-TooLong.ensures.buffers c.read_failed-in-TooLong.result refl c.read_failed-in-TooLong.ensures refl
+    long_step _ c.args.self.now _ c.requires.going c.requires.none refl refl _ c.in-TooLong.ensures.buffers c.fault-in-TooLong.result refl (sym (some_is _ _ c.fault-in-TooLong.ensures)) refl
 
 pub returns-in-NoMemory-clause-fills : goal.returns-in-NoMemory-clause-fills
+unfolding fault_kept
 returns-in-NoMemory-clause-fills g c =
-    refused_step _ c.args.self.now _ c.requires.going c.requires.none refl refl _ c.in-NoMemory.ensures.buffers c.no_memory.result refl c.no_memory.ensures refl
+    refused_step _ c.args.self.now _ c.requires.going c.requires.none refl refl _ c.in-NoMemory.ensures.buffers c.fault-in-NoMemory.result refl (sym (some_is _ _ c.fault-in-NoMemory.ensures)) refl
 
 pub returns-in-Failed-clause-own_failure : goal.returns-in-Failed-clause-own_failure
+unfolding fault_kept
 returns-in-Failed-clause-own_failure g c = λ was.
-    tells_unread g.S.Source.is_read c.args.self.now _ _ _ _ c.read_failed.ensures (unread_by g.S.Source.is_read c.args.self.now _ c.in-Failed.ensures.counted)
+    tells_unread g.S.Source.is_read c.args.self.now _ _ _ _ (sym (some_is _ _ c.fault.ensures)) (unread_by g.S.Source.is_read c.args.self.now _ c.in-Failed.ensures.counted)

@@ -4,21 +4,18 @@ use Rattle.bt_lines.specs.inside.ReadBuffer.{complete}
 use Rattle.bt_lines.specs.inside.Shape.{AreComplete}
 use Rattle.bt_lines.proofs.reader.read_buffer.ReadBuffer.consume.Goals as goal
 
-pub invariant_of-self : goal.invariant_of-self
+pub invariant_of-self-clause-ordered : goal.invariant_of-self-clause-ordered
 unfolding complete
-invariant_of-self c =
+invariant_of-self-clause-ordered c =
     let old = c.args.self.now in
-    record {
-      text_ordered = old.text_ordered;
-      text_within = old.text_within;
-      ordered = lines_ordered old.is_spilled old.spilled.items old.bytes old.start old.whole c.args.count old.ordered c.requires;
-      whole_searched = old.whole_searched;
-      searched_within = old.searched_within;
-      within = old.within;
-      clear = old.clear;
-      are_complete = subst (AreComplete old.is_spilled) (sym (lines_dropped old.is_spilled old.spilled.items old.bytes old.start old.whole c.args.count c.requires))
-          (are_dropped old.is_spilled _ c.args.count old.are_complete);
-    }
+    lines_ordered old.is_spilled old.spilled.items old.bytes old.start old.whole c.args.count old.ordered c.requires
+
+pub invariant_of-self-clause-are_complete : goal.invariant_of-self-clause-are_complete
+unfolding complete
+invariant_of-self-clause-are_complete c =
+    let old = c.args.self.now in
+    subst (AreComplete old.is_spilled) (sym (lines_dropped old.is_spilled old.spilled.items old.bytes old.start old.whole c.args.count c.requires))
+    (are_dropped old.is_spilled _ c.args.count old.are_complete)
 
 pub returns-clause-lines : goal.returns-clause-lines
 unfolding complete

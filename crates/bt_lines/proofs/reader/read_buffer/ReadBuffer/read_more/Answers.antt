@@ -10,22 +10,7 @@ read_behind-requires-clause-some g c =
 pub invariant_of-self : goal.invariant_of-self
 invariant_of-self g c =
     let mid = c.move_front.new.self in
-    let before = c.in-Ok.ensures.before in
-    record {
-      text_ordered = mid.text_ordered;
-      text_within = mid.text_within;
-      ordered = mid.ordered;
-      whole_searched = mid.whole_searched;
-      searched_within = omega (arith, mid.searched_within);
-      within = omega (arith, c.in-Ok.ensures.count, c.min-most.ensures, mid.within);
-      clear = front_same mid.bytes _ mid.whole mid.searched mid.end before mid.whole_searched mid.searched_within mid.clear;
-      are_complete = lines_front mid.is_spilled mid.spilled.items mid.bytes _ mid.start mid.whole mid.end before mid.ordered (omega (arith, mid.whole_searched, mid.searched_within)) mid.are_complete;
-    }
-
-pub invariant_of-self-in-Err-1 : goal.invariant_of-self-in-Err-1
-invariant_of-self-in-Err-1 g c =
-    let mid = c.move_front.new.self in
-    let before = c.in-Err.ensures.before in
+    let before = c.in_err-count.ensures.before in
     record {
       text_ordered = mid.text_ordered;
       text_within = mid.text_within;
@@ -37,12 +22,22 @@ invariant_of-self-in-Err-1 g c =
       are_complete = lines_front mid.is_spilled mid.spilled.items mid.bytes _ mid.start mid.whole mid.end before mid.ordered (omega (arith, mid.whole_searched, mid.searched_within)) mid.are_complete;
     }
 
-pub returns-in-Ok-clause-bytes : goal.returns-in-Ok-clause-bytes
-unfolding unread
-returns-in-Ok-clause-bytes g c =
+pub invariant_of-self-2-clause-clear : goal.invariant_of-self-2-clause-clear
+invariant_of-self-2-clause-clear g c =
     let mid = c.move_front.new.self in
-    let ensures = c.in-Ok.ensures in
-    let both = behind_read mid.bytes _ mid.whole mid.end c.in-Ok.count (omega (arith, mid.whole_searched, mid.searched_within)) ensures.before (omega (arith, ensures.size, ensures.count, c.min-most.ensures, mid.within)) in
-    let count : ℕ = c.in-Ok.count in
+    front_same mid.bytes _ mid.whole mid.searched mid.end c.in_ok-count.ensures.before mid.whole_searched mid.searched_within mid.clear
+
+pub invariant_of-self-2-clause-are_complete : goal.invariant_of-self-2-clause-are_complete
+invariant_of-self-2-clause-are_complete g c =
+    let mid = c.move_front.new.self in
+    lines_front mid.is_spilled mid.spilled.items mid.bytes _ mid.start mid.whole mid.end c.in_ok-count.ensures.before mid.ordered (omega (arith, mid.whole_searched, mid.searched_within)) mid.are_complete
+
+pub returns-clause-bytes : goal.returns-clause-bytes
+unfolding unread
+returns-clause-bytes g c =
+    let mid = c.move_front.new.self in
+    let ensures = c.in_ok-count.ensures in
+    let both = behind_read mid.bytes _ mid.whole mid.end c.in_ok-count.count (omega (arith, mid.whole_searched, mid.searched_within)) ensures.before (omega (arith, ensures.size, ensures.count, c.min-most.ensures, mid.within)) in
+    let count : ℕ = c.in_ok-count.count in
     let bytes : List ℕ = c.read_behind.new.bytes in
     (omega (arith, ensures.count, c.min-most.ensures), (slice_range bytes mid.end (mid.end + count), both.0, ensures.bytes, both.1 ∙ ap (λ l. l ++ slice_range bytes mid.end (mid.end + count)) c.move_front.ensures.unread))

@@ -2,7 +2,7 @@ use Rattle.std.proofs.Common.{◌≡◌, ◌-◌, ◌^◌, [], false}
 use Rattle.bt_lines.specs.inside.ReadBuffer.{complete, unread}
 use Rattle.bt_lines.specs.calls.Device.{ReadsCounted}
 use Rattle.bt_lines.proofs.lemmas.reader.block.SpillLemmas.{SoFar}
-use Rattle.bt_lines.proofs.reader.spill.read_spilled.Given as goal
+use Rattle.bt_lines.proofs.reader.spill.read_long.Given as goal
 
 abbrev pub invariant-reads : goal.invariant-reads
 invariant-reads g l =

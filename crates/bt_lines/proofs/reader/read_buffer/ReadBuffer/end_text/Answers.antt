@@ -1,8 +1,9 @@
-use Rattle.std.proofs.Common.{◌≡◌, ◌≤◌, ◌<◌, ◌+◌, arith, length, rules, set, slice_range, subst, sym}
+use Rattle.std.proofs.Common.{◌≡◌, ◌≤◌, ◌<◌, ◌+◌, ◌∙◌, arith, length, rules, set, slice_range, subst, sym}
 use Rattle.bt_lines.proofs.lemmas.reader.block.BufferLemmas.{are_in_block, end_added, fed_push, length-range, none_searched}
+use Rattle.bt_lines.proofs.lemmas.reader.block.BuffersLemmas.{closed_some}
 use Rattle.bt_lines.specs.inside.ReadBuffer.{complete, unread}
 use Rattle.bt_lines.specs.inside.Shape.{AreComplete}
-use Rattle.bt_lines.proofs.reader.read_buffer.ReadBuffer.end_line.Goals as goal
+use Rattle.bt_lines.proofs.reader.read_buffer.ReadBuffer.end_text.Goals as goal
 
 pub invariant_of-self-clause-ordered : goal.invariant_of-self-clause-ordered
 invariant_of-self-clause-ordered c =
@@ -38,3 +39,4 @@ returns-clause-lines c =
     let fits : old.end ≤ length old.bytes = omega (arith, size, old.within) in
     let below : old.end < length old.bytes = omega (arith, size, length-range old.bytes old.whole old.end fits, c.requires.front, c.requires.room) in
     end_added old.bytes old.whole old.end (omega (arith, old.whole_searched, old.searched_within)) below
+    ∙ sym (closed_some (slice_range old.bytes old.whole old.end) (omega (arith, length-range old.bytes old.whole old.end fits, old.whole_searched, old.searched_within, c.if-self.false)))
