@@ -142,20 +142,14 @@ module _ {S A State : Type 0} (device : Source S)
   ChecksRest Kinds (Ok done) new = ChecksAll new
   ChecksRest Kinds (Err fault) new = ChecksUpTo Kinds (fault_value fault) new
 
-  abbrev pub Checks : {T : Type 0} → (Kind → Type 0) → Result T Fault → MemberReader S A State
-      → Type 0
-  Checks Kinds result new =
-      Passes device old past before
-      → ((state : State) (line : TextLine) (kind : Kind) → old.format.says state line ≡ Err kind
-      → Kinds kind)
-      → ChecksRest Kinds result new
-
 -- reading on to the end, from wherever the reader is
 abbrev pub ReadsRest : {S A State T : Type 0} → Source S → (Kind → Type 0) → MemberReader S A State
     → Result T Fault → MemberReader S A State → Type 0
 ReadsRest {S} {A} {State} {T} device Kinds before result new =
-    (old : MemberReader S A State) (past : List (Member A))
-    → Checks device old past before Kinds result new
+    (old : MemberReader S A State) (past : List (Member A)) → Passes device old past before
+    → ((state : State) (line : TextLine) (kind : Kind) → old.format.says state line ≡ Err kind
+    → Kinds kind)
+    → ChecksRest device old past before Kinds result new
 
 -- how far it has come
 module _ {S A State : Type 0} (device : Source S)

@@ -187,7 +187,8 @@ module _ {S A State : Type 0} (written : Written A) (kinds : Kind → Type 0) (S
 
     named_by : (past : List (Member A)) → (bytes : List ℕ) × Hands device.left old.below bytes new.below → Cause past
         → TellsInput device kinds First first last fault ⊎ TellsDevice grown.sink_has_failed fault
-    named_by past hands (inl taking) = elim taking.cause [ inl behind ↦ inl (tells_fault device format First first old starts new last ended kinds past fault hands behind) | inr lacks ↦ inr (inr lacks.is) ]
+    named_by past hands (inl taking) =
+        elim taking.cause [ inl behind ↦ inl (tells_fault device format First first old starts new last ended kinds past fault hands behind) | inr lacks ↦ inr (inr lacks.is) ]
     named_by past hands (inr writing) = inr (inl (writing.is, writing.cuts.sink_failed))
 
     pub drives_fault : FeedsUpTo written.settled kinds Sorted device old out fault new grown → WritesAlone device (of_members kinds written format) first out (Some fault) last grown

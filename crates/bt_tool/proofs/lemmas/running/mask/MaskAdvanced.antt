@@ -41,10 +41,6 @@ use Rattle.bt_tool.proofs.lemmas.running.pair.PairStops as stop
 use Rattle.bt_tool.proofs.lemmas.running.pair.PairTurns as turned
 use Rattle.bt_lines.proofs.lemmas.reader.block.ReadsLemmas.{some_is}
 
-both_none : {A : Type 0} (xs ys : List A) → xs ++ ys ≡ [] → (xs ≡ []) × (ys ≡ [])
-both_none [] ys e = (refl, e)
-both_none (x ∷ xs) ys e = cc
-
 alone : {A : Type 0} (items : List A) (o : Option A) → o ≡ None → items ++ option_to_list o ≡ items
 alone items o none = ap (λ o. items ++ option_to_list o) none ∙ append-nil items
 
@@ -79,7 +75,7 @@ module _ {A B : Type 0} (source_a : Source A) (source_b : Source B) (run : MaskB
 
     -- after the end of the records none was taken
     none_more : stage.bed_ended ≡ true → (taken ≡ []) × (second_now.buffered ≡ [])
-    none_more e = both_none taken second_now.buffered (sym has.takes.buffered ∙ (s.comes.second_all e).1)
+    none_more e = turned.both_none taken second_now.buffered (sym has.takes.buffered ∙ (s.comes.second_all e).1)
 
     ended_second : stage.bed_ended ≡ true → (more_second ≡ []) × (second_now.buffered ≡ [])
     ended_second e = let none = none_more e in (ap (members_from (suc (lines_given second.below))) none.0, none.1)
@@ -140,7 +136,7 @@ module _ {A B : Type 0} (source_a : Source A) (source_b : Source B) (run : MaskB
 
         ended_first : stage.lines_ended ≡ true → (more_first ≡ []) × (first_now.buffered ≡ [])
         ended_first e =
-            let none : texts ≡ [] = (both_none texts more (sym parts ∙ over (s.lines_over e))).0 in
+            let none : texts ≡ [] = (turned.both_none texts more (sym parts ∙ over (s.lines_over e))).0 in
             (ap (members_from (suc (lines_given lines))) (nil_from_length items (omega (arith, say_count run.full at texts items say_here, ap length none))), refl)
 
         -- the engine is at the final stage

@@ -42,6 +42,7 @@ use Rattle.bt_tool.specs.inside.pair.Progress.{PairStage}
 use Rattle.bt_tool.specs.inside.feed.Passed.{HasTaken}
 use Rattle.bt_tool.proofs.lemmas.running.members.MemberLemmas.{items_from}
 use Rattle.bt_tool.proofs.lemmas.running.mask.MaskAdvanced.{come_on, fails_write, lacks_room, refuses_line, settled}
+use Rattle.bt_tool.proofs.lemmas.running.pair.PairTurns.{none_new}
 use Rattle.bt_tool.proofs.lemmas.running.mask.MaskGiven.{ahead_first, first_of}
 use Rattle.bt_tool.proofs.lemmas.running.mask.MaskedLemmas.{fails_record}
 
@@ -87,14 +88,9 @@ rounds_few false WantBed e = omega arith
 rounds_few waits Nothing e = omega arith
 
 -- if nothing was given, a line that waited was written, or the same is wanted
-none_front : (newly : List SequenceLine) (o : Option SequenceLine) → newly ++ option_to_list o ≡ [] → o ≡ None
-none_front [] None e = refl
-none_front [] (Some x) e = cc
-none_front (y ∷ newly) o e = cc
-
 no_more_by : (o final : Option SequenceLine) (newly written : List SequenceLine) → o ≡ None → (written ++ newly) ++ option_to_list final ≡ written ++ option_to_list o → final ≡ None
 no_more_by o final newly written none e =
-    none_front newly final (append_cancel_left written (newly ++ option_to_list final) [] (sym (append_assoc written newly (option_to_list final)) ∙ e ∙ ap (λ (o : Option SequenceLine). written ++ option_to_list o) none))
+    (none_new newly final (append_cancel_left written (newly ++ option_to_list final) [] (sym (append_assoc written newly (option_to_list final)) ∙ e ∙ ap (λ (o : Option SequenceLine). written ++ option_to_list o) none))).1
 
 stays_by : (o final : Option SequenceLine) (l b : Bool) (old_want new_want : MaskWant) (old_waits new_waits : Bool) → old_want ≡ want_of (is_some o) l b → new_want ≡ want_of (is_some final) l b → old_waits ≡ is_some o → new_waits ≡ is_some final → (o ≡ None → final ≡ None)
     → (mask_rounds new_waits new_want < mask_rounds old_waits old_want) ⊎ ((new_want ≡ old_want) × (new_waits ≡ old_waits))

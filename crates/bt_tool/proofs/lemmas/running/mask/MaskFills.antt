@@ -51,7 +51,8 @@ module _ {A B : Type 0} (source_a : Source A) (source_b : Source B) (run : MaskB
   -- what is wanted was made buffered, or the end of that input was given
   abbrev Fills : LineReader A → MemberReader B Feature (Option Locus) → Masking → Output → Type 0
   Fills new second_now masked grown =
-      GoesOn source_a source_b run new second_now masked grown × ((mask_left new second_now masked < mask_left lines second mask) ⊎ ((mask_left new second_now masked ≤ mask_left lines second mask) × IsMaskReady new second_now masked.want))
+      GoesOn source_a source_b run new second_now masked grown
+      × ((mask_left new second_now masked < mask_left lines second mask) ⊎ ((mask_left new second_now masked ≤ mask_left lines second mask) × IsMaskReady new second_now masked.want))
 
   module _ (wants : mask.want ≡ WantLine) (new : LineReader A) (kept : IsKept source_a lines → IsKept source_a new) where
     pub line_filled : MakesLine source_a lines new → Fills new second mask out

@@ -47,7 +47,8 @@ pub record BeginsAt {S A State : Type 0} (left : S → Option (List ℕ)) (forma
   pub good : good_coming left old ≡ option_map (good format input) (option_map text_lines (left first))
 
 -- a reader of members over a reader of lines that has given nothing
-module _ {S A State : Type 0} (device : Source S) (reader : LineReader S) (members : MemberReader S A State) (is : members.below ≡ reader) (taken : bytes_taken reader ≡ 0) (fed : feeds_taken reader ≡ 0) where
+module _ {S A State : Type 0} (device : Source S) (reader : LineReader S) (members : MemberReader S A State)
+    (is : members.below ≡ reader) (taken : bytes_taken reader ≡ 0) (fed : feeds_taken reader ≡ 0) where
   pub fresh_over : lines_given reader ≡ 0 → members.fault ≡ None → members.buffered ≡ [] → IsSound device reader → IsFresh device members
   fresh_over given going none sound = record {
     none_given = (ap lines_given is ∙ given, ap bytes_taken is ∙ taken, ap feeds_taken is ∙ fed);
@@ -56,7 +57,8 @@ module _ {S A State : Type 0} (device : Source S) (reader : LineReader S) (membe
     sound = subst (IsSound device) (sym is) sound;
   }
 
-  pub begins_over : (format : Format A State) (input : Input) (first : S) → source_of reader ≡ first → input_of reader ≡ input → fault_kept reader ≡ None → lines_left device.left reader ≡ option_map text_lines (device.left first)
+  pub begins_over : (format : Format A State) (input : Input) (first : S) → source_of reader ≡ first → input_of reader ≡ input → fault_kept reader ≡ None
+      → lines_left device.left reader ≡ option_map text_lines (device.left first)
       → (fault_kept reader ≡ None → good_coming device.left members ≡ option_map (good format (input_of reader)) (lines_left device.left reader)) → BeginsAt device.left format input first members
   begins_over format input first source same going lines known = record {
     source = ap source_of is ∙ source;

@@ -84,7 +84,11 @@ few_waited : {A : Type 0} (newly : List A) (x : A) (o : Option A) → newly ++ x
 few_waited newly x None e = absurd (none_pushed newly x (sym e))
 few_waited newly x (Some y) e = push_front newly [] x y e
 
-none_new : {A : Type 0} (newly : List A) (o : Option A) → newly ++ option_to_list o ≡ [] → (newly ≡ []) × (o ≡ None)
+pub both_none : {A : Type 0} (xs ys : List A) → xs ++ ys ≡ [] → (xs ≡ []) × (ys ≡ [])
+both_none [] ys e = (refl, e)
+both_none (x ∷ xs) ys e = cc
+
+pub none_new : {A : Type 0} (newly : List A) (o : Option A) → newly ++ option_to_list o ≡ [] → (newly ≡ []) × (o ≡ None)
 none_new [] None e = (refl, refl)
 none_new [] (Some x) e = cc
 none_new (y ∷ newly) o e = cc
@@ -137,7 +141,8 @@ module _ {A B X Y U V : Type 0} (join : JoinDef X Y) (pair : Pair A B X Y U V) (
     all_written none = sym (append-nil stage.written) ∙ ap (λ (o : Option X). stage.written ++ option_to_list o) (sym none) ∙ s.all_given
 
     -- the first input was read on
-    pub reads_first : stage.waiting ≡ None → stage.first_ended ≡ false → (first_now : MemberReader A X U) → Passes pair.source_a pair.first past_first first_now → Comes join pair out stage past_first past_second first_now second grown
+    pub reads_first : stage.waiting ≡ None → stage.first_ended ≡ false → (first_now : MemberReader A X U) → Passes pair.source_a pair.first past_first first_now
+        → Comes join pair out stage past_first past_second first_now second grown
     reads_first none going first_now p = record {
       first_passes = p;
       second_passes = s.second_passes;

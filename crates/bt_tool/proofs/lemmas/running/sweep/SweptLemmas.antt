@@ -372,17 +372,13 @@ module _ {A B O : Type 0} {g : Ghosts O} (source_a : Source A) (source_b : Sourc
       pub placed_second : ArePlaced order (intervals_of (stage.taken ++ ss))
       placed_second = subst (λ (l : List Feature). ArePlaced order (intervals_of l)) (sym taken_then) (second_placed (s.past_second ++ more_second) (view_of second_now) further_second.passes)
 
-      no_front : (xs ys : List Feature) → [] ≡ xs ++ ys → (xs ≡ []) × (ys ≡ [])
-      no_front [] ys e = (refl, sym e)
-      no_front (x ∷ xs) ys e = cc
-
       ended_first : stage.a_ended ≡ true → (more_first ≡ []) × ((view_of first_now).buffered ≡ [])
       ended_first e =
-          let none = no_front fs (view_of first_now).buffered (sym (s.comes.first_all e).2 ∙ takes.first_taken.takes.buffered) in
+          let none = turned.both_none fs (view_of first_now).buffered (sym takes.first_taken.takes.buffered ∙ (s.comes.first_all e).2) in
           (ap (members_from (suc (lines_given (below first)))) none.0, none.1)
 
       none_second : stage.b_ended ≡ true → (ss ≡ []) × ((view_of second_now).buffered ≡ [])
-      none_second e = no_front ss (view_of second_now).buffered (sym (s.comes.second_all e).1 ∙ takes.second_taken.takes.buffered)
+      none_second e = turned.both_none ss (view_of second_now).buffered (sym takes.second_taken.takes.buffered ∙ (s.comes.second_all e).1)
 
       ended_second : stage.b_ended ≡ true → (more_second ≡ []) × ((view_of second_now).buffered ≡ [])
       ended_second e = let none = none_second e in (ap (members_from (suc (lines_given (below second)))) none.0, none.1)
