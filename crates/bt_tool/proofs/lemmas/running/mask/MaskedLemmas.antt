@@ -31,7 +31,7 @@ use Rattle.bt_seq.specs.model.Owners.{left_after}
 use Rattle.bt_seq.specs.model.Sequences.{Reached, SequenceLine, line_says, sequence_format}
 use Rattle.bt_seq.specs.declared.mask.mask_how.MaskHow.{MaskHow}
 use Rattle.bt_seq.specs.declared.mask.mask_want.MaskWant.TheVariants.{Line as WantLine, Bed as WantBed, Nothing}
-use Rattle.bt_tool.specs.inside.feed.Feeding.{ComeFirst, member_items}
+use Rattle.bt_tool.specs.inside.feed.Feeding.{member_items}
 use Rattle.bt_tool.specs.model.report.MaskReport.{is_fasta_kind, is_mask_kind}
 use Rattle.bt_tool.specs.inside.pair.MaskLoop.{AreOwned, MaskBegun, MaskEnds, Masks, begun_pair, leaves_some, line_members, mask_join, nothing_reached, stage_of}
 use Rattle.bt_tool.specs.inside.pair.Pair.{JoinDef, Pair, SettlesPair, item_ahead}
@@ -342,14 +342,6 @@ module _ {A B : Type 0} (source_a : Source A) (source_b : Source B) (run : MaskB
           ap (λ (l : List (List ℕ)). left_after l (member_items (s.past_second ++ m ∷ []))) (names_alone none)
           ∙ ap (left_after (reached stage).names) (map-append (λ (x : Member Feature). x.item) s.past_second (m ∷ []) ∙ ap (λ (l : List Feature). l ++ r ∷ []) (sym s.comes.all_taken)) ∙ e
 
-      begins_by : (old now : Option (Good Feature)) → (IsSome old → IfSome now (λ good. (rest : List (Member Feature)) × (good.members ≡ m ∷ rest))) → ComeFirst old s.past_second now
-          → IfSome old (λ good. (rest : List (Member Feature)) × (good.members ≡ (s.past_second ++ m ∷ []) ++ rest))
-      begins_by None now first come = tt
-      begins_by (Some old) None first come = absurd come
-      begins_by (Some old) (Some now) first come =
-          let f = first refl in
-          (f.0, come.0 ∙ ap (λ l. s.past_second ++ l) f.1 ∙ sym (append_assoc s.past_second (m ∷ []) f.0))
-
       fails_by : (o : Option SequenceLine) → stage.waiting ≡ o → (fault : FaultValue) (now : Output) → FailsAtRecord run.how run.full o stage r (suc (lines_given second.below)) grown fault now → EndsAt (Some fault) lines second now
       fails_by None none fault now lacks = (
         first,
@@ -366,7 +358,7 @@ module _ {A B : Type 0} (source_a : Source A) (source_b : Source B) (run : MaskB
                 is = lacks.is;
                 of_kind = refl;
                 told = told_by (names_of stage.written) (good_coming source_b.left run.records) s.past_second m fault lacks.is (owned_alone none) (unowned_by none lacks.unowned)
-                    (begins_by (good_coming source_b.left run.records) (good_coming source_b.left second) (λ known. s.comes.second_passes.ahead known m m_ahead) s.comes.second_passes.come);
+                    (stop.seen_begins source_b.left (good_coming source_b.left run.records) second s.past_second (Some m) m_ahead s.comes.second_passes.come s.comes.second_passes.ahead);
                 serves = record { served = s.comes.second_passes.served; within = s.comes.second_passes.kept.within s.comes.second_passes.clear };
               },
             )))),

@@ -35,7 +35,7 @@ begins_more old None past m come first = absurd come
 begins_more old (Some now) past m come first = (first.0, come.0 ∙ ap (λ l. past ++ l) first.1 ∙ sym (append_assoc past (m ∷ []) first.0))
 
 -- the members that were consumed and the one ahead come first
-seen_begins : {S A State : Type 0} (left : S → Option (List ℕ)) (old : Option (Good A)) (now : MemberReader S A State) (past : List (Member A)) (o : Option (Member A)) → ahead_in now ≡ o
+pub seen_begins : {S A State : Type 0} (left : S → Option (List ℕ)) (old : Option (Good A)) (now : MemberReader S A State) (past : List (Member A)) (o : Option (Member A)) → ahead_in now ≡ o
     → ComeFirst old past (good_coming left now)
     → (IsSome old → (m : Member A) → ahead_in now ≡ Some m → IfSome (good_coming left now) (λ good. (rest : List (Member A)) × (good.members ≡ m ∷ rest)))
     → IfSome old (λ good. (rest : List (Member A)) × (good.members ≡ (past ++ option_to_list o) ++ rest))
@@ -178,9 +178,6 @@ module _ {A B X Y U V : Type 0} (join : JoinDef X Y) (pair : Pair A B X Y U V) (
       wrote_later first_now handed second_now low handed_second =
           wrote_by past_second second second_now s.second_passes low handed_second first_now handed stage.written s.bytes stage.second_ended grown settled_now begins_now ended_now s.grows (firsts_given stage) given_now fits
 
-      wrote_now : Wrote join pair out stage.written s.bytes first second grown
-      wrote_now = wrote_later first s.first_passes.bytes second (none_low second s.second_passes.going) s.second_passes.bytes
-
       -- the sink took all but a block of the bytes so far
       near_by : (first_now : MemberReader A X U) (second_now : MemberReader B Y V) (now : Output) → Wrote join pair out stage.written s.bytes first_now second_now grown → GoesOn grown now
           → source_of first_now.below ≡ source_of first.below → ((stage.first_ended ≡ true) ⊎ AsksFor join pair out past_first second_now) → Near first_now second_now now
@@ -208,8 +205,24 @@ module _ {A B X Y U V : Type 0} (join : JoinDef X Y) (pair : Pair A B X Y U V) (
       no_more : GoesOn grown grown
       no_more = goes_same grown
 
-      near_now : Near first second grown
-      near_now = near_by first second grown wrote_now no_more refl beside_now
+      -- it ends with the bytes so far
+      ends_so : (fault : Option FaultValue) (second_now : MemberReader B Y V) → (IsSome second_now.fault → All (λ m. m.line ≤ lines_given second_now.below) (past_second ++ option_to_list (ahead_in second)))
+          → HandsSecond second_now → (stage.first_ended ≡ true) ⊎ AsksFor join pair out past_first second_now
+          → Why join pair out stage.written s.bytes (firsts_given stage) stage.second_ended first second_now fault grown → Ends fault first second_now grown
+      unfolding wrote_later wrote_by near_by
+      ends_so fault second_now low handed beside why =
+          let wrote = wrote_later first s.first_passes.bytes second_now low handed in
+          record {
+            written = stage.written;
+            bytes = s.bytes;
+            wrote = wrote;
+            why = why;
+            near = near_by first second_now grown wrote no_more refl beside;
+            exact = λ stops. s.puts;
+          }
+
+      ends_here : (fault : Option FaultValue) → Why join pair out stage.written s.bytes (firsts_given stage) stage.second_ended first second fault grown → Ends fault first second grown
+      ends_here fault why = ends_so fault second (none_low second s.second_passes.going) s.second_passes.bytes beside_now why
 
       -- more members of both were taken, then the first input stopped: all members of it were written
       module _ (going : stage.first_ended ≡ false) (more_first : List (Member X)) (more_second : List (Member Y)) (second_now : MemberReader B Y V)
@@ -298,15 +311,7 @@ module _ {A B X Y U V : Type 0} (join : JoinDef X Y) (pair : Pair A B X Y U V) (
 
       -- memory ran out
       pub lacks_memory : (fault : FaultValue) → fault ≡ no_memory → Ends (Some fault) first second grown
-      unfolding near_by near_now
-      lacks_memory fault is = record {
-        written = stage.written;
-        bytes = s.bytes;
-        wrote = wrote_now;
-        why = inr (inl (ap Some is, s.puts));
-        near = near_now;
-        exact = λ stops. s.puts;
-      }
+      lacks_memory fault is = ends_here (Some fault) (inr (inl (ap Some is, s.puts)))
 
       -- more members of both were taken, and some lines that are settled then weren't all written
       pub fails_to_write : (more_first : List (Member X)) (more_second : List (Member Y)) (first_now : MemberReader A X U) (second_now : MemberReader B Y V)
@@ -369,37 +374,30 @@ module _ {A B X Y U V : Type 0} (join : JoinDef X Y) (pair : Pair A B X Y U V) (
             → (IsKnown pair → (later : List X) (more : List (Member Y)) (other : Option FaultValue)
             → join.limited (stage.written ++ a ∷ later) (record { members = (past_second ++ m ∷ []) ++ more; fault = other }) ≡ record { members = past_second ++ m ∷ []; fault = Some fault })
             → Ends (Some fault) first second grown
-        unfolding near_by near_now
-        passes_limit m ahead kind of_kind fault is undecided cuts = record {
-          written = stage.written;
-          bytes = s.bytes;
-          wrote = wrote_now;
-          why = inl (
-            inr (inr (inr (
-              fault,
-              refl,
-              record {
-                past = past_second;
-                m = m;
-                waiting = a;
-                begins = begins_before;
-                comes = subst (λ (o : Option (Member Y)). IfSome (good_coming pair.source_b.left pair.second) (λ good. (rest : List (Member Y)) × (good.members ≡ (past_second ++ option_to_list o) ++ rest))) ahead
-                    (seen_begins pair.source_b.left (good_coming pair.source_b.left pair.second) second past_second (ahead_in second) refl s.second_passes.come s.second_passes.ahead);
-                undecided = undecided;
-                cuts = cuts;
-                kind = kind;
-                is = is;
-                of_kind = of_kind;
-                serves = first_serves;
-                serves_second = second_serves;
-              },
-            ))),
-            s.puts,
-            s.works,
-          );
-          near = near_now;
-          exact = λ stops. s.puts;
-        }
+        passes_limit m ahead kind of_kind fault is undecided cuts =
+            ends_here (Some fault) (inl (
+              inr (inr (inr (
+                fault,
+                refl,
+                record {
+                  past = past_second;
+                  m = m;
+                  waiting = a;
+                  begins = begins_before;
+                  comes = subst (λ (o : Option (Member Y)). IfSome (good_coming pair.source_b.left pair.second) (λ good. (rest : List (Member Y)) × (good.members ≡ (past_second ++ option_to_list o) ++ rest))) ahead
+                      (seen_begins pair.source_b.left (good_coming pair.source_b.left pair.second) second past_second (ahead_in second) refl s.second_passes.come s.second_passes.ahead);
+                  undecided = undecided;
+                  cuts = cuts;
+                  kind = kind;
+                  is = is;
+                  of_kind = of_kind;
+                  serves = first_serves;
+                  serves_second = second_serves;
+                },
+              ))),
+              s.puts,
+              s.works,
+            ))
 
         -- the second input couldn't give a member
         module _ (wrong : (state : V) (line : TextLine) (kind : Kind) → pair.second.format.says state line ≡ Err kind → join.second_kinds kind)
@@ -407,13 +405,6 @@ module _ {A B X Y U V : Type 0} (join : JoinDef X Y) (pair : Pair A B X Y U V) (
             (fault : FaultValue) (second_now : MemberReader B Y V) (stopped : IsStopped pair.source_b second fault second_now) where
           low_stopped : IsSome second_now.fault → All (λ m. m.line ≤ lines_given second_now.below) (past_second ++ option_to_list (ahead_in second))
           low_stopped some = seen_low past_second second (lines_given second_now.below) (none_buffered stopped.answers.was_none) (up_to (lines_given second.below) (lines_given second_now.below) past_second stopped.answers.rises s.second_passes.behind)
-
-          near_stopped : HandsSecond second_now → Near first second_now grown
-          near_stopped handed = near_by first second_now grown (wrote_later first s.first_passes.bytes second_now low_stopped handed) no_more refl (inr (record {
-            past = past_second;
-            reached = reached_items past_first s.all_given reached;
-            near = λ known. (read_at_stop pair.source_b pair.second past_second second s.second_passes second_now fault stopped).to;
-          }))
 
           second_why : SecondFails join pair out stage.second_ended past_second second_now fault → Why join pair out stage.written s.bytes (firsts_given stage) stage.second_ended first second_now (Some fault) grown
           second_why fails =
@@ -443,17 +434,13 @@ module _ {A B X Y U V : Type 0} (join : JoinDef X Y) (pair : Pair A B X Y U V) (
               ]
 
           pub stops_second : Ends (Some fault) first second_now grown
-          unfolding wrote_later wrote_by near_stopped near_by
           stops_second =
               let stops = passes_stop pair.source_b pair.second past_second second s.second_passes join.second_kinds wrong second_now fault stopped in
-              record {
-                written = stage.written;
-                bytes = s.bytes;
-                wrote = wrote_later first s.first_passes.bytes second_now low_stopped stops.bytes;
-                why = second_stops stops;
-                near = near_stopped stops.bytes;
-                exact = λ stops. s.puts;
-              }
+              ends_so (Some fault) second_now low_stopped stops.bytes (inr (record {
+                past = past_second;
+                reached = reached_items past_first s.all_given reached;
+                near = λ known. (read_at_stop pair.source_b pair.second past_second second s.second_passes second_now fault stopped).to;
+              })) (second_stops stops)
 
         -- at its end the waiting member wasn't written
         pub fails_at_end : join.Asks (firsts_given stage) stage.taken → stage.second_ended ≡ false
@@ -483,48 +470,29 @@ module _ {A B X Y U V : Type 0} (join : JoinDef X Y) (pair : Pair A B X Y U V) (
       -- if all of the first input is written
       module _ (done : stage.first_ended ≡ true) where
         module _ (second_now : MemberReader B Y V) (low : IsSome second_now.fault → All (λ m. m.line ≤ lines_given second_now.below) (past_second ++ option_to_list (ahead_in second))) (handed : HandsSecond second_now) where
-          near_rest : Near first second_now grown
-          near_rest = near_by first second_now grown (wrote_later first s.first_passes.bytes second_now low handed) no_more refl (inl done)
-
           -- the second was read on
           pub ends_rest : (past : List (Member Y)) (fault : Option FaultValue)
               → ((fault ≡ None) × AreAll pair.source_b pair.second past × Serves pair.source_b.has_failed pair.second second_now × (join.last stage.written past ≡ None))
               ⊎ (((other : FaultValue) × (fault ≡ Some other) × SecondFails join pair out stage.second_ended past second_now other × (join.last stage.written past ≡ None))
               ⊎ ((other : FaultValue) × (fault ≡ Some other) × LastTold join pair out stage.written second_now other))
               → Ends fault first second_now grown
-          unfolding wrote_later wrote_by near_rest near_by
           ends_rest past fault rest =
               let whole = s.first_all done in
-              record {
-                written = stage.written;
-                bytes = s.bytes;
-                wrote = wrote_later first s.first_passes.bytes second_now low handed;
-                why = inl (
-                  inr (inr (inl (record {
-                    past = past_first;
-                    past_second = past;
-                    all = all_written join pair out stage past_first past_second first second grown s whole.1;
-                    whole = whole.0;
-                    serves = first_serves;
-                    rest = rest;
-                  }))),
-                  s.puts,
-                  s.works,
-                );
-                near = near_rest;
-                exact = λ stops. s.puts;
-              }
+              ends_so fault second_now low handed (inl done) (inl (
+                inr (inr (inl (record {
+                  past = past_first;
+                  past_second = past;
+                  all = all_written join pair out stage past_first past_second first second grown s whole.1;
+                  whole = whole.0;
+                  serves = first_serves;
+                  rest = rest;
+                }))),
+                s.puts,
+                s.works,
+              ))
 
           runs_out : (fault : FaultValue) → fault ≡ no_memory → Ends (Some fault) first second_now grown
-          unfolding near_rest near_by
-          runs_out fault is = record {
-            written = stage.written;
-            bytes = s.bytes;
-            wrote = wrote_later first s.first_passes.bytes second_now low handed;
-            why = inr (inl (ap Some is, s.puts));
-            near = near_rest;
-            exact = λ stops. s.puts;
-          }
+          runs_out fault is = ends_so (Some fault) second_now low handed (inl done) (inr (inl (ap Some is, s.puts)))
 
         -- both inputs have ended
         pub ends_all : stage.second_ended ≡ true → join.last stage.written past_second ≡ None → Ends None first second grown
