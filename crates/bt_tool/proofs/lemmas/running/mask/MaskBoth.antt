@@ -161,7 +161,8 @@ module _ {A B : Type 0} (source_a : Source A) (source_b : Source B) (run : MaskB
         no_items [] items e say = say
         no_items (x ∷ xs) items e say = cc
 
-    stays : texts ≡ [] → (mask_rounds (is_some masked.waiting) masked.want < mask_rounds (is_some mask.waiting) mask.want) ⊎ ((masked.want ≡ mask.want) × (is_some masked.waiting ≡ is_some mask.waiting))
+    stays : texts ≡ [] → (mask_rounds (is_some masked.waiting) masked.want < mask_rounds (is_some mask.waiting) mask.want)
+        ⊎ ((masked.want ≡ mask.want) × (is_some masked.waiting ≡ is_some mask.waiting))
     stays none =
         stays_by s.stage.waiting final.waiting s.stage.lines_ended s.stage.bed_ended mask.want masked.want (is_some mask.waiting) (is_some masked.waiting) s.stands.want_is
         (comes.stands.stands.want_is ∙ ap (λ (l : Bool). want_of (is_some final.waiting) l final.bed_ended) comes.goes_on.lines_ended_is ∙ ap (λ (b : Bool). want_of (is_some final.waiting) s.stage.lines_ended b) comes.goes_on.bed_ended_is)

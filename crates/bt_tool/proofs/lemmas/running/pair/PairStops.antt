@@ -111,7 +111,8 @@ module _ {A B X Y U V : Type 0} (join : JoinDef X Y) (pair : Pair A B X Y U V) (
   none_low new none some = absurd (false≢true (ap is_some (sym none) ∙ some))
 
   module _ (stage : PairStage X Y) (past_first : List (Member X)) (past_second : List (Member Y)) (first : MemberReader A X U) (second : MemberReader B Y V) (grown : Output) (s : Comes join pair out stage past_first past_second first second grown) where
-    reached_items : (given_first : List (Member X)) → firsts_given stage ≡ member_items given_first → join.Asks (firsts_given stage) stage.taken → join.Asks (member_items given_first) (member_items past_second)
+    reached_items : (given_first : List (Member X)) → firsts_given stage ≡ member_items given_first → join.Asks (firsts_given stage) stage.taken
+        → join.Asks (member_items given_first) (member_items past_second)
     reached_items given_first e asks = subst (λ (l : List X). join.Asks l (member_items past_second)) e (subst (λ (l : List Y). join.Asks (firsts_given stage) l) s.all_taken asks)
 
     -- of the second input was taken what the first needs
@@ -121,6 +122,13 @@ module _ {A B X Y U V : Type 0} (join : JoinDef X Y) (pair : Pair A B X Y U V) (
       reached = reached_items past_first s.all_given asks;
       near = λ known. (read_here pair.source_b pair.second past_second second s.second_passes).to;
     }
+
+    -- what was given and taken with more members
+    given_with : (more : List (Member X)) → firsts_given stage ++ member_items more ≡ member_items (past_first ++ more)
+    given_with more = ap (λ l. l ++ member_items more) s.all_given ∙ sym (map-append (λ m. m.item) past_first more)
+
+    taken_with : (more : List (Member Y)) → stage.taken ++ member_items more ≡ member_items (past_second ++ more)
+    taken_with more = ap (λ l. l ++ member_items more) s.all_taken ∙ sym (map-append (λ m. m.item) past_second more)
 
     read_to_same : (past : List (Member Y)) (second_now : MemberReader B Y V) → source_of second_now.below ≡ source_of second.below → IsReadTo pair.source_b pair.second past second
         → IsReadTo pair.source_b pair.second past second_now
@@ -140,7 +148,7 @@ module _ {A B X Y U V : Type 0} (join : JoinDef X Y) (pair : Pair A B X Y U V) (
     asks_then asks wider more_first more_second second_now takes = record {
       past = past_second;
       reached =
-          subst (λ (l : List X). join.Asks l (member_items past_second)) (ap (λ l. l ++ member_items more_first) s.all_given ∙ sym (map-append (λ m. m.item) past_first more_first))
+          subst (λ (l : List X). join.Asks l (member_items past_second)) (given_with more_first)
           (subst (λ (l : List Y). join.Asks (firsts_given stage ++ member_items more_first) l) s.all_taken (wider (member_items more_first) asks));
       near = λ known. read_to_same past_second second_now takes.source (read_here pair.source_b pair.second past_second second s.second_passes).to;
     }
@@ -169,6 +177,14 @@ module _ {A B X Y U V : Type 0} (join : JoinDef X Y) (pair : Pair A B X Y U V) (
 
     ended_now : stage.second_ended ≡ true → AreAll pair.source_b pair.second past_second × (ahead_in second ≡ None)
     ended_now e = let all = s.second_all e in (all.0, none_buffered all.1)
+
+    ended_with : (more : List (Member Y)) (second_now : MemberReader B Y V) → (stage.second_ended ≡ true → (more ≡ []) × (second_now.buffered ≡ []))
+        → stage.second_ended ≡ true → AreAll pair.source_b pair.second (past_second ++ more) × (ahead_in second_now ≡ None)
+    ended_with more second_now ended e =
+        let none = ended e in (
+          subst (AreAll pair.source_b pair.second) (sym (append-nil past_second) ∙ ap (λ (l : List (Member Y)). past_second ++ l) (sym none.0)) (s.second_all e).0,
+          ap (λ (l : List Y). first_from (suc (lines_given second_now.below)) l) none.1,
+        )
 
     module _ (asks : stage.first_ended ≡ false → AsksFor join pair out past_first second) (fits : IsKnown pair → join.Fits (firsts_given stage) past_second) where
       -- the bytes so far, and what was read of the inputs later
@@ -236,10 +252,7 @@ module _ {A B X Y U V : Type 0} (join : JoinDef X Y) (pair : Pair A B X Y U V) (
         written = firsts_given stage ++ member_items more_first
 
         all_written_now : written ≡ member_items (past_first ++ more_first)
-        all_written_now = ap (λ l. l ++ member_items more_first) s.all_given ∙ sym (map-append (λ m. m.item) past_first more_first)
-
-        taken_now : stage.taken ++ member_items more_second ≡ member_items (past_second ++ more_second)
-        taken_now = ap (λ l. l ++ member_items more_second) s.all_taken ∙ sym (map-append (λ m. m.item) past_second more_second)
+        all_written_now = given_with more_first
 
         serves_now : Serves pair.source_b.has_failed pair.second second_now
         serves_now = record { served = takes_second.passes.served; within = takes_second.passes.kept.within takes_second.passes.clear }
@@ -253,12 +266,9 @@ module _ {A B X Y U V : Type 0} (join : JoinDef X Y) (pair : Pair A B X Y U V) (
         wrote_first : Wrote join pair out written (s.bytes ++ more) first_now second_now now
         wrote_first =
             wrote_by (past_second ++ more_second) second_now second_now takes_second.passes (none_low second_now takes_second.passes.going) takes_second.passes.bytes first_now stops.bytes written (s.bytes ++ more) stage.second_ended now
-            (λ known. subst (λ (l : List Y). SettlesPair join written (s.bytes ++ more) (l ++ option_to_list (item_ahead second_now)) stage.second_ended) taken_now (settles known))
+            (λ known. subst (λ (l : List Y). SettlesPair join written (s.bytes ++ more) (l ++ option_to_list (item_ahead second_now)) stage.second_ended) (taken_with more_second) (settles known))
             (begins_items (past_first ++ more_first) written [] (sym all_written_now ∙ sym (append-nil written)) read.begins)
-            (λ e. let none = ended e in (
-              subst (AreAll pair.source_b pair.second) (sym (append-nil past_second) ∙ ap (λ (l : List (Member Y)). past_second ++ l) (sym none.0)) (s.second_all e).0,
-              ap (λ (l : List Y). first_from (suc (lines_given second_now.below)) l) none.1,
-            ))
+            (ended_with more_second second_now ended)
             grows_now written (begins_items (past_first ++ more_first) written [] (sym all_written_now ∙ sym (append-nil written)) read.begins) fits_now
 
         stops_why : Why join pair out written (s.bytes ++ more) written stage.second_ended first_now second_now (Some fault) now
@@ -323,22 +333,19 @@ module _ {A B X Y U V : Type 0} (join : JoinDef X Y) (pair : Pair A B X Y U V) (
           → (puts more : List ℕ) → (IsKnown pair → SettlesPair join written (s.bytes ++ (puts ++ more)) ((stage.taken ++ member_items more_second) ++ option_to_list (item_ahead second_now)) stage.second_ended)
           → (through now : Output) (fault : FaultValue) → Grown grown puts through → FailsToAdd through more fault now → Ends (Some fault) first_now second_now now
       fails_to_write more_first more_second first_now second_now takes takes_second written rest parts fits_now ended puts more settles through now fault adds fails =
-          let all : firsts_given stage ++ member_items more_first ≡ member_items (past_first ++ more_first) = ap (λ l. l ++ member_items more_first) s.all_given ∙ sym (map-append (λ m. m.item) past_first more_first) in
-          let taken : stage.taken ++ member_items more_second ≡ member_items (past_second ++ more_second) = ap (λ l. l ++ member_items more_second) s.all_taken ∙ sym (map-append (λ m. m.item) past_second more_second) in
+          let all = given_with more_first in
           let begun = begins_with (good_coming pair.source_a.left pair.first) (good_coming pair.source_a.left first_now) (past_first ++ more_first) takes.passes.come in
           let grows = grows_both out.took through.took now.took (grows_both out.took grown.took through.took s.grows adds.grows) fails.puts.grows in
           record {
             written = written;
             bytes = s.bytes ++ (puts ++ more);
             wrote = wrote_by (past_second ++ more_second) second_now second_now takes_second.passes (none_low second_now takes_second.passes.going) takes_second.passes.bytes first_now takes.passes.bytes written (s.bytes ++ (puts ++ more)) stage.second_ended now
-                (λ known. subst (λ (l : List Y). SettlesPair join written (s.bytes ++ (puts ++ more)) (l ++ option_to_list (item_ahead second_now)) stage.second_ended) taken (settles known))
+                (λ known. subst (λ (l : List Y). SettlesPair join written (s.bytes ++ (puts ++ more)) (l ++ option_to_list (item_ahead second_now)) stage.second_ended) (taken_with more_second) (settles known))
                 (begins_items (past_first ++ more_first) written rest (sym all ∙ sym parts) begun)
-                (λ e. let none = ended e in (
-                  subst (AreAll pair.source_b pair.second) (sym (append-nil past_second) ∙ ap (λ (l : List (Member Y)). past_second ++ l) (sym none.0)) (s.second_all e).0,
-                  ap (λ (l : List Y). first_from (suc (lines_given second_now.below)) l) none.1,
-                ))
+                (ended_with more_second second_now ended)
                 grows (firsts_given stage ++ member_items more_first)
-                (begins_items (past_first ++ more_first) (firsts_given stage ++ member_items more_first) [] (sym all ∙ sym (append-nil (firsts_given stage ++ member_items more_first))) begun) fits_now;
+                (begins_items (past_first ++ more_first) (firsts_given stage ++ member_items more_first) [] (sym all ∙ sym (append-nil (firsts_given stage ++ member_items more_first))) begun)
+                fits_now;
             why = inr (inr (
               ap Some fails.puts.is,
               subst (λ (l : List ℕ). CutsLines out l now) (append_assoc s.bytes puts more) (cuts_more out through now (s.bytes ++ puts) more fault (grown_puts out grown through s.bytes puts s.puts adds) fails),

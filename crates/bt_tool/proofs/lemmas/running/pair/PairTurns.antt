@@ -8,7 +8,7 @@ use Rattle.bt_lines.specs.declared.device.Source.{Ghosts as Source}
 use Rattle.bt_lines.proofs.lemmas.writer.PuttingLemmas.{grown_works}
 use Rattle.bt_lines.proofs.lemmas.writer.OutputLemmas.{grows_both}
 use Rattle.bt_lines.specs.model.Lines.{bytes_in}
-use Rattle.bt_lines.specs.calls.Reader.{lines_given, lines_left, source_of}
+use Rattle.bt_lines.specs.calls.Reader.{end_told, lines_given, lines_left, source_of}
 use Rattle.bt_lines.specs.calls.Output.{Output, Grows, HoldsBlock, block_size}
 use Rattle.bt_lines.specs.calls.Putting.{Grown, WorksAsBefore}
 use Rattle.bt_bed.specs.model.input.Good.{Member}
@@ -140,24 +140,30 @@ module _ {A B X Y U V : Type 0} (join : JoinDef X Y) (pair : Pair A B X Y U V) (
     pub all_written : stage.waiting ≡ None → stage.written ≡ member_items past_first
     all_written none = sym (append-nil stage.written) ∙ ap (λ (o : Option X). stage.written ++ option_to_list o) (sym none) ∙ s.all_given
 
-    -- the first input was read on
-    pub reads_first : stage.waiting ≡ None → stage.first_ended ≡ false → (first_now : MemberReader A X U) → Passes pair.source_a pair.first past_first first_now
-        → Comes join pair out stage past_first past_second first_now second grown
-    reads_first none going first_now p = record {
+    -- the first input was read on, perhaps to its end
+    with_first : (b : Bool) → stage.waiting ≡ None → (first_now : MemberReader A X U) (p : Passes pair.source_a pair.first past_first first_now)
+        → (b ≡ true → AreAll pair.source_a pair.first past_first × (first_now.buffered ≡ []) × (end_told first_now.below ≡ true))
+        → (b ≡ true → HasNoMore pair first_now (read_here pair.source_a pair.first past_first first_now p).to.count)
+        → Comes join pair out (record stage { first_ended = b }) past_first past_second first_now second grown
+    with_first b none first_now p all no_more = record {
       first_passes = p;
       second_passes = s.second_passes;
       all_given = s.all_given;
       all_taken = s.all_taken;
       bytes = s.bytes;
       settles = s.settles;
-      first_all = λ e. absurd (false≢true (sym going ∙ e));
+      first_all = λ e. let over = all e in (over.0, none, over.1, over.2);
       second_all = s.second_all;
       puts = s.puts;
       works = s.works;
       block = s.block;
       grows = s.grows;
-      near_first = (past_first, sym (all_written none), read_here pair.source_a pair.first past_first first_now p, λ e. absurd (false≢true (sym going ∙ e)));
+      near_first = (past_first, sym (all_written none), read_here pair.source_a pair.first past_first first_now p, no_more);
     }
+
+    pub reads_first : stage.waiting ≡ None → stage.first_ended ≡ false → (first_now : MemberReader A X U) → Passes pair.source_a pair.first past_first first_now
+        → Comes join pair out stage past_first past_second first_now second grown
+    reads_first none going first_now p = with_first stage.first_ended none first_now p (λ e. absurd (false≢true (sym going ∙ e))) (λ e. absurd (false≢true (sym going ∙ e)))
 
     -- a member of it is buffered
     pub fills_first : stage.waiting ≡ None → stage.first_ended ≡ false → (first_now : MemberReader A X U) → IsFilled pair.source_a first first_now
@@ -299,21 +305,7 @@ module _ {A B X Y U V : Type 0} (join : JoinDef X Y) (pair : Pair A B X Y U V) (
       )
 
       pub ends_first : Comes join pair out (record stage { first_ended = true }) past_first past_second first_now second grown
-      ends_first = record {
-        first_passes = ended_passes;
-        second_passes = s.second_passes;
-        all_given = s.all_given;
-        all_taken = s.all_taken;
-        bytes = s.bytes;
-        settles = s.settles;
-        first_all = λ e. (passes_all pair.source_a pair.first past_first first s.first_passes first_now over, none, over.ends.none_buffered, over.ends.told);
-        second_all = s.second_all;
-        puts = s.puts;
-        works = s.works;
-        block = s.block;
-        grows = s.grows;
-        near_first = (past_first, sym (all_written none), read_here pair.source_a pair.first past_first first_now ended_passes, λ e. no_more_first);
-      }
+      ends_first = with_first true none first_now ended_passes (λ e. (passes_all pair.source_a pair.first past_first first s.first_passes first_now over, over.ends.none_buffered, over.ends.told)) (λ e. no_more_first)
 
     -- if a member waits, the first input hasn't ended
     waits_by : (a : X) → stage.waiting ≡ Some a → (b : Bool) → stage.first_ended ≡ b → b ≡ false

@@ -80,7 +80,8 @@ none_of : (o : Option Feature) → o ≡ None → length (option_to_list o) ≡ 
 none_of o e = ap (λ (o : Option Feature). length (option_to_list o)) e
 
 -- no more is wanted, if as many were taken as wait now
-rounds_few : (o n : Option Feature) (done now : Bool) (k : ℕ) → now ≡ done → length (option_to_list n) ≤ length (option_to_list o) + k → sweep_rounds (is_some n) now ≤ sweep_rounds (is_some o) done + 2 * k
+rounds_few : (o n : Option Feature) (done now : Bool) (k : ℕ) → now ≡ done → length (option_to_list n) ≤ length (option_to_list o) + k
+    → sweep_rounds (is_some n) now ≤ sweep_rounds (is_some o) done + 2 * k
 rounds_few (Some a) n done now k same few = omega (arith, rounds_two (is_some n) now)
 rounds_few None (Some c) done now k same few = omega (arith, few)
 rounds_few None None done now k same few = omega (arith, ap (sweep_rounds false) same)
@@ -186,7 +187,8 @@ module _ {A B O : Type 0} {g : Ghosts O} (source_a : Source A) (source_b : Sourc
       comes_to with_first grown (fills_first source_a source_b begun at s.sweeps wants first_now fills) refl (fills.own_failure, same_second),
       inr (
         omega (arith, fills.answers.1.read.shrinks),
-        subst (λ (w : Want). IsBuffered w (length (view_of first_now).buffered) (length (view_of old.second).buffered)) (sym wants) (some_buffered _ (view_of first_now).buffered _ fills.answers.1.read.ahead),
+        subst (λ (w : Want). IsBuffered w (length (view_of first_now).buffered) (length (view_of old.second).buffered)) (sym wants)
+            (some_buffered _ (view_of first_now).buffered _ fills.answers.1.read.ahead),
       ),
     )
 
@@ -225,7 +227,8 @@ module _ {A B O : Type 0} {g : Ghosts O} (source_a : Source A) (source_b : Sourc
       comes_to with_second grown (fills_second source_a source_b begun at s.sweeps wants second_now fills) refl (same_first, fills.own_failure),
       inr (
         omega (arith, fills.answers.1.read.shrinks),
-        subst (λ (w : Want). IsBuffered w (length (view_of old.first).buffered) (length (view_of second_now).buffered)) (sym wants) (some_buffered _ (view_of second_now).buffered _ fills.answers.1.read.ahead),
+        subst (λ (w : Want). IsBuffered w (length (view_of old.first).buffered) (length (view_of second_now).buffered)) (sym wants)
+            (some_buffered _ (view_of second_now).buffered _ fills.answers.1.read.ahead),
       ),
     )
 
@@ -316,7 +319,8 @@ module _ {A B O : Type 0} {g : Ghosts O} (source_a : Source A) (source_b : Sourc
       stopped_b : (w : Want) → want_in swept ≡ w → 0 < length (view_of old.second).buffered → want_in sweep ≡ WantB → length gives.seconds ≡ 0
           → NotBuffered source_a source_b (order_in start.first) old.first old.second sweep grown w new.first new.second → IsLess new
       stopped_b WantB e some wants taken none_left = absurd (omega (arith, some, second_left, taken, ap length none_left))
-      stopped_b WantA e some wants taken none_left = omega (arith, rooms, rounds_first (is_some swept.current) (is_done swept.phase) e, rounds_second (is_some sweep.current) (is_done sweep.phase) wants)
+      stopped_b WantA e some wants taken none_left =
+          omega (arith, rooms, rounds_first (is_some swept.current) (is_done swept.phase) e, rounds_second (is_some sweep.current) (is_done sweep.phase) wants)
       stopped_b Nothing e some wants taken none_left = omega (arith, rooms, rounds_nothing (is_some swept.current) (is_done swept.phase) e, rounds_second (is_some sweep.current) (is_done sweep.phase) wants)
 
       less_by : (w : Want) → want_in sweep ≡ w → IsBuffered w (length (view_of old.first).buffered) (length (view_of old.second).buffered) → IsLess new
