@@ -5,3 +5,4 @@ pub mod Feeding
 pub mod FeedsBuffered
 pub mod Flushing
 pub mod Passed
+pub mod RunsBy

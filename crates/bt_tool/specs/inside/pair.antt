@@ -2,7 +2,6 @@
 pub mod Endings
 pub mod MaskLoop
 pub mod MaskRun
-pub mod MaskTurns
 pub mod Pair
 pub mod Progress
 pub mod Rounds

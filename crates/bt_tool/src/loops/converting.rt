@@ -7,10 +7,10 @@ ghost use Rattle.bt_lines.specs.calls.Output.{HoldsBlock};
 ghost use Rattle.bt_lines.specs.calls.Reader.{HasRead, fault_kept};
 ghost use Rattle.bt_tool.specs.model.report.Behaviour.{of_bamtobed};
 ghost use Rattle.bt_tool.specs.inside.feed.ConvertSteps.{ConvertsAll, ConvertsLine, sam_reader};
-ghost use Rattle.bt_tool.specs.calls.run.Writing.{WritesAlone};
 ghost use Rattle.bt_tool.specs.inside.feed.Feeding.{IsFresh};
 ghost use Rattle.bt_tool.specs.inside.feed.Passed.{IsOwnFault};
-ghost use Rattle.bt_tool.specs.calls.run.OwnReads.{AnswersNoRead, IsOwnFailure, ReadsServe, TellsNoRead, TellsOwnReads};
+ghost use Rattle.bt_tool.specs.calls.run.OwnReads.{AnswersNoRead};
+ghost use Rattle.bt_tool.specs.inside.feed.RunsBy.{RunsAlone};
 
 use bt_bed::at_line;
 use bt_lines::{Fault, Input, Line, LineReader, Out, Place, Sink, Source};
@@ -69,11 +69,8 @@ pub(crate) fn convert<A: Source, K: Sink>(
     out: &mut Out<K>,
 ) -> (Option<Fault>, A)
     requires { HoldsBlock out.old.output.took out.old.output.put }
-    ensures written { WritesAlone A.Source (of_bamtobed split cigar)
+    ensures { RunsAlone A.Source (of_bamtobed split cigar)
         first out.old.output (option_map fault_value result.0) result.1 out.new.output }
-    ensures reads { TellsNoRead (option_map fault_value result.0) → ReadsServe A.is_read first result.1 }
-    ensures own_failure { TellsOwnReads ⊥ (IsOwnFailure A.is_read first result.1) ⊥
-        (option_map fault_value result.0) }
 {
     let mut lines = LineReader::new(alloc, first, Input::First);
     let mut converter = BamToBed::new(split, cigar);

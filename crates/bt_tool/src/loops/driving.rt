@@ -12,11 +12,12 @@ ghost use Rattle.bt_bed.specs.model.input.GoodBed.{bed_format};
 ghost use Rattle.bt_bed.specs.calls.Records.{below, last_locus, order_in, view_of};
 ghost use Rattle.bt_bed.specs.model.order.Sorting.{sorting_of};
 ghost use Rattle.bt_runs.specs.calls.Settling.{SettledBegins, SettledStays};
-ghost use Rattle.bt_tool.specs.calls.run.Writing.{WritesRecords};
+ghost use Rattle.bt_tool.specs.model.report.Behaviour.{of_records};
 ghost use Rattle.bt_tool.specs.inside.feed.Feeding.{FeedsRecords, IsFresh};
 ghost use Rattle.bt_tool.specs.inside.feed.FeedsBuffered.{FeedsBuffered};
 ghost use Rattle.bt_tool.specs.inside.feed.Passed.{KeepsOwnFault};
-ghost use Rattle.bt_tool.specs.calls.run.OwnReads.{AnswersNoRead, IsOwnFailure, ReadsServe, TellsNoRead, TellsOwnReads};
+ghost use Rattle.bt_tool.specs.calls.run.OwnReads.{AnswersNoRead};
+ghost use Rattle.bt_tool.specs.inside.feed.RunsBy.{RunsAlone};
 
 use bt_bed::{ChromOrder, Records};
 use bt_lines::{Fault, Input, LineReader, Out, Sink, Source};
@@ -81,12 +82,9 @@ pub(crate) fn drive<A: Source, O: ChromOrder, E: Engine + Drop, K: Sink>(
     requires stays { SettledStays (E.settled engine) (E.takes engine) }
     requires begins { SettledBegins (E.settled engine) (E.output engine) (E.takes engine) }
     requires block { HoldsBlock out.old.output.took out.old.output.put }
-    ensures written { WritesRecords A.Source
-        (record { whole = E.output engine; settled = E.settled engine }) (O.order order.now)
+    ensures { RunsAlone A.Source
+        (of_records (O.order order.now) (record { whole = E.output engine; settled = E.settled engine }))
         first out.old.output (option_map fault_value result.0) result.1 out.new.output }
-    ensures reads { TellsNoRead (option_map fault_value result.0) → ReadsServe A.is_read first result.1 }
-    ensures own_failure { TellsOwnReads ⊥ (IsOwnFailure A.is_read first result.1) ⊥
-        (option_map fault_value result.0) }
 {
     let reader = LineReader::new(alloc, first, Input::First);
     let mut records = Records::new(alloc, reader, order);

@@ -6,10 +6,8 @@ ghost use Rattle.bt_lines.specs.calls.Output.{HoldsBlock};
 ghost use Rattle.bt_lines.specs.calls.Reader.{HasRead, fault_kept as line_fault};
 ghost use Rattle.bt_bed.specs.calls.Blocks.{below, fault_kept, view_of};
 ghost use Rattle.bt_tool.specs.model.report.Behaviour.{of_maskfasta};
-ghost use Rattle.bt_tool.specs.inside.pair.MaskLoop.{MaskRun};
-ghost use Rattle.bt_tool.specs.inside.pair.MaskTurns.{Gives, GoesOn};
-ghost use Rattle.bt_tool.specs.calls.run.OwnReads.{IsOwnFailure, ReadsServe, TellsNoRead, TellsOwnReads};
-ghost use Rattle.bt_tool.specs.calls.run.Writing.{WritesBy};
+ghost use Rattle.bt_tool.specs.inside.pair.MaskLoop.{AdvancesMask, GoesOn, MaskBegun};
+ghost use Rattle.bt_tool.specs.inside.feed.RunsBy.{RunsBy};
 
 use crate::loops::sources::Sources;
 use crate::loops::two_inputs::{TwoInputEngine, run_two};
@@ -26,9 +24,9 @@ fn advance_buffered<A: Source, B: Source, K: Sink>(
     mask: &mut Mask,
     out: &mut Out<K>,
 ) -> Result<(), Fault>
-    ensures gives { (run : MaskRun A B) → GoesOn A.Source B.Source run
+    ensures gives { (run : MaskBegun A B) → GoesOn A.Source B.Source run
         lines.old (view_of records.old) mask.old out.old.output
-        → Gives A.Source B.Source run
+        → AdvancesMask A.Source B.Source run
         lines.old (view_of records.old) mask.old result lines.new (view_of records.new) mask.new out.new.output }
     ensures reads_first { HasRead A.is_read lines.old lines.new }
     ensures reads_second { HasRead B.is_read (below records.old) (below records.new) }
@@ -45,14 +43,14 @@ fn advance_buffered<A: Source, B: Source, K: Sink>(
     masked
 }
 
-// A reader of lines and one of records, and the masking engine that is given these.
-struct MaskInputs<A, B> {
+// A reader of lines and one of records, and the masking engine that is given their lines and records.
+struct MaskRun<A, B> {
     lines: LineReader<A>,
     records: Blocks<B>,
     mask: Mask,
 }
 
-impl<A: Source, B: Source> TwoInputEngine for MaskInputs<A, B> {
+impl<A: Source, B: Source> TwoInputEngine for MaskRun<A, B> {
     ghost use Rattle.bt_tool.specs.inside.pair.MaskRun.{MaskComes, MaskIsOver, is_mask_ready, left_to_mask, mask_wanted};
 
     ghost comes = { MaskComes A.Source B.Source };
@@ -92,6 +90,7 @@ impl<A: Source, B: Source> TwoInputEngine for MaskInputs<A, B> {
         advance_buffered(&mut self.lines, &mut self.records, &mut self.mask, out)
     }
 
+    // The engine wants both inputs to their ends, so nothing is left to check.
     fn finish(&mut self) -> Result<(), Fault> {
         Ok(())
     }
@@ -108,29 +107,25 @@ pub(crate) fn mask<A: Source, B: Source, K: Sink>(
     out: &mut Out<K>,
 ) -> (Option<Fault>, Sources<A, B>)
     requires { HoldsBlock out.old.output.took out.old.output.put }
-    ensures written { WritesBy A.Source B.Source (of_maskfasta how full)
+    ensures { RunsBy A.Source B.Source (of_maskfasta how full)
         sources.first (Some sources.second) out.old.output (option_map fault_value result.0)
         result.1.first (Some result.1.second) out.new.output }
-    ensures reads { TellsNoRead (option_map fault_value result.0)
-        → ReadsServe A.is_read sources.first result.1.first × ReadsServe B.is_read sources.second result.1.second }
-    ensures own_failure { TellsOwnReads ⊥ (IsOwnFailure A.is_read sources.first result.1.first)
-        (IsOwnFailure B.is_read sources.second result.1.second) (option_map fault_value result.0) }
 {
     let Sources { first, second } = sources;
     let lines = LineReader::new(alloc, first, Input::First);
     let records = Blocks::new(alloc, LineReader::new(alloc, second, Input::Second));
     let mask = Mask::new(alloc, how, full);
-    let mut inputs = MaskInputs {
+    let mut run = MaskRun {
         lines,
         records,
         mask,
     };
-    let fault = run_two(&mut inputs, out);
-    let MaskInputs {
+    let fault = run_two(&mut run, out);
+    let MaskRun {
         lines,
         records,
         mask: _mask,
-    } = inputs;
+    } = run;
     let first = lines.into_source();
     let second = records.into_reader().into_source();
     (fault, Sources { first, second })

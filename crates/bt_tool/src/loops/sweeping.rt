@@ -7,19 +7,19 @@ ghost use Rattle.bt_lines.specs.calls.Reader.{HasRead};
 ghost use Rattle.bt_bed.specs.model.feature.LineKind.{IsBedKind};
 ghost use Rattle.bt_bed.specs.model.order.Order.{IsTotal};
 ghost use Rattle.bt_bed.specs.calls.Records.{below, buffered_in, fault_kept, order_in, view_of};
-ghost use Rattle.bt_sweep.specs.calls.SweepView.{order_of, state_of};
+ghost use Rattle.bt_sweep.specs.calls.SweepView.{order_of as sweep_order, state_of};
 ghost use Rattle.bt_tool.specs.model.report.Behaviour.{of_intersect};
 ghost use Rattle.bt_tool.specs.inside.feed.Passed.{HasTaken, KeepsOwnFault};
 ghost use Rattle.bt_tool.specs.inside.pair.SweepLoop.{ReadsRest};
-ghost use Rattle.bt_tool.specs.inside.pair.SweepSteps.{AdvancesBoth};
-ghost use Rattle.bt_tool.specs.calls.run.OwnReads.{AnswersNoRead, IsOwnFailure, ReadsServe, TellsNoRead, TellsOwnReads};
-ghost use Rattle.bt_tool.specs.calls.run.Writing.{WritesBy};
+ghost use Rattle.bt_tool.specs.inside.pair.SweepSteps.{AdvancesSweep};
+ghost use Rattle.bt_tool.specs.calls.run.OwnReads.{AnswersNoRead};
+ghost use Rattle.bt_tool.specs.inside.feed.RunsBy.{RunsBy};
 
 use crate::loops::sources::Sources;
 use crate::loops::two_inputs::{TwoInputEngine, run_two};
 use bt_bed::{ChromOrder, Records};
 use bt_lines::{Fault, Input, LineReader, Out, Sink, Source};
-use bt_sweep::{Held, HeldIndex, HitRule, Shape, Sweep, Want};
+use bt_sweep::{HeldIndex, HitRule, Shape, Sweep, Want};
 use std::alloc::Global;
 
 /// What a sweep writes, by which rule, and how many records of the second input it may hold.
@@ -32,17 +32,17 @@ pub(crate) struct SweepConfig {
 }
 
 // Gives the sweep what both inputs have buffered, and consumes what it took.
-fn advance_both<A: Source, B: Source, O: ChromOrder, H: Held, K: Sink>(
+fn advance_buffered<A: Source, B: Source, O: ChromOrder, K: Sink>(
     first: &mut Records<'_, A, O>,
     second: &mut Records<'_, B, O>,
-    sweep: &mut Sweep<'_, H, O>,
+    sweep: &mut Sweep<'_, HeldIndex, O>,
     out: &mut Out<K>,
 ) -> Result<(), Fault>
-    requires order { order_of sweep.old ≡ order_in first.old }
-    requires second { order_of sweep.old ≡ order_in second.old }
-    ensures advances { AdvancesBoth A.Source B.Source (order_of sweep.old)
+    requires order { sweep_order sweep.old ≡ order_in first.old }
+    requires second { sweep_order sweep.old ≡ order_in second.old }
+    ensures advances { AdvancesSweep A.Source B.Source (sweep_order sweep.old)
         first.old second.old (state_of sweep.old) out.old.output result first.new second.new (state_of sweep.new) out.new.output }
-    ensures order { order_of sweep.new ≡ order_of sweep.old }
+    ensures order { sweep_order sweep.new ≡ sweep_order sweep.old }
 {
     let mut firsts = first.buffered();
     let mut seconds = second.buffered();
@@ -77,15 +77,15 @@ fn check_rest<B: Source, O: ChromOrder>(second: &mut Records<'_, B, O>) -> Resul
     Ok(())
 }
 
-// Two readers of records, and the sweep that is given these.
-struct SweepInputs<'o, A, B, O: ChromOrder> {
+// Two readers of records, and the sweep that is given their records.
+struct SweepRun<'o, A, B, O: ChromOrder> {
     first: Records<'o, A, O>,
     second: Records<'o, B, O>,
     sweep: Sweep<'o, HeldIndex, O>,
 }
 
-impl<'o, A: Source, B: Source, O: ChromOrder> TwoInputEngine for SweepInputs<'o, A, B, O> {
-    ghost use Rattle.bt_tool.specs.inside.pair.SweepRun.{SweepComes, SweepIsOver, is_swept_ready, left_to_sweep, wanted_of};
+impl<'o, A: Source, B: Source, O: ChromOrder> TwoInputEngine for SweepRun<'o, A, B, O> {
+    ghost use Rattle.bt_tool.specs.inside.pair.SweepRun.{SweepComes, SweepIsOver, is_sweep_ready, left_to_sweep, wanted_of};
 
     ghost comes = { SweepComes A.Source B.Source };
 
@@ -93,7 +93,7 @@ impl<'o, A: Source, B: Source, O: ChromOrder> TwoInputEngine for SweepInputs<'o,
 
     ghost wants = { wanted_of };
 
-    ghost is_ready = { is_swept_ready };
+    ghost is_ready = { is_sweep_ready };
 
     ghost left = { left_to_sweep };
 
@@ -117,7 +117,7 @@ impl<'o, A: Source, B: Source, O: ChromOrder> TwoInputEngine for SweepInputs<'o,
     }
 
     fn give_buffered<K: Sink>(&mut self, out: &mut Out<K>) -> Result<(), Fault> {
-        advance_both(&mut self.first, &mut self.second, &mut self.sweep, out)
+        advance_buffered(&mut self.first, &mut self.second, &mut self.sweep, out)
     }
 
     // A fault after the last record that was wanted is reported.
@@ -139,14 +139,10 @@ pub(crate) fn sweep<A: Source, B: Source, O: ChromOrder, K: Sink>(
 ) -> (Option<Fault>, Sources<A, B>)
     requires total { IsTotal (O.order order.now) }
     requires block { HoldsBlock out.old.output.took out.old.output.put }
-    ensures written { WritesBy A.Source B.Source
+    ensures { RunsBy A.Source B.Source
         (of_intersect (O.order order.now) config.shape config.rule config.limit)
         sources.first (Some sources.second) out.old.output (option_map fault_value result.0)
         result.1.first (Some result.1.second) out.new.output }
-    ensures reads { TellsNoRead (option_map fault_value result.0)
-        → ReadsServe A.is_read sources.first result.1.first × ReadsServe B.is_read sources.second result.1.second }
-    ensures own_failure { TellsOwnReads ⊥ (IsOwnFailure A.is_read sources.first result.1.first)
-        (IsOwnFailure B.is_read sources.second result.1.second) (option_map fault_value result.0) }
 {
     let Sources { first, second } = sources;
     let firsts = Records::new(alloc, LineReader::new(alloc, first, Input::First), order);
@@ -159,17 +155,17 @@ pub(crate) fn sweep<A: Source, B: Source, O: ChromOrder, K: Sink>(
         config.limit,
         order,
     );
-    let mut inputs = SweepInputs {
+    let mut run = SweepRun {
         first: firsts,
         second: seconds,
         sweep,
     };
-    let fault = run_two(&mut inputs, out);
-    let SweepInputs {
+    let fault = run_two(&mut run, out);
+    let SweepRun {
         first: firsts,
         second: seconds,
         sweep: _sweep,
-    } = inputs;
+    } = run;
     let first = firsts.into_reader().into_source();
     let second = seconds.into_reader().into_source();
     (fault, Sources { first, second })

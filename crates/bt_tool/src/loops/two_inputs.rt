@@ -5,17 +5,17 @@ ghost use Rattle.bt_lines.specs.calls.Names.{fault_value};
 ghost use Rattle.bt_lines.specs.calls.Output.{Output};
 ghost use Rattle.bt_lines.specs.model.Fault.{FaultValue};
 ghost use Rattle.bt_sweep.specs.declared.sweep.want.Want.{Want};
-ghost use Rattle.bt_tool.specs.inside.pair.Rounds.{Finishes, Gives, Reads, Wants, fault_of};
+ghost use Rattle.bt_tool.specs.inside.pair.Rounds.{FillsWanted, Finishes, Gives, Wants, fault_of};
 
 use bt_lines::{Fault, Out, Sink};
 use bt_sweep::Want;
 
 // Two readers, and the engine that is given what they have buffered.
 pub(crate) trait TwoInputEngine {
-    // If it began with this output, it has come to this state and this output.
+    // From this engine and output it has come to these.
     ghost comes: { Self → Output → Self → Output → Type 0 };
 
-    // If it began with this output, it has ended with this fault or none, in this state and with this output.
+    // From this engine and output it has ended with this fault or none, as these.
     ghost ends: { Self → Output → Option FaultValue → Self → Output → Type 0 };
 
     // The input that is wanted.
@@ -24,29 +24,29 @@ pub(crate) trait TwoInputEngine {
     // Something of that input is buffered.
     ghost is_ready: { Self → Type 0 };
 
-    // How much is still wanted.
+    // How much is still wanted. It falls with each round.
     ghost left: { Self → ℕ };
 
     // The input that is wanted next.
     fn want(&self) -> Want
         ensures { result ≡ wants self.now };
 
-    // Makes something of the first input buffered, or gives the engine the end of that input.
+    // Buffers some of the first input, or gives the engine its end. It writes nothing.
     fn fill_first(&mut self) -> Result<(), Fault>
         requires { wants self.old ≡ Want.A }
-        ensures { (grown : Output) → Reads comes ends is_ready left self.old grown result self.new grown };
+        ensures { (grown : Output) → FillsWanted comes ends is_ready left self.old grown result self.new grown };
 
     // The same of the second input. At its end the engine may write.
     fn fill_second<K: Sink>(&mut self, out: &mut Out<K>) -> Result<(), Fault>
         requires { wants self.old ≡ Want.B }
-        ensures { Reads comes ends is_ready left self.old out.old.output result self.new out.new.output };
+        ensures { FillsWanted comes ends is_ready left self.old out.old.output result self.new out.new.output };
 
     // Gives the engine what both inputs have buffered, as far as it wants it, and consumes that.
     fn give_buffered<K: Sink>(&mut self, out: &mut Out<K>) -> Result<(), Fault>
         requires { (start : Self) × (before : Output) × comes start before self.old out.old.output }
         ensures { Gives comes ends is_ready left self.old out.old.output result self.new out.new.output };
 
-    // Reads what isn't wanted but is to be checked.
+    // Called once nothing is wanted: checks what is left.
     fn finish(&mut self) -> Result<(), Fault>
         requires { wants self.old ≡ Want.Nothing }
         ensures { (grown : Output) → Finishes comes ends self.old grown result self.new };

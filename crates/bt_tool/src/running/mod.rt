@@ -11,13 +11,13 @@ ghost use Rattle.bt_lines.specs.calls.Output.{HoldsBlock};
 ghost use Rattle.bt_bed.specs.calls.GenomeTable.{entries, names_of};
 ghost use Rattle.bt_bed.specs.model.order.Rank.{AreDistinct};
 ghost use Rattle.bt_sweep.specs.model.Subtract.{subtract_shape};
-ghost use Rattle.bt_tool.specs.model.report.Behaviour.{behaviour_of, entries_in, of_intersect, of_maskfasta, order_of};
+ghost use Rattle.bt_tool.specs.model.report.Behaviour.{behaviour_of, entries_in, of_intersect, of_maskfasta, of_records, order_of};
 ghost use Rattle.bt_tool.specs.calls.run.Chromosomes.{ReadsChromosomes, WritesOutput};
 ghost use Rattle.bt_tool.specs.calls.run.RunContract.{Runs};
 ghost use Rattle.bt_tool.specs.calls.words.Limits.{is_within_limits};
 ghost use Rattle.bt_tool.specs.model.usage.Table.{IsNamedBy, table_of, tool_of};
 ghost use Rattle.bt_tool.specs.calls.run.OwnReads.{AnswersNoRead, IsOwnFailure, IsOwnFailureIf, ReadsServe, ReadsServeIf, TellsNoRead, TellsOwnReads};
-ghost use Rattle.bt_tool.specs.calls.run.Writing.{WritesBy, WritesRecords};
+ghost use Rattle.bt_tool.specs.inside.feed.RunsBy.{RunsAlone, RunsBy};
 ghost use Rattle.bt_tool.specs.model.report.Written.{complement_written, coverage_written, merge_written};
 
 use crate::loops::converting::convert;
@@ -171,13 +171,9 @@ fn write_records<A: Source, B: Source, K: Sink>(
     requires second { IsNamedBy (table_of (tool_of command)) (table_of (tool_of command)).second sources.second }
     requires distinct { IfSome setup.now.genome.now (λ table. AreDistinct (names_of table)) }
     requires block { HoldsBlock out.old.output.took out.old.output.put }
-    ensures written { WritesBy A.Source B.Source (behaviour_of command (option_map entries setup.now.genome.now))
+    ensures runs { RunsBy A.Source B.Source (behaviour_of command (option_map entries setup.now.genome.now))
         sources.first sources.second out.old.output (option_map fault_value result.0) result.1.first result.1.second out.new.output }
     ensures second { is_some result.1.second ≡ is_some sources.second }
-    ensures reads { TellsNoRead (option_map fault_value result.0)
-        → ReadsServe A.is_read sources.first result.1.first × ReadsServeIf B.is_read sources.second result.1.second }
-    ensures own_failure { TellsOwnReads ⊥ (IsOwnFailure A.is_read sources.first result.1.first)
-        (IsOwnFailureIf B.is_read sources.second result.1.second) (option_map fault_value result.0) }
 {
     let Sources { first, second } = sources;
     match command {
@@ -230,11 +226,9 @@ fn merge<A: Source, K: Sink>(
 ) -> (Option<Fault>, A)
     requires limit { d ≤ max_number }
     requires block { HoldsBlock out.old.output.took out.old.output.put }
-    ensures written { WritesRecords A.Source (merge_written (order_of (option_map entries setup.now.genome.now)) d strand)
-        (order_of (option_map entries setup.now.genome.now)) first out.old.output (option_map fault_value result.0) result.1 out.new.output }
-    ensures reads { TellsNoRead (option_map fault_value result.0) → ReadsServe A.is_read first result.1 }
-    ensures own_failure { TellsOwnReads ⊥ (IsOwnFailure A.is_read first result.1) ⊥
-        (option_map fault_value result.0) }
+    ensures { RunsAlone A.Source
+        (of_records (order_of (option_map entries setup.now.genome.now)) (merge_written (order_of (option_map entries setup.now.genome.now)) d strand))
+        first out.old.output (option_map fault_value result.0) result.1 out.new.output }
 {
     let engine = Merge::new(setup.alloc, d, strand);
     match setup.genome {
@@ -253,12 +247,9 @@ fn complement<A: Source, K: Sink>(
     requires genome { IsSome setup.now.genome.now }
     requires distinct { IfSome setup.now.genome.now (λ table. AreDistinct (names_of table)) }
     requires block { HoldsBlock out.old.output.took out.old.output.put }
-    ensures written { WritesRecords A.Source
-        (complement_written (entries_in (option_map entries setup.now.genome.now)) limit)
-        (order_of (option_map entries setup.now.genome.now)) first out.old.output (option_map fault_value result.0) result.1 out.new.output }
-    ensures reads { TellsNoRead (option_map fault_value result.0) → ReadsServe A.is_read first result.1 }
-    ensures own_failure { TellsOwnReads ⊥ (IsOwnFailure A.is_read first result.1) ⊥
-        (option_map fault_value result.0) }
+    ensures { RunsAlone A.Source
+        (of_records (order_of (option_map entries setup.now.genome.now)) (complement_written (entries_in (option_map entries setup.now.genome.now)) limit))
+        first out.old.output (option_map fault_value result.0) result.1 out.new.output }
 {
     let Some(genome) = setup.genome else {
         unreachable!()
@@ -278,12 +269,9 @@ fn cover<A: Source, K: Sink>(
     requires genome { IsSome setup.now.genome.now }
     requires distinct { IfSome setup.now.genome.now (λ table. AreDistinct (names_of table)) }
     requires block { HoldsBlock out.old.output.took out.old.output.put }
-    ensures written { WritesRecords A.Source
-        (coverage_written (entries_in (option_map entries setup.now.genome.now)) zeros strand)
-        (order_of (option_map entries setup.now.genome.now)) first out.old.output (option_map fault_value result.0) result.1 out.new.output }
-    ensures reads { TellsNoRead (option_map fault_value result.0) → ReadsServe A.is_read first result.1 }
-    ensures own_failure { TellsOwnReads ⊥ (IsOwnFailure A.is_read first result.1) ⊥
-        (option_map fault_value result.0) }
+    ensures { RunsAlone A.Source
+        (of_records (order_of (option_map entries setup.now.genome.now)) (coverage_written (entries_in (option_map entries setup.now.genome.now)) zeros strand))
+        first out.old.output (option_map fault_value result.0) result.1 out.new.output }
 {
     let Some(genome) = setup.genome else {
         unreachable!()
@@ -309,14 +297,10 @@ fn sweep_both<A: Source, B: Source, K: Sink>(
 ) -> (Option<Fault>, Sources<A, Option<B>>)
     requires second { IsSome sources.second }
     requires block { HoldsBlock out.old.output.took out.old.output.put }
-    ensures written { WritesBy A.Source B.Source
+    ensures runs { RunsBy A.Source B.Source
         (of_intersect (order_of (option_map entries setup.now.genome.now)) config.shape config.rule config.limit)
         sources.first sources.second out.old.output (option_map fault_value result.0) result.1.first result.1.second out.new.output }
     ensures second { is_some result.1.second ≡ is_some sources.second }
-    ensures reads { TellsNoRead (option_map fault_value result.0)
-        → ReadsServe A.is_read sources.first result.1.first × ReadsServeIf B.is_read sources.second result.1.second }
-    ensures own_failure { TellsOwnReads ⊥ (IsOwnFailure A.is_read sources.first result.1.first)
-        (IsOwnFailureIf B.is_read sources.second result.1.second) (option_map fault_value result.0) }
 {
     let Sources { first, second } = sources;
     let Some(second) = second else { unreachable!() };
@@ -340,13 +324,9 @@ fn mask_both<A: Source, B: Source, K: Sink>(
 ) -> (Option<Fault>, Sources<A, Option<B>>)
     requires second { IsSome sources.second }
     requires block { HoldsBlock out.old.output.took out.old.output.put }
-    ensures written { WritesBy A.Source B.Source (of_maskfasta how full)
+    ensures runs { RunsBy A.Source B.Source (of_maskfasta how full)
         sources.first sources.second out.old.output (option_map fault_value result.0) result.1.first result.1.second out.new.output }
     ensures second { is_some result.1.second ≡ is_some sources.second }
-    ensures reads { TellsNoRead (option_map fault_value result.0)
-        → ReadsServe A.is_read sources.first result.1.first × ReadsServeIf B.is_read sources.second result.1.second }
-    ensures own_failure { TellsOwnReads ⊥ (IsOwnFailure A.is_read sources.first result.1.first)
-        (IsOwnFailureIf B.is_read sources.second result.1.second) (option_map fault_value result.0) }
 {
     let Sources { first, second } = sources;
     let Some(second) = second else { unreachable!() };

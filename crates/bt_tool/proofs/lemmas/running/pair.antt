@@ -7,6 +7,4 @@ pub mod PairSettles
 pub mod PairStops
 pub mod PairTurns
 pub mod RestLemmas
-pub mod RoundLemmas
-pub mod StartLemmas
 pub mod StopLemmas

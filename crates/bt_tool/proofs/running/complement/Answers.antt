@@ -20,7 +20,7 @@ drive-requires-clause-begins g c =
     let whole = whole_gaps complement.limit complement.entries in
     lines_begin settled whole (AreTaken complement.entries) (begins settled whole (AreTaken complement.entries) (settles_gaps complement.limit complement.entries))
 
-pub returns-clause-written : goal.returns-clause-written
-returns-clause-written g c =
+pub returns : goal.returns
+returns g c =
     let engine = c.new-engine.ensures in
-    rw c.in-Some.is (rw (engine.entries, engine.limit) at c.drive.ensures.written)
+    rw c.in-Some.is (rw (engine.entries, engine.limit) at c.drive.ensures)

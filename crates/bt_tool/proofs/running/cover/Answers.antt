@@ -16,7 +16,7 @@ drive-requires-clause-begins g c =
     let engine = c.new-engine.result.rule in
     depths_begin engine.entries engine.zeros engine.strand
 
-pub returns-clause-written : goal.returns-clause-written
-returns-clause-written g c =
+pub returns : goal.returns
+returns g c =
     let engine = c.new-engine.ensures in
-    rw c.in-Some.is (rw (engine.entries, engine.rules.0, engine.rules.1) at c.drive.ensures.written)
+    rw c.in-Some.is (rw (engine.entries, engine.rules.0, engine.rules.1) at c.drive.ensures)

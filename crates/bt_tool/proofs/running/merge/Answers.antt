@@ -6,7 +6,7 @@ use Rattle.bt_bed.specs.calls.GenomeTable.{names_of}
 use Rattle.bt_bed.specs.model.order.Rank.{rank_order}
 use Rattle.bt_bed.specs.inside.RankTotal.{ranks_total}
 use Rattle.bt_bed.proofs.lemmas.order.TogetherLemmas.{placed_together}
-use Rattle.bt_tool.proofs.lemmas.running.feed.WriteLemmas.{merge_begins, merge_begins_whole, merge_stays, merge_writes}
+use Rattle.bt_tool.proofs.lemmas.running.feed.WriteLemmas.{merge_begins, merge_begins_whole, merge_stays, merge_runs}
 use Rattle.bt_tool.proofs.running.merge.Goals as goal
 
 pub drive-requires-clause-nothing : goal.drive-requires-clause-nothing
@@ -36,15 +36,15 @@ drive-requires-in-None-clause-stays g c = merge_stays c.new-engine.result
 pub drive-requires-in-None-clause-begins : goal.drive-requires-in-None-clause-begins
 drive-requires-in-None-clause-begins g c = merge_begins_whole c.new-engine.result
 
-pub returns-in-Some-clause-written : goal.returns-in-Some-clause-written
-returns-in-Some-clause-written g c =
+pub returns-in-Some : goal.returns-in-Some
+returns-in-Some g c =
     let names = names_of c.in-Some.genome in
     rw c.in-Some.is
-    (merge_writes (rank_order names) (ranks_total names) g.A.Source c.args.d c.args.strand c.new-engine.result c.new-engine.ensures.begun
-    c.args.first c.args.out.now.output (option_map fault_value c.drive.result.0) c.drive.result.1 c.drive.new.out.output c.drive.ensures.written)
+    (merge_runs (rank_order names) (ranks_total names) g.A.Source c.args.d c.args.strand c.new-engine.result c.new-engine.ensures.begun
+    c.args.first c.args.out.now.output (option_map fault_value c.drive.result.0) c.drive.result.1 c.drive.new.out.output c.drive.ensures)
 
-pub returns-in-None-clause-written : goal.returns-in-None-clause-written
-returns-in-None-clause-written g c =
+pub returns-in-None : goal.returns-in-None
+returns-in-None g c =
     rw c.in-None.is
-    (merge_writes byte_order bytes_total g.A.Source c.args.d c.args.strand c.new-engine.result c.new-engine.ensures.begun
-    c.args.first c.args.out.now.output (option_map fault_value c.drive-in-None.result.0) c.drive-in-None.result.1 c.drive-in-None.new.out.output c.drive-in-None.ensures.written)
+    (merge_runs byte_order bytes_total g.A.Source c.args.d c.args.strand c.new-engine.result c.new-engine.ensures.begun
+    c.args.first c.args.out.now.output (option_map fault_value c.drive-in-None.result.0) c.drive-in-None.result.1 c.drive-in-None.new.out.output c.drive-in-None.ensures)

@@ -7,13 +7,10 @@ use Rattle.bt_lines.specs.model.Handed.{Handed}
 use Rattle.bt_lines.specs.model.Lines.{text_lines}
 use Rattle.bt_lines.specs.calls.Output.{Output, IsPrefixOf, Grows, block_size}
 use Rattle.bt_lines.specs.declared.fault.Input.TheVariants.{First, Second}
-use Rattle.bt_bed.specs.model.feature.Feature.{Feature}
-use Rattle.bt_bed.specs.model.order.Order.{Order}
-use Rattle.bt_tool.specs.model.report.Behaviour.{Behaviour, of_records}
+use Rattle.bt_tool.specs.model.report.Behaviour.{Behaviour}
 use Rattle.bt_tool.specs.model.report.Inputs.{HandsUpToIf, Holds, HoldsIf, Reads, ReadsIf, ServesIf}
 use Rattle.bt_tool.specs.calls.run.FaultSource.{IsFaultButWrite, IsOfInput, IsReported, IsWithin, ReadsNoFurther}
 use Rattle.bt_tool.specs.calls.run.FaultSource.{TellsDevice, TellsInput, TellsInputIf}
-use Rattle.bt_tool.specs.model.report.Written.{Written}
 
 module _ {A B : Type 0} (source_a : Source A) (source_b : Source B) (behaviour : Behaviour) where
   -- the inputs were read, and what they make a command write was written:
@@ -67,8 +64,3 @@ abbrev pub WritesAlone : {A : Type 0} → Source A → Behaviour → A → Outpu
     → Option FaultValue → A → Output → Type 0
 WritesAlone device behaviour first out fault new grown =
     WritesBy device device behaviour first None out fault new None grown
-
--- the records of an input were read, in an order of their chromosomes
-abbrev pub WritesRecords : {A : Type 0} → Source A → Written Feature → Order
-    → A → Output → Option FaultValue → A → Output → Type 0
-WritesRecords device written order = WritesAlone device (of_records order written)

@@ -93,17 +93,10 @@ module _ {S A State : Type 0} (settled : List A → List ℕ) (Kinds : Kind → 
     pub served : device.has_failed (source_of new.below) ≡ device.has_failed (source_of old.below)
     pub within : bytes_taken new.below < 2 ^ 63
 
-  -- a line is at fault, or the source failed, or its text is too long
-  pub record StopsReading (old : MemberReader S A State) (out : Output) (past : List (Member A))
+  -- a line is at fault, or the source failed, or its text is too long; or memory ran out
+  pub record StopsTaking (old : MemberReader S A State) (out : Output) (past : List (Member A))
       (fault : FaultValue) (new : MemberReader S A State) (grown : Output) : Type 0 where
-    pub behind : HasFaultBehind device old Kinds past fault new
-    pub puts : PutsLines out (settled (member_items past)) grown
-    pub works : WorksAsBefore out grown
-
-  -- memory ran out
-  pub record StopsGrowing (old : MemberReader S A State) (out : Output) (past : List (Member A))
-      (fault : FaultValue) (new : MemberReader S A State) (grown : Output) : Type 0 where
-    pub lacks : LacksMemory device old fault new
+    pub cause : HasFaultBehind device old Kinds past fault new ⊎ LacksMemory device old fault new
     pub puts : PutsLines out (settled (member_items past)) grown
     pub works : WorksAsBefore out grown
 
@@ -118,8 +111,7 @@ module _ {S A State : Type 0} (settled : List A → List ℕ) (Kinds : Kind → 
   abbrev pub StopCause : MemberReader S A State → Output → List (Member A) → FaultValue
       → MemberReader S A State → Output → Type 0
   StopCause old out past fault new grown =
-      StopsReading old out past fault new grown
-      ⊎ (StopsGrowing old out past fault new grown ⊎ StopsWriting old out past fault new grown)
+      StopsTaking old out past fault new grown ⊎ StopsWriting old out past fault new grown
 
   -- the members were taken up to a fault
   pub record FeedsUpTo (old : MemberReader S A State) (out : Output) (fault : FaultValue)

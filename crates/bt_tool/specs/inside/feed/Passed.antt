@@ -170,5 +170,4 @@ module _ {S A State : Type 0} (device : Source S) where
     pub record StopsAfter (Kinds : Kind → Type 0) (past : List (Member A)) (fault : FaultValue)
         (new : MemberReader S A State) : Type 0 where
       pub bytes : (bytes : List ℕ) × Hands device.left old.below bytes new.below
-      pub cause : IsWrongBehind Kinds past fault new
-          ⊎ (IsUnreadBehind past fault new ⊎ LacksMemory fault new)
+      pub cause : HasFaultBehind Kinds past fault new ⊎ LacksMemory fault new

@@ -12,7 +12,7 @@ use Rattle.bt_bed.specs.model.input.Good.{Member, items_in}
 use Rattle.bt_bed.specs.model.feature.LineKind.{fault_at_line}
 use Rattle.bt_bed.specs.calls.Reading.{MemberReader, good_coming}
 use Rattle.bt_tool.specs.inside.feed.Feeding.{CutsLines, PutsLines, TookButBlock, member_items}
-use Rattle.bt_tool.specs.inside.pair.Pair.{JoinDef, Pair, Serves, Settles}
+use Rattle.bt_tool.specs.inside.pair.Pair.{JoinDef, Pair, Serves, SettlesPair}
 use Rattle.bt_tool.specs.inside.feed.Passed.{AreAll, HasFaultBehind, IsReadFor, IsReadTo, KeepsOwnFault}
 use Rattle.bt_tool.specs.calls.run.FaultSource.{IsFaultButWrite}
 use Rattle.bt_tool.specs.calls.run.OwnReads.{TellsNoRead}
@@ -33,7 +33,7 @@ module _ {A B X Y U V : Type 0} (join : JoinDef X Y) (pair : Pair A B X Y U V)
       (second : MemberReader B Y V) (grown : Output) : Type 0 where
     pub seen : List (Member Y)
     pub ended : Bool
-    pub settles : IsKnown pair → Settles join written bytes (member_items seen) ended
+    pub settles : IsKnown pair → SettlesPair join written bytes (member_items seen) ended
     pub first_begins : IfSome (good_coming pair.source_a.left pair.first)
         (λ good. (rest : List X) × (items_in good ≡ written ++ rest))
     pub second_begins : IfSome (good_coming pair.source_b.left pair.second)
@@ -176,7 +176,7 @@ module _ {A B X Y U V : Type 0} (join : JoinDef X Y) (pair : Pair A B X Y U V)
     pub beside : HasNoMore pair first first_near.to.count ⊎ AsksFor given_first second
 
   -- the run is over
-  pub record Finishes (fault : Option FaultValue) (first : MemberReader A X U)
+  pub record PairEnds (fault : Option FaultValue) (first : MemberReader A X U)
       (second : MemberReader B Y V) (grown : Output) : Type 0 where
     pub written : List X
     pub bytes : List ℕ
@@ -193,10 +193,11 @@ module _ {A B X Y U V : Type 0} (pair : Pair A B X Y U V) where
       HasRead pair.source_a.is_read pair.first.below first.below
       × HasRead pair.source_b.is_read pair.second.below second.below
 
-  -- the run is over, and a failed read is reported only if one of its reads failed
+  -- the run is over; all reads served if no failed read is reported, and one that is reported is this
+  -- run's
   pub record IsOverWith (join : JoinDef X Y) (out : Output) (fault : Option FaultValue)
       (first : MemberReader A X U) (second : MemberReader B Y V) (grown : Output) : Type 0 where
-    pub finishes : Finishes join pair out fault first second grown
+    pub finishes : PairEnds join pair out fault first second grown
     pub reads : TellsNoRead fault → HaveRead first second
     pub own_first : KeepsOwnFault pair.source_a.is_read pair.first.below first
     pub own_second : KeepsOwnFault pair.source_b.is_read pair.second.below second

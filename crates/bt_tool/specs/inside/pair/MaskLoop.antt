@@ -1,18 +1,20 @@
 -- How far masking the lines of a reader by the records of another has come, and how it ends.
-use Rattle.std.specs.Prelude.{◌≡◌, ◌⊎◌, ⊤, Bool, true, not, List, [], Option, Some}
-use Rattle.std.specs.Prelude.{IsTrue, is_some}
+use Rattle.std.specs.Prelude.{◌≡◌, ◌⊎◌, ⊤, ℕ, ◌+◌, ◌*◌, ◌<◌, ◌≤◌, Bool, true, false, not, List, []}
+use Rattle.std.specs.Prelude.{Option, Some, IsTrue, is_some, length, Result, Ok, Err}
 use Rattle.std.specs.List.{list_any}
 use Rattle.bt_lines.specs.declared.device.Source.{Ghosts as Source}
 use Rattle.bt_lines.specs.model.Fault.{FaultValue}
+use Rattle.bt_lines.specs.calls.Names.{fault_value}
 use Rattle.bt_lines.specs.calls.Output.{Output}
-use Rattle.bt_lines.specs.calls.Reader.{has_ended, input_of}
+use Rattle.bt_lines.specs.calls.Reader.{buffered_bytes, has_ended, input_of, room as line_room}
+use Rattle.bt_lines.specs.declared.fault.Fault.{Fault}
 use Rattle.bt_lines.specs.declared.fault.Input.TheVariants.{First}
 use Rattle.bt_lines.specs.declared.reader.line_reader.LineReader.{LineReader}
 use Rattle.bt_bed.specs.model.feature.Feature.{Feature}
 use Rattle.bt_bed.specs.model.input.Good.{Member}
 use Rattle.bt_bed.specs.model.input.GoodBlocks.{AreInBlocks, block_format}
 use Rattle.bt_bed.specs.model.order.Locus.{Locus}
-use Rattle.bt_bed.specs.calls.Reading.{MemberReader}
+use Rattle.bt_bed.specs.calls.Reading.{MemberReader, room}
 use Rattle.bt_seq.specs.calls.MaskStage.{MaskStage}
 use Rattle.bt_seq.specs.calls.MaskStanding.{MaskStandsAt}
 use Rattle.bt_seq.specs.model.Masked.{decided, masked_line, names_of, no_sequence}
@@ -20,13 +22,18 @@ use Rattle.bt_seq.specs.calls.MaskState.{Masking}
 use Rattle.bt_seq.specs.model.Owners.{left_after}
 use Rattle.bt_seq.specs.model.Sequences.{Reached, SequenceLine, sequence_format}
 use Rattle.bt_seq.specs.declared.mask.mask_how.MaskHow.{MaskHow}
+use Rattle.bt_seq.specs.declared.mask.mask_want.MaskWant.{MaskWant}
+use Rattle.bt_seq.specs.declared.mask.mask_want.MaskWant.TheVariants.{Line as WantLine, Bed as WantBed, Nothing}
+use Rattle.bt_sweep.specs.declared.sweep.want.Want.{Want}
+use Rattle.bt_sweep.specs.declared.sweep.want.Want.TheVariants.{A as WantA, B as WantB, Nothing as WantNothing}
 use Rattle.bt_tool.specs.model.usage.Kinds.{IsOneOf}
 use Rattle.bt_tool.specs.model.report.SweepReport.{bytes_up_to}
 use Rattle.bt_tool.specs.model.report.MaskReport.{is_fasta_kind, is_mask_kind, last_needed}
 use Rattle.bt_tool.specs.inside.pair.Pair.{JoinDef, Pair, item_ahead}
-use Rattle.bt_tool.specs.inside.pair.Progress.{Comes, Stage as PairStage}
-use Rattle.bt_tool.specs.inside.pair.Endings.{Finishes}
-use Rattle.bt_tool.specs.inside.feed.Passed.{lines_read}
+use Rattle.bt_tool.specs.inside.pair.Progress.{Comes, PairStage}
+use Rattle.bt_tool.specs.inside.pair.Endings.{PairEnds}
+use Rattle.bt_tool.specs.inside.pair.Rounds.{IsBuffered}
+use Rattle.bt_tool.specs.inside.feed.Passed.{IsKeptBelow, lines_read}
 
 -- a reader of lines as one of the lines of sequences, if those that were given have come so far
 abbrev pub line_members : {S : Type 0} → Bool → Reached → LineReader S
@@ -73,7 +80,7 @@ abbrev pub nothing_reached : Reached
 nothing_reached = record { names = []; bases = 0 }
 
 -- where masking began
-pub record MaskRun (A B : Type 0) : Type 0 where
+pub record MaskBegun (A B : Type 0) : Type 0 where
   pub how : MaskHow
   pub full : Bool
   pub lines : LineReader A
@@ -82,34 +89,80 @@ pub record MaskRun (A B : Type 0) : Type 0 where
   pub first : input_of lines ≡ First
   pub blocks : records.format ≡ block_format
 
-module _ {A B : Type 0} (source_a : Source A) (source_b : Source B)
-    (how : MaskHow) (full : Bool) (old_first : MemberReader A SequenceLine Reached)
-    (old_second : MemberReader B Feature (Option Locus)) where
-  abbrev pub mask_pair : Pair A B SequenceLine Feature Reached (Option Locus)
-  mask_pair = record {
+-- what an engine that masks wants, as of two inputs
+abbrev pub wanted_by : MaskWant → Want
+wanted_by WantLine = WantA
+wanted_by WantBed = WantB
+wanted_by Nothing = WantNothing
+
+-- how many rounds are wanted beside those that consume: a line that waits is to be written, then
+-- lines come, then records alone
+abbrev pub mask_rounds : Bool → MaskWant → ℕ
+mask_rounds waits WantLine = 2
+mask_rounds true WantBed = 3
+mask_rounds false WantBed = 1
+mask_rounds waits Nothing = 0
+
+module _ {A B : Type 0} (lines : LineReader A) (second : MemberReader B Feature (Option Locus)) where
+  -- it falls with each line and each record, and if neither comes
+  abbrev pub mask_left : Masking → ℕ
+  mask_left mask =
+      4 * (line_room lines + room second) + mask_rounds (is_some mask.waiting) mask.want
+
+  -- what is wanted is buffered
+  abbrev pub IsMaskReady : MaskWant → Type 0
+  IsMaskReady want =
+      IsBuffered (wanted_by want) (length (buffered_bytes lines)) (length second.buffered)
+
+module _ {A B : Type 0} (source_a : Source A) (source_b : Source B) where
+  abbrev pub mask_pair : Bool → LineReader A → MemberReader B Feature (Option Locus)
+      → Pair A B SequenceLine Feature Reached (Option Locus)
+  mask_pair full lines records = record {
     source_a = source_a;
     source_b = source_b;
-    first = old_first;
-    second = old_second;
+    first = line_members full nothing_reached lines;
+    second = records;
   }
 
-  module _ (out : Output) where
-    abbrev pub MaskEnds : Option FaultValue → MemberReader A SequenceLine Reached
-        → MemberReader B Feature (Option Locus) → Output → Type 0
-    MaskEnds = Finishes (mask_join how) mask_pair out
+module _ {A B : Type 0} (source_a : Source A) (source_b : Source B) (run : MaskBegun A B) where
+  abbrev pub begun_pair : Pair A B SequenceLine Feature Reached (Option Locus)
+  begun_pair = mask_pair source_a source_b run.full run.lines run.records
 
-    -- the lines and the records so far were given
-    pub record Masks (first : MemberReader A SequenceLine Reached)
-        (second : MemberReader B Feature (Option Locus)) (mask : Masking)
-        (grown : Output) : Type 0 where
-      pub past_first : List (Member SequenceLine)
-      pub past_second : List (Member Feature)
-      pub stage : MaskStage
-      pub stands : MaskStandsAt stage mask
-      pub how_is : mask.how ≡ how
-      pub full_is : mask.full ≡ full
-      pub comes : Comes (mask_join how) mask_pair out (stage_of stage) past_first past_second
-          first second grown
-      -- the record ahead, if one is known to be, is the next one
-      pub kept_ahead : (r : Feature) → stage.ahead ≡ Some r → item_ahead second ≡ Some r
-      pub lines_over : stage.lines_ended ≡ true → has_ended first.below ≡ true
+  -- lines and records so far were given, and the lines have come so far
+  pub record Masks (reached : Reached) (lines : LineReader A)
+      (second : MemberReader B Feature (Option Locus)) (mask : Masking) (grown : Output) : Type 0 where
+    pub past_first : List (Member SequenceLine)
+    pub past_second : List (Member Feature)
+    pub stage : MaskStage
+    pub stands : MaskStandsAt stage mask
+    pub how_is : mask.how ≡ run.how
+    pub full_is : mask.full ≡ run.full
+    pub comes : Comes (mask_join run.how) begun_pair run.out (stage_of stage) past_first past_second
+        (line_members run.full reached lines) second grown
+    -- the record ahead, if one is known to be, is the next one
+    pub kept_ahead : (r : Feature) → stage.ahead ≡ Some r → item_ahead second ≡ Some r
+    pub lines_over : stage.lines_ended ≡ true → has_ended lines ≡ true
+
+  abbrev pub GoesOn : LineReader A → MemberReader B Feature (Option Locus) → Masking → Output
+      → Type 0
+  GoesOn lines second mask grown = (reached : Reached) × Masks reached lines second mask grown
+
+  -- masking has ended
+  abbrev pub MaskEnds : Option FaultValue → LineReader A → MemberReader B Feature (Option Locus)
+      → Output → Type 0
+  MaskEnds fault lines second grown = (members : MemberReader A SequenceLine Reached)
+      × (members.below ≡ lines)
+      × PairEnds (mask_join run.how) begun_pair run.out fault members second grown
+      × IsKeptBelow members lines
+
+  -- what is buffered was given, as far as it is wanted
+  abbrev pub AdvancesMask : {T : Type 0} → LineReader A → MemberReader B Feature (Option Locus)
+      → Masking → Result T Fault → LineReader A → MemberReader B Feature (Option Locus) → Masking
+      → Output → Type 0
+  AdvancesMask old old_second old_mask (Ok done) lines second mask grown =
+      GoesOn lines second mask grown
+      × (mask_left lines second mask ≤ mask_left old old_second old_mask)
+      × (IsMaskReady old old_second old_mask.want
+      → mask_left lines second mask < mask_left old old_second old_mask)
+  AdvancesMask old old_second old_mask (Err fault) lines second mask grown =
+      MaskEnds (Some (fault_value fault)) lines second grown

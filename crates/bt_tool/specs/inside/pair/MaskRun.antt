@@ -11,33 +11,25 @@ use Rattle.bt_bed.specs.model.feature.Feature.{Feature}
 use Rattle.bt_bed.specs.model.input.GoodBlocks.{block_format}
 use Rattle.bt_bed.specs.model.order.Locus.{Locus}
 use Rattle.bt_seq.specs.model.Sequences.{Reached, SequenceLine}
-use Rattle.bt_seq.specs.declared.mask.mask_want.MaskWant.{MaskWant}
-use Rattle.bt_seq.specs.declared.mask.mask_want.MaskWant.TheVariants.{Line, Bed, Nothing}
 use Rattle.bt_sweep.specs.declared.sweep.want.Want.{Want}
-use Rattle.bt_sweep.specs.declared.sweep.want.Want.TheVariants.{A as WantA, B as WantB, Nothing as WantNothing}
-use Rattle.bt_tool.specs.declared.loops.masking.MaskInputs.{MaskInputs}
+use Rattle.bt_tool.specs.declared.loops.masking.MaskRun.{MaskRun}
 use Rattle.bt_tool.specs.inside.pair.Endings.{HaveRead, IsOverWith}
-use Rattle.bt_tool.specs.inside.pair.MaskLoop.{MaskRun, line_members, mask_join, mask_pair, nothing_reached}
+use Rattle.bt_tool.specs.inside.pair.MaskLoop.{GoesOn, IsMaskReady, MaskBegun, line_members, mask_join}
+use Rattle.bt_tool.specs.inside.pair.MaskLoop.{mask_left, mask_pair, wanted_by}
 use Rattle.bt_tool.specs.inside.pair.Pair.{Pair}
-use Rattle.bt_tool.specs.inside.pair.MaskTurns.{GoesOn, IsThere, left_to_ask}
-
-abbrev pub wanted_by : MaskWant → Want
-wanted_by Line = WantA
-wanted_by Bed = WantB
-wanted_by Nothing = WantNothing
 
 module _ {A B : Type 0} where
-  abbrev pub mask_wanted : MaskInputs A B → Want
+  abbrev pub mask_wanted : MaskRun A B → Want
   mask_wanted now = wanted_by now.mask.want
 
-  abbrev pub is_mask_ready : MaskInputs A B → Type 0
-  is_mask_ready now = IsThere now.mask.want now.lines (view_of now.records)
+  abbrev pub is_mask_ready : MaskRun A B → Type 0
+  is_mask_ready now = IsMaskReady now.lines (view_of now.records) now.mask.want
 
-  abbrev pub left_to_mask : MaskInputs A B → ℕ
-  left_to_mask now = left_to_ask now.lines (view_of now.records) now.mask
+  abbrev pub left_to_mask : MaskRun A B → ℕ
+  left_to_mask now = mask_left now.lines (view_of now.records) now.mask
 
-  abbrev pub run_from : (start : MaskInputs A B) → Output → input_of start.lines ≡ First
-      → (view_of start.records).format ≡ block_format → MaskRun A B
+  abbrev pub run_from : (start : MaskRun A B) → Output → input_of start.lines ≡ First
+      → (view_of start.records).format ≡ block_format → MaskBegun A B
   run_from start out first blocks = record {
     how = start.mask.how;
     full = start.mask.full;
@@ -48,13 +40,12 @@ module _ {A B : Type 0} where
     blocks = blocks;
   }
 
-  module _ (source_a : Source A) (source_b : Source B) (start : MaskInputs A B) (out : Output) where
+  module _ (source_a : Source A) (source_b : Source B) (start : MaskRun A B) (out : Output) where
     abbrev pub mask_pair_from : Pair A B SequenceLine Feature Reached (Option Locus)
-    mask_pair_from = mask_pair source_a source_b start.mask.how start.mask.full
-        (line_members start.mask.full nothing_reached start.lines) (view_of start.records)
+    mask_pair_from = mask_pair source_a source_b start.mask.full start.lines (view_of start.records)
 
     -- the lines and the records so far were given
-    pub record MaskComes (now : MaskInputs A B) (grown : Output) : Type 0 where
+    pub record MaskComes (now : MaskRun A B) (grown : Output) : Type 0 where
       pub first : input_of start.lines ≡ First
       pub blocks : (view_of start.records).format ≡ block_format
       pub goes : GoesOn source_a source_b (run_from start out first blocks)
@@ -62,7 +53,7 @@ module _ {A B : Type 0} where
       pub reads : HaveRead mask_pair_from
           (line_members start.mask.full goes.0 now.lines) (view_of now.records)
 
-    abbrev pub MaskIsOver : Option FaultValue → MaskInputs A B → Output → Type 0
+    abbrev pub MaskIsOver : Option FaultValue → MaskRun A B → Output → Type 0
     MaskIsOver fault now grown = (members : MemberReader A SequenceLine Reached)
         × (members.below ≡ now.lines)
         × IsOverWith mask_pair_from (mask_join start.mask.how) out fault

@@ -77,7 +77,7 @@ module _ {X Y : Type 0} (join : JoinDef X Y) where
   met_by first second = met_whole first (join.limited (items_in first) second)
 
   -- whatever the second input still has, these members of the first are decided and have these bytes
-  pub record Settles (written : List X) (bytes : List ℕ) (seen : List Y)
+  pub record SettlesPair (written : List X) (bytes : List ℕ) (seen : List Y)
       (ended : Bool) : Type 0 where
     pub whatever : (second : List Y) (fault : Option FaultValue) → join.InOrder second
         → MayCome seen ended second fault

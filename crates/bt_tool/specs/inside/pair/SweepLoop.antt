@@ -15,7 +15,9 @@ use Rattle.bt_bed.specs.model.feature.Feature.{Feature, intervals_of}
 use Rattle.bt_bed.specs.model.input.Good.{Member}
 use Rattle.bt_bed.specs.model.feature.LineKind.{IsBedKind}
 use Rattle.bt_bed.specs.model.order.Locus.{ArePlaced, Locus}
-use Rattle.bt_bed.specs.model.order.Order.{Order}
+use Rattle.bt_bed.specs.model.input.GoodBed.{bed_format}
+use Rattle.bt_bed.specs.model.order.Order.{IsTotal, Order}
+use Rattle.bt_bed.specs.model.order.Sorting.{sorting_of}
 use Rattle.bt_bed.specs.calls.Reading.{MemberReader, ahead_in}
 use Rattle.bt_bed.specs.calls.Records.{last_locus, order_in, view_of}
 use Rattle.bt_bed.specs.declared.order.ChromOrder.{Ghosts}
@@ -28,8 +30,8 @@ use Rattle.bt_sweep.specs.calls.SweepState.{Sweeping}
 use Rattle.bt_tool.specs.declared.loops.sweeping.SweepConfig.{SweepConfig}
 use Rattle.bt_tool.specs.model.report.SweepReport.{IsSweptKind, bytes_up_to, decider}
 use Rattle.bt_tool.specs.inside.pair.Pair.{JoinDef, Pair}
-use Rattle.bt_tool.specs.inside.pair.Progress.{Comes, Stage as PairStage}
-use Rattle.bt_tool.specs.inside.pair.Endings.{Finishes, IsKnown}
+use Rattle.bt_tool.specs.inside.pair.Progress.{Comes, PairStage}
+use Rattle.bt_tool.specs.inside.pair.Endings.{PairEnds, IsKnown}
 use Rattle.bt_tool.specs.inside.feed.Passed.{AreAll, Passes, StopsAfter}
 
 -- Whatever comes after them of either input, by these records of the first the limit doesn't lie
@@ -71,6 +73,16 @@ stage_of stage = record {
   second_ended = stage.b_ended;
 }
 
+-- two readers of BED records that have given none, in one order
+pub record AreBegun {A B O : Type 0} {g : Ghosts O} (first : Records A O g)
+    (second : Records B O g) : Type 0 where
+  pub total : IsTotal (order_in first)
+  pub same_order : order_in second ≡ order_in first
+  pub is_bed : (view_of first).format ≡ bed_format (sorting_of (order_in first))
+  pub is_bed_second : (view_of second).format ≡ bed_format (sorting_of (order_in second))
+  pub none_last : last_locus first ≡ None
+  pub none_last_second : last_locus second ≡ None
+
 module _ {A B O : Type 0} {g : Ghosts O} (source_a : Source A) (source_b : Source B)
     (old_first : Records A O g) (old_second : Records B O g) where
   abbrev pub records_pair : Pair A B Feature Feature (Option Locus) (Option Locus)
@@ -86,7 +98,7 @@ module _ {A B O : Type 0} {g : Ghosts O} (source_a : Source A) (source_b : Sourc
     (old_second : Records B O g) (out : Output) where
   abbrev pub SweepEnds : Option FaultValue → Records A O g → Records B O g → Output → Type 0
   SweepEnds fault first second grown =
-      Finishes (sweep_join order config)
+      PairEnds (sweep_join order config)
       (records_pair source_a source_b old_first old_second) out fault
       (view_of first) (view_of second) grown
 
@@ -104,8 +116,6 @@ module _ {A B O : Type 0} {g : Ghosts O} (source_a : Source A) (source_b : Sourc
     -- they go by the order from the beginning
     pub first_order : order_in first ≡ order_in old_first
     pub second_order : order_in second ≡ order_in old_second
-    pub first_begins : last_locus old_first ≡ None
-    pub second_begins : last_locus old_second ≡ None
     pub fits : IsKnown (records_pair source_a source_b old_first old_second)
         → AreWithin order config.limit (given stage) past_second
 
@@ -132,20 +142,14 @@ module _ {S A State : Type 0} (device : Source S)
   ChecksRest Kinds (Ok done) new = ChecksAll new
   ChecksRest Kinds (Err fault) new = ChecksUpTo Kinds (fault_value fault) new
 
-  abbrev pub Checks : {T : Type 0} → (Kind → Type 0) → Result T Fault → MemberReader S A State
-      → Type 0
-  Checks Kinds result new =
-      Passes device old past before
-      → ((state : State) (line : TextLine) (kind : Kind) → old.format.says state line ≡ Err kind
-      → Kinds kind)
-      → ChecksRest Kinds result new
-
 -- reading on to the end, from wherever the reader is
 abbrev pub ReadsRest : {S A State T : Type 0} → Source S → (Kind → Type 0) → MemberReader S A State
     → Result T Fault → MemberReader S A State → Type 0
 ReadsRest {S} {A} {State} {T} device Kinds before result new =
-    (old : MemberReader S A State) (past : List (Member A))
-    → Checks device old past before Kinds result new
+    (old : MemberReader S A State) (past : List (Member A)) → Passes device old past before
+    → ((state : State) (line : TextLine) (kind : Kind) → old.format.says state line ≡ Err kind
+    → Kinds kind)
+    → ChecksRest device old past before Kinds result new
 
 -- how far it has come
 module _ {S A State : Type 0} (device : Source S)

@@ -106,8 +106,8 @@ module _ {A B O : Type 0} {g : Ghosts O} (source_a : Source A) (source_b : Sourc
         ⊎ (FailsToTake firsts seconds newly waiting new_second fault grown
         ⊎ FailsToKeep firsts seconds newly waiting new_second fault grown)
 
-  abbrev pub AdvancesBoth : {T : Type 0} → Result T Fault → Records A O g → Records B O g → Sweeping
+  abbrev pub AdvancesSweep : {T : Type 0} → Result T Fault → Records A O g → Records B O g → Sweeping
       → Output → Type 0
-  AdvancesBoth (Ok done) new_first new_second swept grown = GivesBoth new_first new_second swept grown
-  AdvancesBoth (Err fault) new_first new_second swept grown =
+  AdvancesSweep (Ok done) new_first new_second swept grown = GivesBoth new_first new_second swept grown
+  AdvancesSweep (Err fault) new_first new_second swept grown =
       FailsAmong (fault_value fault) new_first new_second grown

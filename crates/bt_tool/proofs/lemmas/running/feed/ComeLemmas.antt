@@ -1,15 +1,15 @@
 -- Lemmas on what was taken of a reader's members and lines, and on what is still to come of them.
 use Rattle.std.proofs.Common.{◌≡◌, ℕ, suc, ◌+◌, ◌-◌, ◌^◌, ◌<◌, ◌≤◌, false, List, [], ◌++◌, length, take, drop, Option, None, Some, refl, sym, ap, ◌∙◌, subst, append-nil, arith}
-use Rattle.std.specs.Prelude.{All, IfSome, option_map}
+use Rattle.std.specs.Prelude.{All, IfSome}
 use Rattle.std.proofs.lemmas.List.{drop-drop}
 use Rattle.std.proofs.Math.Seq.{take-append-add}
 use Rattle.bt_lines.specs.model.Fault.{FaultValue}
-use Rattle.bt_lines.specs.model.Lines.{AreNumbered, TextLine, bytes_in, line_feeds, lines_from}
+use Rattle.bt_lines.specs.model.Lines.{TextLine, bytes_in, line_feeds}
 use Rattle.bt_lines.specs.calls.Output.{block_size}
-use Rattle.bt_lines.specs.calls.Reader.{CutsOff, Hands, bytes_taken, end_told, lines_given}
+use Rattle.bt_lines.specs.calls.Reader.{CutsOff, Hands, bytes_taken, end_told}
 use Rattle.bt_lines.specs.declared.reader.line_reader.LineReader.{LineReader}
 use Rattle.bt_lines.proofs.lemmas.reader.lines.ReaderLemmas.{hands_both}
-use Rattle.bt_lines.proofs.lemmas.reader.lines.TextLemmas.{line_feeds-append, lines_are_numbered}
+use Rattle.bt_lines.proofs.lemmas.reader.lines.TextLemmas.{line_feeds-append}
 use Rattle.bt_bed.specs.model.input.Good.{Good, Member, ends_with}
 use Rattle.bt_bed.specs.model.input.GoodLines.{IsBeyond}
 use Rattle.bt_tool.specs.inside.feed.Passed.{ComeFirst}
@@ -92,12 +92,6 @@ cuts_both left old now new first hands told within cut =
       hands = hands_both left old now new first cut.bytes hands cut.hands;
       given = omega (arith, cut.given, fed, below, rest);
     }
-
-pub numbered_lines : {S : Type 0} (left : S → Option (List ℕ)) (reader : LineReader S) (bytes : Option (List ℕ)) → lines_given reader ≡ 0
-    → IfSome (option_map (lines_from (suc (lines_given reader))) bytes) (AreNumbered 1)
-numbered_lines left reader None e = tt
-numbered_lines left reader (Some bytes) e =
-    subst (λ n. AreNumbered (suc n) (lines_from (suc (lines_given reader)) bytes)) e (lines_are_numbered (suc (lines_given reader)) bytes)
 
 pub none_passed : (lines : Option (List TextLine)) (given : ℕ) → given ≡ 0 → IfSome lines (λ l. lines ≡ Some (drop given l))
 none_passed None given e = tt

@@ -15,7 +15,7 @@ use Rattle.bt_lines.specs.calls.Reader.{GivesEnd, GivesFault, GivesLine, IsKept,
 use Rattle.bt_lines.specs.declared.fault.Input.{Input}
 use Rattle.bt_lines.specs.declared.fault.Input.TheVariants.{First}
 use Rattle.bt_lines.specs.declared.reader.line_reader.LineReader.{LineReader}
-use Rattle.bt_bed.specs.model.input.Good.{Member, good}
+use Rattle.bt_bed.specs.model.input.Good.{Member}
 use Rattle.bt_bed.specs.model.feature.LineKind.{fault_at_line}
 use Rattle.bt_bed.specs.calls.Reading.{MemberReader}
 use Rattle.bt_seq.specs.model.Alignment.{Alignment, alignment_of}
@@ -39,7 +39,7 @@ use Rattle.bt_tool.proofs.lemmas.running.feed.FeedLemmas.{Fed, fails_writing, fe
 use Rattle.bt_tool.proofs.lemmas.running.members.LinePassing.{came, passes_none, passes_some, read_line}
 use Rattle.bt_lines.proofs.lemmas.writer.OutputLemmas.{grows_both}
 use Rattle.bt_bed.proofs.lemmas.read.good.ReadingLemmas.{Going as Steps, going_end, going_start as steps_start, going_unread, going_wrong, good_at_first}
-use Rattle.bt_tool.proofs.lemmas.running.members.CameMembers.{BeginsAt}
+use Rattle.bt_tool.proofs.lemmas.running.members.CameMembers.{BeginsAt, begins_over}
 use Rattle.bt_tool.proofs.lemmas.running.feed.FaultLemmas.{line_no_read}
 use Rattle.bt_tool.proofs.lemmas.running.whole.OwnFailureLemmas.{feeds_own}
 use Rattle.bt_tool.proofs.lemmas.running.feed.WritingLemmas.{alone_writes}
@@ -182,14 +182,7 @@ reported split cigar members (Some fault) = refl
 module _ {S : Type 0} (split cigar : Bool) (device : Source S) (first : S) (reader : LineReader S) (source : source_of reader ≡ first) (input : input_of reader ≡ First)
     (taken : bytes_taken reader ≡ 0) (fed : feeds_taken reader ≡ 0) (given : lines_given reader ≡ 0) (going : fault_kept reader ≡ None) (lines : lines_left device.left reader ≡ option_map text_lines (device.left first)) (sound : IsSound device reader) where
   starts_reader : BeginsAt device.left sam_format First first (sam_reader reader)
-  starts_reader = record {
-    source = source;
-    input_is = input;
-    bytes = taken;
-    feeds = fed;
-    lines = lines;
-    good = good_at_first device (sam_reader reader) going refl ∙ ap (λ i. option_map (good sam_format i) (lines_left device.left reader)) input ∙ ap (option_map (good sam_format First)) lines;
-  }
+  starts_reader = begins_over device reader (sam_reader reader) refl taken fed sam_format First first source input going lines (λ going. good_at_first device (sam_reader reader) going refl)
 
   more_lines : (past more : List Alignment) → ⊤ → (rest : List ℕ) × (alignment_lines split cigar (past ++ more) ≡ alignment_lines split cigar past ++ rest)
   more_lines past more h = (alignment_lines split cigar more, flat_map-append (bed_lines split cigar) past more)

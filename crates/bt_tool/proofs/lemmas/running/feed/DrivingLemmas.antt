@@ -10,8 +10,7 @@ use Rattle.bt_lines.specs.model.Fault.{FaultValue, write_failed, no_memory}
 use Rattle.bt_lines.specs.model.Handed.{Handed, whole_text}
 use Rattle.bt_lines.specs.model.Lines.{text_lines}
 use Rattle.bt_lines.specs.calls.Output.{Output, IsPrefixOf}
-use Rattle.bt_lines.specs.calls.Reader.{Hands, IsSound, source_of, input_of, bytes_taken, feeds_taken, lines_given}
-use Rattle.bt_lines.specs.declared.reader.line_reader.LineReader.{LineReader}
+use Rattle.bt_lines.specs.calls.Reader.{Hands, source_of, input_of, lines_given}
 use Rattle.bt_lines.specs.declared.fault.Input.TheVariants.{First}
 use Rattle.bt_lines.specs.declared.fault.Kind.{Kind}
 use Rattle.bt_lines.specs.declared.fault.Kind.TheVariants.{ReadFailed}
@@ -26,7 +25,7 @@ use Rattle.bt_bed.specs.model.order.Order.{Order, IsTotal}
 use Rattle.bt_bed.specs.model.order.Locus.{ArePlaced}
 use Rattle.bt_bed.specs.calls.Reading.{MemberReader, good_coming}
 use Rattle.bt_bed.specs.calls.SortedReader.{view_with}
-use Rattle.bt_bed.specs.calls.Records.{below, buffered_in, fault_kept, order_in, view_of}
+use Rattle.bt_bed.specs.calls.Records.{order_in, view_of}
 use Rattle.bt_lines.specs.calls.Names.{fault_value}
 use Rattle.bt_lines.specs.calls.Putting.{CutsRest, PutsRest}
 use Rattle.bt_lines.specs.declared.fault.Fault.{Fault}
@@ -40,7 +39,7 @@ use Rattle.bt_tool.specs.model.report.Behaviour.{of_members}
 use Rattle.bt_tool.specs.model.report.Inputs.{Holds, HoldsIf}
 use Rattle.bt_tool.specs.calls.run.Writing.{WritesAlone}
 use Rattle.bt_tool.specs.inside.feed.Coming.{Came}
-use Rattle.bt_tool.specs.inside.feed.Feeding.{StopCause, CutsLines, IsFresh, PutsFront, PutsLines, FeedsAll, FeedsUpTo, GoesOn, TookButBlock}
+use Rattle.bt_tool.specs.inside.feed.Feeding.{StopCause, CutsLines, PutsFront, PutsLines, FeedsAll, FeedsUpTo, GoesOn, TookButBlock}
 use Rattle.bt_tool.specs.inside.feed.Passed.{IsReadFor, member_items}
 use Rattle.bt_tool.specs.model.report.RecordReport.{Report, members_report, members_settle, report_by}
 use Rattle.bt_tool.specs.model.report.Written.{Written}
@@ -53,21 +52,9 @@ use Rattle.bt_tool.proofs.lemmas.running.feed.WritingLemmas.{is_whole, named_alo
 items_both : {A : Type 0} (past rest : List (Member A)) → member_items (past ++ rest) ≡ member_items past ++ member_items rest
 items_both past rest = map-append (λ m. m.item) past rest
 
--- the beginning of a run's input, from a reader that has given nothing and a reader of records over it
-module _ {S O : Type 0} {ghosts : Ghosts O} where
-  pub sorted_start : (records : Records S O ghosts) → (view_of records).format ≡ bed_format (sorting_of (order_in records))
-  unfolding view_of view_with order_in
-  sorted_start records = refl
-
-  pub fresh_start : (device : Source S) (reader : LineReader S) (records : Records S O ghosts) → below records ≡ reader
-      → lines_given reader ≡ 0 → bytes_taken reader ≡ 0 → feeds_taken reader ≡ 0 → fault_kept records ≡ None → buffered_in records ≡ [] → IsSound device reader
-      → IsFresh device (view_of records)
-  fresh_start device reader records is given taken fed going none sound = record {
-    none_given = (ap lines_given is ∙ given, ap bytes_taken is ∙ taken, ap feeds_taken is ∙ fed);
-    none_buffered = none;
-    going = going;
-    sound = subst (IsSound device) (sym is) sound;
-  }
+pub sorted_start : {S O : Type 0} {ghosts : Ghosts O} (records : Records S O ghosts) → (view_of records).format ≡ bed_format (sorting_of (order_in records))
+unfolding view_of view_with order_in
+sorted_start records = refl
 
 -- what the end of an engine did
 module _ {E : Type 0} (MayTake : E → List Feature → Type 0) (Stands : E → List Feature → E → Type 0) (engine_fault : E → Option FaultValue) (settled whole : E → List Feature → List ℕ) (first last : E) (past : List Feature) (out : Output) (grown : Output) where
@@ -174,31 +161,35 @@ module _ {S A State : Type 0} (written : Written A) (kinds : Kind → Type 0) (S
     -- the report, by what the fault of the input says of it
     reported_by : (past : List (Member A)) (handed : Handed) (before : List ℕ) → Came device first last (Some fault) handed → out.put ≡ Some before
         → Some fault ≢ Some write_failed → Some fault ≢ Some no_memory → (bytes : List ℕ) × Hands device.left old.below bytes new.below → Cause past → IsReported (report handed) before (Some fault) grown
-    reported_by past handed before came put write memory hands (inl reading) =
-        let is = report_of handed past (Some fault) (says_fault device format First first old starts new last ended kinds past fault handed came hands reading.behind) in
-        (sym (ap (λ r. r.fault) is), reading.puts before put ∙ ap (λ r. Some (before ++ r.output)) (sym is))
-    reported_by past handed before came put write memory hands (inr (inl growing)) = absurd (memory (ap Some growing.lacks.is))
-    reported_by past handed before came put write memory hands (inr (inr writing)) = absurd (write (ap Some writing.is))
+    reported_by past handed before came put write memory hands (inl taking) =
+        elim taking.cause [
+          | inl behind ↦
+              let is = report_of handed past (Some fault) (says_fault device format First first old starts new last ended kinds past fault handed came hands behind) in
+              (sym (ap (λ r. r.fault) is), taking.puts before put ∙ ap (λ r. Some (before ++ r.output)) (sym is))
+          | inr lacks ↦ absurd (memory (ap Some lacks.is))
+        ]
+    reported_by past handed before came put write memory hands (inr writing) = absurd (write (ap Some writing.is))
 
     puts_by : (past : List (Member A)) → Cause past → fault ≢ write_failed → PutsFront out (written.settled (member_items past)) grown
-    puts_by past (inl reading) other = puts_front out (written.settled (member_items past)) grown reading.puts
-    puts_by past (inr (inl growing)) other = puts_front out (written.settled (member_items past)) grown growing.puts
-    puts_by past (inr (inr writing)) other = absurd (other writing.is)
+    puts_by past (inl taking) other = puts_front out (written.settled (member_items past)) grown taking.puts
+    puts_by past (inr writing) other = absurd (other writing.is)
 
     cut_by : (past : List (Member A)) → Cause past → fault ≡ write_failed → CutsLines out (written.settled (member_items past)) grown
-    cut_by past (inl reading) e =
-        elim reading.behind [
-          | inl wrong ↦ absurd (placed_no_write (input_of old.below) wrong.line wrong.kind (sym wrong.is ∙ e))
-          | inr unread ↦ absurd (placed_no_write (input_of old.below) (suc (lines_given new.below)) ReadFailed (sym unread.is ∙ e))
+    cut_by past (inl taking) e =
+        elim taking.cause [
+          | inl behind ↦ elim behind [
+            | inl wrong ↦ absurd (placed_no_write (input_of old.below) wrong.line wrong.kind (sym wrong.is ∙ e))
+            | inr unread ↦ absurd (placed_no_write (input_of old.below) (suc (lines_given new.below)) ReadFailed (sym unread.is ∙ e))
+          ]
+          | inr lacks ↦ absurd (memory_no_write (sym lacks.is ∙ e))
         ]
-    cut_by past (inr (inl growing)) e = absurd (memory_no_write (sym growing.lacks.is ∙ e))
-    cut_by past (inr (inr writing)) e = writing.cuts
+    cut_by past (inr writing) e = writing.cuts
 
     named_by : (past : List (Member A)) → (bytes : List ℕ) × Hands device.left old.below bytes new.below → Cause past
         → TellsInput device kinds First first last fault ⊎ TellsDevice grown.sink_has_failed fault
-    named_by past hands (inl reading) = inl (tells_fault device format First first old starts new last ended kinds past fault hands reading.behind)
-    named_by past hands (inr (inl growing)) = inr (inr growing.lacks.is)
-    named_by past hands (inr (inr writing)) = inr (inl (writing.is, writing.cuts.sink_failed))
+    named_by past hands (inl taking) =
+        elim taking.cause [ inl behind ↦ inl (tells_fault device format First first old starts new last ended kinds past fault hands behind) | inr lacks ↦ inr (inr lacks.is) ]
+    named_by past hands (inr writing) = inr (inl (writing.is, writing.cuts.sink_failed))
 
     pub drives_fault : FeedsUpTo written.settled kinds Sorted device old out fault new grown → WritesAlone device (of_members kinds written format) first out (Some fault) last grown
     drives_fault fed = record {

@@ -189,17 +189,7 @@ module _ {S A State : Type 0} (settled : List A → List ℕ) (Kinds : Kind → 
         past = past;
         took = taken new stopped.answers.stays.bytes sorted (read_at_stop device old past now g.passes new fault stopped);
         begins = begins_with (good_coming device.left old) (good_coming device.left now) past g.passes.come;
-        cause = elim stops.cause [
-          | inl wrong ↦ inl (record { behind = inl wrong; puts = g.puts; works = g.works })
-          | inr others ↦ elim others [
-            | inl unread ↦ inl (record { behind = inr unread; puts = g.puts; works = g.works })
-            | inr lacks ↦ inr (inl (record {
-              lacks = lacks;
-              puts = g.puts;
-              works = g.works;
-            }))
-          ]
-        ];
+        cause = inl (record { cause = stops.cause; puts = g.puts; works = g.works });
         exact = λ other. g.puts;
       }
 
@@ -225,7 +215,7 @@ module _ {S A State : Type 0} (settled : List A → List ℕ) (Kinds : Kind → 
       kept = took_later out through later (settled (member_items before)) grows_through (goes_failed through later grows fails) (took_lines out through (settled (member_items before)) puts_through block);
     };
     begins = begins_given;
-    cause = inr (inr (record {
+    cause = inr (record {
       is = is;
       cuts = record {
         front = λ bytes e. front_all later.took through.put bytes (settled (member_items before)) lines (settled (member_items given)) (ap settled items ∙ more) (puts_through bytes e) front;
@@ -233,7 +223,7 @@ module _ {S A State : Type 0} (settled : List A → List ℕ) (Kinds : Kind → 
         sink_failed = sink;
       };
       served = passes.served;
-    }));
+    });
     exact = λ other. absurd (other is);
   }
 
@@ -254,11 +244,11 @@ module _ {S A State : Type 0} (settled : List A → List ℕ) (Kinds : Kind → 
           kept = took_lines out later (settled (member_items given)) puts (works.block block);
         };
         begins = begins_given;
-        cause = inr (inl (record {
-          lacks = record { is = is; served = passes.served };
+        cause = inl (record {
+          cause = inr (record { is = is; served = passes.served });
           puts = puts;
           works = works_both out through later works_through works;
-        }));
+        });
         exact = λ other. puts;
       }
 

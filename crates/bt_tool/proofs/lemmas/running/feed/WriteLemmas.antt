@@ -29,7 +29,7 @@ use Rattle.bt_runs.proofs.lemmas.order.RunOrder.{ordered_come}
 use Rattle.bt_runs.proofs.lemmas.merge.SettledRuns.{runs_begin, runs_stay}
 use Rattle.bt_runs.proofs.lemmas.merge.StrandSettling.{begin, no_strand_settled, stay}
 use Rattle.bt_tool.specs.model.report.Behaviour.{of_records}
-use Rattle.bt_tool.specs.calls.run.Writing.{WritesRecords}
+use Rattle.bt_tool.specs.inside.feed.RunsBy.{RunsAlone}
 use Rattle.bt_tool.proofs.lemmas.running.feed.WritingLemmas.{alone_writes}
 use Rattle.bt_tool.specs.model.report.RecordReport.{records_report, records_settle, report_by}
 use Rattle.bt_tool.specs.model.report.Written.{Written, merge_written, pooled_written}
@@ -122,13 +122,16 @@ module _ (order : Order) (total : IsTotal order) where
   merge_settles d strand lines =
       settled_same d strand (items_in (good (bed_format (sorting_of order)) First lines)) (placed_lines First order lines total)
 
-  -- a merge's records were written as the command says
-  pub merge_writes : {A : Type 0} (device : Source A) (d : ℕ) (strand : MergeStrand) (merge : Merging) → merge ≡ merge_begun d strand
+  -- a merge ran as the command says
+  pub merge_runs : {A : Type 0} (device : Source A) (d : ℕ) (strand : MergeStrand) (merge : Merging) → merge ≡ merge_begun d strand
       → (first : A) (out : Output) (fault : Option FaultValue) (new : A) (grown : Output)
-      → WritesRecords device (merge_as_they_come merge) order first out fault new grown
-      → WritesRecords device (merge_written order d strand) order first out fault new grown
-  merge_writes device d strand merge begun first out fault new grown =
-      alone_writes device device (of_records order (merge_as_they_come merge)) (of_records order (merge_written order d strand))
-      (λ one two. ap (λ m. records_report (merge_as_they_come m) order one) begun ∙ merge_reports d strand one)
-      (λ two lines. ap (λ m. records_settle (merge_as_they_come m) order lines) begun ∙ merge_settles d strand lines)
-      first None out fault new grown (λ t tells. tells)
+      → RunsAlone device (of_records order (merge_as_they_come merge)) first out fault new grown
+      → RunsAlone device (of_records order (merge_written order d strand)) first out fault new grown
+  merge_runs device d strand merge begun first out fault new grown runs = record {
+    written = alone_writes device device (of_records order (merge_as_they_come merge)) (of_records order (merge_written order d strand))
+        (λ one two. ap (λ m. records_report (merge_as_they_come m) order one) begun ∙ merge_reports d strand one)
+        (λ two lines. ap (λ m. records_settle (merge_as_they_come m) order lines) begun ∙ merge_settles d strand lines)
+        first None out fault new grown (λ t tells. tells) runs.written;
+    reads = runs.reads;
+    own_failure = runs.own_failure;
+  }

@@ -1,5 +1,6 @@
 -- Lemmas on lines and records that were given to a masking engine together, over two readers.
 use Rattle.std.proofs.Common.{◌≡◌, ℕ, suc, Bool, true, false, List, [], ◌∷◌, ◌++◌, length, Option, None, Some, Err, refl, sym, ap, ◌∙◌, subst, append-nil, option_to_list, arith, inl, inr}
+use Rattle.std.proofs.lemmas.List.{nil_from_length}
 use Rattle.std.specs.Prelude.{◌⊎◌, IsTrue}
 use Rattle.bt_lines.specs.declared.device.Source.{Ghosts as Source}
 use Rattle.bt_lines.specs.model.Fault.{FaultValue, no_memory, read_failed}
@@ -13,7 +14,7 @@ use Rattle.bt_lines.specs.declared.fault.Input.TheVariants.{First}
 use Rattle.bt_lines.specs.declared.fault.Kind.{Kind}
 use Rattle.bt_lines.specs.declared.reader.line_reader.LineReader.{LineReader}
 use Rattle.bt_bed.specs.model.feature.Feature.{Feature}
-use Rattle.bt_bed.specs.model.input.Good.{Format, Member}
+use Rattle.bt_bed.specs.model.input.Good.{Member}
 use Rattle.bt_bed.specs.model.feature.LineKind.{fault_at_line, is_of_line}
 use Rattle.bt_bed.specs.model.order.Locus.{Locus}
 use Rattle.bt_bed.specs.calls.Reading.{MemberReader, members_from, state_behind}
@@ -25,36 +26,20 @@ use Rattle.bt_seq.specs.calls.MaskState.{Masking}
 use Rattle.bt_seq.specs.model.Sequences.{Reached, SequenceLine, line_says, sequence_format}
 use Rattle.bt_tool.specs.inside.feed.Feeding.{member_items}
 use Rattle.bt_tool.specs.model.report.MaskReport.{is_fasta_kind}
-use Rattle.bt_tool.specs.inside.pair.MaskLoop.{MaskRun, leaves_some, line_members, nothing_reached, stage_of}
-use Rattle.bt_tool.specs.inside.pair.MaskTurns.{Ends, GoesOnAt}
-use Rattle.bt_tool.specs.inside.pair.Pair.{JoinDef, Pair, Settles, item_ahead}
-use Rattle.bt_tool.specs.inside.pair.Progress.{Follows, Stage, TakesFurther}
+use Rattle.bt_tool.specs.inside.pair.MaskLoop.{MaskBegun, MaskEnds, Masks, leaves_some, line_members, nothing_reached, stage_of}
+use Rattle.bt_tool.specs.inside.pair.Pair.{JoinDef, Pair, SettlesPair, item_ahead}
+use Rattle.bt_tool.specs.inside.pair.Progress.{Follows, PairStage, TakesFurther}
 use Rattle.bt_tool.specs.inside.pair.Endings.{AsksFor, IsKnown}
 use Rattle.bt_tool.specs.inside.feed.Passed.{HasTaken}
 use Rattle.bt_tool.proofs.lemmas.running.feed.FaultLemmas.{line_no_read}
 use Rattle.bt_tool.proofs.lemmas.running.members.LineMembers.{has_taken, known_members, passes_known, refused, refuses, refuses_read, say_count, wrong_is_text}
 use Rattle.bt_tool.proofs.lemmas.running.mask.MaskFacts.{asked_of}
 use Rattle.bt_tool.proofs.lemmas.running.mask.MaskGiven.{ahead_first, first_of, settles_given}
+use Rattle.bt_tool.proofs.lemmas.running.members.MemberLemmas.{items_from, state_more}
 use Rattle.bt_tool.proofs.lemmas.running.mask.MaskedLemmas.{asked, asks_for, come_so_far, join, pair, reached_behind}
 use Rattle.bt_tool.proofs.lemmas.running.pair.PairStops as stop
 use Rattle.bt_tool.proofs.lemmas.running.pair.PairTurns as turned
 use Rattle.bt_lines.proofs.lemmas.reader.block.ReadsLemmas.{some_is}
-
-pub items_from : {A : Type 0} (from : ℕ) (items : List A) → member_items (members_from from items) ≡ items
-items_from from [] = refl
-items_from from (x ∷ items) = ap (λ l. x ∷ l) (items_from (suc from) items)
-
-no_items : (front more : List TextLine) → front ++ more ≡ [] → front ≡ []
-no_items [] more e = refl
-no_items (x ∷ front) more e = cc
-
-none_long : {A : Type 0} (items : List A) → length items ≡ 0 → items ≡ []
-none_long [] e = refl
-none_long (x ∷ items) e = absurd (omega (arith, e))
-
-both_none : {A : Type 0} (xs ys : List A) → xs ++ ys ≡ [] → (xs ≡ []) × (ys ≡ [])
-both_none [] ys e = (refl, e)
-both_none (x ∷ xs) ys e = cc
 
 alone : {A : Type 0} (items : List A) (o : Option A) → o ≡ None → items ++ option_to_list o ≡ items
 alone items o none = ap (λ o. items ++ option_to_list o) none ∙ append-nil items
@@ -63,17 +48,12 @@ asked_more : (lines more : List SequenceLine) (records : List Feature) → (reco
 asked_more lines more records (inl none) = inl none
 asked_more lines more records (inr some) = inr (asked_of lines more records some)
 
--- what is known after some lines and others
-state_more : {A State : Type 0} (format : Format A State) (state : State) (items more : List A) → state_behind format state (items ++ more) ≡ state_behind format (state_behind format state items) more
-state_more format state [] more = refl
-state_more format state (x ∷ items) more = state_more format (format.after state x) items more
-
-module _ {A B : Type 0} (source_a : Source A) (source_b : Source B) (run : MaskRun A B) where
+module _ {A B : Type 0} (source_a : Source A) (source_b : Source B) (run : MaskBegun A B) where
   abbrev Going : Reached → LineReader A → MemberReader B Feature (Option Locus) → Masking → Output → Type 0
-  Going = GoesOnAt source_a source_b run
+  Going = Masks source_a source_b run
 
   abbrev EndsAt : Option FaultValue → LineReader A → MemberReader B Feature (Option Locus) → Output → Type 0
-  EndsAt = Ends source_a source_b run
+  EndsAt = MaskEnds source_a source_b run
 
   abbrev rule : JoinDef SequenceLine Feature
   rule = join source_a source_b run
@@ -95,14 +75,14 @@ module _ {A B : Type 0} (source_a : Source A) (source_b : Source B) (run : MaskR
 
     -- after the end of the records none was taken
     none_more : stage.bed_ended ≡ true → (taken ≡ []) × (second_now.buffered ≡ [])
-    none_more e = both_none taken second_now.buffered (sym has.takes.buffered ∙ (s.comes.second_all e).1)
+    none_more e = turned.both_none taken second_now.buffered (sym has.takes.buffered ∙ (s.comes.second_all e).1)
 
     ended_second : stage.bed_ended ≡ true → (more_second ≡ []) × (second_now.buffered ≡ [])
     ended_second e = let none = none_more e in (ap (members_from (suc (lines_given second.below))) none.0, none.1)
 
-    settled_now : IsKnown both → Settles rule stage.written s.comes.bytes (stage.taken ++ option_to_list (first_of (taken ++ second_now.buffered))) stage.bed_ended
+    settled_now : IsKnown both → SettlesPair rule stage.written s.comes.bytes (stage.taken ++ option_to_list (first_of (taken ++ second_now.buffered))) stage.bed_ended
     settled_now known =
-        subst (λ (o : Option Feature). Settles rule stage.written s.comes.bytes (stage.taken ++ option_to_list o) stage.bed_ended) (ahead_first second ∙ ap first_of has.takes.buffered) (s.comes.settles known)
+        subst (λ (o : Option Feature). SettlesPair rule stage.written s.comes.bytes (stage.taken ++ option_to_list o) stage.bed_ended) (ahead_first second ∙ ap first_of has.takes.buffered) (s.comes.settles known)
 
     takes_second : TakesFurther source_b run.records s.past_second more_second second second_now
     takes_second = turned.takes_further source_b run.records s.past_second second s.comes.second_passes taken second_now has
@@ -135,7 +115,7 @@ module _ {A B : Type 0} (source_a : Source A) (source_b : Source B) (run : MaskR
       taken_now : final.taken ≡ stage.taken ++ member_items more_second
       taken_now = goes.taken_is ∙ ap (λ l. stage.taken ++ l) (sym (items_from (suc (lines_given second.below)) taken))
 
-      pub settled : IsKnown both → Settles rule final.written (s.comes.bytes ++ bytes) (final.taken ++ option_to_list (item_ahead second_now)) stage.bed_ended
+      pub settled : IsKnown both → SettlesPair rule final.written (s.comes.bytes ++ bytes) (final.taken ++ option_to_list (item_ahead second_now)) stage.bed_ended
       settled known =
           rw (goes.written_is, goes.taken_is, ahead_first second_now)
           (settles_given run.how run.full stage.written s.comes.bytes bytes stage final texts taken second_now.buffered (settled_now known) goes none_more (λ r e. sym (ahead_first second_now) ∙ kept r e))
@@ -156,8 +136,8 @@ module _ {A B : Type 0} (source_a : Source A) (source_b : Source B) (run : MaskR
 
         ended_first : stage.lines_ended ≡ true → (more_first ≡ []) × (first_now.buffered ≡ [])
         ended_first e =
-            let none : texts ≡ [] = no_items texts more (sym parts ∙ over (s.lines_over e)) in
-            (ap (members_from (suc (lines_given lines))) (none_long items (omega (arith, say_count run.full at texts items say_here, ap length none))), refl)
+            let none : texts ≡ [] = (turned.both_none texts more (sym parts ∙ over (s.lines_over e))).0 in
+            (ap (members_from (suc (lines_given lines))) (nil_from_length items (omega (arith, say_count run.full at texts items say_here, ap length none))), refl)
 
         -- the engine is at the final stage
         pub come_on : (masked : Masking) (now : Output) → MaskMovesTo run.how run.full final masked → Grown grown bytes now → (going : Going (state_behind (sequence_format run.full) at items) new second_now masked now) × (going.stage ≡ final)
@@ -171,7 +151,7 @@ module _ {A B : Type 0} (source_a : Source A) (source_b : Source B) (run : MaskR
             full_is = stands.full_is;
             comes = turned.goes_on rule both run.out (stage_of stage) s.past_first s.past_second (line_members run.full at lines) second grown s.comes more_first more_second first_now second_now takes_first takes_second ended_first ended_second goes.newly (stage_of final)
                 (record { given_is = given_now; written_is = goes.written_is; taken_is = taken_now; first_is = goes.lines_ended_is; second_is = goes.bed_ended_is })
-                bytes now (λ known. subst (λ (b : Bool). Settles rule final.written (s.comes.bytes ++ bytes) (final.taken ++ option_to_list (item_ahead second_now)) b) (sym goes.bed_ended_is) (settled known)) puts;
+                bytes now (λ known. subst (λ (b : Bool). SettlesPair rule final.written (s.comes.bytes ++ bytes) (final.taken ++ option_to_list (item_ahead second_now)) b) (sym goes.bed_ended_is) (settled known)) puts;
             kept_ahead = kept;
             lines_over = λ e. takes.ended_is ∙ s.lines_over (sym goes.lines_ended_is ∙ e);
           },
@@ -189,8 +169,8 @@ module _ {A B : Type 0} (source_a : Source A) (source_b : Source B) (run : MaskR
         )
 
         -- memory ran out after others were written
-        pub lacks_room : (mid : Stage SequenceLine Feature) (newly : List SequenceLine) → Follows (stage_of stage) (member_items more_first) newly (member_items more_second) mid → (put : List ℕ) (now : Output)
-            → (IsKnown both → Settles rule mid.written (s.comes.bytes ++ put) (mid.taken ++ option_to_list (item_ahead second_now)) mid.second_ended) → Grown grown put now → (fault : FaultValue) → fault ≡ no_memory
+        pub lacks_room : (mid : PairStage SequenceLine Feature) (newly : List SequenceLine) → Follows (stage_of stage) (member_items more_first) newly (member_items more_second) mid → (put : List ℕ) (now : Output)
+            → (IsKnown both → SettlesPair rule mid.written (s.comes.bytes ++ put) (mid.taken ++ option_to_list (item_ahead second_now)) mid.second_ended) → Grown grown put now → (fault : FaultValue) → fault ≡ no_memory
             → EndsAt (Some fault) new second_now now
         lacks_room mid newly follows put now settles adds fault is = (
           first_now,

@@ -1,5 +1,6 @@
 -- Lemmas on a round of masking in which lines and records were given together.
 use Rattle.std.proofs.Common.{◌≡◌, ℕ, zero, suc, ◌-◌, drop, length-take, ◌+◌, ◌≤◌, ◌<◌, Bool, true, false, List, [], ◌∷◌, ◌++◌, length, take, Option, None, Some, Result, Ok, Err, refl, sym, ap, ◌∙◌, subst, append-nil, append_assoc, option_to_list, arith, inl, inr}
+use Rattle.std.proofs.lemmas.List.{append_cancel_left, nil_from_length}
 use Rattle.std.specs.Prelude.{◌⊎◌, OnOk, is_some, nat_eq, option_map}
 use Rattle.std.proofs.lemmas.Bool.{false≢true}
 use Rattle.bt_lines.specs.declared.device.Source.{Ghosts as Source}
@@ -35,20 +36,17 @@ use Rattle.bt_seq.specs.model.Sequences.{Reached, SequenceLine, sequence_format}
 use Rattle.bt_seq.specs.declared.mask.mask_how.MaskHow.{MaskHow}
 use Rattle.bt_seq.specs.declared.mask.mask_want.MaskWant.{MaskWant}
 use Rattle.bt_seq.specs.declared.mask.mask_want.MaskWant.TheVariants.{Line as WantLine, Bed as WantBed, Nothing}
-use Rattle.bt_tool.specs.inside.pair.MaskLoop.{MaskRun, mask_join}
-use Rattle.bt_tool.specs.inside.pair.MaskTurns.{Ends, Gives, GoesOnAt, IsThere, asks, left_to_ask}
-use Rattle.bt_tool.specs.inside.pair.Pair.{Settles, item_ahead}
-use Rattle.bt_tool.specs.inside.pair.Progress.{Stage}
+use Rattle.bt_tool.specs.inside.pair.MaskLoop.{AdvancesMask, IsMaskReady, MaskBegun, MaskEnds, Masks, mask_join, mask_left, mask_rounds}
+use Rattle.bt_tool.specs.inside.pair.Pair.{SettlesPair, item_ahead}
+use Rattle.bt_tool.specs.inside.pair.Progress.{PairStage}
 use Rattle.bt_tool.specs.inside.feed.Passed.{HasTaken}
-use Rattle.bt_tool.proofs.lemmas.running.mask.MaskAdvanced.{come_on, fails_write, items_from, lacks_room, refuses_line, settled}
+use Rattle.bt_tool.proofs.lemmas.running.members.MemberLemmas.{items_from}
+use Rattle.bt_tool.proofs.lemmas.running.mask.MaskAdvanced.{come_on, fails_write, lacks_room, refuses_line, settled}
+use Rattle.bt_tool.proofs.lemmas.running.pair.PairTurns.{none_new}
 use Rattle.bt_tool.proofs.lemmas.running.mask.MaskGiven.{ahead_first, first_of}
 use Rattle.bt_tool.proofs.lemmas.running.mask.MaskedLemmas.{fails_record}
 
 -- ---- the record ahead
-
-cancel : {A : Type 0} (front a b : List A) → front ++ a ≡ front ++ b → a ≡ b
-cancel [] a b e = e
-cancel (x ∷ front) a b e = cancel front a b (let rest : front ++ a ≡ front ++ b = cc in rest)
 
 module _ {S State : Type 0} (second second_now : MemberReader S Feature State) (first last : Batch) (lent : left first ≡ second.buffered) where
   -- the next record that a batch gives is the one ahead
@@ -64,7 +62,7 @@ module _ {S State : Type 0} (second second_now : MemberReader S Feature State) (
   kept_after was kept taken split ahead comes r e = elim (comes r e) [
     | inl same ↦ ahead_first second_now ∙ ap first_of (sym (split ∙ ap (λ (l : List Feature). l ++ second_now.buffered) same.1)) ∙ sym (ahead_first second) ∙ kept r same.0
     | inr there ↦
-        let rest : second_now.buffered ≡ left there.0 = cancel taken second_now.buffered (left there.0) (sym split ∙ sym lent ∙ there.2.left_is) in
+        let rest : second_now.buffered ≡ left there.0 = append_cancel_left taken second_now.buffered (left there.0) (sym split ∙ sym lent ∙ there.2.left_is) in
         ahead_first second_now ∙ ap first_of (rest ∙ there.3.left_is)
   ]
 
@@ -77,36 +75,31 @@ some_kept (Some line) = refl
 pub waits_is : {stage : MaskStage} {mask : Masking} → MaskStandsAt stage mask → is_some mask.waiting ≡ is_some stage.waiting
 waits_is {stage} {mask} stands = ap is_some stands.waiting_is ∙ some_kept stage.waiting
 
-pub asks_most : (waits : Bool) (want : MaskWant) → asks waits want ≤ 3
-asks_most waits WantLine = omega arith
-asks_most true WantBed = omega arith
-asks_most false WantBed = omega arith
-asks_most waits Nothing = omega arith
+pub rounds_most : (waits : Bool) (want : MaskWant) → mask_rounds waits want ≤ 3
+rounds_most waits WantLine = omega arith
+rounds_most true WantBed = omega arith
+rounds_most false WantBed = omega arith
+rounds_most waits Nothing = omega arith
 
-pub asks_few : (waits : Bool) (want : MaskWant) → waits ≡ false → asks waits want ≤ 2
-asks_few waits WantLine e = omega arith
-asks_few true WantBed e = absurd (false≢true (sym e))
-asks_few false WantBed e = omega arith
-asks_few waits Nothing e = omega arith
+pub rounds_few : (waits : Bool) (want : MaskWant) → waits ≡ false → mask_rounds waits want ≤ 2
+rounds_few waits WantLine e = omega arith
+rounds_few true WantBed e = absurd (false≢true (sym e))
+rounds_few false WantBed e = omega arith
+rounds_few waits Nothing e = omega arith
 
 -- if nothing was given, a line that waited was written, or the same is wanted
-none_front : (newly : List SequenceLine) (o : Option SequenceLine) → newly ++ option_to_list o ≡ [] → o ≡ None
-none_front [] None e = refl
-none_front [] (Some x) e = cc
-none_front (y ∷ newly) o e = cc
-
 no_more_by : (o final : Option SequenceLine) (newly written : List SequenceLine) → o ≡ None → (written ++ newly) ++ option_to_list final ≡ written ++ option_to_list o → final ≡ None
 no_more_by o final newly written none e =
-    none_front newly final (cancel written (newly ++ option_to_list final) [] (sym (append_assoc written newly (option_to_list final)) ∙ e ∙ ap (λ (o : Option SequenceLine). written ++ option_to_list o) none))
+    (none_new newly final (append_cancel_left written (newly ++ option_to_list final) [] (sym (append_assoc written newly (option_to_list final)) ∙ e ∙ ap (λ (o : Option SequenceLine). written ++ option_to_list o) none))).1
 
 stays_by : (o final : Option SequenceLine) (l b : Bool) (old_want new_want : MaskWant) (old_waits new_waits : Bool) → old_want ≡ want_of (is_some o) l b → new_want ≡ want_of (is_some final) l b → old_waits ≡ is_some o → new_waits ≡ is_some final → (o ≡ None → final ≡ None)
-    → (asks new_waits new_want < asks old_waits old_want) ⊎ ((new_want ≡ old_want) × (new_waits ≡ old_waits))
+    → (mask_rounds new_waits new_want < mask_rounds old_waits old_want) ⊎ ((new_want ≡ old_want) × (new_waits ≡ old_waits))
 stays_by None final l b old_want new_want old_waits new_waits w v x y none =
     let same : is_some final ≡ false = ap is_some (none refl) in
     inr (v ∙ ap (λ s. want_of s l b) same ∙ sym w, y ∙ same ∙ sym x)
 stays_by (Some a) None l b old_want new_want old_waits new_waits w v x y none =
-    let most : asks old_waits old_want ≡ 3 = ap (λ s. asks s old_want) x ∙ ap (asks true) w in
-    let few = asks_few new_waits new_want y in
+    let most : mask_rounds old_waits old_want ≡ 3 = ap (λ s. mask_rounds s old_want) x ∙ ap (mask_rounds true) w in
+    let few = rounds_few new_waits new_want y in
     inl (omega (arith, most, few))
 stays_by (Some a) (Some c) l b old_want new_want old_waits new_waits w v x y none = inr (v ∙ sym w, y ∙ sym x)
 
@@ -131,18 +124,14 @@ some_buffered reader first begins none some =
     subst (λ (b : Bool). IsLast b b (buffered_bytes reader) []) begins.open_is (subst (λ (l : List ℕ). IsLast first.is_open first.is_open l []) whole first.last) in
     absurd (omega (arith, some, no_bytes (is_open reader) (lines_given reader) (buffered_bytes reader) fed last none))
 
-no_length : {A : Type 0} (items : List A) → length items ≡ 0 → items ≡ []
-no_length [] e = refl
-no_length (x ∷ items) e = absurd (omega (arith, e))
-
-module _ {A B : Type 0} (source_a : Source A) (source_b : Source B) (run : MaskRun A B) (at : Reached) (lines : LineReader A)
-    (second : MemberReader B Feature (Option Locus)) (mask : Masking) (out : Output) (s : GoesOnAt source_a source_b run at lines second mask out)
+module _ {A B : Type 0} (source_a : Source A) (source_b : Source B) (run : MaskBegun A B) (at : Reached) (lines : LineReader A)
+    (second : MemberReader B Feature (Option Locus)) (mask : Masking) (out : Output) (s : Masks source_a source_b run at lines second mask out)
     (first_lines last_lines : BufferedLines) (begins : BeginsLines (buffered_bytes lines) (lines_given lines) (is_open lines) first_lines) (texts : List TextLine) (parts : buffered_in lines ≡ texts ++ lines_in last_lines)
     (numbered : AreNumbered (suc (lines_given lines)) texts) (first_beds last_beds : Batch) (lent : left first_beds ≡ second.buffered) (lent_at : (cursor_in first_beds).lines ≡ lines_given second.below)
     (taken : List Feature) (gave : Passes first_beds taken last_beds) (new : LineReader A) (over : has_ended lines ≡ true → buffered_in lines ≡ []) (consumed : ConsumedLines) (are : TakenLines lines consumed (length texts)) (takes : TakesLines source_a lines consumed new)
     (second_now : MemberReader B Feature (Option Locus)) (has : HasTaken source_b second taken second_now) where
   abbrev EndsAt : Option FaultValue → Output → Type 0
-  EndsAt fault grown = Ends source_a source_b run fault new second_now grown
+  EndsAt fault grown = MaskEnds source_a source_b run fault new second_now grown
 
   -- the record ahead is the next one that is given
   comes_next : ComesNext Passes line_in HasEnded s.stage.ahead first_beds
@@ -152,7 +141,7 @@ module _ {A B : Type 0} (source_a : Source A) (source_b : Source B) (run : MaskR
   kept_then ahead comes = kept_after second second_now first_beds last_beds lent s.stage.ahead s.kept_ahead taken has.takes.buffered ahead comes
 
   left_then : left last_beds ≡ second_now.buffered
-  left_then = cancel taken (left last_beds) second_now.buffered (sym gave.left_is ∙ lent ∙ has.takes.buffered)
+  left_then = append_cancel_left taken (left last_beds) second_now.buffered (sym gave.left_is ∙ lent ∙ has.takes.buffered)
 
   -- after what was given, something else is wanted
   module _ (masked : Masking) (now : Output) (comes : HasCome run.how run.full s.stage texts taken out masked now) (stops : StopsAt Passes line_in HasEnded masked.want last_lines last_beds) where
@@ -172,39 +161,40 @@ module _ {A B : Type 0} (source_a : Source A) (source_b : Source B) (run : MaskR
         no_items [] items e say = say
         no_items (x ∷ xs) items e say = cc
 
-    stays : texts ≡ [] → (asks (is_some masked.waiting) masked.want < asks (is_some mask.waiting) mask.want) ⊎ ((masked.want ≡ mask.want) × (is_some masked.waiting ≡ is_some mask.waiting))
+    stays : texts ≡ [] → (mask_rounds (is_some masked.waiting) masked.want < mask_rounds (is_some mask.waiting) mask.want)
+        ⊎ ((masked.want ≡ mask.want) × (is_some masked.waiting ≡ is_some mask.waiting))
     stays none =
         stays_by s.stage.waiting final.waiting s.stage.lines_ended s.stage.bed_ended mask.want masked.want (is_some mask.waiting) (is_some masked.waiting) s.stands.want_is
         (comes.stands.stands.want_is ∙ ap (λ (l : Bool). want_of (is_some final.waiting) l final.bed_ended) comes.goes_on.lines_ended_is ∙ ap (λ (b : Bool). want_of (is_some final.waiting) s.stage.lines_ended b) comes.goes_on.bed_ended_is)
         (waits_is s.stands) (waits_is comes.stands.stands) (same_by none)
 
-    stuck_by : (want : MaskWant) → texts ≡ [] → taken ≡ [] → StopsAt Passes line_in HasEnded want last_lines last_beds → IsThere want lines second → ⊥
+    stuck_by : (want : MaskWant) → texts ≡ [] → taken ≡ [] → StopsAt Passes line_in HasEnded want last_lines last_beds → IsMaskReady lines second want → ⊥
     stuck_by WantLine none unread stops there = some_buffered lines first_lines begins (parts ∙ ap (λ (l : List TextLine). l ++ lines_in last_lines) none ∙ stops) there
     stuck_by WantBed none unread stops there =
         let gone : second.buffered ≡ [] = has.takes.buffered ∙ ap (λ (l : List Feature). l ++ second_now.buffered) unread ∙ sym left_then ∙ stops.none in
         absurd (omega (arith, there, ap length gone))
     stuck_by Nothing none unread stops there = there
 
-    stuck : texts ≡ [] → taken ≡ [] → masked.want ≡ mask.want → IsThere mask.want lines second → ⊥
+    stuck : texts ≡ [] → taken ≡ [] → masked.want ≡ mask.want → IsMaskReady lines second mask.want → ⊥
     stuck none unread same there = stuck_by mask.want none unread (subst (λ (w : MaskWant). StopsAt Passes line_in HasEnded w last_lines last_beds) same stops) there
 
-    few_by : (n : ℕ) → length texts + length taken ≡ n → (left_to_ask new second_now masked ≤ left_to_ask lines second mask) × (IsThere mask.want lines second → left_to_ask new second_now masked < left_to_ask lines second mask)
+    few_by : (n : ℕ) → length texts + length taken ≡ n → (mask_left new second_now masked ≤ mask_left lines second mask) × (IsMaskReady lines second mask.want → mask_left new second_now masked < mask_left lines second mask)
     few_by zero e =
-        let none : texts ≡ [] = no_length texts (omega (arith, e)) in
-        let unread : taken ≡ [] = no_length taken (omega (arith, e)) in
+        let none : texts ≡ [] = nil_from_length texts (omega (arith, e)) in
+        let unread : taken ≡ [] = nil_from_length taken (omega (arith, e)) in
         elim (stays none) [
           | inl less ↦ (omega (arith, less_room, has.takes.shrinks, less), λ there. omega (arith, less_room, has.takes.shrinks, less))
           | inr same ↦ (
-            omega (arith, less_room, has.takes.shrinks, ap (λ w. asks (is_some masked.waiting) w) same.0, ap (λ b. asks b mask.want) same.1),
+            omega (arith, less_room, has.takes.shrinks, ap (λ w. mask_rounds (is_some masked.waiting) w) same.0, ap (λ b. mask_rounds b mask.want) same.1),
             λ there. absurd (stuck none unread same.0 there),
           )
         ]
     few_by (suc n) e =
-        let most = asks_most (is_some masked.waiting) masked.want in
-        let less : left_to_ask new second_now masked < left_to_ask lines second mask = omega (arith, less_room, has.takes.shrinks, most, e) in
+        let most = rounds_most (is_some masked.waiting) masked.want in
+        let less : mask_left new second_now masked < mask_left lines second mask = omega (arith, less_room, has.takes.shrinks, most, e) in
         (omega (arith, less), λ there. less)
 
-    gave_both : ComesAfter Passes line_in HasEnded s.stage.ahead first_beds taken final.ahead → {T : Type 0} (done : T) → Gives source_a source_b run lines second mask (Ok done) new second_now masked now
+    gave_both : ComesAfter Passes line_in HasEnded s.stage.ahead first_beds taken final.ahead → {T : Type 0} (done : T) → AdvancesMask source_a source_b run lines second mask (Ok done) new second_now masked now
     gave_both after done =
         let few = few_by (length texts + length taken) refl in (
           (
@@ -269,7 +259,7 @@ module _ {A B : Type 0} (source_a : Source A) (source_b : Source B) (run : MaskR
           same_ahead = ahead_same (is_written_at_once comes.stage fails.item) refl
 
           -- it waits if memory ran out
-          abbrev mid : Stage SequenceLine Feature
+          abbrev mid : PairStage SequenceLine Feature
           mid = record {
             written = comes.stage.written;
             waiting = Some fails.item;
@@ -300,7 +290,7 @@ module _ {A B : Type 0} (source_a : Source A) (source_b : Source B) (run : MaskR
                 second_is = comes.goes_on.bed_ended_is;
               })
               comes.bytes behind.through
-              (λ known. subst (λ (b : Bool). Settles (mask_join run.how) comes.stage.written (s.comes.bytes ++ comes.bytes) (comes.stage.taken ++ option_to_list (item_ahead second_now)) b) (sym comes.goes_on.bed_ended_is)
+              (λ known. subst (λ (b : Bool). SettlesPair (mask_join run.how) comes.stage.written (s.comes.bytes ++ comes.bytes) (comes.stage.taken ++ option_to_list (item_ahead second_now)) b) (sym comes.goes_on.bed_ended_is)
               (settled source_a source_b run at lines second mask out s new over consumed takes taken second_now has behind.before comes.stage comes.bytes comes.goes_on kept known)) comes.puts fault is
 
           fails_one : EndsAt (Some fault) now
@@ -351,6 +341,6 @@ module _ {A B : Type 0} (source_a : Source A) (source_b : Source B) (run : MaskR
 
   -- what the result says
   pub gives_both : {T : Type 0} (answer : Result T Fault) (masked : Masking) (now : Output) → (ComesNext Passes line_in HasEnded s.stage.ahead first_beds → BothCome Passes line_in HasEnded mask.how mask.full s.stage texts taken out first_beds answer masked last_beds now)
-      → OnOk answer (StopsAt Passes line_in HasEnded masked.want last_lines last_beds) → Gives source_a source_b run lines second mask answer new second_now masked now
+      → OnOk answer (StopsAt Passes line_in HasEnded masked.want last_lines last_beds) → AdvancesMask source_a source_b run lines second mask answer new second_now masked now
   gives_both (Ok done) masked now come stops = let both = as_run (Ok done) masked now (come comes_next) in gave_both masked now both.0 stops both.2 done
   gives_both {T} (Err fault) masked now come stops = let both = as_run {T = T} (Err fault) masked now (come comes_next) in failed_both (fault_value fault) now both.1

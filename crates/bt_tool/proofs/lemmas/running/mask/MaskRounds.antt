@@ -20,13 +20,12 @@ use Rattle.bt_seq.specs.model.Sequences.{SequenceLine}
 use Rattle.bt_seq.specs.declared.mask.mask_want.MaskWant.{MaskWant}
 use Rattle.bt_seq.specs.declared.mask.mask_want.MaskWant.TheVariants.{Line, Bed, Nothing}
 use Rattle.bt_sweep.specs.declared.sweep.want.Want.TheVariants.{A as WantA, B as WantB, Nothing as WantNothing}
-use Rattle.bt_tool.specs.declared.loops.masking.MaskInputs.{MaskInputs}
+use Rattle.bt_tool.specs.declared.loops.masking.MaskRun.{MaskRun}
 use Rattle.bt_tool.specs.calls.run.OwnReads.{TellsNoRead}
 use Rattle.bt_tool.specs.inside.feed.Passed.{IsOwnFault, KeepsOwnFault}
-use Rattle.bt_tool.specs.inside.pair.MaskLoop.{MaskRun}
-use Rattle.bt_tool.specs.inside.pair.MaskRun.{MaskComes, MaskIsOver, is_mask_ready, left_to_mask, run_from, wanted_by}
-use Rattle.bt_tool.specs.inside.pair.MaskTurns.{Ends, Gives, GoesOn}
-use Rattle.bt_tool.specs.inside.pair.Rounds.{IsFilled, IsGiven, LeadsTo}
+use Rattle.bt_tool.specs.inside.pair.MaskLoop.{AdvancesMask, GoesOn, MaskBegun, MaskEnds, wanted_by}
+use Rattle.bt_tool.specs.inside.pair.MaskRun.{MaskComes, MaskIsOver, is_mask_ready, left_to_mask, run_from}
+use Rattle.bt_tool.specs.inside.pair.Rounds.{IsLessOrReady, IsLessIfReady, LeadsTo}
 use Rattle.bt_tool.proofs.lemmas.running.members.BlockMembers.{block_filled, block_over, block_stopped}
 use Rattle.bt_tool.proofs.lemmas.running.mask.MaskFills.{line_filled, lines_ended, record_filled, records_ended, records_unended}
 use Rattle.bt_tool.proofs.lemmas.running.mask.MaskedLemmas.{finishes, stops_lines, stops_records}
@@ -47,8 +46,8 @@ is_nothing Line e = absurd (let apart : WantA ≡ WantNothing = e in cc)
 is_nothing Bed e = absurd (let apart : WantB ≡ WantNothing = e in cc)
 is_nothing Nothing e = refl
 
-module _ {A B : Type 0} (source_a : Source A) (source_b : Source B) (start : MaskInputs A B) (out : Output) (old : MaskInputs A B) (grown : Output) (s : MaskComes source_a source_b start out old grown) where
-  abbrev run : MaskRun A B
+module _ {A B : Type 0} (source_a : Source A) (source_b : Source B) (start : MaskRun A B) (out : Output) (old : MaskRun A B) (grown : Output) (s : MaskComes source_a source_b start out old grown) where
+  abbrev run : MaskBegun A B
   run = run_from start out s.first s.blocks
 
   pub none_first : line_fault old.lines ≡ None
@@ -70,7 +69,7 @@ module _ {A B : Type 0} (source_a : Source A) (source_b : Source B) (start : Mas
   own_second = none_kept source_b.is_read (below old.records) (view_of old.records).fault (below old.records) none_second
 
   -- it has come to these
-  abbrev pub came : (new : MaskInputs A B) (later : Output) → GoesOn source_a source_b run new.lines (view_of new.records) new.mask later → HasRead source_a.is_read old.lines new.lines
+  abbrev pub came : (new : MaskRun A B) (later : Output) → GoesOn source_a source_b run new.lines (view_of new.records) new.mask later → HasRead source_a.is_read old.lines new.lines
       → HasRead source_b.is_read (below old.records) (below new.records) → MaskComes source_a source_b start out new later
   came new later goes read read_second = record {
     first = s.first;
@@ -83,7 +82,7 @@ module _ {A B : Type 0} (source_a : Source A) (source_b : Source B) (start : Mas
   }
 
   -- it has ended with these
-  abbrev pub ended : (fault : Option FaultValue) (new : MaskInputs A B) (later : Output) → Ends source_a source_b run fault new.lines (view_of new.records) later
+  abbrev pub ended : (fault : Option FaultValue) (new : MaskRun A B) (later : Output) → MaskEnds source_a source_b run fault new.lines (view_of new.records) later
       → (TellsNoRead fault → HasRead source_a.is_read old.lines new.lines × HasRead source_b.is_read (below old.records) (below new.records))
       → IsOwnFault source_a.is_read old.lines (line_fault new.lines) new.lines → KeepsOwnFault source_b.is_read (below old.records) (view_of new.records) → MaskIsOver source_a source_b start out fault new later
   ended fault new later ends read own own_now = (
@@ -100,16 +99,16 @@ module _ {A B : Type 0} (source_a : Source A) (source_b : Source B) (start : Mas
     },
   )
 
-  abbrev Filled : MaskInputs A B → Type 0
-  Filled = IsFilled is_mask_ready left_to_mask old
+  abbrev Filled : MaskRun A B → Type 0
+  Filled = IsLessOrReady is_mask_ready left_to_mask old
 
-  abbrev Leads : {T : Type 0} → (MaskInputs A B → Type 0) → Result T Fault → MaskInputs A B → Output → Type 0
+  abbrev Leads : {T : Type 0} → (MaskRun A B → Type 0) → Result T Fault → MaskRun A B → Output → Type 0
   Leads = LeadsTo (MaskComes source_a source_b) (MaskIsOver source_a source_b) start out
 
   -- ---- the lines are read on
 
   module _ (wants : wanted_by old.mask.want ≡ WantA) (lines_now : LineReader A) where
-    abbrev with_lines : MaskInputs A B
+    abbrev with_lines : MaskRun A B
     with_lines = record old { lines = lines_now }
 
     pub lines_filled : FillsLines source_a old.lines (Ok true) lines_now → HasRead source_a.is_read old.lines lines_now → MaskComes source_a source_b start out with_lines grown × Filled with_lines
@@ -135,7 +134,7 @@ module _ {A B : Type 0} (source_a : Source A) (source_b : Source B) (start : Mas
   -- ---- the records are
 
   module _ (wants : wanted_by old.mask.want ≡ WantB) (records_now : Blocks B) where
-    abbrev with_records : MaskInputs A B
+    abbrev with_records : MaskRun A B
     with_records = record old { records = records_now }
 
     pub records_filled : FillsBlocks source_b old.records (Ok true) records_now → MaskComes source_a source_b start out with_records grown × Filled with_records
@@ -152,7 +151,7 @@ module _ {A B : Type 0} (source_a : Source A) (source_b : Source B) (start : Mas
         own_first (told_kept source_b.is_read (fault_kept old.records) (view_of records_now).fault (below old.records) (below records_now) fault fills.answers.kept none_second fills.own_failure))
 
     module _ (fills : FillsBlocks source_b old.records (Ok false) records_now) (masked : Masking) (later : Output) where
-      abbrev with_end : MaskInputs A B
+      abbrev with_end : MaskRun A B
       with_end = record old { records = records_now; mask = masked }
 
       pub records_over : {T : Type 0} (answer : Result T Fault) → ((stage : MaskStage) (waiting : SequenceLine) → MaskStandsAt stage old.mask → stage.waiting ≡ Some waiting → EndsRecords old.mask.how old.mask.full stage waiting grown answer masked later)
@@ -170,9 +169,9 @@ module _ {A B : Type 0} (source_a : Source A) (source_b : Source B) (start : Mas
 
   -- ---- what both have buffered was given
 
-  module _ (new : MaskInputs A B) (later : Output) (read : HasRead source_a.is_read old.lines new.lines) (read_second : HasRead source_b.is_read (below old.records) (below new.records))
+  module _ (new : MaskRun A B) (later : Output) (read : HasRead source_a.is_read old.lines new.lines) (read_second : HasRead source_b.is_read (below old.records) (below new.records))
       (keeps : line_fault new.lines ≡ line_fault old.lines) (keeps_second : fault_kept new.records ≡ fault_kept old.records) where
-    gave_by : {T : Type 0} (answer : Result T Fault) → Gives source_a source_b run old.lines (view_of old.records) old.mask answer new.lines (view_of new.records) new.mask later → Leads (IsGiven is_mask_ready left_to_mask old) answer new later
+    gave_by : {T : Type 0} (answer : Result T Fault) → AdvancesMask source_a source_b run old.lines (view_of old.records) old.mask answer new.lines (view_of new.records) new.mask later → Leads (IsLessIfReady is_mask_ready left_to_mask old) answer new later
     gave_by (Ok done) gives = (came new later gives.0 read read_second, (gives.1, gives.2))
     gave_by (Err fault) ends =
         ended (Some (fault_value fault)) new later ends (λ never. (read, read_second))
@@ -180,8 +179,8 @@ module _ {A B : Type 0} (source_a : Source A) (source_b : Source B) (start : Mas
         (none_kept source_b.is_read (below old.records) (view_of new.records).fault (below new.records) (keeps_second ∙ none_second))
 
     pub gave_both : {T : Type 0} (answer : Result T Fault)
-        → ((run : MaskRun A B) → GoesOn source_a source_b run old.lines (view_of old.records) old.mask grown → Gives source_a source_b run old.lines (view_of old.records) old.mask answer new.lines (view_of new.records) new.mask later)
-        → Leads (IsGiven is_mask_ready left_to_mask old) answer new later
+        → ((run : MaskBegun A B) → GoesOn source_a source_b run old.lines (view_of old.records) old.mask grown → AdvancesMask source_a source_b run old.lines (view_of old.records) old.mask answer new.lines (view_of new.records) new.mask later)
+        → Leads (IsLessIfReady is_mask_ready left_to_mask old) answer new later
     gave_both answer gives = gave_by answer (gives run s.goes)
 
   -- both inputs have ended

@@ -8,7 +8,7 @@ use Rattle.bt_lines.specs.model.Fault.{FaultValue}
 use Rattle.bt_lines.specs.model.Lines.{TextLine}
 use Rattle.bt_lines.specs.calls.Output.{Output}
 use Rattle.bt_lines.specs.calls.Putting.{FailsToAdd, Grown}
-use Rattle.bt_lines.specs.calls.Reader.{GivesEnd, GivesFault, IsKept, MakesLine, lines_given}
+use Rattle.bt_lines.specs.calls.Reader.{GivesEnd, GivesFault, IsKept, MakesLine, has_ended, lines_given}
 use Rattle.bt_lines.specs.declared.fault.Input.TheVariants.{Second}
 use Rattle.bt_lines.specs.declared.fault.Kind.{Kind}
 use Rattle.bt_lines.specs.declared.fault.Kind.TheVariants.{NoSequence}
@@ -31,17 +31,16 @@ use Rattle.bt_seq.specs.model.Owners.{left_after}
 use Rattle.bt_seq.specs.model.Sequences.{Reached, SequenceLine, line_says, sequence_format}
 use Rattle.bt_seq.specs.declared.mask.mask_how.MaskHow.{MaskHow}
 use Rattle.bt_seq.specs.declared.mask.mask_want.MaskWant.TheVariants.{Line as WantLine, Bed as WantBed, Nothing}
-use Rattle.bt_tool.specs.inside.feed.Feeding.{ComeFirst, member_items}
+use Rattle.bt_tool.specs.inside.feed.Feeding.{member_items}
 use Rattle.bt_tool.specs.model.report.MaskReport.{is_fasta_kind, is_mask_kind}
-use Rattle.bt_tool.specs.inside.pair.MaskLoop.{AreOwned, MaskRun, leaves_some, line_members, mask_join, mask_pair, nothing_reached, stage_of}
-use Rattle.bt_tool.specs.inside.pair.MaskTurns.{Ends, GoesOnAt}
-use Rattle.bt_tool.specs.inside.pair.Pair.{JoinDef, Pair, Settles, item_ahead}
+use Rattle.bt_tool.specs.inside.pair.MaskLoop.{AreOwned, MaskBegun, MaskEnds, Masks, begun_pair, leaves_some, line_members, mask_join, nothing_reached, stage_of}
+use Rattle.bt_tool.specs.inside.pair.Pair.{JoinDef, Pair, SettlesPair, item_ahead}
 use Rattle.bt_tool.specs.inside.pair.Endings.{AsksFor, IsKnown}
+use Rattle.bt_tool.specs.inside.pair.Progress.{Comes}
 use Rattle.bt_tool.specs.inside.feed.Passed.{IsFilled, IsOver, IsStopped}
 use Rattle.bt_tool.proofs.lemmas.running.members.LineMembers.{gives_over, gives_unread, passes_made, wrong_is_text}
 use Rattle.bt_tool.proofs.lemmas.running.mask.MaskGiven.{ahead_first, first_of}
 use Rattle.bt_tool.proofs.lemmas.running.mask.MaskKinds.{says_of_blocks}
-use Rattle.bt_tool.proofs.lemmas.running.members.MemberLemmas.{read_here}
 use Rattle.bt_tool.proofs.lemmas.running.pair.PairSettles.{settles_with}
 use Rattle.bt_tool.proofs.lemmas.running.pair.PairStops as stop
 use Rattle.bt_tool.proofs.lemmas.running.pair.PairTurns as turned
@@ -126,18 +125,18 @@ kept_filled {S} {State} device now new r was filled = ap (λ (x : MemberReader S
 none_ahead : {S State : Type 0} (now : MemberReader S Feature State) (r : Feature) → now.buffered ≡ [] → item_ahead now ≡ Some r → ⊥
 none_ahead now r none was = let apart : None ≡ Some r = sym (ahead_first now ∙ ap first_of none) ∙ was in cc
 
-module _ {A B : Type 0} (source_a : Source A) (source_b : Source B) (run : MaskRun A B) where
+module _ {A B : Type 0} (source_a : Source A) (source_b : Source B) (run : MaskBegun A B) where
   abbrev pub join : JoinDef SequenceLine Feature
   join = mask_join run.how
 
   abbrev pub pair : Pair A B SequenceLine Feature Reached (Option Locus)
-  pair = mask_pair source_a source_b run.how run.full (line_members run.full nothing_reached run.lines) run.records
+  pair = begun_pair source_a source_b run
 
   abbrev Going : Reached → LineReader A → MemberReader B Feature (Option Locus) → Masking → Output → Type 0
-  Going = GoesOnAt source_a source_b run
+  Going = Masks source_a source_b run
 
   abbrev EndsAt : Option FaultValue → LineReader A → MemberReader B Feature (Option Locus) → Output → Type 0
-  EndsAt = Ends source_a source_b run
+  EndsAt = MaskEnds source_a source_b run
 
   wrong_first : (state : Reached) (line : TextLine) (kind : Kind) → line_says run.full state line ≡ Err kind → is_fasta_kind kind ≡ true
   wrong_first state line kind e = subst (λ (k : Kind). is_fasta_kind k ≡ true) (sym (wrong_is_text run.full state line kind e)) refl
@@ -162,6 +161,25 @@ module _ {A B : Type 0} (source_a : Source A) (source_b : Source B) (run : MaskR
 
     pub asks_for : stage.lines_ended ≡ false → AsksFor join pair run.out s.past_first second
     asks_for going = stop.asks_now join pair run.out (stage_of stage) s.past_first s.past_second first second grown s.comes (asked going)
+
+    as_it_is : MaskMovesTo mask.how mask.full stage mask
+    as_it_is = record { stands = s.stands; how_is = refl; full_is = refl }
+
+    -- no more was given, and the engine is at another stage
+    goes_on : (at : Reached) (new : LineReader A) (second_now : MemberReader B Feature (Option Locus)) (masked : Masking) (now : Output) (next : MaskStage) → MaskMovesTo mask.how mask.full next masked
+        → Comes join pair run.out (stage_of next) s.past_first s.past_second (line_members run.full at new) second_now now
+        → ((r : Feature) → next.ahead ≡ Some r → item_ahead second_now ≡ Some r) → (next.lines_ended ≡ true → has_ended new ≡ true) → Going at new second_now masked now
+    goes_on at new second_now masked now next moves comes kept_ahead lines_over = record {
+      past_first = s.past_first;
+      past_second = s.past_second;
+      stage = next;
+      stands = moves.stands;
+      how_is = moves.how_is ∙ s.how_is;
+      full_is = moves.full_is ∙ s.full_is;
+      comes = comes;
+      kept_ahead = kept_ahead;
+      lines_over = lines_over;
+    }
 
     -- if no line waits, the block of each record taken belongs to a sequence of the lines
     module _ (none : stage.waiting ≡ None) where
@@ -207,54 +225,17 @@ module _ {A B : Type 0} (source_a : Source A) (source_b : Source B) (run : MaskR
       -- one is buffered now
       pub line_made : (new : LineReader A) → MakesLine source_a lines new → (IsKept source_a lines → IsKept source_a new) → Going at new second mask grown
       line_made new makes kept =
-          let c = s.comes in
-          let passes = passes_made source_a run.full (line_members run.full nothing_reached run.lines) s.past_first at lines new c.first_passes makes kept in
-          record {
-            past_first = s.past_first;
-            past_second = s.past_second;
-            stage = stage;
-            stands = s.stands;
-            how_is = s.how_is;
-            full_is = s.full_is;
-            comes = record {
-              first_passes = passes;
-              second_passes = c.second_passes;
-              all_given = c.all_given;
-              all_taken = c.all_taken;
-              bytes = c.bytes;
-              settles = c.settles;
-              first_all = λ e. absurd (false≢true (sym no_line.1 ∙ e));
-              second_all = c.second_all;
-              puts = c.puts;
-              works = c.works;
-              block = c.block;
-              grows = c.grows;
-              near_first = (
-                s.past_first,
-                all_done,
-                read_here source_a (line_members run.full nothing_reached run.lines) s.past_first (line_members run.full at new) passes,
-                λ e. absurd (false≢true (sym no_line.1 ∙ e)),
-              );
-            };
-            kept_ahead = s.kept_ahead;
-            lines_over = λ e. absurd (false≢true (sym no_line.1 ∙ e));
-          }
+          goes_on at new second mask grown stage as_it_is
+          (turned.reads_first join pair run.out (stage_of stage) s.past_first s.past_second first second grown s.comes none_waits no_line.1 (line_members run.full at new)
+          (passes_made source_a run.full (line_members run.full nothing_reached run.lines) s.past_first at lines new s.comes.first_passes makes kept))
+          s.kept_ahead (λ e. absurd (false≢true (sym no_line.1 ∙ e)))
 
       -- the end of the lines was given
       pub ends_lines : (new : LineReader A) (masked : Masking) → GivesEnd source_a lines new → (IsKept source_a lines → IsKept source_a new) → MaskMovesTo mask.how mask.full (with_lines_ended stage) masked → Going at new second masked grown
       ends_lines new masked ends kept stands =
           let over = gives_over source_a run.full at lines new kept ends in
-          record {
-            past_first = s.past_first;
-            past_second = s.past_second;
-            stage = with_lines_ended stage;
-            stands = stands.stands;
-            how_is = stands.how_is ∙ s.how_is;
-            full_is = stands.full_is ∙ s.full_is;
-            comes = turned.ends_first join pair run.out (stage_of stage) s.past_first s.past_second first second grown s.comes none_waits no_line.1 (line_members run.full at new) over;
-            kept_ahead = s.kept_ahead;
-            lines_over = λ e. over.ends.ends;
-          }
+          goes_on at new second masked grown (with_lines_ended stage) stands
+          (turned.ends_first join pair run.out (stage_of stage) s.past_first s.past_second first second grown s.comes none_waits no_line.1 (line_members run.full at new) over) s.kept_ahead (λ e. over.ends.ends)
 
       -- a line couldn't be read
       pub stops_lines : (fault : FaultValue) (new : LineReader A) → GivesFault source_a lines fault new → (IsKept source_a lines → IsKept source_a new) → EndsAt (Some fault) new second grown
@@ -283,48 +264,25 @@ module _ {A B : Type 0} (source_a : Source A) (source_b : Source B) (run : MaskR
 
       -- one is buffered now
       pub record_made : (second_now : MemberReader B Feature (Option Locus)) → IsFilled source_b second second_now → Going at lines second_now mask grown
-      record_made second_now filled = record {
-        past_first = s.past_first;
-        past_second = s.past_second;
-        stage = stage;
-        stands = s.stands;
-        how_is = s.how_is;
-        full_is = s.full_is;
-        comes = turned.fills_second join pair run.out (stage_of stage) s.past_first s.past_second first second grown s.comes goes second_now filled;
-        kept_ahead = λ r e. kept_filled source_b second second_now r (s.kept_ahead r e) filled;
-        lines_over = s.lines_over;
-      }
+      record_made second_now filled =
+          goes_on at lines second_now mask grown stage as_it_is
+          (turned.fills_second join pair run.out (stage_of stage) s.past_first s.past_second first second grown s.comes goes second_now filled) (λ r e. kept_filled source_b second second_now r (s.kept_ahead r e) filled) s.lines_over
 
       -- the end of the records was given
       module _ (second_now : MemberReader B Feature (Option Locus)) (over : IsOver source_b second second_now) where
         -- and the waiting line was written
         pub ends_waiting : (a : SequenceLine) → stage.waiting ≡ Some a → (masked : Masking) (now : Output) → MaskMovesTo mask.how mask.full (with_bed_ended stage) masked → Grown grown (masked_line mask.how stage.taken a) now
             → Going at lines second_now masked now
-        ends_waiting a waits masked now stands adds = record {
-          past_first = s.past_first;
-          past_second = s.past_second;
-          stage = with_bed_ended stage;
-          stands = stands.stands;
-          how_is = stands.how_is ∙ s.how_is;
-          full_is = stands.full_is ∙ s.full_is;
-          comes = turned.ends_waiting join pair run.out (stage_of stage) s.past_first s.past_second first second grown s.comes goes second_now over a waits now (subst (λ (h : MaskHow). Grown grown (masked_line h stage.taken a) now) s.how_is adds);
-          kept_ahead = λ r e. absurd (none_ahead second r over.ends.was_none (s.kept_ahead r e));
-          lines_over = s.lines_over;
-        }
+        ends_waiting a waits masked now stands adds =
+            goes_on at lines second_now masked now (with_bed_ended stage) stands
+            (turned.ends_waiting join pair run.out (stage_of stage) s.past_first s.past_second first second grown s.comes goes second_now over a waits now (subst (λ (h : MaskHow). Grown grown (masked_line h stage.taken a) now) s.how_is adds))
+            (λ r e. absurd (none_ahead second r over.ends.was_none (s.kept_ahead r e))) s.lines_over
 
         -- or none waited
         pub ends_alone : stage.waiting ≡ None → (masked : Masking) → MaskMovesTo mask.how mask.full (with_bed_ended stage) masked → Going at lines second_now masked grown
-        ends_alone none masked stands = record {
-          past_first = s.past_first;
-          past_second = s.past_second;
-          stage = with_bed_ended stage;
-          stands = stands.stands;
-          how_is = stands.how_is ∙ s.how_is;
-          full_is = stands.full_is ∙ s.full_is;
-          comes = turned.ends_alone join pair run.out (stage_of stage) s.past_first s.past_second first second grown s.comes goes second_now over none;
-          kept_ahead = λ r e. absurd (none_ahead second r over.ends.was_none (s.kept_ahead r e));
-          lines_over = s.lines_over;
-        }
+        ends_alone none masked stands =
+            goes_on at lines second_now masked grown (with_bed_ended stage) stands
+            (turned.ends_alone join pair run.out (stage_of stage) s.past_first s.past_second first second grown s.comes goes second_now over none) (λ r e. absurd (none_ahead second r over.ends.was_none (s.kept_ahead r e))) s.lines_over
 
         -- the waiting line wasn't written
         pub fails_at_end : (a : SequenceLine) → stage.waiting ≡ Some a → (fault : FaultValue) (now : Output) → FailsToAdd grown (masked_line mask.how stage.taken a) fault now → EndsAt (Some fault) lines second_now now
@@ -369,7 +327,7 @@ module _ {A B : Type 0} (source_a : Source A) (source_b : Source B) (run : MaskR
 
       -- if it decides the waiting line, that stays as it is
       settles_decided : (a : SequenceLine) → decided a (stage.taken ++ r ∷ []) ≡ true → LineBefore run.how a stage.taken r → IsKnown pair
-          → Settles join (stage.written ++ a ∷ []) (s.comes.bytes ++ masked_line run.how stage.taken a) (stage.taken ++ option_to_list (item_ahead second)) stage.bed_ended
+          → SettlesPair join (stage.written ++ a ∷ []) (s.comes.bytes ++ masked_line run.how stage.taken a) (stage.taken ++ option_to_list (item_ahead second)) stage.bed_ended
       settles_decided a decides settled known =
           settles_with join stage.written s.comes.bytes (stage.taken ++ option_to_list (item_ahead second)) stage.bed_ended a (masked_line run.how stage.taken a) (s.comes.settles known)
           (λ rest ordered.
@@ -383,14 +341,6 @@ module _ {A B : Type 0} (source_a : Source A) (source_b : Source B) (run : MaskR
       unowned_by none e =
           ap (λ (l : List (List ℕ)). left_after l (member_items (s.past_second ++ m ∷ []))) (names_alone none)
           ∙ ap (left_after (reached stage).names) (map-append (λ (x : Member Feature). x.item) s.past_second (m ∷ []) ∙ ap (λ (l : List Feature). l ++ r ∷ []) (sym s.comes.all_taken)) ∙ e
-
-      begins_by : (old now : Option (Good Feature)) → (IsSome old → IfSome now (λ good. (rest : List (Member Feature)) × (good.members ≡ m ∷ rest))) → ComeFirst old s.past_second now
-          → IfSome old (λ good. (rest : List (Member Feature)) × (good.members ≡ (s.past_second ++ m ∷ []) ++ rest))
-      begins_by None now first come = tt
-      begins_by (Some old) None first come = absurd come
-      begins_by (Some old) (Some now) first come =
-          let f = first refl in
-          (f.0, come.0 ∙ ap (λ l. s.past_second ++ l) f.1 ∙ sym (append_assoc s.past_second (m ∷ []) f.0))
 
       fails_by : (o : Option SequenceLine) → stage.waiting ≡ o → (fault : FaultValue) (now : Output) → FailsAtRecord run.how run.full o stage r (suc (lines_given second.below)) grown fault now → EndsAt (Some fault) lines second now
       fails_by None none fault now lacks = (
@@ -408,7 +358,7 @@ module _ {A B : Type 0} (source_a : Source A) (source_b : Source B) (run : MaskR
                 is = lacks.is;
                 of_kind = refl;
                 told = told_by (names_of stage.written) (good_coming source_b.left run.records) s.past_second m fault lacks.is (owned_alone none) (unowned_by none lacks.unowned)
-                    (begins_by (good_coming source_b.left run.records) (good_coming source_b.left second) (λ known. s.comes.second_passes.ahead known m m_ahead) s.comes.second_passes.come);
+                    (stop.seen_begins source_b.left (good_coming source_b.left run.records) second s.past_second (Some m) m_ahead s.comes.second_passes.come s.comes.second_passes.ahead);
                 serves = record { served = s.comes.second_passes.served; within = s.comes.second_passes.kept.within s.comes.second_passes.clear };
               },
             )))),

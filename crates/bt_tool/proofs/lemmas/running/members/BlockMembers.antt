@@ -1,6 +1,6 @@
 -- Lemmas on a reader of records in blocks as one of members, and on a reader of lines at its end.
-use Rattle.std.proofs.Common.{◌≡◌, ℕ, suc, Bool, true, false, List, ◌++◌, [], take, None, Ok, Err, refl, ap, ◌∙◌, subst, arith}
-use Rattle.std.specs.Prelude.{IfSome, option_map}
+use Rattle.std.proofs.Common.{◌≡◌, ℕ, Bool, true, false, List, [], take, None, Ok, Err, refl, ap, ◌∙◌, subst}
+use Rattle.std.specs.Prelude.{option_map}
 use Rattle.std.proofs.lemmas.Bool.{false≢true}
 use Rattle.bt_lines.specs.declared.device.Source.{Ghosts as Source}
 use Rattle.bt_lines.proofs.lemmas.reader.lines.BufferedLemmas.{none_left}
@@ -17,13 +17,12 @@ use Rattle.bt_bed.specs.calls.Batch.{IsWhere, Passes, cursor_in, left}
 use Rattle.bt_bed.specs.declared.read.batch.Consumed.{Consumed}
 use Rattle.bt_bed.specs.calls.Blocks.{FillsBlocks, count_in, Lends, TakesBlocks, below, buffered_in as records_in, fault_kept, view_of}
 use Rattle.bt_bed.specs.model.feature.Feature.{Feature}
-use Rattle.bt_bed.specs.model.input.Good.{Member}
-use Rattle.bt_bed.specs.calls.Reading.{BeginsComing, Takes, good_coming, members_from}
+use Rattle.bt_bed.specs.calls.Reading.{BeginsComing, Takes}
 use Rattle.bt_bed.specs.calls.SortedReader.{view_with}
 use Rattle.bt_bed.specs.declared.read.batch.Batch.{Batch}
 use Rattle.bt_bed.specs.declared.read.blocks.Blocks.{Blocks}
 use Rattle.bt_tool.specs.inside.feed.Passed.{HasTaken, IsFilled, IsOver, IsStopped}
-use Rattle.bt_tool.proofs.lemmas.running.members.PassedLemmas.{comes_next, or_none}
+use Rattle.bt_tool.proofs.lemmas.running.members.PassedLemmas.{consumed_of, or_none}
 
 over_at : (state : State) → ended_at state ≡ true → (lends_at state ≡ false) × (open_at state ≡ false)
 over_at Reading e = absurd (false≢true e)
@@ -69,16 +68,8 @@ module _ {S : Type 0} (device : Source S) (now new : Blocks S) where
   pub block_stopped : (fault : Fault) → FillsBlocks device now (Err fault) new → IsStopped device (view_of now) (fault_value fault) (view_of new)
   block_stopped fault fills = record { answers = fills.answers; kept = fills.kept }
 
-module _ {S : Type 0} (device : Source S) (now new : Blocks S) (count : ℕ) (records : List Feature) (are : take count (records_in now) ≡ records) where
-  -- records were consumed of those that are buffered
-  pub blocks_taken : BeginsComing device.left (view_of now) → TakesBlocks device now count new → HasTaken device (view_of now) records (view_of new)
-  blocks_taken comes takes =
-      let t = subst (λ (l : List Feature). Takes device (view_of now) l (view_of new)) are takes.takes in
-      record {
-        takes = t;
-        clear = blocks_going new;
-        ahead = λ m is.
-            comes_next (suc (lines_given (below now))) (suc (lines_given (below new))) (good_coming device.left (view_of now)) (good_coming device.left (view_of new)) records (records_in new) m (omega (arith, t.given))
-            (subst (λ (l : List Feature). IfSome (good_coming device.left (view_of now)) (λ good. (rest : List (Member Feature)) × (good.members ≡ members_from (suc (lines_given (below now))) l ++ rest))) t.buffered comes)
-            t.good is;
-      }
+-- records were consumed of those that are buffered
+pub blocks_taken : {S : Type 0} (device : Source S) (now new : Blocks S) (count : ℕ) (records : List Feature) → take count (records_in now) ≡ records
+    → BeginsComing device.left (view_of now) → TakesBlocks device now count new → HasTaken device (view_of now) records (view_of new)
+blocks_taken device now new count records are comes takes =
+    consumed_of device (view_of now) (view_of new) records (blocks_going new) comes (subst (λ (l : List Feature). Takes device (view_of now) l (view_of new)) are takes.takes)

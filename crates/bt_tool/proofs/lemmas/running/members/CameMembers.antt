@@ -1,11 +1,11 @@
 -- Lemmas on what is good of an input that a reader of members took.
-use Rattle.std.proofs.Common.{◌≡◌, ℕ, suc, ◌+◌, ◌-◌, ◌^◌, ◌≤◌, ◌<◌, List, ◌++◌, length, take, drop, Option, None, Some, refl, sym, ap, ◌∙◌, subst, inl, inr, ⊎_elim}
+use Rattle.std.proofs.Common.{◌≡◌, ℕ, suc, ◌+◌, ◌-◌, ◌^◌, ◌≤◌, ◌<◌, List, [], ◌++◌, length, take, drop, Option, None, Some, refl, sym, ap, ◌∙◌, subst, inl, inr, ⊎_elim}
 use Rattle.std.specs.Prelude.{All, IfSome, IsSome, option_map}
 use Rattle.bt_lines.specs.declared.device.Source.{Ghosts as Source}
 use Rattle.bt_lines.specs.model.Fault.{FaultValue, read_failed}
 use Rattle.bt_lines.specs.model.Handed.{Handed, whole_text}
 use Rattle.bt_lines.specs.model.Lines.{bytes_in, line_feeds, text_lines}
-use Rattle.bt_lines.specs.calls.Reader.{Hands, bytes_taken, feeds_taken, input_of, lines_given, lines_left, source_of}
+use Rattle.bt_lines.specs.calls.Reader.{Hands, IsSound, bytes_taken, fault_kept, feeds_taken, input_of, lines_given, lines_left, source_of}
 use Rattle.bt_lines.specs.declared.fault.Input.{Input}
 use Rattle.bt_lines.specs.declared.fault.Kind.{Kind}
 use Rattle.bt_lines.specs.calls.Output.{block_size}
@@ -16,6 +16,8 @@ use Rattle.bt_bed.specs.model.input.GoodLines.{IsBeyond}
 use Rattle.bt_bed.specs.calls.Reading.{MemberReader, good_coming}
 use Rattle.bt_tool.specs.inside.feed.Coming.{Came}
 use Rattle.bt_tool.specs.calls.run.FaultSource.{TellsInput}
+use Rattle.bt_tool.specs.inside.feed.Feeding.{IsFresh}
+use Rattle.bt_lines.specs.declared.reader.line_reader.LineReader.{LineReader}
 use Rattle.bt_tool.specs.inside.feed.Passed.{HasFaultBehind, IsUnreadBehind}
 use Rattle.bt_tool.proofs.lemmas.running.members.HandedLemmas.{cut_good, handed_near}
 use Rattle.bt_tool.proofs.lemmas.running.members.HandedReader.{consumed_by, consumes_parts, cut_text, handed_all, handed_part, passes_by}
@@ -43,6 +45,29 @@ pub record BeginsAt {S A State : Type 0} (left : S → Option (List ℕ)) (forma
   pub feeds : feeds_taken old.below ≡ 0
   pub lines : lines_left left old.below ≡ option_map text_lines (left first)
   pub good : good_coming left old ≡ option_map (good format input) (option_map text_lines (left first))
+
+-- a reader of members over a reader of lines that has given nothing
+module _ {S A State : Type 0} (device : Source S) (reader : LineReader S) (members : MemberReader S A State)
+    (is : members.below ≡ reader) (taken : bytes_taken reader ≡ 0) (fed : feeds_taken reader ≡ 0) where
+  pub fresh_over : lines_given reader ≡ 0 → members.fault ≡ None → members.buffered ≡ [] → IsSound device reader → IsFresh device members
+  fresh_over given going none sound = record {
+    none_given = (ap lines_given is ∙ given, ap bytes_taken is ∙ taken, ap feeds_taken is ∙ fed);
+    none_buffered = none;
+    going = going;
+    sound = subst (IsSound device) (sym is) sound;
+  }
+
+  pub begins_over : (format : Format A State) (input : Input) (first : S) → source_of reader ≡ first → input_of reader ≡ input → fault_kept reader ≡ None
+      → lines_left device.left reader ≡ option_map text_lines (device.left first)
+      → (fault_kept reader ≡ None → good_coming device.left members ≡ option_map (good format (input_of reader)) (lines_left device.left reader)) → BeginsAt device.left format input first members
+  begins_over format input first source same going lines known = record {
+    source = ap source_of is ∙ source;
+    input_is = ap input_of is ∙ same;
+    bytes = ap bytes_taken is ∙ taken;
+    feeds = ap feeds_taken is ∙ fed;
+    lines = ap (lines_left device.left) is ∙ lines;
+    good = known going ∙ ap (λ i. option_map (good format i) (lines_left device.left reader)) same ∙ ap (option_map (good format input)) lines;
+  }
 
 module _ {S A State : Type 0} (device : Source S) (format : Format A State) (input : Input) (first : S) (old : MemberReader S A State) (begins : BeginsAt device.left format input first old)
     (new : MemberReader S A State) (last : S) (ended : source_of new.below ≡ last) where

@@ -1,5 +1,5 @@
 -- Lemmas on a reader of lines as one of lines of sequences.
-use Rattle.std.proofs.Common.{◌≡◌, ℕ, zero, suc, ◌+◌, ◌-◌, ◌<◌, ◌≤◌, Bool, true, false, cond, List, [], ◌∷◌, ◌++◌, length, take, drop, Option, None, Some, Ok, Err, refl, sym, ap, ◌∙◌, subst, append_assoc, append-nil, length-append, arith, inl}
+use Rattle.std.proofs.Common.{◌≡◌, ℕ, suc, ◌+◌, ◌-◌, ◌<◌, ◌≤◌, Bool, true, false, cond, List, [], ◌∷◌, ◌++◌, length, take, drop, Option, None, Some, Ok, Err, refl, sym, ap, ◌∙◌, subst, append_assoc, append-nil, length-append, arith, inl}
 use Rattle.std.specs.Prelude.{All, IfSome, option_map}
 use Rattle.std.proofs.Math.Seq.{drop-append_seam}
 use Rattle.std.proofs.lemmas.List.{drop-drop}
@@ -8,14 +8,14 @@ use Rattle.bt_lines.specs.declared.device.Source.{Ghosts as Source}
 use Rattle.bt_lines.proofs.lemmas.reader.lines.ReaderLemmas.{hands_both, sound_near}
 use Rattle.bt_lines.proofs.lemmas.reader.lines.TakingLemmas.{is_prefix, near_next}
 use Rattle.bt_lines.specs.model.Fault.{FaultValue}
-use Rattle.bt_lines.specs.model.Lines.{AreNumbered, TextLine, bytes_in, line_feeds, lines_from}
+use Rattle.bt_lines.specs.model.Lines.{AreNumbered, TextLine, bytes_in, lines_from}
 use Rattle.bt_lines.specs.calls.Output.{block_size}
 use Rattle.bt_lines.specs.calls.Reader.{DropsLines, GivesEnd, GivesFault, Hands, IsKept, MakesLine, SameLines, TakenLines, TakesLines, buffered_bytes, buffered_in, bytes_left, end_told, fault_kept as line_fault, held, input_of, left_at, lines_given, lines_left, source_of}
 use Rattle.bt_lines.specs.declared.reader.buffered_lines.ConsumedLines.{ConsumedLines}
 use Rattle.bt_lines.specs.declared.fault.Kind.{Kind}
 use Rattle.bt_lines.specs.declared.fault.Kind.TheVariants.{TextBeforeHeader}
 use Rattle.bt_lines.specs.declared.reader.line_reader.LineReader.{LineReader}
-use Rattle.bt_bed.proofs.lemmas.read.good.CameLemmas.{drops_pass, left_numbered}
+use Rattle.bt_bed.proofs.lemmas.read.good.CameLemmas.{drops_pass, left_numbered, some_bytes}
 use Rattle.bt_bed.proofs.lemmas.read.good.ReadingLemmas.{Going, going_end, going_start, going_unread}
 use Rattle.bt_bed.proofs.lemmas.read.good.SaidRuns.{LinesSay, good_said, say_front}
 use Rattle.bt_bed.specs.model.input.Good.{Good, Member, good_from}
@@ -115,10 +115,6 @@ come_same : {A : Type 0} (old : Option (Good A)) (f g : List TextLine → Good A
 come_same None f g now new past e s c = tt
 come_same (Some good) f g None new past e s c = absurd c
 come_same (Some good) f g (Some lines) new past e s c = rw (s, ← e lines) c
-
-some_bytes : (count : ℕ) (bytes : List ℕ) → 0 < line_feeds (take count bytes) → 0 < count
-some_bytes zero bytes e = let none : 0 < 0 = e in absurd (omega (arith, none))
-some_bytes (suc n) bytes e = omega arith
 
 module _ {S : Type 0} (device : Source S) (full : Bool) where
   -- lines of which these are known to be lines of sequences
@@ -340,7 +336,7 @@ module _ {S : Type 0} (device : Source S) (full : Bool) where
     pub refuses : (Kinds : Kind → Type 0) → Kinds kind → StopsAfter device old Kinds (past ++ members) fault refused
     refuses Kinds of_kind = record {
       bytes = bytes_then;
-      cause = inl (record {
+      cause = inl (inl (record {
         whole = whole;
         line = line.number;
         kind = kind;
@@ -348,7 +344,7 @@ module _ {S : Type 0} (device : Source S) (full : Bool) where
         of_kind = of_kind;
         served = ap device.has_failed takes.source_is ∙ g.served;
         within = (takes.kept g.kept).within clear;
-      });
+      }));
     }
 
     lines_then : IfSome (lines_left device.left old.below) (λ all. lines_left device.left new ≡ Some (drop (lines_given new) all))

@@ -26,7 +26,7 @@ use Rattle.bt_bed.specs.model.input.GoodLines.{IsBeyond}
 use Rattle.bt_bed.specs.model.feature.LineKind.{fault_at_line}
 use Rattle.bt_bed.specs.calls.Reading.{AnswersFault, AreSaid, Cause, MemberReader, Remains, ahead_in, first_from, good_coming, members_from, state_behind, with_members}
 use Rattle.bt_tool.specs.inside.feed.Feeding.{IsFresh}
-use Rattle.bt_tool.specs.inside.feed.Passed.{ComeFirst, member_items, AreAll, HasTaken, IsFilled, IsOver, IsReadFor, IsStopped, IsUnreadBehind, IsWrongBehind, LacksMemory, Passes, StopsAfter}
+use Rattle.bt_tool.specs.inside.feed.Passed.{AreAll, ComeFirst, HasFaultBehind, HasTaken, IsFilled, IsOver, IsReadFor, IsStopped, LacksMemory, Passes, StopsAfter, member_items}
 use Rattle.bt_tool.proofs.lemmas.running.feed.FaultLemmas.{line_no_read}
 use Rattle.bt_tool.proofs.lemmas.running.feed.ComeLemmas.{begins_beyond, begins_with, come_none, cuts_both, lines_on, near_from_start, none_passed, up_to, whole_with}
 use Rattle.bt_tool.proofs.lemmas.running.pair.StopLemmas.{beyond_less, beyond_now, stops_faulty}
@@ -57,7 +57,7 @@ pub said_more : {A State : Type 0} (format : Format A State) (state : State) (it
 said_more format state [] more said next = next
 said_more format state (x ∷ items) more said next = (said.0, said_more format (format.after state x) items more said.1 next)
 
-items_from : {A : Type 0} (from : ℕ) (items : List A) → member_items (members_from from items) ≡ items
+pub items_from : {A : Type 0} (from : ℕ) (items : List A) → member_items (members_from from items) ≡ items
 items_from from [] = refl
 items_from from (x ∷ items) = ap (λ l. x ∷ l) (items_from (suc from) items)
 
@@ -379,8 +379,8 @@ module _ {S A State : Type 0} (device : Source S) (old : MemberReader S A State)
     module _ (kinds : Kind → Type 0) (of_format : (state : State) (line : TextLine) (kind : Kind) → old.format.says state line ≡ Err kind → kinds kind) where
       cause_of : (new : MemberReader S A State) (fault : FaultValue) → IsKept device new.below → AnswersFault device now fault new
           → Cause device now fault new
-          → IsWrongBehind device old kinds past fault new ⊎ (IsUnreadBehind device old past fault new ⊎ LacksMemory device old fault new)
-      cause_of new fault kept answers (inl at) = inl (record {
+          → HasFaultBehind device old kinds past fault new ⊎ LacksMemory device old fault new
+      cause_of new fault kept answers (inl at) = inl (inl (record {
         whole = whole_with (good_coming device.left old) (good_coming device.left now) past (Some fault) g.come at.none_left;
         line = lines_given new.below;
         kind = at.kind;
@@ -388,8 +388,8 @@ module _ {S A State : Type 0} (device : Source S) (old : MemberReader S A State)
         of_kind = of_format now.state at.line at.kind (ap (λ (f : Format A State). f.says now.state at.line) (sym g.format) ∙ at.says);
         served = at.served ∙ g.served;
         within = kept.within at.going;
-      })
-      cause_of new fault kept answers (inr (inl unread)) = inr (inl (record {
+      }))
+      cause_of new fault kept answers (inr (inl unread)) = inl (inr (record {
         is = unread.fails.is ∙ ap (λ input. read_failed input (suc (lines_given new.below))) same_input;
         kept = answers.kept;
         cause = unread.fails.cause;
@@ -397,7 +397,7 @@ module _ {S A State : Type 0} (device : Source S) (old : MemberReader S A State)
         members = begins_beyond (good_coming device.left old) (good_coming device.left now) past (lines_given new.below) g.come unread.passed;
         behind = up_to (lines_given now.below) (lines_given new.below) past answers.rises g.behind;
       }))
-      cause_of new fault kept answers (inr (inr ran)) = inr (inr (record { is = ran.is; served = ran.served ∙ g.served }))
+      cause_of new fault kept answers (inr (inr ran)) = inr (record { is = ran.is; served = ran.served ∙ g.served })
 
       -- it reports a fault
       pub passes_stop : (new : MemberReader S A State) (fault : FaultValue) → IsStopped device now fault new

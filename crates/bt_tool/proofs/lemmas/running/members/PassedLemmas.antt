@@ -2,7 +2,7 @@
 use Rattle.std.proofs.Common.{◌≡◌, ℕ, suc, ◌+◌, ◌<◌, true, false, List, [], ◌∷◌, ◌++◌, length, take, Option, None, Some, Ok, Err, refl, sym, ap, ◌∙◌, subst, append_assoc, append-nil, arith}
 use Rattle.std.specs.Prelude.{IfSome, IsTrue, option_map}
 use Rattle.std.specs.Option.{ForSome}
-use Rattle.std.proofs.lemmas.List.{map-append}
+use Rattle.std.proofs.lemmas.List.{append_cancel_left, map-append}
 use Rattle.std.proofs.lemmas.List.Elements.{All-push}
 use Rattle.bt_lines.specs.declared.device.Source.{Ghosts as Source}
 use Rattle.bt_lines.specs.model.Fault.{FaultValue}
@@ -38,10 +38,6 @@ line_going records e = or_none (option_map fault_value records.sorted.fault) (li
 
 -- ---- what is buffered comes next
 
-cancel_front : {A : Type 0} (front a b : List A) → front ++ a ≡ front ++ b → a ≡ b
-cancel_front [] a b e = e
-cancel_front (x ∷ front) a b e = cancel_front front a b (let rest : front ++ a ≡ front ++ b = cc in rest)
-
 members_split : {A : Type 0} (from : ℕ) (xs ys : List A) → members_from from (xs ++ ys) ≡ members_from from xs ++ members_from (from + length xs) ys
 members_split from [] ys = ap (λ (n : ℕ). members_from n ys) (let none : from ≡ from + 0 = omega arith in none)
 members_split {A} from (x ∷ xs) ys =
@@ -65,7 +61,7 @@ comes_next {A} from given (Some n) (Some x) taken left m at b e f =
     ap (λ (g : Good A). g.members) is ∙ b.1 ∙ ap (λ (l : List (Member A)). l ++ b.0) (members_split from taken left ∙ ap (λ (n : ℕ). members_from from taken ++ members_from n left) (sym at))
     ∙ append_assoc (members_from from taken) (members_from given left) b.0 in
     let rest = first_is given left m b.0 f in
-    (rest.0, cancel_front (members_from from taken) x.members (members_from given left ++ b.0) both ∙ rest.1)
+    (rest.0, append_cancel_left (members_from from taken) x.members (members_from given left ++ b.0) both ∙ rest.1)
 
 -- ---- what a reader of records does, as a reader of members
 
@@ -79,19 +75,22 @@ module _ {S O : Type 0} {ghosts : Ghosts O} (device : Source S) (now new : Recor
   pub is_stopped : (fault : Fault) → FillsRecords device now (Err fault) new → IsStopped device (view_of now) (fault_value fault) (view_of new)
   is_stopped fault fills = record { answers = fills.answers; kept = fills.kept }
 
-module _ {S O : Type 0} {ghosts : Ghosts O} (device : Source S) (now new : Records S O ghosts) (count : ℕ) (records : List Feature) (are : take count (buffered_in now) ≡ records) where
+module _ {S State : Type 0} (device : Source S) (now new : MemberReader S Feature State) (records : List Feature) where
   -- records were consumed of those that are buffered
-  pub has_taken : BeginsComing device.left (view_of now) → TakesRecords device now count new → HasTaken device (view_of now) records (view_of new)
-  has_taken comes takes =
-      let t = subst (λ (l : List Feature). Takes device (view_of now) l (view_of new)) are takes.takes in
-      record {
-        takes = t;
-        clear = line_going new;
-        ahead = λ m is.
-            comes_next (suc (lines_given (below now))) (suc (lines_given (below new))) (good_coming device.left (view_of now)) (good_coming device.left (view_of new)) records (buffered_in new) m (omega (arith, t.given))
-            (subst (λ (l : List Feature). IfSome (good_coming device.left (view_of now)) (λ good. (rest : List (Member Feature)) × (good.members ≡ members_from (suc (lines_given (below now))) l ++ rest))) t.buffered comes)
-            t.good is;
-      }
+  pub consumed_of : (new.fault ≡ None → line_fault new.below ≡ None) → BeginsComing device.left now → Takes device now records new → HasTaken device now records new
+  consumed_of clear comes takes = record {
+    takes = takes;
+    clear = clear;
+    ahead = λ m is.
+        comes_next (suc (lines_given now.below)) (suc (lines_given new.below)) (good_coming device.left now) (good_coming device.left new) records new.buffered m (omega (arith, takes.given))
+        (subst (λ (l : List Feature). IfSome (good_coming device.left now) (λ good. (rest : List (Member Feature)) × (good.members ≡ members_from (suc (lines_given now.below)) l ++ rest))) takes.buffered comes)
+        takes.good is;
+  }
+
+pub has_taken : {S O : Type 0} {ghosts : Ghosts O} (device : Source S) (now new : Records S O ghosts) (count : ℕ) (records : List Feature) → take count (buffered_in now) ≡ records
+    → BeginsComing device.left (view_of now) → TakesRecords device now count new → HasTaken device (view_of now) records (view_of new)
+has_taken device now new count records are comes takes =
+    consumed_of device (view_of now) (view_of new) records (line_going new) comes (subst (λ (l : List Feature). Takes device (view_of now) l (view_of new)) are takes.takes)
 
 -- taking members reads nothing
 pub taken_reads : {S A State : Type 0} (device : Source S) (old : MemberReader S A State) (taken : List A) (new : MemberReader S A State) → HasTaken device old taken new
@@ -102,7 +101,7 @@ taken_reads device old taken new has =
 -- ---- the order of records that were consumed
 
 -- what is required of the last place is required of the last record's
-last_up_to : (last : Option Interval) (P : Locus → Type 0) → IfSome (option_map locus_of last) P → IfSome last (λ r. P (locus_of r))
+pub last_up_to : (last : Option Interval) (P : Locus → Type 0) → IfSome (option_map locus_of last) P → IfSome last (λ r. P (locus_of r))
 last_up_to None P h = tt
 last_up_to (Some r) P h = h
 

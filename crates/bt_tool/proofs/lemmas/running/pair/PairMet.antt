@@ -27,7 +27,7 @@ use Rattle.bt_tool.specs.calls.run.FaultSource.{IsFaultButWrite, IsReported, IsW
 use Rattle.bt_tool.specs.inside.feed.Feeding.{PutsFront, PutsLines, member_items}
 use Rattle.bt_tool.specs.model.report.Inputs.{HandsUpTo, Holds, HoldsIf, Reads, ReadsIf, or_empty}
 use Rattle.bt_tool.specs.inside.pair.Pair.{JoinDef, MayCome, Pair, Serves, met_by, met_whole, rule_of}
-use Rattle.bt_tool.specs.inside.pair.Endings.{Finishes, FirstFails, FirstStops, InputsEnd, LimitStops, RestStops, SecondFails, SecondStops, Why}
+use Rattle.bt_tool.specs.inside.pair.Endings.{PairEnds, FirstFails, FirstStops, InputsEnd, LimitStops, RestStops, SecondFails, SecondStops, Why}
 use Rattle.bt_tool.proofs.lemmas.running.members.CameMembers.{BeginsAt, at_whole, came_cut, came_whole, is_known, says_fault, tells_fault, text_known}
 use Rattle.bt_tool.proofs.lemmas.running.feed.FaultLemmas.{memory_no_write, tells_no_write}
 use Rattle.bt_tool.proofs.lemmas.running.pair.PairLimits.{AreLimits}
@@ -136,7 +136,7 @@ module _ {A B X Y U V : Type 0} (join : JoinDef X Y) (pair : Pair A B X Y U V) (
     (first_format : Format X U) (second_format : Format Y V) (in_order : (two : Handed) → join.InOrder (items_in (good_handed second_format Second two))) (limits : AreLimits join)
     (one_before : A) (two_before : B) (begins : BeginsAt pair.source_a.left first_format First one_before pair.first) (begins_second : BeginsAt pair.source_b.left second_format Second two_before pair.second)
     (first : MemberReader A X U) (second : MemberReader B Y V) (one_after : A) (two_after : B) (ended : source_of first.below ≡ one_after) (ended_second : source_of second.below ≡ two_after)
-    (fault : Option FaultValue) (grown : Output) (w : Finishes join pair out fault first second grown) where
+    (fault : Option FaultValue) (grown : Output) (w : PairEnds join pair out fault first second grown) where
   abbrev good_one : Handed → Good X
   good_one one = good_handed first_format First one
 

@@ -25,7 +25,7 @@ use Rattle.bt_tool.specs.calls.run.FaultSource.{IsFaultButWrite, IsWithin, Reads
 use Rattle.bt_tool.specs.inside.feed.Feeding.{TookButBlock, member_items}
 use Rattle.bt_tool.specs.model.report.Inputs.{HandsUpTo}
 use Rattle.bt_tool.specs.inside.pair.Pair.{JoinDef, MayCome, Pair}
-use Rattle.bt_tool.specs.inside.pair.Endings.{AsksFor, Finishes, HasNoMore, StaysNear}
+use Rattle.bt_tool.specs.inside.pair.Endings.{AsksFor, PairEnds, HasNoMore, StaysNear}
 use Rattle.bt_tool.proofs.lemmas.running.members.CameMembers.{BeginsAt, at_whole, good_whole, handed_to, is_known, some_of}
 use Rattle.bt_tool.proofs.lemmas.running.pair.PairMet.{may_come}
 
@@ -99,7 +99,7 @@ module _ {A B X Y U V : Type 0} (join : JoinDef X Y) (pair : Pair A B X Y U V) (
     (first_format : Format X U) (second_format : Format Y V) (in_order : (two : Handed) → join.InOrder (items_in (good_handed second_format Second two))) (needed : AreNeeded join)
     (one_before : A) (two_before : B) (begins : BeginsAt pair.source_a.left first_format First one_before pair.first) (begins_second : BeginsAt pair.source_b.left second_format Second two_before pair.second)
     (first : MemberReader A X U) (second : MemberReader B Y V) (one_after : A) (two_after : B) (ended : source_of first.below ≡ one_after) (ended_second : source_of second.below ≡ two_after)
-    (fault : Option FaultValue) (grown : Output) (w : Finishes join pair out fault first second grown) where
+    (fault : Option FaultValue) (grown : Output) (w : PairEnds join pair out fault first second grown) where
   abbrev near : StaysNear join pair out first second grown
   near = w.near
 

@@ -9,7 +9,7 @@ use Rattle.bt_lines.specs.declared.device.Source.{Ghosts as Source}
 use Rattle.bt_bed.specs.model.input.Good.{Member}
 use Rattle.bt_bed.specs.calls.Reading.{GivesMember, MemberReader, ahead_in}
 use Rattle.bt_lines.specs.model.Fault.{FaultValue}
-use Rattle.bt_tool.specs.inside.pair.Pair.{JoinDef, MayCome, Settles}
+use Rattle.bt_tool.specs.inside.pair.Pair.{JoinDef, MayCome, SettlesPair}
 
 -- one more member is decided and has these bytes
 one_more : {X : Type 0} (test : X → Bool) (write : X → List ℕ) (written : List X) (a : X) (bytes more : List ℕ) → (list_all test written ≡ true) × (flat_map write written ≡ bytes)
@@ -20,26 +20,26 @@ one_more test write written a bytes more was here is = (
 )
 
 module _ {X Y : Type 0} (join : JoinDef X Y) where
-  pub settles_nothing : (seen : List Y) (ended : Bool) → Settles join [] [] seen ended
+  pub settles_nothing : (seen : List Y) (ended : Bool) → SettlesPair join [] [] seen ended
   settles_nothing seen ended = record { whatever = λ second fault ordered may. (refl, refl) }
 
   -- one more member of the second input is seen
-  pub settles_seen : (written : List X) (bytes : List ℕ) (seen more : List Y) → Settles join written bytes seen false → Settles join written bytes (seen ++ more) false
+  pub settles_seen : (written : List X) (bytes : List ℕ) (seen more : List Y) → SettlesPair join written bytes seen false → SettlesPair join written bytes (seen ++ more) false
   settles_seen written bytes seen more s = record {
     whatever = λ second fault ordered may. s.whatever second fault ordered
         (record { begins = (more ++ may.begins.0, may.begins.1 ∙ append_assoc seen more may.begins.0); all = λ e. absurd (false≢true e) });
   }
 
   -- none comes after those seen
-  pub settles_close : (written : List X) (bytes : List ℕ) (seen : List Y) → Settles join written bytes seen false → Settles join written bytes seen true
+  pub settles_close : (written : List X) (bytes : List ℕ) (seen : List Y) → SettlesPair join written bytes seen false → SettlesPair join written bytes seen true
   settles_close written bytes seen s = record {
     whatever = λ second fault ordered may. s.whatever second fault ordered (record { begins = may.begins; all = λ e. absurd (false≢true e) });
   }
 
   -- one more member of the first is decided by those seen, and its bytes stay whatever follows them in order
-  pub settles_with : (written : List X) (bytes : List ℕ) (seen : List Y) (ended : Bool) (a : X) (more : List ℕ) → Settles join written bytes seen ended
+  pub settles_with : (written : List X) (bytes : List ℕ) (seen : List Y) (ended : Bool) (a : X) (more : List ℕ) → SettlesPair join written bytes seen ended
       → ((rest : List Y) → join.InOrder (seen ++ rest) → (join.decided a (seen ++ rest) ≡ true) × (join.bytes a (seen ++ rest) ≡ more))
-      → Settles join (written ++ a ∷ []) (bytes ++ more) seen ended
+      → SettlesPair join (written ++ a ∷ []) (bytes ++ more) seen ended
   settles_with written bytes seen ended a more s stays = record {
     whatever = λ second fault ordered may.
         let here = stays may.begins.0 (subst join.InOrder may.begins.1 ordered) in
@@ -49,10 +49,10 @@ module _ {X Y : Type 0} (join : JoinDef X Y) where
   }
 
   -- more members of the first are decided and have these bytes, whatever the second still has
-  pub settles_list : (written newly : List X) (bytes more : List ℕ) (seen : List Y) (ended : Bool) → Settles join written bytes seen ended
+  pub settles_list : (written newly : List X) (bytes more : List ℕ) (seen : List Y) (ended : Bool) → SettlesPair join written bytes seen ended
       → ((second : List Y) (fault : Option FaultValue) → join.InOrder second → MayCome seen ended second fault
       → (list_all (λ x. is_none fault || join.decided x second) newly ≡ true) × (flat_map (λ x. join.bytes x second) newly ≡ more))
-      → Settles join (written ++ newly) (bytes ++ more) seen ended
+      → SettlesPair join (written ++ newly) (bytes ++ more) seen ended
   settles_list written newly bytes more seen ended s now = record {
     whatever = λ second fault ordered may.
         let was = s.whatever second fault ordered may in
@@ -64,8 +64,8 @@ module _ {X Y : Type 0} (join : JoinDef X Y) where
   }
 
   -- the second input has ended
-  pub settles_end : (written : List X) (bytes : List ℕ) (taken : List Y) (ended : Bool) (a : X) → Settles join written bytes taken ended
-      → Settles join (written ++ a ∷ []) (bytes ++ join.bytes a taken) taken true
+  pub settles_end : (written : List X) (bytes : List ℕ) (taken : List Y) (ended : Bool) (a : X) → SettlesPair join written bytes taken ended
+      → SettlesPair join (written ++ a ∷ []) (bytes ++ join.bytes a taken) taken true
   settles_end written bytes taken ended a s = record {
     whatever = λ second fault ordered may.
         let all = may.all refl in
@@ -77,12 +77,12 @@ module _ {X Y : Type 0} (join : JoinDef X Y) where
 
   -- the member ahead is seen
   pub seen_by : {S State : Type 0} (device : Source S) (now new : MemberReader S Y State) (m : Member Y) (o : Option (Member Y)) → ahead_in now ≡ o → GivesMember device now m new
-      → (written : List X) (bytes : List ℕ) (taken : List Y) → Settles join written bytes (taken ++ option_to_list (option_map (λ m. m.item) o)) false
-      → Settles join written bytes (taken ++ m.item ∷ []) false
+      → (written : List X) (bytes : List ℕ) (taken : List Y) → SettlesPair join written bytes (taken ++ option_to_list (option_map (λ m. m.item) o)) false
+      → SettlesPair join written bytes (taken ++ m.item ∷ []) false
   seen_by device now new m None e gives written bytes taken s =
-      settles_seen written bytes taken (m.item ∷ []) (subst (λ (l : List Y). Settles join written bytes l false) (append-nil taken) s)
+      settles_seen written bytes taken (m.item ∷ []) (subst (λ (l : List Y). SettlesPair join written bytes l false) (append-nil taken) s)
   seen_by {S} {State} device now new m (Some x) e gives written bytes taken s =
       let same : new ≡ now = gives.again (subst IsSome (sym e) refl) in
       let is : Some x ≡ Some m = sym e ∙ ap (λ (r : MemberReader S Y State). ahead_in r) (sym same) ∙ gives.ahead in
       let eq : x ≡ m = cc in
-      subst (λ (y : Member Y). Settles join written bytes (taken ++ y.item ∷ []) false) eq s
+      subst (λ (y : Member Y). SettlesPair join written bytes (taken ++ y.item ∷ []) false) eq s

@@ -18,15 +18,15 @@ use Rattle.bt_bed.specs.model.input.Good.{Good, Member, items_in}
 use Rattle.bt_bed.specs.model.feature.LineKind.{fault_at_line}
 use Rattle.bt_bed.specs.calls.Reading.{MemberReader, ahead_in, first_from, good_coming}
 use Rattle.bt_tool.specs.inside.feed.Feeding.{ComeFirst, CutsLines, GoesOn, PutsLines, member_items}
-use Rattle.bt_tool.specs.inside.pair.Pair.{JoinDef, Pair, Serves, Settles, item_ahead}
-use Rattle.bt_tool.specs.inside.pair.Progress.{Comes, Stage, TakesFurther, given}
-use Rattle.bt_tool.specs.inside.pair.Endings.{AsksFor, Finishes, IsKnown, LastTold, SecondFails, StaysNear, Why, Wrote}
+use Rattle.bt_tool.specs.inside.pair.Pair.{JoinDef, Pair, Serves, SettlesPair, item_ahead}
+use Rattle.bt_tool.specs.inside.pair.Progress.{Comes, PairStage, TakesFurther, firsts_given}
+use Rattle.bt_tool.specs.inside.pair.Endings.{AsksFor, PairEnds, IsKnown, LastTold, SecondFails, StaysNear, Why, Wrote}
 use Rattle.bt_tool.specs.inside.feed.Passed.{AreAll, IsOver, IsReadFor, IsReadTo, IsStopped, Passes, StopsAfter}
 use Rattle.bt_tool.proofs.lemmas.running.feed.ComeLemmas.{begins_with, up_to}
 use Rattle.bt_tool.proofs.lemmas.running.feed.FeedLemmas.{goes_failed, goes_same, took_later, took_lines, works_both}
 use Rattle.bt_tool.proofs.lemmas.running.members.MemberLemmas.{passes_all, passes_end, passes_stop, read_at_stop, read_here}
 use Rattle.bt_tool.proofs.lemmas.running.pair.PairSettles.{settles_end}
-use Rattle.bt_tool.proofs.lemmas.running.pair.PairTurns.{all_written, first_waits, grown_puts, none_pushed, read_same, seen_alone, settles_ended}
+use Rattle.bt_tool.proofs.lemmas.running.pair.PairTurns.{all_written, grown_puts, none_pushed, read_same, seen_alone, settles_ended}
 use Rattle.bt_tool.proofs.lemmas.running.members.SeenLemmas.{cuts_more, if_known, items_begin, items_first, seen_items}
 
 begins_more : {A : Type 0} (old : Good A) (now : Option (Good A)) (past : List (Member A)) (m : Member A) → ComeFirst (Some old) past now → IfSome now (λ good. (rest : List (Member A)) × (good.members ≡ m ∷ rest))
@@ -35,7 +35,7 @@ begins_more old None past m come first = absurd come
 begins_more old (Some now) past m come first = (first.0, come.0 ∙ ap (λ l. past ++ l) first.1 ∙ sym (append_assoc past (m ∷ []) first.0))
 
 -- the members that were consumed and the one ahead come first
-seen_begins : {S A State : Type 0} (left : S → Option (List ℕ)) (old : Option (Good A)) (now : MemberReader S A State) (past : List (Member A)) (o : Option (Member A)) → ahead_in now ≡ o
+pub seen_begins : {S A State : Type 0} (left : S → Option (List ℕ)) (old : Option (Good A)) (now : MemberReader S A State) (past : List (Member A)) (o : Option (Member A)) → ahead_in now ≡ o
     → ComeFirst old past (good_coming left now)
     → (IsSome old → (m : Member A) → ahead_in now ≡ Some m → IfSome (good_coming left now) (λ good. (rest : List (Member A)) × (good.members ≡ m ∷ rest)))
     → IfSome old (λ good. (rest : List (Member A)) × (good.members ≡ (past ++ option_to_list o) ++ rest))
@@ -59,7 +59,7 @@ takes_none {S} {A} {State} device old past now p = record {
 
 module _ {A B X Y U V : Type 0} (join : JoinDef X Y) (pair : Pair A B X Y U V) (out : Output) where
   abbrev Ends : Option FaultValue → MemberReader A X U → MemberReader B Y V → Output → Type 0
-  Ends = Finishes join pair out
+  Ends = PairEnds join pair out
 
   abbrev Near : MemberReader A X U → MemberReader B Y V → Output → Type 0
   Near = StaysNear join pair out
@@ -81,14 +81,14 @@ module _ {A B X Y U V : Type 0} (join : JoinDef X Y) (pair : Pair A B X Y U V) (
   wrote_by : (past : List (Member Y)) (now new : MemberReader B Y V) → Passes pair.source_b pair.second past now
       → (IsSome new.fault → All (λ m. m.line ≤ lines_given new.below) (past ++ option_to_list (ahead_in now)))
       → HandsSecond new → (first : MemberReader A X U) → HandsFirst first → (written : List X) (bytes : List ℕ) (ended : Bool) (grown : Output)
-      → (IsKnown pair → Settles join written bytes (member_items past ++ option_to_list (item_ahead now)) ended)
+      → (IsKnown pair → SettlesPair join written bytes (member_items past ++ option_to_list (item_ahead now)) ended)
       → BeginsWith written → (ended ≡ true → AreAll pair.source_b pair.second past × (ahead_in now ≡ None)) → Grows out.took grown.took
       → (given : List X) → BeginsWith given → (IsKnown pair → join.Fits given past)
       → Wrote join pair out written bytes first new grown
   wrote_by past now new p low handed first first_bytes written bytes ended grown settles begins all grows given given_begin fits = record {
     seen = past ++ option_to_list (ahead_in now);
     ended = ended;
-    settles = λ known. subst (λ (l : List Y). Settles join written bytes l ended) (sym (seen_items past (ahead_in now))) (settles known);
+    settles = λ known. subst (λ (l : List Y). SettlesPair join written bytes l ended) (sym (seen_items past (ahead_in now))) (settles known);
     first_begins = begins;
     second_begins = seen_begins pair.source_b.left (good_coming pair.source_b.left pair.second) now past (ahead_in now) refl p.come p.ahead;
     low = low;
@@ -110,17 +110,25 @@ module _ {A B X Y U V : Type 0} (join : JoinDef X Y) (pair : Pair A B X Y U V) (
   none_low : {P : Type 0} (new : MemberReader B Y V) → new.fault ≡ None → IsSome new.fault → P
   none_low new none some = absurd (false≢true (ap is_some (sym none) ∙ some))
 
-  module _ (stage : Stage X Y) (past_first : List (Member X)) (past_second : List (Member Y)) (first : MemberReader A X U) (second : MemberReader B Y V) (grown : Output) (s : Comes join pair out stage past_first past_second first second grown) where
-    reached_items : (given_first : List (Member X)) → given stage ≡ member_items given_first → join.Asks (given stage) stage.taken → join.Asks (member_items given_first) (member_items past_second)
-    reached_items given_first e asks = subst (λ (l : List X). join.Asks l (member_items past_second)) e (subst (λ (l : List Y). join.Asks (given stage) l) s.all_taken asks)
+  module _ (stage : PairStage X Y) (past_first : List (Member X)) (past_second : List (Member Y)) (first : MemberReader A X U) (second : MemberReader B Y V) (grown : Output) (s : Comes join pair out stage past_first past_second first second grown) where
+    reached_items : (given_first : List (Member X)) → firsts_given stage ≡ member_items given_first → join.Asks (firsts_given stage) stage.taken
+        → join.Asks (member_items given_first) (member_items past_second)
+    reached_items given_first e asks = subst (λ (l : List X). join.Asks l (member_items past_second)) e (subst (λ (l : List Y). join.Asks (firsts_given stage) l) s.all_taken asks)
 
     -- of the second input was taken what the first needs
-    pub asks_now : join.Asks (given stage) stage.taken → AsksFor join pair out past_first second
+    pub asks_now : join.Asks (firsts_given stage) stage.taken → AsksFor join pair out past_first second
     asks_now asks = record {
       past = past_second;
       reached = reached_items past_first s.all_given asks;
       near = λ known. (read_here pair.source_b pair.second past_second second s.second_passes).to;
     }
+
+    -- what was given and taken with more members
+    given_with : (more : List (Member X)) → firsts_given stage ++ member_items more ≡ member_items (past_first ++ more)
+    given_with more = ap (λ l. l ++ member_items more) s.all_given ∙ sym (map-append (λ m. m.item) past_first more)
+
+    taken_with : (more : List (Member Y)) → stage.taken ++ member_items more ≡ member_items (past_second ++ more)
+    taken_with more = ap (λ l. l ++ member_items more) s.all_taken ∙ sym (map-append (λ m. m.item) past_second more)
 
     read_to_same : (past : List (Member Y)) (second_now : MemberReader B Y V) → source_of second_now.below ≡ source_of second.below → IsReadTo pair.source_b pair.second past second
         → IsReadTo pair.source_b pair.second past second_now
@@ -134,14 +142,14 @@ module _ {A B X Y U V : Type 0} (join : JoinDef X Y) (pair : Pair A B X Y U V) (
     asks_same past second_now same asks = record { past = asks.past; reached = asks.reached; near = λ known. read_to_same asks.past second_now same (asks.near known) }
 
     -- it still is after more members were taken of both
-    pub asks_then : join.Asks (given stage) stage.taken → ((more : List X) → join.Asks (given stage) stage.taken → join.Asks (given stage ++ more) stage.taken)
+    pub asks_then : join.Asks (firsts_given stage) stage.taken → ((more : List X) → join.Asks (firsts_given stage) stage.taken → join.Asks (firsts_given stage ++ more) stage.taken)
         → (more_first : List (Member X)) (more_second : List (Member Y)) (second_now : MemberReader B Y V) → TakesFurther pair.source_b pair.second past_second more_second second second_now
         → AsksFor join pair out (past_first ++ more_first) second_now
     asks_then asks wider more_first more_second second_now takes = record {
       past = past_second;
       reached =
-          subst (λ (l : List X). join.Asks l (member_items past_second)) (ap (λ l. l ++ member_items more_first) s.all_given ∙ sym (map-append (λ m. m.item) past_first more_first))
-          (subst (λ (l : List Y). join.Asks (given stage ++ member_items more_first) l) s.all_taken (wider (member_items more_first) asks));
+          subst (λ (l : List X). join.Asks l (member_items past_second)) (given_with more_first)
+          (subst (λ (l : List Y). join.Asks (firsts_given stage ++ member_items more_first) l) s.all_taken (wider (member_items more_first) asks));
       near = λ known. read_to_same past_second second_now takes.source (read_here pair.source_b pair.second past_second second s.second_passes).to;
     }
 
@@ -151,8 +159,8 @@ module _ {A B X Y U V : Type 0} (join : JoinDef X Y) (pair : Pair A B X Y U V) (
     first_serves : Serves pair.source_a.has_failed pair.first first
     first_serves = record { served = s.first_passes.served; within = s.first_passes.kept.within s.first_passes.clear }
 
-    settled_now : IsKnown pair → Settles join stage.written s.bytes (member_items past_second ++ option_to_list (item_ahead second)) stage.second_ended
-    settled_now known = subst (λ (l : List Y). Settles join stage.written s.bytes (l ++ option_to_list (item_ahead second)) stage.second_ended) s.all_taken (s.settles known)
+    settled_now : IsKnown pair → SettlesPair join stage.written s.bytes (member_items past_second ++ option_to_list (item_ahead second)) stage.second_ended
+    settled_now known = subst (λ (l : List Y). SettlesPair join stage.written s.bytes (l ++ option_to_list (item_ahead second)) stage.second_ended) s.all_taken (s.settles known)
 
     came_first : IfSome (good_coming pair.source_a.left pair.first) (λ good. (rest : List (Member X)) × (good.members ≡ past_first ++ rest))
     came_first = begins_with (good_coming pair.source_a.left pair.first) (good_coming pair.source_a.left first) past_first s.first_passes.come
@@ -161,8 +169,8 @@ module _ {A B X Y U V : Type 0} (join : JoinDef X Y) (pair : Pair A B X Y U V) (
     begins_now = begins_items past_first stage.written (option_to_list stage.waiting) (sym s.all_given) came_first
 
     -- the good members of the first input begin with those that were given
-    given_now : BeginsWith (given stage)
-    given_now = begins_items past_first (given stage) [] (sym s.all_given ∙ sym (append-nil (given stage))) came_first
+    given_now : BeginsWith (firsts_given stage)
+    given_now = begins_items past_first (firsts_given stage) [] (sym s.all_given ∙ sym (append-nil (firsts_given stage))) came_first
 
     none_buffered : second.buffered ≡ [] → ahead_in second ≡ None
     none_buffered none = ap (λ (l : List Y). first_from (suc (lines_given second.below)) l) none
@@ -170,16 +178,21 @@ module _ {A B X Y U V : Type 0} (join : JoinDef X Y) (pair : Pair A B X Y U V) (
     ended_now : stage.second_ended ≡ true → AreAll pair.source_b pair.second past_second × (ahead_in second ≡ None)
     ended_now e = let all = s.second_all e in (all.0, none_buffered all.1)
 
-    module _ (asks : stage.first_ended ≡ false → AsksFor join pair out past_first second) (fits : IsKnown pair → join.Fits (given stage) past_second) where
+    ended_with : (more : List (Member Y)) (second_now : MemberReader B Y V) → (stage.second_ended ≡ true → (more ≡ []) × (second_now.buffered ≡ []))
+        → stage.second_ended ≡ true → AreAll pair.source_b pair.second (past_second ++ more) × (ahead_in second_now ≡ None)
+    ended_with more second_now ended e =
+        let none = ended e in (
+          subst (AreAll pair.source_b pair.second) (sym (append-nil past_second) ∙ ap (λ (l : List (Member Y)). past_second ++ l) (sym none.0)) (s.second_all e).0,
+          ap (λ (l : List Y). first_from (suc (lines_given second_now.below)) l) none.1,
+        )
+
+    module _ (asks : stage.first_ended ≡ false → AsksFor join pair out past_first second) (fits : IsKnown pair → join.Fits (firsts_given stage) past_second) where
       -- the bytes so far, and what was read of the inputs later
       wrote_later : (first_now : MemberReader A X U) → HandsFirst first_now → (second_now : MemberReader B Y V)
           → (IsSome second_now.fault → All (λ m. m.line ≤ lines_given second_now.below) (past_second ++ option_to_list (ahead_in second))) → HandsSecond second_now
           → Wrote join pair out stage.written s.bytes first_now second_now grown
       wrote_later first_now handed second_now low handed_second =
-          wrote_by past_second second second_now s.second_passes low handed_second first_now handed stage.written s.bytes stage.second_ended grown settled_now begins_now ended_now s.grows (given stage) given_now fits
-
-      wrote_now : Wrote join pair out stage.written s.bytes first second grown
-      wrote_now = wrote_later first s.first_passes.bytes second (none_low second s.second_passes.going) s.second_passes.bytes
+          wrote_by past_second second second_now s.second_passes low handed_second first_now handed stage.written s.bytes stage.second_ended grown settled_now begins_now ended_now s.grows (firsts_given stage) given_now fits
 
       -- the sink took all but a block of the bytes so far
       near_by : (first_now : MemberReader A X U) (second_now : MemberReader B Y V) (now : Output) → Wrote join pair out stage.written s.bytes first_now second_now grown → GoesOn grown now
@@ -208,25 +221,38 @@ module _ {A B X Y U V : Type 0} (join : JoinDef X Y) (pair : Pair A B X Y U V) (
       no_more : GoesOn grown grown
       no_more = goes_same grown
 
-      near_now : Near first second grown
-      near_now = near_by first second grown wrote_now no_more refl beside_now
+      -- it ends with the bytes so far
+      ends_so : (fault : Option FaultValue) (second_now : MemberReader B Y V) → (IsSome second_now.fault → All (λ m. m.line ≤ lines_given second_now.below) (past_second ++ option_to_list (ahead_in second)))
+          → HandsSecond second_now → (stage.first_ended ≡ true) ⊎ AsksFor join pair out past_first second_now
+          → Why join pair out stage.written s.bytes (firsts_given stage) stage.second_ended first second_now fault grown → Ends fault first second_now grown
+      unfolding wrote_later wrote_by near_by
+      ends_so fault second_now low handed beside why =
+          let wrote = wrote_later first s.first_passes.bytes second_now low handed in
+          record {
+            written = stage.written;
+            bytes = s.bytes;
+            wrote = wrote;
+            why = why;
+            near = near_by first second_now grown wrote no_more refl beside;
+            exact = λ stops. s.puts;
+          }
+
+      ends_here : (fault : Option FaultValue) → Why join pair out stage.written s.bytes (firsts_given stage) stage.second_ended first second fault grown → Ends fault first second grown
+      ends_here fault why = ends_so fault second (none_low second s.second_passes.going) s.second_passes.bytes beside_now why
 
       -- more members of both were taken, then the first input stopped: all members of it were written
       module _ (going : stage.first_ended ≡ false) (more_first : List (Member X)) (more_second : List (Member Y)) (second_now : MemberReader B Y V)
           (takes_second : TakesFurther pair.source_b pair.second past_second more_second second second_now) (ended : stage.second_ended ≡ true → (more_second ≡ []) × (second_now.buffered ≡ [])) (more : List ℕ)
-          (settles : IsKnown pair → Settles join (given stage ++ member_items more_first) (s.bytes ++ more) ((stage.taken ++ member_items more_second) ++ option_to_list (item_ahead second_now)) stage.second_ended)
-          (fits_now : IsKnown pair → join.Fits (given stage ++ member_items more_first) (past_second ++ more_second)) (asks_first : AsksFor join pair out (past_first ++ more_first) second_now)
+          (settles : IsKnown pair → SettlesPair join (firsts_given stage ++ member_items more_first) (s.bytes ++ more) ((stage.taken ++ member_items more_second) ++ option_to_list (item_ahead second_now)) stage.second_ended)
+          (fits_now : IsKnown pair → join.Fits (firsts_given stage ++ member_items more_first) (past_second ++ more_second)) (asks_first : AsksFor join pair out (past_first ++ more_first) second_now)
           (fault : FaultValue) (first_now : MemberReader A X U) (stops : StopsAfter pair.source_a pair.first join.first_kinds (past_first ++ more_first) fault first_now)
           (read : IsReadFor pair.source_a pair.first (past_first ++ more_first) (past_first ++ more_first) first_now)
           (now : Output) (adds : Grown grown more now) where
         abbrev written : List X
-        written = given stage ++ member_items more_first
+        written = firsts_given stage ++ member_items more_first
 
         all_written_now : written ≡ member_items (past_first ++ more_first)
-        all_written_now = ap (λ l. l ++ member_items more_first) s.all_given ∙ sym (map-append (λ m. m.item) past_first more_first)
-
-        taken_now : stage.taken ++ member_items more_second ≡ member_items (past_second ++ more_second)
-        taken_now = ap (λ l. l ++ member_items more_second) s.all_taken ∙ sym (map-append (λ m. m.item) past_second more_second)
+        all_written_now = given_with more_first
 
         serves_now : Serves pair.source_b.has_failed pair.second second_now
         serves_now = record { served = takes_second.passes.served; within = takes_second.passes.kept.within takes_second.passes.clear }
@@ -240,23 +266,17 @@ module _ {A B X Y U V : Type 0} (join : JoinDef X Y) (pair : Pair A B X Y U V) (
         wrote_first : Wrote join pair out written (s.bytes ++ more) first_now second_now now
         wrote_first =
             wrote_by (past_second ++ more_second) second_now second_now takes_second.passes (none_low second_now takes_second.passes.going) takes_second.passes.bytes first_now stops.bytes written (s.bytes ++ more) stage.second_ended now
-            (λ known. subst (λ (l : List Y). Settles join written (s.bytes ++ more) (l ++ option_to_list (item_ahead second_now)) stage.second_ended) taken_now (settles known))
+            (λ known. subst (λ (l : List Y). SettlesPair join written (s.bytes ++ more) (l ++ option_to_list (item_ahead second_now)) stage.second_ended) (taken_with more_second) (settles known))
             (begins_items (past_first ++ more_first) written [] (sym all_written_now ∙ sym (append-nil written)) read.begins)
-            (λ e. let none = ended e in (
-              subst (AreAll pair.source_b pair.second) (sym (append-nil past_second) ∙ ap (λ (l : List (Member Y)). past_second ++ l) (sym none.0)) (s.second_all e).0,
-              ap (λ (l : List Y). first_from (suc (lines_given second_now.below)) l) none.1,
-            ))
+            (ended_with more_second second_now ended)
             grows_now written (begins_items (past_first ++ more_first) written [] (sym all_written_now ∙ sym (append-nil written)) read.begins) fits_now
 
         stops_why : Why join pair out written (s.bytes ++ more) written stage.second_ended first_now second_now (Some fault) now
         stops_why =
             let works = works_both out grown now s.works (grown_works grown now more adds) in
             elim stops.cause [
-              | inl wrong ↦ inl (inl (fault, refl, record { past = past_first ++ more_first; all = all_written_now; all_given = all_written_now; cause = inl wrong; serves = serves_now }), puts_now, works)
-              | inr other ↦ elim other [
-                | inl unread ↦ inl (inl (fault, refl, record { past = past_first ++ more_first; all = all_written_now; all_given = all_written_now; cause = inr unread; serves = serves_now }), puts_now, works)
-                | inr ran ↦ inr (inl (ap Some ran.is, puts_now))
-              ]
+              | inl fails ↦ inl (inl (fault, refl, record { past = past_first ++ more_first; all = all_written_now; all_given = all_written_now; cause = fails; serves = serves_now }), puts_now, works)
+              | inr ran ↦ inr (inl (ap Some ran.is, puts_now))
             ]
 
         pub first_fails : Ends (Some fault) first_now second_now now
@@ -289,54 +309,43 @@ module _ {A B X Y U V : Type 0} (join : JoinDef X Y) (pair : Pair A B X Y U V) (
           let same : past_first ≡ past_first ++ [] = sym (append-nil past_first) in
           let stops = passes_stop pair.source_a pair.first past_first first s.first_passes join.first_kinds wrong first_now fault stopped in
           let read = read_at_stop pair.source_a pair.first past_first first s.first_passes first_now fault stopped in
-          let alone : given stage ++ [] ≡ stage.written = append-nil (given stage) ∙ ap (λ (o : Option X). stage.written ++ option_to_list o) none ∙ append-nil stage.written in
+          let alone : firsts_given stage ++ [] ≡ stage.written = append-nil (firsts_given stage) ∙ ap (λ (o : Option X). stage.written ++ option_to_list o) none ∙ append-nil stage.written in
           let bytes : s.bytes ++ [] ≡ s.bytes = append-nil s.bytes in
           let taken : stage.taken ++ [] ≡ stage.taken = append-nil stage.taken in
           first_fails going [] [] second (takes_none pair.source_b pair.second past_second second s.second_passes) (λ e. (refl, (s.second_all e).1)) []
           (λ known. rw (alone, bytes, taken) (s.settles known))
-          (λ known. subst (λ (l : List X). join.Fits l (past_second ++ [])) (sym (append-nil (given stage))) (subst (λ (l : List (Member Y)). join.Fits (given stage) l) (sym (append-nil past_second)) (fits known)))
+          (λ known. subst (λ (l : List X). join.Fits l (past_second ++ [])) (sym (append-nil (firsts_given stage))) (subst (λ (l : List (Member Y)). join.Fits (firsts_given stage) l) (sym (append-nil past_second)) (fits known)))
           (subst (λ (l : List (Member X)). AsksFor join pair out l second) same (asks going)) fault first_now
           (subst (λ (l : List (Member X)). StopsAfter pair.source_a pair.first join.first_kinds l fault first_now) same stops)
           (subst (λ (l : List (Member X)). IsReadFor pair.source_a pair.first l l first_now) same read) grown (grown_none grown)
 
       -- memory ran out
       pub lacks_memory : (fault : FaultValue) → fault ≡ no_memory → Ends (Some fault) first second grown
-      unfolding near_by near_now
-      lacks_memory fault is = record {
-        written = stage.written;
-        bytes = s.bytes;
-        wrote = wrote_now;
-        why = inr (inl (ap Some is, s.puts));
-        near = near_now;
-        exact = λ stops. s.puts;
-      }
+      lacks_memory fault is = ends_here (Some fault) (inr (inl (ap Some is, s.puts)))
 
       -- more members of both were taken, and some lines that are settled then weren't all written
       pub fails_to_write : (more_first : List (Member X)) (more_second : List (Member Y)) (first_now : MemberReader A X U) (second_now : MemberReader B Y V)
           → TakesFurther pair.source_a pair.first past_first more_first first first_now
           → TakesFurther pair.source_b pair.second past_second more_second second second_now
-          → (written rest : List X) → written ++ rest ≡ given stage ++ member_items more_first
-          → (IsKnown pair → join.Fits (given stage ++ member_items more_first) (past_second ++ more_second))
+          → (written rest : List X) → written ++ rest ≡ firsts_given stage ++ member_items more_first
+          → (IsKnown pair → join.Fits (firsts_given stage ++ member_items more_first) (past_second ++ more_second))
           → (stage.second_ended ≡ true → (more_second ≡ []) × (second_now.buffered ≡ []))
-          → (puts more : List ℕ) → (IsKnown pair → Settles join written (s.bytes ++ (puts ++ more)) ((stage.taken ++ member_items more_second) ++ option_to_list (item_ahead second_now)) stage.second_ended)
+          → (puts more : List ℕ) → (IsKnown pair → SettlesPair join written (s.bytes ++ (puts ++ more)) ((stage.taken ++ member_items more_second) ++ option_to_list (item_ahead second_now)) stage.second_ended)
           → (through now : Output) (fault : FaultValue) → Grown grown puts through → FailsToAdd through more fault now → Ends (Some fault) first_now second_now now
       fails_to_write more_first more_second first_now second_now takes takes_second written rest parts fits_now ended puts more settles through now fault adds fails =
-          let all : given stage ++ member_items more_first ≡ member_items (past_first ++ more_first) = ap (λ l. l ++ member_items more_first) s.all_given ∙ sym (map-append (λ m. m.item) past_first more_first) in
-          let taken : stage.taken ++ member_items more_second ≡ member_items (past_second ++ more_second) = ap (λ l. l ++ member_items more_second) s.all_taken ∙ sym (map-append (λ m. m.item) past_second more_second) in
+          let all = given_with more_first in
           let begun = begins_with (good_coming pair.source_a.left pair.first) (good_coming pair.source_a.left first_now) (past_first ++ more_first) takes.passes.come in
           let grows = grows_both out.took through.took now.took (grows_both out.took grown.took through.took s.grows adds.grows) fails.puts.grows in
           record {
             written = written;
             bytes = s.bytes ++ (puts ++ more);
             wrote = wrote_by (past_second ++ more_second) second_now second_now takes_second.passes (none_low second_now takes_second.passes.going) takes_second.passes.bytes first_now takes.passes.bytes written (s.bytes ++ (puts ++ more)) stage.second_ended now
-                (λ known. subst (λ (l : List Y). Settles join written (s.bytes ++ (puts ++ more)) (l ++ option_to_list (item_ahead second_now)) stage.second_ended) taken (settles known))
+                (λ known. subst (λ (l : List Y). SettlesPair join written (s.bytes ++ (puts ++ more)) (l ++ option_to_list (item_ahead second_now)) stage.second_ended) (taken_with more_second) (settles known))
                 (begins_items (past_first ++ more_first) written rest (sym all ∙ sym parts) begun)
-                (λ e. let none = ended e in (
-                  subst (AreAll pair.source_b pair.second) (sym (append-nil past_second) ∙ ap (λ (l : List (Member Y)). past_second ++ l) (sym none.0)) (s.second_all e).0,
-                  ap (λ (l : List Y). first_from (suc (lines_given second_now.below)) l) none.1,
-                ))
-                grows (given stage ++ member_items more_first)
-                (begins_items (past_first ++ more_first) (given stage ++ member_items more_first) [] (sym all ∙ sym (append-nil (given stage ++ member_items more_first))) begun) fits_now;
+                (ended_with more_second second_now ended)
+                grows (firsts_given stage ++ member_items more_first)
+                (begins_items (past_first ++ more_first) (firsts_given stage ++ member_items more_first) [] (sym all ∙ sym (append-nil (firsts_given stage ++ member_items more_first))) begun)
+                fits_now;
             why = inr (inr (
               ap Some fails.puts.is,
               subst (λ (l : List ℕ). CutsLines out l now) (append_assoc s.bytes puts more) (cuts_more out through now (s.bytes ++ puts) more fault (grown_puts out grown through s.bytes puts s.puts adds) fails),
@@ -347,14 +356,14 @@ module _ {A B X Y U V : Type 0} (join : JoinDef X Y) (pair : Pair A B X Y U V) (
           }
 
       -- the same of the member that waits
-      pub fails_waiting : (a : X) → stage.waiting ≡ Some a → (more : List ℕ) → (IsKnown pair → Settles join (stage.written ++ a ∷ []) (s.bytes ++ more) (stage.taken ++ option_to_list (item_ahead second)) stage.second_ended)
+      pub fails_waiting : (a : X) → stage.waiting ≡ Some a → (more : List ℕ) → (IsKnown pair → SettlesPair join (stage.written ++ a ∷ []) (s.bytes ++ more) (stage.taken ++ option_to_list (item_ahead second)) stage.second_ended)
           → (fault : FaultValue) (now : Output) → FailsToAdd grown more fault now → Ends (Some fault) first second now
       fails_waiting a waits more settles fault now fails =
           fails_to_write [] [] first second (takes_none pair.source_a pair.first past_first first s.first_passes) (takes_none pair.source_b pair.second past_second second s.second_passes)
           (stage.written ++ a ∷ []) [] (ap (λ l. l ++ []) (ap (λ (o : Option X). stage.written ++ option_to_list o) (sym waits)))
-          (λ known. subst (λ (l : List X). join.Fits l (past_second ++ [])) (sym (append-nil (given stage))) (subst (λ (l : List (Member Y)). join.Fits (given stage) l) (sym (append-nil past_second)) (fits known)))
+          (λ known. subst (λ (l : List X). join.Fits l (past_second ++ [])) (sym (append-nil (firsts_given stage))) (subst (λ (l : List (Member Y)). join.Fits (firsts_given stage) l) (sym (append-nil past_second)) (fits known)))
           (λ e. (refl, (s.second_all e).1)) [] more
-          (λ known. subst (λ (l : List Y). Settles join (stage.written ++ a ∷ []) (s.bytes ++ more) (l ++ option_to_list (item_ahead second)) stage.second_ended) (sym (append-nil stage.taken)) (settles known))
+          (λ known. subst (λ (l : List Y). SettlesPair join (stage.written ++ a ∷ []) (s.bytes ++ more) (l ++ option_to_list (item_ahead second)) stage.second_ended) (sym (append-nil stage.taken)) (settles known))
           grown now fault (grown_none grown) fails
 
       -- while one of the first waits
@@ -363,11 +372,8 @@ module _ {A B X Y U V : Type 0} (join : JoinDef X Y) (pair : Pair A B X Y U V) (
         begins_before =
             items_begin (good_coming pair.source_a.left pair.first) past_first stage.written (a ∷ []) (sym s.all_given ∙ ap (λ (o : Option X). stage.written ++ option_to_list o) waits) came_first
 
-        with_waiting : given stage ≡ stage.written ++ a ∷ []
+        with_waiting : firsts_given stage ≡ stage.written ++ a ∷ []
         with_waiting = ap (λ (o : Option X). stage.written ++ option_to_list o) waits
-
-        goes_first : stage.first_ended ≡ false
-        goes_first = first_waits join pair out stage past_first past_second first second grown s a waits
 
         -- with the member ahead of the second too many would be held for the one that waits
         pub passes_limit : (m : Member Y) → ahead_in second ≡ Some m
@@ -375,53 +381,39 @@ module _ {A B X Y U V : Type 0} (join : JoinDef X Y) (pair : Pair A B X Y U V) (
             → (IsKnown pair → (later : List X) (more : List (Member Y)) (other : Option FaultValue)
             → join.limited (stage.written ++ a ∷ later) (record { members = (past_second ++ m ∷ []) ++ more; fault = other }) ≡ record { members = past_second ++ m ∷ []; fault = Some fault })
             → Ends (Some fault) first second grown
-        unfolding near_by near_now
-        passes_limit m ahead kind of_kind fault is undecided cuts = record {
-          written = stage.written;
-          bytes = s.bytes;
-          wrote = wrote_now;
-          why = inl (
-            inr (inr (inr (
-              fault,
-              refl,
-              record {
-                past = past_second;
-                m = m;
-                waiting = a;
-                begins = begins_before;
-                comes = subst (λ (o : Option (Member Y)). IfSome (good_coming pair.source_b.left pair.second) (λ good. (rest : List (Member Y)) × (good.members ≡ (past_second ++ option_to_list o) ++ rest))) ahead
-                    (seen_begins pair.source_b.left (good_coming pair.source_b.left pair.second) second past_second (ahead_in second) refl s.second_passes.come s.second_passes.ahead);
-                undecided = undecided;
-                cuts = cuts;
-                kind = kind;
-                is = is;
-                of_kind = of_kind;
-                serves = first_serves;
-                serves_second = second_serves;
-              },
-            ))),
-            s.puts,
-            s.works,
-          );
-          near = near_now;
-          exact = λ stops. s.puts;
-        }
+        passes_limit m ahead kind of_kind fault is undecided cuts =
+            ends_here (Some fault) (inl (
+              inr (inr (inr (
+                fault,
+                refl,
+                record {
+                  past = past_second;
+                  m = m;
+                  waiting = a;
+                  begins = begins_before;
+                  comes = subst (λ (o : Option (Member Y)). IfSome (good_coming pair.source_b.left pair.second) (λ good. (rest : List (Member Y)) × (good.members ≡ (past_second ++ option_to_list o) ++ rest))) ahead
+                      (seen_begins pair.source_b.left (good_coming pair.source_b.left pair.second) second past_second (ahead_in second) refl s.second_passes.come s.second_passes.ahead);
+                  undecided = undecided;
+                  cuts = cuts;
+                  kind = kind;
+                  is = is;
+                  of_kind = of_kind;
+                  serves = first_serves;
+                  serves_second = second_serves;
+                },
+              ))),
+              s.puts,
+              s.works,
+            ))
 
         -- the second input couldn't give a member
         module _ (wrong : (state : V) (line : TextLine) (kind : Kind) → pair.second.format.says state line ≡ Err kind → join.second_kinds kind)
-            (reached : join.Asks (given stage) stage.taken) (goes : stage.second_ended ≡ false) (opens : IsKnown pair → second.buffered ≡ [] → join.decided a stage.taken ≡ false)
+            (reached : join.Asks (firsts_given stage) stage.taken) (goes : stage.second_ended ≡ false) (opens : IsKnown pair → second.buffered ≡ [] → join.decided a stage.taken ≡ false)
             (fault : FaultValue) (second_now : MemberReader B Y V) (stopped : IsStopped pair.source_b second fault second_now) where
           low_stopped : IsSome second_now.fault → All (λ m. m.line ≤ lines_given second_now.below) (past_second ++ option_to_list (ahead_in second))
           low_stopped some = seen_low past_second second (lines_given second_now.below) (none_buffered stopped.answers.was_none) (up_to (lines_given second.below) (lines_given second_now.below) past_second stopped.answers.rises s.second_passes.behind)
 
-          near_stopped : HandsSecond second_now → Near first second_now grown
-          near_stopped handed = near_by first second_now grown (wrote_later first s.first_passes.bytes second_now low_stopped handed) no_more refl (inr (record {
-            past = past_second;
-            reached = reached_items past_first s.all_given reached;
-            near = λ known. (read_at_stop pair.source_b pair.second past_second second s.second_passes second_now fault stopped).to;
-          }))
-
-          second_why : SecondFails join pair out stage.second_ended past_second second_now fault → Why join pair out stage.written s.bytes (given stage) stage.second_ended first second_now (Some fault) grown
+          second_why : SecondFails join pair out stage.second_ended past_second second_now fault → Why join pair out stage.written s.bytes (firsts_given stage) stage.second_ended first second_now (Some fault) grown
           second_why fails =
               inl (
                 inr (inl (
@@ -441,31 +433,24 @@ module _ {A B X Y U V : Type 0} (join : JoinDef X Y) (pair : Pair A B X Y U V) (
                 s.works,
               )
 
-          second_stops : StopsAfter pair.source_b pair.second join.second_kinds past_second fault second_now → Why join pair out stage.written s.bytes (given stage) stage.second_ended first second_now (Some fault) grown
+          second_stops : StopsAfter pair.source_b pair.second join.second_kinds past_second fault second_now → Why join pair out stage.written s.bytes (firsts_given stage) stage.second_ended first second_now (Some fault) grown
           second_stops stops =
               elim stops.cause [
-                | inl wrong ↦ second_why (record { cause = inl wrong; before_end = λ e. absurd (false≢true (sym goes ∙ e)) })
-                | inr other ↦ elim other [
-                  | inl unread ↦ second_why (record { cause = inr unread; before_end = λ e. absurd (false≢true (sym goes ∙ e)) })
-                  | inr ran ↦ inr (inl (ap Some ran.is, s.puts))
-                ]
+                | inl fails ↦ second_why (record { cause = fails; before_end = λ e. absurd (false≢true (sym goes ∙ e)) })
+                | inr ran ↦ inr (inl (ap Some ran.is, s.puts))
               ]
 
           pub stops_second : Ends (Some fault) first second_now grown
-          unfolding wrote_later wrote_by near_stopped near_by
           stops_second =
               let stops = passes_stop pair.source_b pair.second past_second second s.second_passes join.second_kinds wrong second_now fault stopped in
-              record {
-                written = stage.written;
-                bytes = s.bytes;
-                wrote = wrote_later first s.first_passes.bytes second_now low_stopped stops.bytes;
-                why = second_stops stops;
-                near = near_stopped stops.bytes;
-                exact = λ stops. s.puts;
-              }
+              ends_so (Some fault) second_now low_stopped stops.bytes (inr (record {
+                past = past_second;
+                reached = reached_items past_first s.all_given reached;
+                near = λ known. (read_at_stop pair.source_b pair.second past_second second s.second_passes second_now fault stopped).to;
+              })) (second_stops stops)
 
         -- at its end the waiting member wasn't written
-        pub fails_at_end : join.Asks (given stage) stage.taken → stage.second_ended ≡ false
+        pub fails_at_end : join.Asks (firsts_given stage) stage.taken → stage.second_ended ≡ false
             → (fault : FaultValue) (second_now : MemberReader B Y V) (now : Output) → IsOver pair.source_b second second_now
             → FailsToAdd grown (join.bytes a stage.taken) fault now → Ends (Some fault) first second_now now
         fails_at_end reached goes fault second_now now over fails =
@@ -479,7 +464,7 @@ module _ {A B X Y U V : Type 0} (join : JoinDef X Y) (pair : Pair A B X Y U V) (
                   (λ known. rw seen (settles_end join stage.written s.bytes stage.taken false a (settles_ended join pair out stage past_first past_second first second grown s goes second_now over known)))
                   (begins_items past_first (stage.written ++ a ∷ []) [] (sym s.all_given ∙ with_waiting ∙ sym (append-nil (stage.written ++ a ∷ []))) came_first)
                   (λ e. (passes_all pair.source_b pair.second past_second second s.second_passes second_now over, ap (λ (l : List Y). first_from (suc (lines_given second_now.below)) l) over.ends.none_buffered))
-                  (grows_both out.took grown.took now.took s.grows fails.puts.grows) (given stage) given_now fits;
+                  (grows_both out.took grown.took now.took s.grows fails.puts.grows) (firsts_given stage) given_now fits;
               why = inr (inr (ap Some fails.puts.is, cuts_more out grown now s.bytes more fault s.puts fails));
               near = near_by first second_now now (wrote_later first s.first_passes.bytes second_now (none_low second_now p.going) p.bytes) (goes_failed grown now fails.puts.grows fails.puts.failed) refl (inr (record {
                 past = past_second;
@@ -492,48 +477,29 @@ module _ {A B X Y U V : Type 0} (join : JoinDef X Y) (pair : Pair A B X Y U V) (
       -- if all of the first input is written
       module _ (done : stage.first_ended ≡ true) where
         module _ (second_now : MemberReader B Y V) (low : IsSome second_now.fault → All (λ m. m.line ≤ lines_given second_now.below) (past_second ++ option_to_list (ahead_in second))) (handed : HandsSecond second_now) where
-          near_rest : Near first second_now grown
-          near_rest = near_by first second_now grown (wrote_later first s.first_passes.bytes second_now low handed) no_more refl (inl done)
-
           -- the second was read on
           pub ends_rest : (past : List (Member Y)) (fault : Option FaultValue)
               → ((fault ≡ None) × AreAll pair.source_b pair.second past × Serves pair.source_b.has_failed pair.second second_now × (join.last stage.written past ≡ None))
               ⊎ (((other : FaultValue) × (fault ≡ Some other) × SecondFails join pair out stage.second_ended past second_now other × (join.last stage.written past ≡ None))
               ⊎ ((other : FaultValue) × (fault ≡ Some other) × LastTold join pair out stage.written second_now other))
               → Ends fault first second_now grown
-          unfolding wrote_later wrote_by near_rest near_by
           ends_rest past fault rest =
               let whole = s.first_all done in
-              record {
-                written = stage.written;
-                bytes = s.bytes;
-                wrote = wrote_later first s.first_passes.bytes second_now low handed;
-                why = inl (
-                  inr (inr (inl (record {
-                    past = past_first;
-                    past_second = past;
-                    all = all_written join pair out stage past_first past_second first second grown s whole.1;
-                    whole = whole.0;
-                    serves = first_serves;
-                    rest = rest;
-                  }))),
-                  s.puts,
-                  s.works,
-                );
-                near = near_rest;
-                exact = λ stops. s.puts;
-              }
+              ends_so fault second_now low handed (inl done) (inl (
+                inr (inr (inl (record {
+                  past = past_first;
+                  past_second = past;
+                  all = all_written join pair out stage past_first past_second first second grown s whole.1;
+                  whole = whole.0;
+                  serves = first_serves;
+                  rest = rest;
+                }))),
+                s.puts,
+                s.works,
+              ))
 
           runs_out : (fault : FaultValue) → fault ≡ no_memory → Ends (Some fault) first second_now grown
-          unfolding near_rest near_by
-          runs_out fault is = record {
-            written = stage.written;
-            bytes = s.bytes;
-            wrote = wrote_later first s.first_passes.bytes second_now low handed;
-            why = inr (inl (ap Some is, s.puts));
-            near = near_rest;
-            exact = λ stops. s.puts;
-          }
+          runs_out fault is = ends_so (Some fault) second_now low handed (inl done) (inr (inl (ap Some is, s.puts)))
 
         -- both inputs have ended
         pub ends_all : stage.second_ended ≡ true → join.last stage.written past_second ≡ None → Ends None first second grown
@@ -545,11 +511,8 @@ module _ {A B X Y U V : Type 0} (join : JoinDef X Y) (pair : Pair A B X Y U V) (
             → (stage.second_ended ≡ true → (input : Input) (line : ℕ) → fault ≡ read_failed input line → ⊥) → join.last stage.written past ≡ None → Ends (Some fault) first second_now grown
         stops_rest second_now low past fault stops before_end none =
             elim stops.cause [
-              | inl wrong ↦ ends_rest second_now low stops.bytes past (Some fault) (inr (inl (fault, refl, record { cause = inl wrong; before_end = before_end }, none)))
-              | inr other ↦ elim other [
-                | inl unread ↦ ends_rest second_now low stops.bytes past (Some fault) (inr (inl (fault, refl, record { cause = inr unread; before_end = before_end }, none)))
-                | inr ran ↦ runs_out second_now low stops.bytes fault ran.is
-              ]
+              | inl fails ↦ ends_rest second_now low stops.bytes past (Some fault) (inr (inl (fault, refl, record { cause = fails; before_end = before_end }, none)))
+              | inr ran ↦ runs_out second_now low stops.bytes fault ran.is
             ]
 
         -- after the last member of the first the second couldn't give one

@@ -3,23 +3,23 @@ use Rattle.std.proofs.Common.{◌≡◌, ℕ, suc, Bool, true, false, List, [], 
 use Rattle.std.specs.Prelude.{◌⊎◌, All, IfSome, option_map}
 use Rattle.std.proofs.KnownBytes.{Appends-nil}
 use Rattle.std.proofs.lemmas.Bool.{false≢true}
-use Rattle.std.proofs.lemmas.List.{map-append}
+use Rattle.std.proofs.lemmas.List.{append_cancel_left, map-append}
 use Rattle.bt_lines.specs.declared.device.Source.{Ghosts as Source}
 use Rattle.bt_lines.proofs.lemmas.writer.PuttingLemmas.{grown_works}
 use Rattle.bt_lines.proofs.lemmas.writer.OutputLemmas.{grows_both}
 use Rattle.bt_lines.specs.model.Lines.{bytes_in}
-use Rattle.bt_lines.specs.calls.Reader.{lines_given, lines_left, source_of}
+use Rattle.bt_lines.specs.calls.Reader.{end_told, lines_given, lines_left, source_of}
 use Rattle.bt_lines.specs.calls.Output.{Output, Grows, HoldsBlock, block_size}
 use Rattle.bt_lines.specs.calls.Putting.{Grown, WorksAsBefore}
 use Rattle.bt_bed.specs.model.input.Good.{Member}
 use Rattle.bt_bed.specs.calls.Reading.{MemberReader, first_from, good_coming, members_from}
 use Rattle.bt_tool.specs.inside.feed.Feeding.{PutsLines, member_items}
-use Rattle.bt_tool.specs.inside.pair.Pair.{JoinDef, Pair, Settles, item_ahead}
-use Rattle.bt_tool.specs.inside.pair.Progress.{Comes, Follows, Stage, TakesFurther, given}
+use Rattle.bt_tool.specs.inside.pair.Pair.{JoinDef, Pair, SettlesPair, item_ahead}
+use Rattle.bt_tool.specs.inside.pair.Progress.{Comes, Follows, PairStage, TakesFurther, firsts_given}
 use Rattle.bt_tool.specs.inside.pair.Endings.{HasNoMore, IsKnown}
 use Rattle.bt_tool.specs.inside.feed.Passed.{AreAll, HasTaken, IsFilled, IsOver, IsReadFor, Passes}
 use Rattle.bt_tool.proofs.lemmas.running.feed.FeedLemmas.{text_grows, works_both}
-use Rattle.bt_tool.proofs.lemmas.running.members.MemberLemmas.{ended_after_all, passes_all, passes_end, passes_fill, passes_take, read_before, read_here}
+use Rattle.bt_tool.proofs.lemmas.running.members.MemberLemmas.{ended_after_all, items_from, passes_all, passes_end, passes_fill, passes_take, read_before, read_here}
 use Rattle.bt_tool.proofs.lemmas.running.pair.PairSettles.{seen_by, settles_close, settles_end, settles_nothing}
 
 -- the output grew by bytes
@@ -40,11 +40,6 @@ push_front (z ∷ a) (w ∷ b) x y e =
     let rest : a ++ x ∷ [] ≡ b ++ y ∷ [] = cc in
     let same : a ≡ b = push_front a b x y rest in
     cc
-
--- the items of members that are on lines one after another
-pub items_from : {A : Type 0} (line : ℕ) (items : List A) → member_items (members_from line items) ≡ items
-items_from line [] = refl
-items_from line (x ∷ items) = ap (λ l. x ∷ l) (items_from (suc line) items)
 
 from_push : {A : Type 0} (line : ℕ) (items : List A) (x : A) → (m : Member A) × (members_from line (items ++ x ∷ []) ≡ members_from line items ++ m ∷ [])
 from_push line [] x = (record { line = line; item = x }, refl)
@@ -84,16 +79,16 @@ last_of {A} (x ∷ xs) =
       | inr some ↦ inr (x ∷ some.0, some.1, ap (λ (l : List A). x ∷ l) some.2)
     ]
 
-pub cancel_front : {A : Type 0} (front a b : List A) → front ++ a ≡ front ++ b → a ≡ b
-cancel_front [] a b e = e
-cancel_front (x ∷ front) a b e = cancel_front front a b (let rest : front ++ a ≡ front ++ b = cc in rest)
-
 -- at most one waits
 few_waited : {A : Type 0} (newly : List A) (x : A) (o : Option A) → newly ++ x ∷ [] ≡ option_to_list o → newly ≡ []
 few_waited newly x None e = absurd (none_pushed newly x (sym e))
 few_waited newly x (Some y) e = push_front newly [] x y e
 
-none_new : {A : Type 0} (newly : List A) (o : Option A) → newly ++ option_to_list o ≡ [] → (newly ≡ []) × (o ≡ None)
+pub both_none : {A : Type 0} (xs ys : List A) → xs ++ ys ≡ [] → (xs ≡ []) × (ys ≡ [])
+both_none [] ys e = (refl, e)
+both_none (x ∷ xs) ys e = cc
+
+pub none_new : {A : Type 0} (newly : List A) (o : Option A) → newly ++ option_to_list o ≡ [] → (newly ≡ []) × (o ≡ None)
 none_new [] None e = (refl, refl)
 none_new [] (Some x) e = cc
 none_new (y ∷ newly) o e = cc
@@ -118,7 +113,7 @@ seen_alone {S} {A} {State} taken now none =
     ap (λ (l : List A). taken ++ option_to_list (option_map (λ m. m.item) (first_from (suc (lines_given now.below)) l))) none ∙ append-nil taken
 
 module _ {A B X Y U V : Type 0} (join : JoinDef X Y) (pair : Pair A B X Y U V) (out : Output) where
-  abbrev pub first_stage : Stage X Y
+  abbrev pub first_stage : PairStage X Y
   first_stage = record { written = []; waiting = None; taken = []; first_ended = false; second_ended = false }
 
   -- nothing was given yet
@@ -140,31 +135,40 @@ module _ {A B X Y U V : Type 0} (join : JoinDef X Y) (pair : Pair A B X Y U V) (
     near_first = ([], refl, read_here pair.source_a pair.first [] pair.first passes, λ e. absurd (false≢true e));
   }
 
-  module _ (stage : Stage X Y) (past_first : List (Member X)) (past_second : List (Member Y)) (first : MemberReader A X U) (second : MemberReader B Y V) (grown : Output) (s : Comes join pair out stage past_first past_second first second grown) where
+  module _ (stage : PairStage X Y) (past_first : List (Member X)) (past_second : List (Member Y)) (first : MemberReader A X U) (second : MemberReader B Y V) (grown : Output) (s : Comes join pair out stage past_first past_second first second grown) where
     -- if none waits, all are written
     pub all_written : stage.waiting ≡ None → stage.written ≡ member_items past_first
     all_written none = sym (append-nil stage.written) ∙ ap (λ (o : Option X). stage.written ++ option_to_list o) (sym none) ∙ s.all_given
 
-    -- a member of the first input is buffered
+    -- the first input was read on, perhaps to its end
+    with_first : (b : Bool) → stage.waiting ≡ None → (first_now : MemberReader A X U) (p : Passes pair.source_a pair.first past_first first_now)
+        → (b ≡ true → AreAll pair.source_a pair.first past_first × (first_now.buffered ≡ []) × (end_told first_now.below ≡ true))
+        → (b ≡ true → HasNoMore pair first_now (read_here pair.source_a pair.first past_first first_now p).to.count)
+        → Comes join pair out (record stage { first_ended = b }) past_first past_second first_now second grown
+    with_first b none first_now p all no_more = record {
+      first_passes = p;
+      second_passes = s.second_passes;
+      all_given = s.all_given;
+      all_taken = s.all_taken;
+      bytes = s.bytes;
+      settles = s.settles;
+      first_all = λ e. let over = all e in (over.0, none, over.1, over.2);
+      second_all = s.second_all;
+      puts = s.puts;
+      works = s.works;
+      block = s.block;
+      grows = s.grows;
+      near_first = (past_first, sym (all_written none), read_here pair.source_a pair.first past_first first_now p, no_more);
+    }
+
+    pub reads_first : stage.waiting ≡ None → stage.first_ended ≡ false → (first_now : MemberReader A X U) → Passes pair.source_a pair.first past_first first_now
+        → Comes join pair out stage past_first past_second first_now second grown
+    reads_first none going first_now p = with_first stage.first_ended none first_now p (λ e. absurd (false≢true (sym going ∙ e))) (λ e. absurd (false≢true (sym going ∙ e)))
+
+    -- a member of it is buffered
     pub fills_first : stage.waiting ≡ None → stage.first_ended ≡ false → (first_now : MemberReader A X U) → IsFilled pair.source_a first first_now
         → Comes join pair out stage past_first past_second first_now second grown
-    fills_first none going first_now filled =
-        let p = passes_fill pair.source_a pair.first past_first first s.first_passes first_now filled in
-        record {
-          first_passes = p;
-          second_passes = s.second_passes;
-          all_given = s.all_given;
-          all_taken = s.all_taken;
-          bytes = s.bytes;
-          settles = s.settles;
-          first_all = λ e. absurd (false≢true (sym going ∙ e));
-          second_all = s.second_all;
-          puts = s.puts;
-          works = s.works;
-          block = s.block;
-          grows = s.grows;
-          near_first = (past_first, sym (all_written none), read_here pair.source_a pair.first past_first first_now p, λ e. absurd (false≢true (sym going ∙ e)));
-        }
+    fills_first none going first_now filled = reads_first none going first_now (passes_fill pair.source_a pair.first past_first first s.first_passes first_now filled)
 
     -- a member of the second is
     pub fills_second : stage.second_ended ≡ false → (second_now : MemberReader B Y V) → IsFilled pair.source_b second second_now
@@ -176,9 +180,9 @@ module _ {A B X Y U V : Type 0} (join : JoinDef X Y) (pair : Pair A B X Y U V) (
       all_taken = s.all_taken;
       bytes = s.bytes;
       settles = λ known.
-          rw going (subst (λ (o : Option (Member Y)). Settles join stage.written s.bytes (stage.taken ++ option_to_list (option_map (λ m. m.item) o)) false) (sym filled.gives.ahead)
+          rw going (subst (λ (o : Option (Member Y)). SettlesPair join stage.written s.bytes (stage.taken ++ option_to_list (option_map (λ m. m.item) o)) false) (sym filled.gives.ahead)
           (seen_by join pair.source_b second second_now filled.m _ refl filled.gives stage.written s.bytes stage.taken
-          (subst (λ (b : Bool). Settles join stage.written s.bytes (stage.taken ++ option_to_list (item_ahead second)) b) going (s.settles known))));
+          (subst (λ (b : Bool). SettlesPair join stage.written s.bytes (stage.taken ++ option_to_list (item_ahead second)) b) going (s.settles known))));
       first_all = s.first_all;
       second_all = λ e. absurd (false≢true (sym going ∙ e));
       puts = s.puts;
@@ -193,8 +197,8 @@ module _ {A B X Y U V : Type 0} (join : JoinDef X Y) (pair : Pair A B X Y U V) (
         (takes : TakesFurther pair.source_a pair.first past_first more_first first first_now)
         (takes_second : TakesFurther pair.source_b pair.second past_second more_second second second_now)
         (ended : stage.first_ended ≡ true → (more_first ≡ []) × (first_now.buffered ≡ [])) (ended_second : stage.second_ended ≡ true → (more_second ≡ []) × (second_now.buffered ≡ []))
-        (newly : List X) (new : Stage X Y) (follows : Follows stage (member_items more_first) newly (member_items more_second) new) where
-      all_now : given new ≡ member_items (past_first ++ more_first)
+        (newly : List X) (new : PairStage X Y) (follows : Follows stage (member_items more_first) newly (member_items more_second) new) where
+      all_now : firsts_given new ≡ member_items (past_first ++ more_first)
       all_now = follows.given_is ∙ ap (λ l. l ++ member_items more_first) s.all_given ∙ sym (map-append (λ m. m.item) past_first more_first)
 
       none_more : {T : Type 0} (past more : List T) → more ≡ [] → past ≡ past ++ more
@@ -203,7 +207,7 @@ module _ {A B X Y U V : Type 0} (join : JoinDef X Y) (pair : Pair A B X Y U V) (
       -- what waited before, and what is given now
       parts : option_to_list stage.waiting ++ member_items more_first ≡ newly ++ option_to_list new.waiting
       parts =
-          cancel_front stage.written (option_to_list stage.waiting ++ member_items more_first) (newly ++ option_to_list new.waiting)
+          append_cancel_left stage.written (option_to_list stage.waiting ++ member_items more_first) (newly ++ option_to_list new.waiting)
           (sym (append_assoc stage.written (option_to_list stage.waiting) (member_items more_first)) ∙ sym follows.given_is ∙ ap (λ l. l ++ option_to_list new.waiting) follows.written_is
           ∙ append_assoc stage.written newly (option_to_list new.waiting))
 
@@ -257,7 +261,7 @@ module _ {A B X Y U V : Type 0} (join : JoinDef X Y) (pair : Pair A B X Y U V) (
         λ e. absurd (false≢true (sym going ∙ sym follows.first_is ∙ e)),
       )
 
-      pub goes_on : (more : List ℕ) (now : Output) → (IsKnown pair → Settles join new.written (s.bytes ++ more) (new.taken ++ option_to_list (item_ahead second_now)) new.second_ended)
+      pub goes_on : (more : List ℕ) (now : Output) → (IsKnown pair → SettlesPair join new.written (s.bytes ++ more) (new.taken ++ option_to_list (item_ahead second_now)) new.second_ended)
           → Grown grown more now → Comes join pair out new (past_first ++ more_first) (past_second ++ more_second) first_now second_now now
       goes_on more now settles adds = record {
         first_passes = takes.passes;
@@ -301,28 +305,7 @@ module _ {A B X Y U V : Type 0} (join : JoinDef X Y) (pair : Pair A B X Y U V) (
       )
 
       pub ends_first : Comes join pair out (record stage { first_ended = true }) past_first past_second first_now second grown
-      ends_first = record {
-        first_passes = ended_passes;
-        second_passes = s.second_passes;
-        all_given = s.all_given;
-        all_taken = s.all_taken;
-        bytes = s.bytes;
-        settles = s.settles;
-        first_all = λ e. (passes_all pair.source_a pair.first past_first first s.first_passes first_now over, none, over.ends.none_buffered, over.ends.told);
-        second_all = s.second_all;
-        puts = s.puts;
-        works = s.works;
-        block = s.block;
-        grows = s.grows;
-        near_first = (past_first, sym (all_written none), read_here pair.source_a pair.first past_first first_now ended_passes, λ e. no_more_first);
-      }
-
-    -- once the second input has ended, the bytes of a member of the first are those against what was taken
-    pub settles_at_end : stage.second_ended ≡ true → (a : X) → IsKnown pair
-        → Settles join (stage.written ++ a ∷ []) (s.bytes ++ join.bytes a stage.taken) (stage.taken ++ option_to_list (item_ahead second)) stage.second_ended
-    settles_at_end e a known =
-        let seen = seen_alone stage.taken second (s.second_all e).1 in
-        rw e (rw seen (settles_end join stage.written s.bytes stage.taken stage.second_ended a (subst (λ (l : List Y). Settles join stage.written s.bytes l stage.second_ended) seen (s.settles known))))
+      ends_first = with_first true none first_now ended_passes (λ e. (passes_all pair.source_a pair.first past_first first s.first_passes first_now over, over.ends.none_buffered, over.ends.told)) (λ e. no_more_first)
 
     -- if a member waits, the first input hasn't ended
     waits_by : (a : X) → stage.waiting ≡ Some a → (b : Bool) → stage.first_ended ≡ b → b ≡ false
@@ -335,23 +318,23 @@ module _ {A B X Y U V : Type 0} (join : JoinDef X Y) (pair : Pair A B X Y U V) (
     -- if the second input ends now
     module _ (goes : stage.second_ended ≡ false) (second_now : MemberReader B Y V) (over : IsOver pair.source_b second second_now) where
       -- those written are settled by what was taken
-      pub settles_ended : IsKnown pair → Settles join stage.written s.bytes stage.taken false
+      pub settles_ended : IsKnown pair → SettlesPair join stage.written s.bytes stage.taken false
       settles_ended known =
-          subst (λ (l : List Y). Settles join stage.written s.bytes l false) (seen_alone stage.taken second over.ends.was_none)
-          (subst (λ (b : Bool). Settles join stage.written s.bytes (stage.taken ++ option_to_list (item_ahead second)) b) goes (s.settles known))
+          subst (λ (l : List Y). SettlesPair join stage.written s.bytes l false) (seen_alone stage.taken second over.ends.was_none)
+          (subst (λ (b : Bool). SettlesPair join stage.written s.bytes (stage.taken ++ option_to_list (item_ahead second)) b) goes (s.settles known))
 
       -- its end was given
-      ends_by : (now : Output) (bytes : List ℕ) → (IsKnown pair → Settles join (given stage) bytes stage.taken true) → PutsLines out bytes now → WorksAsBefore out now → HoldsBlock now.took now.put → Grows out.took now.took
-          → ((past : List (Member X)) × (member_items past ≡ given stage)
+      ends_by : (now : Output) (bytes : List ℕ) → (IsKnown pair → SettlesPair join (firsts_given stage) bytes stage.taken true) → PutsLines out bytes now → WorksAsBefore out now → HoldsBlock now.took now.put → Grows out.took now.took
+          → ((past : List (Member X)) × (member_items past ≡ firsts_given stage)
           × (read : IsReadFor pair.source_a pair.first past past_first first) × (stage.first_ended ≡ true → HasNoMore pair first read.to.count))
-          → Comes join pair out (record stage { written = given stage; waiting = None; second_ended = true }) past_first past_second first second_now now
+          → Comes join pair out (record stage { written = firsts_given stage; waiting = None; second_ended = true }) past_first past_second first second_now now
       ends_by now bytes settles puts works block grows near = record {
         first_passes = s.first_passes;
         second_passes = passes_end pair.source_b pair.second past_second second s.second_passes second_now over;
-        all_given = append-nil (given stage) ∙ s.all_given;
+        all_given = append-nil (firsts_given stage) ∙ s.all_given;
         all_taken = s.all_taken;
         bytes = bytes;
-        settles = λ known. subst (λ (l : List Y). Settles join (given stage) bytes l true) (sym (seen_alone stage.taken second_now over.ends.none_buffered)) (settles known);
+        settles = λ known. subst (λ (l : List Y). SettlesPair join (firsts_given stage) bytes l true) (sym (seen_alone stage.taken second_now over.ends.none_buffered)) (settles known);
         first_all = λ e. let was = s.first_all e in (was.0, refl, was.2, was.3);
         second_all = λ e. (passes_all pair.source_b pair.second past_second second s.second_passes second_now over, over.ends.none_buffered, over.ends.told);
         puts = puts;
@@ -363,21 +346,21 @@ module _ {A B X Y U V : Type 0} (join : JoinDef X Y) (pair : Pair A B X Y U V) (
 
       -- the waiting member was written
       pub ends_waiting : (a : X) → stage.waiting ≡ Some a → (now : Output) → Grown grown (join.bytes a stage.taken) now
-          → Comes join pair out (record stage { written = given stage; waiting = None; second_ended = true }) past_first past_second first second_now now
+          → Comes join pair out (record stage { written = firsts_given stage; waiting = None; second_ended = true }) past_first past_second first second_now now
       ends_waiting a waits now adds =
           let more = join.bytes a stage.taken in
-          let with_waiting : given stage ≡ stage.written ++ a ∷ [] = ap (λ (o : Option X). stage.written ++ option_to_list o) waits in
+          let with_waiting : firsts_given stage ≡ stage.written ++ a ∷ [] = ap (λ (o : Option X). stage.written ++ option_to_list o) waits in
           ends_by now (s.bytes ++ more)
-          (λ known. subst (λ (w : List X). Settles join w (s.bytes ++ more) stage.taken true) (sym with_waiting) (settles_end join stage.written s.bytes stage.taken false a (settles_ended known)))
+          (λ known. subst (λ (w : List X). SettlesPair join w (s.bytes ++ more) stage.taken true) (sym with_waiting) (settles_end join stage.written s.bytes stage.taken false a (settles_ended known)))
           (grown_puts out grown now s.bytes more s.puts adds) (works_both out grown now s.works (grown_works grown now more adds)) (adds.block s.block)
           (grows_both out.took grown.took now.took s.grows adds.grows)
           (past_first, sym s.all_given, read_here pair.source_a pair.first past_first first s.first_passes, λ e. absurd (false≢true (sym (first_waits a waits) ∙ e)))
 
       -- or none waited
-      pub ends_alone : stage.waiting ≡ None → Comes join pair out (record stage { written = given stage; waiting = None; second_ended = true }) past_first past_second first second_now grown
+      pub ends_alone : stage.waiting ≡ None → Comes join pair out (record stage { written = firsts_given stage; waiting = None; second_ended = true }) past_first past_second first second_now grown
       ends_alone none =
-          let all : stage.written ≡ given stage = sym (append-nil stage.written) ∙ ap (λ (o : Option X). stage.written ++ option_to_list o) (sym none) in
+          let all : stage.written ≡ firsts_given stage = sym (append-nil stage.written) ∙ ap (λ (o : Option X). stage.written ++ option_to_list o) (sym none) in
           let near = s.near_first in
           ends_by grown s.bytes
-          (λ known. subst (λ (w : List X). Settles join w s.bytes stage.taken true) all (settles_close join stage.written s.bytes stage.taken (settles_ended known)))
+          (λ known. subst (λ (w : List X). SettlesPair join w s.bytes stage.taken true) all (settles_close join stage.written s.bytes stage.taken (settles_ended known)))
           s.puts s.works s.block s.grows (near.0, near.1 ∙ all, near.2, near.3)

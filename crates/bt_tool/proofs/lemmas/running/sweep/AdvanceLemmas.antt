@@ -3,8 +3,8 @@ use Rattle.std.proofs.Common.{◌≡◌, inl, inr, ℕ, suc, ◌<◌, Bool, true
 use Rattle.std.specs.Option.{ForSome}
 use Rattle.std.specs.Prelude.{IfSome, IsTrue, option_map}
 use Rattle.std.specs.List.{list_all}
-use Rattle.std.proofs.lemmas.Bool.{false≢true, and_from, and_parts}
-use Rattle.std.proofs.lemmas.List.{map-append}
+use Rattle.std.proofs.lemmas.Bool.{false≢true, and_parts}
+use Rattle.std.proofs.lemmas.List.{append_cancel_left, map-append}
 use Rattle.bt_lines.specs.declared.device.Source.{Ghosts as Source}
 use Rattle.bt_lines.specs.calls.Names.{fault_value}
 use Rattle.bt_lines.specs.calls.Output.{Output}
@@ -13,14 +13,14 @@ use Rattle.bt_lines.specs.declared.fault.Fault.{Fault}
 use Rattle.bt_bed.specs.calls.Batch.{HasEnded, IsWhere, Passes, batch_room, cursor_in, left as left_in, line_in}
 use Rattle.bt_bed.specs.model.feature.Feature.{Feature, interval_of, intervals_of}
 use Rattle.bt_bed.specs.model.input.Good.{Member}
-use Rattle.bt_bed.specs.model.feature.Interval.{Interval, last_of}
+use Rattle.bt_bed.specs.model.feature.Interval.{last_of}
 use Rattle.bt_bed.specs.model.order.Locus.{ArePlaced, IsUpTo, Locus, locus_of}
 use Rattle.bt_bed.specs.model.order.Order.{IsTotal, Order}
 use Rattle.bt_bed.specs.model.input.GoodBed.{bed_format, locus_at}
 use Rattle.bt_bed.specs.calls.Reading.{BeginsComing, ahead_in, first_from, state_behind}
 use Rattle.bt_bed.specs.calls.Records.{IsTaken, Lends, TakesRecords, below, buffered_in, count_in, order_in, view_of}
 use Rattle.bt_bed.specs.calls.SortedReader.{are_in_order, view_with}
-use Rattle.bt_bed.specs.model.order.Sorting.{Sorting, falls_in, sorting_of}
+use Rattle.bt_bed.specs.model.order.Sorting.{falls_in, sorting_of}
 use Rattle.bt_bed.specs.declared.read.batch.Batch.{Batch}
 use Rattle.bt_bed.specs.declared.read.batch.Consumed.{Consumed}
 use Rattle.bt_bed.specs.declared.order.ChromOrder.{Ghosts}
@@ -30,7 +30,7 @@ use Rattle.bt_bed.proofs.lemmas.order.TogetherLemmas.{grows_placed, last_of-push
 use Rattle.bt_bed.proofs.lemmas.read.good.TokenLemmas.{taken_are, token_is}
 use Rattle.bt_sweep.specs.calls.Advancing.{AdvancesOn, Settles, StopsFor}
 use Rattle.bt_sweep.specs.model.Deciding.{decided}
-use Rattle.bt_sweep.specs.calls.Taking.{CannotBeHeld, ComesNext, GivesKnown}
+use Rattle.bt_sweep.specs.calls.Taking.{CannotBeHeld, ComesNext}
 use Rattle.bt_sweep.specs.calls.SweepState.{Sweeping, want_in}
 use Rattle.bt_sweep.specs.declared.sweep.phase.Phase.{Phase}
 use Rattle.bt_sweep.specs.declared.sweep.want.Want.{Want}
@@ -38,17 +38,8 @@ use Rattle.bt_sweep.specs.declared.sweep.want.Want.TheVariants.{A as WantA, B as
 use Rattle.bt_sweep.proofs.lemmas.sweep.KeepLemmas.{decided_before}
 use Rattle.bt_tool.specs.inside.pair.Pair.{item_ahead}
 use Rattle.bt_tool.specs.inside.feed.Passed.{HasTaken}
-use Rattle.bt_tool.specs.inside.pair.SweepSteps.{AdvancesBoth, NotBuffered, TakesBoth}
-use Rattle.bt_tool.proofs.lemmas.running.pair.PairTurns.{cancel_front}
-use Rattle.bt_tool.proofs.lemmas.running.members.PassedLemmas.{has_taken}
-
--- records in order lie on known chromosomes
-known_in : (sorting : Sorting) (last : Option Locus) (records more : List Feature) → are_in_order sorting last (records ++ more) ≡ true → list_all (λ r. sorting.knows r.chrom) records ≡ true
-known_in sorting last [] more e = refl
-known_in sorting last (r ∷ records) more e =
-    let all = and_parts (sorting.knows r.chrom && not (falls_in sorting last (locus_at r))) (are_in_order sorting (Some (locus_at r)) (records ++ more)) e in
-    let here = and_parts (sorting.knows r.chrom) (not (falls_in sorting last (locus_at r))) all.0 in
-    and_from (sorting.knows r.chrom) (list_all (λ r. sorting.knows r.chrom) records) here.0 (known_in sorting (Some (locus_at r)) records more all.1)
+use Rattle.bt_tool.specs.inside.pair.SweepSteps.{AdvancesSweep, NotBuffered, TakesBoth}
+use Rattle.bt_tool.proofs.lemmas.running.members.PassedLemmas.{has_taken, last_up_to}
 
 -- a record less is left
 pub room_falls : (old new : Batch) (b : Feature) → Passes old (b ∷ []) new → batch_room new < batch_room old
@@ -58,17 +49,6 @@ module _ {S O : Type 0} {g : Ghosts O} (now : Records S O g) (batch : Batch) (le
   lent_is : left_in batch ≡ buffered_in now
   unfolding view_of view_with
   lent_is = lends.left_is
-
-  in_order : are_in_order (sorting_of (order_in now)) (view_of now).state (buffered_in now) ≡ true
-  unfolding view_of order_in
-  in_order = now.placed.in_order
-
-  -- the chromosome of each record that a reader gives is known
-  pub known_batch : (order : Order) → order ≡ order_in now → GivesKnown Passes order batch
-  known_batch order same records to passes =
-      subst (λ (o : Order). list_all (λ r. o.knows r.chrom) records ≡ true) (sym same)
-      (known_in (sorting_of (order_in now)) (view_of now).state records (left_in to)
-      (ap (are_in_order (sorting_of (order_in now)) (view_of now).state) (sym passes.left_is ∙ lent_is) ∙ in_order))
 
   given_is : (cursor_in batch).lines ≡ lines_given (below now)
   unfolding view_of view_with
@@ -88,7 +68,7 @@ module _ {S O : Type 0} {g : Ghosts O} (now : Records S O g) (batch : Batch) (le
 
       -- what is buffered then is what the batch has left
       pub left_then : (view_of new).buffered ≡ left_in last
-      left_then = cancel_front records (view_of new).buffered (left_in last) (sym taken_of.takes.buffered ∙ sym lent_is ∙ passes.left_is)
+      left_then = append_cancel_left records (view_of new).buffered (left_in last) (sym taken_of.takes.buffered ∙ sym lent_is ∙ passes.left_is)
 
       pub ended_then : HasEnded last → (view_of new).buffered ≡ []
       ended_then ended = left_then ∙ ended.none
@@ -132,10 +112,6 @@ not_false false e = refl
 known_last : (order : Order) (last : Option Locus) → ForSome last (λ place. IsTrue (order.knows place.chrom)) → IfSome last (λ place. IsTrue (order.knows place.chrom))
 known_last order None known = tt
 known_last order (Some place) known = known place refl
-
-last_up_to : (last : Option Interval) (P : Locus → Type 0) → IfSome (option_map locus_of last) P → IfSome last (λ r. P (locus_of r))
-last_up_to None P h = tt
-last_up_to (Some r) P h = h
 
 pub ahead_placed : {S O : Type 0} {g : Ghosts O} (now : Records S O g) (order : Order) → order_in now ≡ order → (past : List Feature) (m : Member Feature) → IsTotal order
     → (view_of now).state ≡ state_behind (bed_format (sorting_of order)) None past → ahead_in (view_of now) ≡ Some m → ArePlaced order (intervals_of past) → ArePlaced order (intervals_of (past ++ m.item ∷ []))
@@ -194,7 +170,7 @@ module _ {A B O : Type 0} {g : Ghosts O} (source_a : Source A) (source_b : Sourc
   stops_for Nothing fs ss passes passes_second ended = tt
 
   pub advances_both : {T : Type 0} (result : Result T Fault) (swept : Sweeping) (grown : Output) → AdvancesOn Passes HasEnded Passes HasEnded line_in order sweep firsts seconds out result swept last_firsts last_seconds grown
-      → AdvancesBoth source_a source_b order first second sweep out result new_first new_second swept grown
+      → AdvancesSweep source_a source_b order first second sweep out result new_first new_second swept grown
   advances_both (Ok done) swept grown (so, stops) = record {
     firsts = so.firsts;
     seconds = so.seconds;

@@ -17,6 +17,7 @@ use Rattle.bt_tool.specs.model.report.Inputs.{or_empty}
 use Rattle.bt_tool.specs.model.report.SweepReport.{intersect_settles, records_on, subtract_settles}
 use Rattle.bt_tool.specs.calls.run.FaultSource.{IsFaultButWrite}
 use Rattle.bt_tool.specs.calls.run.Writing.{WritesBy}
+use Rattle.bt_tool.specs.inside.feed.RunsBy.{RunsBy}
 use Rattle.bt_tool.proofs.lemmas.running.feed.WritingLemmas.{near_as}
 
 -- what is left of the records on some lines, by either name
@@ -29,7 +30,7 @@ settles_left order whole rule second lines =
 
 module _ {A B : Type 0} (source_a : Source A) (source_b : Source B)
     (order : Order) (whole : Bool) (rule : HitRule) (limit : Option ℕ) (first : A) (second : Option B) (out : Output) (fault : Option FaultValue) (first_after : A) (second_after : Option B) (grown : Output) where
-  pub subtract_writes : WritesBy source_a source_b (of_intersect order (subtract_shape whole) rule limit) first second out fault first_after second_after grown
+  subtract_writes : WritesBy source_a source_b (of_intersect order (subtract_shape whole) rule limit) first second out fault first_after second_after grown
       → WritesBy source_a source_b (of_subtract order whole rule limit) first second out fault first_after second_after grown
   subtract_writes w = record {
     whole = w.whole;
@@ -43,3 +44,7 @@ module _ {A B : Type 0} (source_a : Source A) (source_b : Source B)
         (λ size took. took) (λ size kept. kept) (λ bytes is stops. is stops) (w.near one two before taken holds holds_second put took);
     named = w.named;
   }
+
+  pub subtract_runs : RunsBy source_a source_b (of_intersect order (subtract_shape whole) rule limit) first second out fault first_after second_after grown
+      → RunsBy source_a source_b (of_subtract order whole rule limit) first second out fault first_after second_after grown
+  subtract_runs runs = record { written = subtract_writes runs.written; reads = runs.reads; own_failure = runs.own_failure }

@@ -18,17 +18,17 @@ use Rattle.bt_bed.specs.declared.read.records.Records.{Records}
 use Rattle.bt_sweep.specs.calls.Standing.{IsInOrder, MovesTo, Stage, StandsAt, with_a_ended}
 use Rattle.bt_sweep.specs.calls.Steps.{EndsB}
 use Rattle.bt_sweep.specs.calls.SweepState.{Sweeping, is_over as is_done, want_in, want_of}
-use Rattle.bt_sweep.specs.calls.SweepView.{order_of, state_of}
+use Rattle.bt_sweep.specs.calls.SweepView.{order_of as sweep_order, state_of}
 use Rattle.bt_sweep.specs.declared.sweep.want.Want.{Want}
 use Rattle.bt_sweep.specs.declared.sweep.want.Want.TheVariants.{A as WantA, B as WantB, Nothing}
-use Rattle.bt_tool.specs.declared.loops.sweeping.SweepInputs.{SweepInputs}
+use Rattle.bt_tool.specs.declared.loops.sweeping.SweepRun.{SweepRun}
 use Rattle.bt_tool.specs.calls.run.OwnReads.{AnswersNoRead, TellsNoRead}
 use Rattle.bt_tool.specs.inside.feed.Passed.{KeepsOwnFault}
 use Rattle.bt_tool.specs.inside.pair.Endings.{HaveRead}
-use Rattle.bt_tool.specs.inside.pair.Rounds.{IsFilled, IsGiven, LeadsTo, fault_of}
+use Rattle.bt_tool.specs.inside.pair.Rounds.{IsBuffered, IsLessIfReady, IsLessOrReady, LeadsTo, fault_of}
 use Rattle.bt_tool.specs.inside.pair.SweepLoop.{ReadsRest, SweepEnds, Sweeps, config_of, records_pair}
-use Rattle.bt_tool.specs.inside.pair.SweepRun.{IsReady, SweepComes, SweepIsOver, asks, is_swept_ready, left_to_sweep}
-use Rattle.bt_tool.specs.inside.pair.SweepSteps.{AdvancesBoth, GivesBoth, NotBuffered, TakesBoth}
+use Rattle.bt_tool.specs.inside.pair.SweepRun.{SweepComes, SweepIsOver, sweep_rounds, is_sweep_ready, left_to_sweep}
+use Rattle.bt_tool.specs.inside.pair.SweepSteps.{AdvancesSweep, GivesBoth, NotBuffered, TakesBoth}
 use Rattle.bt_tool.proofs.lemmas.running.members.PassedLemmas.{taken_reads}
 use Rattle.bt_tool.proofs.lemmas.running.whole.OwnFailureLemmas.{none_kept, own_then, told_kept}
 use Rattle.bt_tool.proofs.lemmas.running.pair.RestLemmas.{some_buffered}
@@ -37,40 +37,40 @@ use Rattle.bt_tool.proofs.lemmas.running.sweep.SweptLemmas.{ends_first, ends_sec
 
 -- ---- how much is still wanted
 
-asks_first : (waits done : Bool) → want_of waits done ≡ WantA → asks waits done ≡ 1
-asks_first true done e = absurd (let apart : WantB ≡ WantA = e in cc)
-asks_first false true e = absurd (let apart : Nothing ≡ WantA = e in cc)
-asks_first false false e = refl
+rounds_first : (waits done : Bool) → want_of waits done ≡ WantA → sweep_rounds waits done ≡ 1
+rounds_first true done e = absurd (let apart : WantB ≡ WantA = e in cc)
+rounds_first false true e = absurd (let apart : Nothing ≡ WantA = e in cc)
+rounds_first false false e = refl
 
-asks_second : (waits done : Bool) → want_of waits done ≡ WantB → asks waits done ≡ 2
-asks_second true done e = refl
-asks_second false true e = absurd (let apart : Nothing ≡ WantB = e in cc)
-asks_second false false e = absurd (let apart : WantA ≡ WantB = e in cc)
+rounds_second : (waits done : Bool) → want_of waits done ≡ WantB → sweep_rounds waits done ≡ 2
+rounds_second true done e = refl
+rounds_second false true e = absurd (let apart : Nothing ≡ WantB = e in cc)
+rounds_second false false e = absurd (let apart : WantA ≡ WantB = e in cc)
 
-asks_nothing : (waits done : Bool) → want_of waits done ≡ Nothing → asks waits done ≡ 0
-asks_nothing true done e = absurd (let apart : WantB ≡ Nothing = e in cc)
-asks_nothing false true e = refl
-asks_nothing false false e = absurd (let apart : WantA ≡ Nothing = e in cc)
+rounds_nothing : (waits done : Bool) → want_of waits done ≡ Nothing → sweep_rounds waits done ≡ 0
+rounds_nothing true done e = absurd (let apart : WantB ≡ Nothing = e in cc)
+rounds_nothing false true e = refl
+rounds_nothing false false e = absurd (let apart : WantA ≡ Nothing = e in cc)
 
-asks_most : (o : Option Feature) (done : Bool) → asks (is_some o) done ≤ length (option_to_list o) + 1
-asks_most (Some a) done = omega arith
-asks_most None true = omega arith
-asks_most None false = omega arith
+rounds_most : (o : Option Feature) (done : Bool) → sweep_rounds (is_some o) done ≤ length (option_to_list o) + 1
+rounds_most (Some a) done = omega arith
+rounds_most None true = omega arith
+rounds_most None false = omega arith
 
-asks_done : (o : Option Feature) (done : Bool) → done ≡ true → length (option_to_list o) ≡ 0 → asks (is_some o) done ≡ 0
-asks_done (Some a) done e n = absurd (omega arith)
-asks_done None true e n = refl
-asks_done None false e n = absurd (false≢true e)
+rounds_done : (o : Option Feature) (done : Bool) → done ≡ true → length (option_to_list o) ≡ 0 → sweep_rounds (is_some o) done ≡ 0
+rounds_done (Some a) done e n = absurd (omega arith)
+rounds_done None true e n = refl
+rounds_done None false e n = absurd (false≢true e)
 
 waits_some : (o : Option Feature) (done : Bool) → want_of (is_some o) done ≡ WantB → length (option_to_list o) ≡ 1
 waits_some (Some a) done e = refl
 waits_some None true e = absurd (let apart : Nothing ≡ WantB = e in cc)
 waits_some None false e = absurd (let apart : WantA ≡ WantB = e in cc)
 
-asks_two : (waits done : Bool) → asks waits done ≤ 2
-asks_two true done = omega arith
-asks_two false true = omega arith
-asks_two false false = omega arith
+rounds_two : (waits done : Bool) → sweep_rounds waits done ≤ 2
+rounds_two true done = omega arith
+rounds_two false true = omega arith
+rounds_two false false = omega arith
 
 some_waits : (o : Option Feature) → is_some o ≡ true → length (option_to_list o) ≡ 1
 some_waits (Some a) e = refl
@@ -79,16 +79,12 @@ some_waits None e = absurd (false≢true e)
 none_of : (o : Option Feature) → o ≡ None → length (option_to_list o) ≡ 0
 none_of o e = ap (λ (o : Option Feature). length (option_to_list o)) e
 
-want_cases : (w : Want) → (w ≡ WantA) ⊎ ((w ≡ WantB) ⊎ (w ≡ Nothing))
-want_cases WantA = inl refl
-want_cases WantB = inr (inl refl)
-want_cases Nothing = inr (inr refl)
-
 -- no more is wanted, if as many were taken as wait now
-asks_few : (o n : Option Feature) (done now : Bool) (k : ℕ) → now ≡ done → length (option_to_list n) ≤ length (option_to_list o) + k → asks (is_some n) now ≤ asks (is_some o) done + 2 * k
-asks_few (Some a) n done now k same few = omega (arith, asks_two (is_some n) now)
-asks_few None (Some c) done now k same few = omega (arith, few)
-asks_few None None done now k same few = omega (arith, ap (asks false) same)
+rounds_few : (o n : Option Feature) (done now : Bool) (k : ℕ) → now ≡ done → length (option_to_list n) ≤ length (option_to_list o) + k
+    → sweep_rounds (is_some n) now ≤ sweep_rounds (is_some o) done + 2 * k
+rounds_few (Some a) n done now k same few = omega (arith, rounds_two (is_some n) now)
+rounds_few None (Some c) done now k same few = omega (arith, few)
+rounds_few None None done now k same few = omega (arith, ap (sweep_rounds false) same)
 
 answers_none : {T : Type 0} (answer : Result T Fault) → TellsNoRead (fault_of answer) → AnswersNoRead answer
 answers_none (Ok done) never = tt
@@ -102,10 +98,10 @@ none_in : (w : Option Feature) (done : Bool) → want_of (is_some w) done ≡ Wa
 none_in None done e = refl
 none_in (Some a) done e = absurd (let apart : WantB ≡ WantA = e in cc)
 
-module _ {A B O : Type 0} {g : Ghosts O} (source_a : Source A) (source_b : Source B) (start : SweepInputs A B O g) (out : Output) (old : SweepInputs A B O g) (grown : Output)
+module _ {A B O : Type 0} {g : Ghosts O} (source_a : Source A) (source_b : Source B) (start : SweepRun A B O g) (out : Output) (old : SweepRun A B O g) (grown : Output)
     (s : SweepComes source_a source_b start out old grown) where
   abbrev begun : Begun A B O g
-  begun = begun_of (state_of start.sweep) start.first start.second out s.total s.same_order s.is_bed s.is_bed_second
+  begun = begun_of (state_of start.sweep) start.first start.second out s.begun
 
   abbrev at : At A B O g
   at = at_of old.first old.second (state_of old.sweep) grown
@@ -114,34 +110,31 @@ module _ {A B O : Type 0} {g : Ghosts O} (source_a : Source A) (source_b : Sourc
   sweep = state_of old.sweep
 
   abbrev order : Order
-  order = order_of old.sweep
+  order = sweep_order old.sweep
 
-  abbrev Goes : SweepInputs A B O g → Output → Type 0
+  abbrev Goes : SweepRun A B O g → Output → Type 0
   Goes = SweepComes source_a source_b start out
 
-  abbrev Ends : Fault → SweepInputs A B O g → Output → Type 0
+  abbrev Ends : Fault → SweepRun A B O g → Output → Type 0
   Ends fault = SweepIsOver source_a source_b start out (Some (fault_value fault))
 
-  abbrev IsLess : SweepInputs A B O g → Type 0
+  abbrev IsLess : SweepRun A B O g → Type 0
   IsLess new = left_to_sweep new < left_to_sweep old
 
-  abbrev Filled : SweepInputs A B O g → Type 0
-  Filled = IsFilled is_swept_ready left_to_sweep old
+  abbrev Filled : SweepRun A B O g → Type 0
+  Filled = IsLessOrReady is_sweep_ready left_to_sweep old
 
-  abbrev Given : SweepInputs A B O g → Type 0
-  Given = IsGiven is_swept_ready left_to_sweep old
+  abbrev Given : SweepRun A B O g → Type 0
+  Given = IsLessIfReady is_sweep_ready left_to_sweep old
 
-  abbrev Leads : {T : Type 0} → (SweepInputs A B O g → Type 0) → Result T Fault → SweepInputs A B O g → Output → Type 0
+  abbrev Leads : {T : Type 0} → (SweepRun A B O g → Type 0) → Result T Fault → SweepRun A B O g → Output → Type 0
   Leads = LeadsTo (SweepComes source_a source_b) (SweepIsOver source_a source_b) start out
 
   -- it has come to these
-  abbrev comes_to : (new : SweepInputs A B O g) (later : Output) → Sweeps source_a source_b (order_in start.first) (config_of (state_of start.sweep)) start.first start.second out new.first new.second (state_of new.sweep) later
-      → order_of new.sweep ≡ order → HaveRead (records_pair source_a source_b old.first old.second) (view_of new.first) (view_of new.second) → Goes new later
+  abbrev comes_to : (new : SweepRun A B O g) (later : Output) → Sweeps source_a source_b (order_in start.first) (config_of (state_of start.sweep)) start.first start.second out new.first new.second (state_of new.sweep) later
+      → sweep_order new.sweep ≡ order → HaveRead (records_pair source_a source_b old.first old.second) (view_of new.first) (view_of new.second) → Goes new later
   comes_to new later sweeps same read = record {
-    total = s.total;
-    same_order = s.same_order;
-    is_bed = s.is_bed;
-    is_bed_second = s.is_bed_second;
+    begun = s.begun;
     sweeps = sweeps;
     order_is = same ∙ s.order_is;
     reads = (
@@ -151,7 +144,7 @@ module _ {A B O : Type 0} {g : Ghosts O} (source_a : Source A) (source_b : Sourc
   }
 
   -- it has ended with these
-  abbrev ends_with : (fault : Fault) (new : SweepInputs A B O g) (later : Output)
+  abbrev ends_with : (fault : Fault) (new : SweepRun A B O g) (later : Output)
       → SweepEnds source_a source_b (order_in start.first) (config_of (state_of start.sweep)) start.first start.second out (Some (fault_value fault)) new.first new.second later
       → (TellsNoRead (Some (fault_value fault)) → HaveRead (records_pair source_a source_b old.first old.second) (view_of new.first) (view_of new.second))
       → KeepsOwnFault source_a.is_read (below old.first) (view_of new.first) → KeepsOwnFault source_b.is_read (below old.second) (view_of new.second) → Ends fault new later
@@ -186,7 +179,7 @@ module _ {A B O : Type 0} {g : Ghosts O} (source_a : Source A) (source_b : Sourc
   -- ---- the first input is read on
 
   module _ (wants : want_in sweep ≡ WantA) (first_now : Records A O g) where
-    abbrev with_first : SweepInputs A B O g
+    abbrev with_first : SweepRun A B O g
     with_first = record old { first = first_now }
 
     pub first_filled : FillsRecords source_a old.first (Ok true) first_now → Goes with_first grown × Filled with_first
@@ -194,11 +187,12 @@ module _ {A B O : Type 0} {g : Ghosts O} (source_a : Source A) (source_b : Sourc
       comes_to with_first grown (fills_first source_a source_b begun at s.sweeps wants first_now fills) refl (fills.own_failure, same_second),
       inr (
         omega (arith, fills.answers.1.read.shrinks),
-        subst (λ (w : Want). IsReady w with_first) (sym wants) (some_buffered _ (view_of first_now).buffered _ fills.answers.1.read.ahead),
+        subst (λ (w : Want). IsBuffered w (length (view_of first_now).buffered) (length (view_of old.second).buffered)) (sym wants)
+            (some_buffered _ (view_of first_now).buffered _ fills.answers.1.read.ahead),
       ),
     )
 
-    module _ (now : SweepInputs A B O g) (same : now.first ≡ first_now) (same_second_now : now.second ≡ old.second) (same_order : order_of now.sweep ≡ order) where
+    module _ (now : SweepRun A B O g) (same : now.first ≡ first_now) (same_second_now : now.second ≡ old.second) (same_order : sweep_order now.sweep ≡ order) where
       pub first_ended : FillsRecords source_a old.first (Ok false) first_now
           → ((stage : Stage) → StandsAt order stage sweep → MovesTo order sweep (with_a_ended stage) (state_of now.sweep)) → Goes now grown × Filled now
       first_ended fills ends =
@@ -210,8 +204,8 @@ module _ {A B O : Type 0} {g : Ghosts O} (source_a : Source A) (source_b : Sourc
             inl (rw (same, same_second_now) (omega (
               arith,
               fills.answers.shrinks,
-              asks_done (state_of now.sweep).current (is_done (state_of now.sweep).phase) done (none_of (state_of now.sweep).current none),
-              asks_first (is_some sweep.current) (is_done sweep.phase) wants,
+              rounds_done (state_of now.sweep).current (is_done (state_of now.sweep).phase) done (none_of (state_of now.sweep).current none),
+              rounds_first (is_some sweep.current) (is_done sweep.phase) wants,
             ))),
           )
 
@@ -225,7 +219,7 @@ module _ {A B O : Type 0} {g : Ghosts O} (source_a : Source A) (source_b : Sourc
   -- ---- the second is
 
   module _ (wants : want_in sweep ≡ WantB) (second_now : Records B O g) where
-    abbrev with_second : SweepInputs A B O g
+    abbrev with_second : SweepRun A B O g
     with_second = record old { second = second_now }
 
     pub second_filled : FillsRecords source_b old.second (Ok true) second_now → Goes with_second grown × Filled with_second
@@ -233,7 +227,8 @@ module _ {A B O : Type 0} {g : Ghosts O} (source_a : Source A) (source_b : Sourc
       comes_to with_second grown (fills_second source_a source_b begun at s.sweeps wants second_now fills) refl (same_first, fills.own_failure),
       inr (
         omega (arith, fills.answers.1.read.shrinks),
-        subst (λ (w : Want). IsReady w with_second) (sym wants) (some_buffered _ (view_of second_now).buffered _ fills.answers.1.read.ahead),
+        subst (λ (w : Want). IsBuffered w (length (view_of old.first).buffered) (length (view_of second_now).buffered)) (sym wants)
+            (some_buffered _ (view_of second_now).buffered _ fills.answers.1.read.ahead),
       ),
     )
 
@@ -244,7 +239,7 @@ module _ {A B O : Type 0} {g : Ghosts O} (source_a : Source A) (source_b : Sourc
         (λ never. (same_first, (fills.own_failure none_second).read never))
         own_first (told_kept source_b.is_read (fault_kept old.second) (view_of second_now).fault (below old.second) (below second_now) fault fills.answers.kept none_second fills.own_failure))
 
-    module _ (fills : FillsRecords source_b old.second (Ok false) second_now) (now : SweepInputs A B O g) (same_first_now : now.first ≡ old.first) (same : now.second ≡ second_now) (later : Output) where
+    module _ (fills : FillsRecords source_b old.second (Ok false) second_now) (now : SweepRun A B O g) (same_first_now : now.first ≡ old.first) (same : now.second ≡ second_now) (later : Output) where
       abbrev Ending : {T : Type 0} → Result T Fault → Type 0
       Ending answer = (stage : Stage) (a : Feature) → StandsAt order stage sweep → stage.waiting ≡ Some a → IsInOrder order stage → EndsB order stage a sweep grown answer (state_of now.sweep) later
 
@@ -254,16 +249,16 @@ module _ {A B O : Type 0} {g : Ghosts O} (source_a : Source A) (source_b : Sourc
           subst (λ (o : Order). (stage : Stage) (a : Feature) → StandsAt o stage sweep → stage.waiting ≡ Some a → IsInOrder o stage → EndsB o stage a sweep grown answer (state_of now.sweep) later) s.order_is ends
           s.sweeps.stage w.0 s.sweeps.stands w.1 (in_order source_a source_b begun at s.sweeps)
 
-      pub second_over : {T : Type 0} (answer : Result T Fault) → order_of now.sweep ≡ order → Ending answer → Leads Filled answer now later
+      pub second_over : {T : Type 0} (answer : Result T Fault) → sweep_order now.sweep ≡ order → Ending answer → Leads Filled answer now later
       second_over (Ok done) same_order ends =
           let ended = ending (Ok done) ends in (
             comes_to now later (rw (same_first_now, same) (ends_second source_a source_b begun at s.sweeps wants second_now (state_of now.sweep) later fills ended.0 ended.1)) same_order (rw same_first_now same_first, rw same fills.own_failure),
             inl (rw (same_first_now, same) (omega (
               arith,
               fills.answers.shrinks,
-              asks_most (state_of now.sweep).current (is_done (state_of now.sweep).phase),
+              rounds_most (state_of now.sweep).current (is_done (state_of now.sweep).phase),
               none_of (state_of now.sweep).current ended.0.stands.current_is,
-              asks_second (is_some sweep.current) (is_done sweep.phase) wants,
+              rounds_second (is_some sweep.current) (is_done sweep.phase) wants,
             ))),
           )
       second_over {T} (Err fault) same_order ends =
@@ -274,9 +269,9 @@ module _ {A B O : Type 0} {g : Ghosts O} (source_a : Source A) (source_b : Sourc
 
   -- ---- what both have buffered was given
 
-  module _ (new : SweepInputs A B O g) (later : Output) where
+  module _ (new : SweepRun A B O g) (later : Output) where
     abbrev Advances : {T : Type 0} → Order → Result T Fault → Type 0
-    Advances by answer = AdvancesBoth source_a source_b by old.first old.second sweep grown answer new.first new.second (state_of new.sweep) later
+    Advances by answer = AdvancesSweep source_a source_b by old.first old.second sweep grown answer new.first new.second (state_of new.sweep) later
 
     have_read : (fs ss : List Feature) → TakesBoth source_a source_b (order_in start.first) old.first old.second sweep grown fs ss new.first new.second → HaveRead (records_pair source_a source_b old.first old.second) (view_of new.first) (view_of new.second)
     have_read fs ss takes = (taken_reads source_a (view_of old.first) fs (view_of new.first) takes.first_taken, taken_reads source_b (view_of old.second) ss (view_of new.second) takes.second_taken)
@@ -308,10 +303,10 @@ module _ {A B O : Type 0} {g : Ghosts O} (source_a : Source A) (source_b : Sourc
       rooms = omega (arith, gives.takes.first_taken.takes.shrinks, gives.takes.second_taken.takes.shrinks)
 
       few : left_to_sweep new ≤ left_to_sweep old
-      few = omega (arith, rooms, asks_few sweep.current swept.current (is_done sweep.phase) (is_done swept.phase) (length gives.firsts) same_done (omega (arith, counted)))
+      few = omega (arith, rooms, rounds_few sweep.current swept.current (is_done sweep.phase) (is_done swept.phase) (length gives.firsts) same_done (omega (arith, counted)))
 
-      most : asks (is_some swept.current) (is_done swept.phase) ≤ waits swept + 1
-      most = asks_most swept.current (is_done swept.phase)
+      most : sweep_rounds (is_some swept.current) (is_done swept.phase) ≤ waits swept + 1
+      most = rounds_most swept.current (is_done swept.phase)
 
       -- none of the first was taken, though one was buffered
       stopped_a : (w : Want) → want_in swept ≡ w → 0 < length (view_of old.first).buffered → want_in sweep ≡ WantA → waits sweep ≡ 0 → length gives.firsts ≡ 0
@@ -319,15 +314,16 @@ module _ {A B O : Type 0} {g : Ghosts O} (source_a : Source A) (source_b : Sourc
       stopped_a WantA e some wants none taken none_left = absurd (omega (arith, some, first_left, taken, ap length none_left))
       stopped_a WantB e some wants none taken none_left = absurd (omega (arith, waits_some swept.current (is_done swept.phase) e, counted, taken, none))
       stopped_a Nothing e some wants none taken none_left =
-          omega (arith, rooms, asks_nothing (is_some swept.current) (is_done swept.phase) e, asks_first (is_some sweep.current) (is_done sweep.phase) wants)
+          omega (arith, rooms, rounds_nothing (is_some swept.current) (is_done swept.phase) e, rounds_first (is_some sweep.current) (is_done sweep.phase) wants)
 
       stopped_b : (w : Want) → want_in swept ≡ w → 0 < length (view_of old.second).buffered → want_in sweep ≡ WantB → length gives.seconds ≡ 0
           → NotBuffered source_a source_b (order_in start.first) old.first old.second sweep grown w new.first new.second → IsLess new
       stopped_b WantB e some wants taken none_left = absurd (omega (arith, some, second_left, taken, ap length none_left))
-      stopped_b WantA e some wants taken none_left = omega (arith, rooms, asks_first (is_some swept.current) (is_done swept.phase) e, asks_second (is_some sweep.current) (is_done sweep.phase) wants)
-      stopped_b Nothing e some wants taken none_left = omega (arith, rooms, asks_nothing (is_some swept.current) (is_done swept.phase) e, asks_second (is_some sweep.current) (is_done sweep.phase) wants)
+      stopped_b WantA e some wants taken none_left =
+          omega (arith, rooms, rounds_first (is_some swept.current) (is_done swept.phase) e, rounds_second (is_some sweep.current) (is_done sweep.phase) wants)
+      stopped_b Nothing e some wants taken none_left = omega (arith, rooms, rounds_nothing (is_some swept.current) (is_done swept.phase) e, rounds_second (is_some sweep.current) (is_done sweep.phase) wants)
 
-      less_by : (w : Want) → want_in sweep ≡ w → IsReady w old → IsLess new
+      less_by : (w : Want) → want_in sweep ≡ w → IsBuffered w (length (view_of old.first).buffered) (length (view_of old.second).buffered) → IsLess new
       less_by WantA wants some =
           let none : waits sweep ≡ 0 = none_in sweep.current (is_done sweep.phase) wants in
           elim (number_cases (length gives.firsts)) [
@@ -335,25 +331,25 @@ module _ {A B O : Type 0} {g : Ghosts O} (source_a : Source A) (source_b : Sourc
               | inl for ↦ stopped_a (want_in swept) refl some wants none taken for
               | inr written ↦ absurd (omega (arith, none, some_waits sweep.current written.0))
             ]
-            | inr more ↦ omega (arith, rooms, most, counted, none, more, asks_first (is_some sweep.current) (is_done sweep.phase) wants)
+            | inr more ↦ omega (arith, rooms, most, counted, none, more, rounds_first (is_some sweep.current) (is_done sweep.phase) wants)
           ]
       less_by WantB wants some =
           elim (number_cases (length gives.seconds)) [
             | inl taken ↦ elim gives.stops [
               | inl for ↦ stopped_b (want_in swept) refl some wants taken for
-              | inr written ↦ omega (arith, rooms, most, none_of swept.current written.1, asks_second (is_some sweep.current) (is_done sweep.phase) wants)
+              | inr written ↦ omega (arith, rooms, most, none_of swept.current written.1, rounds_second (is_some sweep.current) (is_done sweep.phase) wants)
             ]
-            | inr more ↦ omega (arith, rooms, asks_two (is_some swept.current) (is_done swept.phase), more, asks_second (is_some sweep.current) (is_done sweep.phase) wants)
+            | inr more ↦ omega (arith, rooms, rounds_two (is_some swept.current) (is_done swept.phase), more, rounds_second (is_some sweep.current) (is_done sweep.phase) wants)
           ]
       less_by Nothing wants some = absurd some
 
-      came_further : order_of new.sweep ≡ order → Goes new later × Given new
+      came_further : sweep_order new.sweep ≡ order → Goes new later × Given new
       came_further same = (
         comes_to new later (goes_both source_a source_b begun at s.sweeps new.first new.second swept later gives) same (have_read gives.firsts gives.seconds gives.takes),
         (few, less_by (want_in sweep) refl),
       )
 
-    gave : {T : Type 0} (answer : Result T Fault) → order_of new.sweep ≡ order → Advances (order_in start.first) answer → Leads Given answer new later
+    gave : {T : Type 0} (answer : Result T Fault) → sweep_order new.sweep ≡ order → Advances (order_in start.first) answer → Leads Given answer new later
     gave (Ok done) same gives = came_further gives same
     gave (Err fault) same fails =
         ends_with fault new later (fails_both source_a source_b begun at s.sweeps (fault_value fault) new.first new.second later fails)
@@ -361,7 +357,7 @@ module _ {A B O : Type 0} {g : Ghosts O} (source_a : Source A) (source_b : Sourc
         (none_kept source_a.is_read (below old.first) (view_of new.first).fault (below new.first) (fails.takes.first_taken.takes.goes ∙ none_first))
         (none_kept source_b.is_read (below old.second) (view_of new.second).fault (below new.second) (fails.takes.second_taken.takes.goes ∙ none_second))
 
-    pub gave_both : {T : Type 0} (answer : Result T Fault) → order_of new.sweep ≡ order → Advances order answer → Leads Given answer new later
+    pub gave_both : {T : Type 0} (answer : Result T Fault) → sweep_order new.sweep ≡ order → Advances order answer → Leads Given answer new later
     gave_both {T} answer same advances = gave answer same (subst (λ (o : Order). Advances {T = T} o answer) s.order_is advances)
 
   -- ---- the first input has ended

@@ -11,7 +11,7 @@ use Rattle.bt_bed.specs.model.input.Good.{Member}
 use Rattle.bt_bed.specs.model.order.Locus.{ArePlaced}
 use Rattle.bt_bed.specs.model.order.Order.{Order, IsTotal}
 use Rattle.bt_bed.specs.calls.Reading.{members_from}
-use Rattle.bt_sweep.specs.calls.Advancing.{Settles as SettlesEach}
+use Rattle.bt_sweep.specs.calls.Advancing.{Settles}
 use Rattle.bt_sweep.specs.model.Deciding.{decided, decides}
 use Rattle.bt_sweep.specs.model.IntersectLines.{intersect}
 use Rattle.bt_sweep.specs.calls.Taking.{AreDecided, TakenEach}
@@ -26,7 +26,7 @@ use Rattle.bt_sweep.proofs.lemmas.sweep.KeepLemmas.{decided_before, decided_behi
 use Rattle.bt_sweep.proofs.lemmas.laws.PlacedLemmas.{front_placed}
 use Rattle.bt_tool.specs.declared.loops.sweeping.SweepConfig.{SweepConfig}
 use Rattle.bt_tool.specs.inside.feed.Feeding.{member_items}
-use Rattle.bt_tool.specs.inside.pair.Pair.{JoinDef, Settles}
+use Rattle.bt_tool.specs.inside.pair.Pair.{JoinDef, SettlesPair}
 use Rattle.bt_tool.specs.inside.pair.SweepLoop.{AreWithin, sweep_join}
 use Rattle.bt_tool.proofs.lemmas.running.pair.PairSettles.{settles_list}
 use Rattle.bt_tool.proofs.lemmas.running.pair.PairTurns as turned
@@ -94,9 +94,9 @@ module _ (order : Order) (total : IsTotal order) where
     join_of = sweep_join order config
 
     -- more records of the first are settled
-    pub settles_newly : (written newly : List Feature) (bytes : List ℕ) (taken : List Feature) (o : Option Feature) (ended : Bool) (phase : Phase) → Settles join_of written bytes (taken ++ option_to_list o) ended → ArePlaced order (intervals_of newly)
-        → (phase ≡ First → (ended ≡ true) × (o ≡ None)) → (ss : List Feature) (before : List Feature) → taken ≡ before ++ ss → SettlesEach order phase newly (ss ++ option_to_list o)
-        → Settles join_of (written ++ newly) (bytes ++ intersect config.shape config.rule newly taken) (taken ++ option_to_list o) ended
+    pub settles_newly : (written newly : List Feature) (bytes : List ℕ) (taken : List Feature) (o : Option Feature) (ended : Bool) (phase : Phase) → SettlesPair join_of written bytes (taken ++ option_to_list o) ended → ArePlaced order (intervals_of newly)
+        → (phase ≡ First → (ended ≡ true) × (o ≡ None)) → (ss : List Feature) (before : List Feature) → taken ≡ before ++ ss → Settles order phase newly (ss ++ option_to_list o)
+        → SettlesPair join_of (written ++ newly) (bytes ++ intersect config.shape config.rule newly taken) (taken ++ option_to_list o) ended
     settles_newly written newly bytes taken o ended phase s known ends ss before parts (inl first) =
         let done = ends first in
         settles_list join_of written newly bytes (intersect config.shape config.rule newly taken) (taken ++ option_to_list o) ended s

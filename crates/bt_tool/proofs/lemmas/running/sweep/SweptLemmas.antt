@@ -2,9 +2,8 @@
 use Rattle.std.proofs.Common.{◌≡◌, ℕ, suc, Bool, true, false, List, [], ◌∷◌, ◌++◌, Option, None, Some, Result, Ok, Err, refl, sym, ap, ◌∙◌, subst, append-nil, append_assoc, option_to_list, inl, inr, filter, length, bytes_eq, ltb, ◌<◌}
 use Rattle.std.specs.Prelude.{IsTrue, is_some, option_map}
 use Rattle.std.specs.List.{list_all}
-use Rattle.std.proofs.lemmas.Bool.{false≢true, and_from, and_parts, lt-ltb}
+use Rattle.std.proofs.lemmas.Bool.{false≢true, and_from, lt-ltb}
 use Rattle.std.proofs.lemmas.List.{map-append}
-use Rattle.std.proofs.lemmas.List.Folds.{list_all-append}
 use Rattle.bt_lines.specs.declared.device.Source.{Ghosts as Source}
 use Rattle.bt_lines.specs.model.Fault.{FaultValue, no_memory}
 use Rattle.bt_lines.specs.model.Lines.{TextLine}
@@ -30,15 +29,14 @@ use Rattle.bt_bed.specs.declared.order.ChromOrder.{Ghosts}
 use Rattle.bt_bed.specs.declared.read.records.Records.{Records}
 use Rattle.bt_bed.proofs.lemmas.parse.NameLemmas.{name_eq}
 use Rattle.bt_bed.proofs.lemmas.read.batch.NeighbourLemmas.{wrong_of_bed}
-use Rattle.bt_sweep.specs.calls.Advancing.{PutsEach, Settles as SettlesEach, stage_after}
+use Rattle.bt_sweep.specs.calls.Advancing.{PutsEach, Settles, stage_after}
 use Rattle.bt_sweep.specs.model.Deciding.{decided}
 use Rattle.bt_sweep.specs.model.IntersectLines.{intersect, lines_for}
 use Rattle.bt_sweep.specs.calls.Taking.{AreDecided, CannotBeHeld, TakenEach}
 use Rattle.bt_sweep.specs.model.Limit.{held_for, is_held}
-use Rattle.bt_sweep.specs.calls.Standing.{IsInOrder, MovesTo, Stage, given, leaves_some, phase_of, with_a_ended, with_b_ended}
+use Rattle.bt_sweep.specs.calls.Standing.{IsInOrder, MovesTo, Stage, StandsAt, given, leaves_some, phase_of, with_a_ended, with_b_ended}
 use Rattle.bt_sweep.specs.calls.Steps.{has_room}
 use Rattle.bt_sweep.specs.calls.SweepState.{Sweeping, is_over as is_done, want_in, want_of}
-use Rattle.bt_sweep.specs.declared.sweep.phase.Phase.{Phase}
 use Rattle.bt_sweep.specs.declared.sweep.phase.Phase.TheVariants.{Both, First, Over}
 use Rattle.bt_sweep.specs.declared.sweep.want.Want.TheVariants.{A as WantA, B as WantB, Nothing}
 use Rattle.bt_sweep.proofs.lemmas.laws.DecidingLemmas.{none_before, placed_back}
@@ -46,7 +44,7 @@ use Rattle.bt_sweep.proofs.lemmas.sweep.KeepLemmas.{undecided_beside}
 use Rattle.bt_sweep.proofs.lemmas.laws.PlacedLemmas.{front_placed}
 use Rattle.bt_tool.specs.declared.loops.sweeping.SweepConfig.{SweepConfig}
 use Rattle.bt_tool.specs.inside.feed.Feeding.{member_items}
-use Rattle.bt_tool.specs.inside.pair.Pair.{JoinDef, Pair, Settles, item_ahead}
+use Rattle.bt_tool.specs.inside.pair.Pair.{JoinDef, Pair, SettlesPair, item_ahead}
 use Rattle.bt_tool.specs.inside.pair.Progress.{Comes, TakesFurther}
 use Rattle.bt_tool.specs.inside.pair.Endings.{AsksFor, IsKnown}
 use Rattle.bt_tool.specs.inside.pair.Rounds.{fault_of}
@@ -60,6 +58,7 @@ use Rattle.bt_tool.proofs.lemmas.running.pair.PairTurns as turned
 use Rattle.bt_tool.proofs.lemmas.running.sweep.SweepBegun.{At, Begun}
 use Rattle.bt_tool.proofs.lemmas.running.sweep.SweepFacts.{leaves_more, same_config}
 use Rattle.bt_tool.proofs.lemmas.running.sweep.SweepLimits.{cuts_at, some_limit, within_given}
+use Rattle.bt_tool.proofs.lemmas.running.members.MemberLemmas.{items_from}
 use Rattle.bt_tool.proofs.lemmas.running.members.PassedLemmas.{is_filled, is_over, is_stopped, said_in_order}
 use Rattle.bt_tool.proofs.lemmas.running.sweep.SweepSettles.{fits_each, open_last, settles_newly}
 
@@ -103,8 +102,11 @@ stops_wider : {S A State : Type 0} (device : Source S) (old : MemberReader S A S
 stops_wider device old Narrow Wide wider past fault new stops = record {
   bytes = stops.bytes;
   cause = elim stops.cause [
-    | inl wrong ↦ inl (record { whole = wrong.whole; line = wrong.line; kind = wrong.kind; is = wrong.is; of_kind = wider wrong.kind wrong.of_kind; served = wrong.served; within = wrong.within })
-    | inr others ↦ inr others
+    | inl fails ↦ inl (elim fails [
+      | inl wrong ↦ inl (record { whole = wrong.whole; line = wrong.line; kind = wrong.kind; is = wrong.is; of_kind = wider wrong.kind wrong.of_kind; served = wrong.served; within = wrong.within })
+      | inr unread ↦ inr unread
+    ])
+    | inr ran ↦ inr ran
   ];
 }
 
@@ -115,12 +117,6 @@ item_any m n (x ∷ xs) = refl
 -- the first of the same records
 item_same : (m n : ℕ) (xs ys : List Feature) → xs ≡ ys → option_map (λ (m : Member Feature). m.item) (first_from m xs) ≡ option_map (λ m. m.item) (first_from n ys)
 item_same m n xs ys e = item_any m n xs ∙ ap (λ (l : List Feature). option_map (λ (m : Member Feature). m.item) (first_from n l)) e
-
--- what settles all settles the last
-last_settled : (order : Order) (phase : Phase) (newly : List Feature) (last : Feature) (bs : List Feature) → SettlesEach order phase (newly ++ last ∷ []) bs → SettlesEach order phase (last ∷ []) bs
-last_settled order phase newly last bs (inl first) = inl first
-last_settled order phase newly last bs (inr all) =
-    inr (and_parts (list_all (λ x. decided order x bs) newly) (list_all (λ x. decided order x bs) (last ∷ [])) (sym (list_all-append (λ x. decided order x bs) newly (last ∷ [])) ∙ all)).1
 
 module _ {A B O : Type 0} {g : Ghosts O} (source_a : Source A) (source_b : Source B) (begun : Begun A B O g) where
   abbrev config : SweepConfig
@@ -136,16 +132,16 @@ module _ {A B O : Type 0} {g : Ghosts O} (source_a : Source A) (source_b : Sourc
   out = begun.out
 
   abbrev total : IsTotal (order_in begun.first)
-  total = begun.total
+  total = begun.are.total
 
   abbrev same_order : order_in begun.second ≡ order_in begun.first
-  same_order = begun.same_order
+  same_order = begun.are.same_order
 
   abbrev is_bed : (view_of begun.first).format ≡ bed_format (sorting_of (order_in begun.first))
-  is_bed = begun.is_bed
+  is_bed = begun.are.is_bed
 
   abbrev is_bed_second : (view_of begun.second).format ≡ bed_format (sorting_of (order_in begun.second))
-  is_bed_second = begun.is_bed_second
+  is_bed_second = begun.are.is_bed_second
 
   abbrev order : Order
   order = order_in old_first
@@ -172,28 +168,28 @@ module _ {A B O : Type 0} {g : Ghosts O} (source_a : Source A) (source_b : Sourc
   wrong_second state line kind e = inl (wrong_bed state line kind e)
 
   -- what was passed of either is in order
-  first_placed : (view_of old_first).state ≡ None → (past : List (Member Feature)) (now : MemberReader A Feature (Option Locus)) → Passes source_a (view_of old_first) past now → ArePlaced order (intervals_of (member_items past))
-  first_placed none past now p =
+  first_placed : (past : List (Member Feature)) (now : MemberReader A Feature (Option Locus)) → Passes source_a (view_of old_first) past now → ArePlaced order (intervals_of (member_items past))
+  first_placed past now p =
       (said_in_order order (member_items past) total
-      (subst (λ (f : Format Feature (Option Locus)). AreSaid f None (member_items past)) is_bed (subst (λ (s : Option Locus). AreSaid (view_of old_first).format s (member_items past)) none p.said))).0
+      (subst (λ (f : Format Feature (Option Locus)). AreSaid f None (member_items past)) is_bed (subst (λ (s : Option Locus). AreSaid (view_of old_first).format s (member_items past)) begun.are.none_last p.said))).0
 
-  second_placed : (view_of old_second).state ≡ None → (past : List (Member Feature)) (now : MemberReader B Feature (Option Locus)) → Passes source_b (view_of old_second) past now → ArePlaced order (intervals_of (member_items past))
-  second_placed none past now p =
+  second_placed : (past : List (Member Feature)) (now : MemberReader B Feature (Option Locus)) → Passes source_b (view_of old_second) past now → ArePlaced order (intervals_of (member_items past))
+  second_placed past now p =
       (said_in_order order (member_items past) total
       (subst (λ (f : Format Feature (Option Locus)). AreSaid f None (member_items past)) (is_bed_second ∙ ap (λ (o : Order). bed_format (sorting_of o)) same_order)
-      (subst (λ (s : Option Locus). AreSaid (view_of old_second).format s (member_items past)) none p.said))).0
+      (subst (λ (s : Option Locus). AreSaid (view_of old_second).format s (member_items past)) begun.are.none_last_second p.said))).0
 
   -- with the member ahead too many would be held
-  limit_case : (fault : FaultValue) (first_now : Records A O g) (second_now : Records B O g) → order_in second_now ≡ order → (view_of old_second).state ≡ None → (later : Stage) (last : Feature) → later.waiting ≡ Some last → later.b_ended ≡ false
+  limit_case : (fault : FaultValue) (first_now : Records A O g) (second_now : Records B O g) → order_in second_now ≡ order → (later : Stage) (last : Feature) → later.waiting ≡ Some last → later.b_ended ≡ false
       → (past_first past_second : List (Member Feature)) (grown : Output)
       → Comes join pair out (stage_of later) past_first past_second (view_of first_now) (view_of second_now) grown → (later.a_ended ≡ false → AsksFor join pair out past_first (view_of second_now))
       → (IsKnown pair → AreWithin order config.limit (given later) past_second) → (m : Member Feature) → ahead_in (view_of second_now) ≡ Some m → m.item.chrom ≡ last.chrom → m.item.start < last.stop → last.start < m.item.stop → order.knows last.chrom ≡ true
       → has_room config.limit (length (held_for (Some last) later.taken)) ≡ false → fault ≡ fault_at_line Second m.line TooManyHeld → Ends (Some fault) first_now second_now grown
-  limit_case fault first_now second_now is_order none later last waits going past_first past_second grown comes asks fits m ahead on starts ends known full is =
-      let placed = second_placed none past_second (view_of second_now) comes.second_passes in
+  limit_case fault first_now second_now is_order later last waits going past_first past_second grown comes asks fits m ahead on starts ends known full is =
+      let placed = second_placed past_second (view_of second_now) comes.second_passes in
       let state : (view_of second_now).state ≡ state_behind (bed_format (sorting_of order)) None (member_items past_second) =
       comes.second_passes.state ∙ ap (λ (f : Format Feature (Option Locus)). state_behind f (view_of old_second).state (member_items past_second)) (is_bed_second ∙ ap (λ (o : Order). bed_format (sorting_of o)) same_order)
-      ∙ ap (λ (s : Option Locus). state_behind (bed_format (sorting_of order)) s (member_items past_second)) none in
+      ∙ ap (λ (s : Option Locus). state_behind (bed_format (sorting_of order)) s (member_items past_second)) begun.are.none_last_second in
       let with_m = ahead_placed second_now order is_order (member_items past_second) m total state ahead placed in
       let items : member_items (past_second ++ m ∷ []) ≡ member_items past_second ++ m.item ∷ [] = map-append (λ m. m.item) past_second (m ∷ []) in
       let undecided : decided order last (member_items (past_second ++ m ∷ [])) ≡ false =
@@ -233,10 +229,10 @@ module _ {A B O : Type 0} {g : Ghosts O} (source_a : Source A) (source_b : Sourc
     stage = s.stage
 
     placed_given : ArePlaced order (intervals_of (given stage))
-    placed_given = subst (λ (l : List Feature). ArePlaced order (intervals_of l)) (sym s.comes.all_given) (first_placed s.first_begins s.past_first (view_of first) s.comes.first_passes)
+    placed_given = subst (λ (l : List Feature). ArePlaced order (intervals_of l)) (sym s.comes.all_given) (first_placed s.past_first (view_of first) s.comes.first_passes)
 
     placed_taken : ArePlaced order (intervals_of stage.taken)
-    placed_taken = subst (λ (l : List Feature). ArePlaced order (intervals_of l)) (sym s.comes.all_taken) (second_placed s.second_begins s.past_second (view_of second) s.comes.second_passes)
+    placed_taken = subst (λ (l : List Feature). ArePlaced order (intervals_of l)) (sym s.comes.all_taken) (second_placed s.past_second (view_of second) s.comes.second_passes)
 
     pub in_order : IsInOrder order stage
     in_order = record { first = placed_given; second = placed_taken }
@@ -254,6 +250,22 @@ module _ {A B O : Type 0} {g : Ghosts O} (source_a : Source A) (source_b : Sourc
     asks_here : stage.a_ended ≡ false → AsksFor join pair out s.past_first (view_of second)
     asks_here going = stop.asks_now join pair out (stage_of stage) s.past_first s.past_second (view_of first) (view_of second) grown s.comes asked
 
+    -- no more was taken, and the sweep is at another stage
+    goes_on : (first_now : Records A O g) (second_now : Records B O g) (swept : Sweeping) (now : Output) (next : Stage) → StandsAt order next swept → config_of swept ≡ config
+        → Comes join pair out (stage_of next) s.past_first s.past_second (view_of first_now) (view_of second_now) now → order_in first_now ≡ order_in first → order_in second_now ≡ order_in second
+        → (IsKnown pair → AreWithin order config.limit (given next) s.past_second) → Going first_now second_now swept now
+    goes_on first_now second_now swept now next stands config_is comes same same_second fits = record {
+      past_first = s.past_first;
+      past_second = s.past_second;
+      stage = next;
+      stands = stands;
+      config_is = config_is;
+      comes = comes;
+      first_order = same ∙ s.first_order;
+      second_order = same_second ∙ s.second_order;
+      fits = fits;
+    }
+
     -- ---- a record of the first input is wanted
 
     module _ (wants : want_in sweep ≡ WantA) where
@@ -264,35 +276,17 @@ module _ {A B O : Type 0} {g : Ghosts O} (source_a : Source A) (source_b : Sourc
       not_ended = sym (over_is stage.a_ended stage.b_ended) ∙ ap is_done (sym s.stands.phase_is) ∙ going_by sweep.current (is_done sweep.phase) wants
 
       pub fills_first : (first_now : Records A O g) → FillsRecords source_a first (Ok true) first_now → Going first_now second sweep grown
-      fills_first first_now fills = record {
-        past_first = s.past_first;
-        past_second = s.past_second;
-        stage = stage;
-        stands = s.stands;
-        config_is = s.config_is;
-        comes = turned.fills_first join pair out (stage_of stage) s.past_first s.past_second (view_of first) (view_of second) grown s.comes none_waits not_ended (view_of first_now) (is_filled source_a first first_now fills);
-        first_order = fills.order ∙ s.first_order;
-        second_order = s.second_order;
-        first_begins = s.first_begins;
-        second_begins = s.second_begins;
-        fits = s.fits;
-      }
+      fills_first first_now fills =
+          goes_on first_now second sweep grown stage s.stands s.config_is
+          (turned.fills_first join pair out (stage_of stage) s.past_first s.past_second (view_of first) (view_of second) grown s.comes none_waits not_ended (view_of first_now) (is_filled source_a first first_now fills))
+          fills.order refl s.fits
 
       pub ends_first : (first_now : Records A O g) (swept : Sweeping) → FillsRecords source_a first (Ok false) first_now
           → MovesTo order sweep (with_a_ended stage) swept → Going first_now second swept grown
-      ends_first first_now swept fills moves = record {
-        past_first = s.past_first;
-        past_second = s.past_second;
-        stage = with_a_ended stage;
-        stands = moves.stands;
-        config_is = moved swept (with_a_ended stage) moves;
-        comes = turned.ends_first join pair out (stage_of stage) s.past_first s.past_second (view_of first) (view_of second) grown s.comes none_waits not_ended (view_of first_now) (is_over source_a first first_now fills);
-        first_order = fills.order ∙ s.first_order;
-        second_order = s.second_order;
-        first_begins = s.first_begins;
-        second_begins = s.second_begins;
-        fits = s.fits;
-      }
+      ends_first first_now swept fills moves =
+          goes_on first_now second swept grown (with_a_ended stage) moves.stands (moved swept (with_a_ended stage) moves)
+          (turned.ends_first join pair out (stage_of stage) s.past_first s.past_second (view_of first) (view_of second) grown s.comes none_waits not_ended (view_of first_now) (is_over source_a first first_now fills))
+          fills.order refl s.fits
 
       pub stops_first : (fault : Fault) (first_now : Records A O g) → FillsRecords source_a first (Err fault) first_now → Ends (Some (fault_value fault)) first_now second grown
       stops_first fault first_now fills =
@@ -312,36 +306,18 @@ module _ {A B O : Type 0} {g : Ghosts O} (source_a : Source A) (source_b : Sourc
       goes = (s.stands.unended (ap is_some waiting.1)).1
 
       pub fills_second : (second_now : Records B O g) → FillsRecords source_b second (Ok true) second_now → Going first second_now sweep grown
-      fills_second second_now fills = record {
-        past_first = s.past_first;
-        past_second = s.past_second;
-        stage = stage;
-        stands = s.stands;
-        config_is = s.config_is;
-        comes = turned.fills_second join pair out (stage_of stage) s.past_first s.past_second (view_of first) (view_of second) grown s.comes goes (view_of second_now) (is_filled source_b second second_now fills);
-        first_order = s.first_order;
-        second_order = fills.order ∙ s.second_order;
-        first_begins = s.first_begins;
-        second_begins = s.second_begins;
-        fits = s.fits;
-      }
+      fills_second second_now fills =
+          goes_on first second_now sweep grown stage s.stands s.config_is
+          (turned.fills_second join pair out (stage_of stage) s.past_first s.past_second (view_of first) (view_of second) grown s.comes goes (view_of second_now) (is_filled source_b second second_now fills))
+          refl fills.order s.fits
 
       pub ends_second : (second_now : Records B O g) (swept : Sweeping) (now : Output) → FillsRecords source_b second (Ok false) second_now
           → MovesTo order sweep (with_b_ended stage) swept → Grown grown (lines_for sweep.shape sweep.rule a stage.taken) now → Going first second_now swept now
-      ends_second second_now swept now fills moves adds = record {
-        past_first = s.past_first;
-        past_second = s.past_second;
-        stage = with_b_ended stage;
-        stands = moves.stands;
-        config_is = moved swept (with_b_ended stage) moves;
-        comes = turned.ends_waiting join pair out (stage_of stage) s.past_first s.past_second (view_of first) (view_of second) grown s.comes goes (view_of second_now) (is_over source_b second second_now fills) a waiting.1 now
-            (by_config (λ c. Grown grown (lines_for c.shape c.rule a stage.taken) now) adds);
-        first_order = s.first_order;
-        second_order = fills.order ∙ s.second_order;
-        first_begins = s.first_begins;
-        second_begins = s.second_begins;
-        fits = λ known. subst (λ (gs : List Feature). AreWithin order config.limit gs s.past_second) (sym (append-nil (given stage))) (s.fits known);
-      }
+      ends_second second_now swept now fills moves adds =
+          goes_on first second_now swept now (with_b_ended stage) moves.stands (moved swept (with_b_ended stage) moves)
+          (turned.ends_waiting join pair out (stage_of stage) s.past_first s.past_second (view_of first) (view_of second) grown s.comes goes (view_of second_now) (is_over source_b second second_now fills) a waiting.1 now
+          (by_config (λ c. Grown grown (lines_for c.shape c.rule a stage.taken) now) adds))
+          refl fills.order (λ known. subst (λ (gs : List Feature). AreWithin order config.limit gs s.past_second) (sym (append-nil (given stage))) (s.fits known))
 
       -- it is undecided where nothing more of the second is buffered
       opens : IsKnown pair → (view_of second).buffered ≡ [] → decided order a stage.taken ≡ false
@@ -379,10 +355,10 @@ module _ {A B O : Type 0} {g : Ghosts O} (source_a : Source A) (source_b : Sourc
       further_second = turned.takes_further source_b (view_of old_second) s.past_second (view_of second) s.comes.second_passes ss (view_of second_now) takes.second_taken
 
       items_first : member_items more_first ≡ fs
-      items_first = turned.items_from (suc (lines_given (below first))) fs
+      items_first = items_from (suc (lines_given (below first))) fs
 
       items_second : member_items more_second ≡ ss
-      items_second = turned.items_from (suc (lines_given (below second))) ss
+      items_second = items_from (suc (lines_given (below second))) ss
 
       given_then : given stage ++ fs ≡ member_items (s.past_first ++ more_first)
       given_then = ap (λ (l : List Feature). l ++ fs) s.comes.all_given ∙ ap (λ (l : List Feature). member_items s.past_first ++ l) (sym items_first) ∙ sym (map-append (λ m. m.item) s.past_first more_first)
@@ -391,22 +367,18 @@ module _ {A B O : Type 0} {g : Ghosts O} (source_a : Source A) (source_b : Sourc
       taken_then = ap (λ (l : List Feature). l ++ ss) s.comes.all_taken ∙ ap (λ (l : List Feature). member_items s.past_second ++ l) (sym items_second) ∙ sym (map-append (λ m. m.item) s.past_second more_second)
 
       pub placed_first : ArePlaced order (intervals_of (given stage ++ fs))
-      placed_first = subst (λ (l : List Feature). ArePlaced order (intervals_of l)) (sym given_then) (first_placed s.first_begins (s.past_first ++ more_first) (view_of first_now) further.passes)
+      placed_first = subst (λ (l : List Feature). ArePlaced order (intervals_of l)) (sym given_then) (first_placed (s.past_first ++ more_first) (view_of first_now) further.passes)
 
       pub placed_second : ArePlaced order (intervals_of (stage.taken ++ ss))
-      placed_second = subst (λ (l : List Feature). ArePlaced order (intervals_of l)) (sym taken_then) (second_placed s.second_begins (s.past_second ++ more_second) (view_of second_now) further_second.passes)
-
-      no_front : (xs ys : List Feature) → [] ≡ xs ++ ys → (xs ≡ []) × (ys ≡ [])
-      no_front [] ys e = (refl, sym e)
-      no_front (x ∷ xs) ys e = cc
+      placed_second = subst (λ (l : List Feature). ArePlaced order (intervals_of l)) (sym taken_then) (second_placed (s.past_second ++ more_second) (view_of second_now) further_second.passes)
 
       ended_first : stage.a_ended ≡ true → (more_first ≡ []) × ((view_of first_now).buffered ≡ [])
       ended_first e =
-          let none = no_front fs (view_of first_now).buffered (sym (s.comes.first_all e).2 ∙ takes.first_taken.takes.buffered) in
+          let none = turned.both_none fs (view_of first_now).buffered (sym takes.first_taken.takes.buffered ∙ (s.comes.first_all e).2) in
           (ap (members_from (suc (lines_given (below first)))) none.0, none.1)
 
       none_second : stage.b_ended ≡ true → (ss ≡ []) × ((view_of second_now).buffered ≡ [])
-      none_second e = no_front ss (view_of second_now).buffered (sym (s.comes.second_all e).1 ∙ takes.second_taken.takes.buffered)
+      none_second e = turned.both_none ss (view_of second_now).buffered (sym takes.second_taken.takes.buffered ∙ (s.comes.second_all e).1)
 
       ended_second : stage.b_ended ≡ true → (more_second ≡ []) × ((view_of second_now).buffered ≡ [])
       ended_second e = let none = none_second e in (ap (members_from (suc (lines_given (below second)))) none.0, none.1)
@@ -417,28 +389,28 @@ module _ {A B O : Type 0} {g : Ghosts O} (source_a : Source A) (source_b : Sourc
       not_ended_with m ahead false e = refl
 
       -- what is seen of the second input grows
-      seen_by : (b : Bool) → stage.b_ended ≡ b → (xs : List Feature) → ss ≡ xs → Settles join stage.written s.comes.bytes (stage.taken ++ option_to_list (item_ahead (view_of second))) b
-          → Settles join stage.written s.comes.bytes ((stage.taken ++ xs) ++ option_to_list (item_ahead (view_of second_now))) b
+      seen_by : (b : Bool) → stage.b_ended ≡ b → (xs : List Feature) → ss ≡ xs → SettlesPair join stage.written s.comes.bytes (stage.taken ++ option_to_list (item_ahead (view_of second))) b
+          → SettlesPair join stage.written s.comes.bytes ((stage.taken ++ xs) ++ option_to_list (item_ahead (view_of second_now))) b
       seen_by true e xs is settles =
           let none = none_second e in
           let before = turned.seen_alone stage.taken (view_of second) (s.comes.second_all e).1 in
           let after = turned.seen_alone (stage.taken ++ xs) (view_of second_now) none.1 ∙ ap (λ (l : List Feature). stage.taken ++ l) (sym is ∙ none.0) ∙ append-nil stage.taken in
-          subst (λ (l : List Feature). Settles join stage.written s.comes.bytes l true) (before ∙ sym after) settles
+          subst (λ (l : List Feature). SettlesPair join stage.written s.comes.bytes l true) (before ∙ sym after) settles
       seen_by false e [] is settles =
           let same : (view_of second).buffered ≡ (view_of second_now).buffered = takes.second_taken.takes.buffered ∙ ap (λ (l : List Feature). l ++ (view_of second_now).buffered) is in
-          subst (λ (l : List Feature). Settles join stage.written s.comes.bytes l false)
+          subst (λ (l : List Feature). SettlesPair join stage.written s.comes.bytes l false)
           (ap (λ (o : Option Feature). stage.taken ++ option_to_list o) (item_same (suc (lines_given (below second))) (suc (lines_given (below second_now))) (view_of second).buffered (view_of second_now).buffered same)
           ∙ ap (λ (l : List Feature). l ++ option_to_list (item_ahead (view_of second_now))) (sym (append-nil stage.taken))) settles
       seen_by false e (x ∷ xs) is settles =
           let same : (view_of second).buffered ≡ x ∷ (xs ++ (view_of second_now).buffered) = takes.second_taken.takes.buffered ∙ ap (λ (l : List Feature). l ++ (view_of second_now).buffered) is in
           let ahead : item_ahead (view_of second) ≡ Some x = item_same (suc (lines_given (below second))) 0 (view_of second).buffered (x ∷ (xs ++ (view_of second_now).buffered)) same in
           let rest = xs ++ option_to_list (item_ahead (view_of second_now)) in
-          subst (λ (l : List Feature). Settles join stage.written s.comes.bytes l false)
+          subst (λ (l : List Feature). SettlesPair join stage.written s.comes.bytes l false)
           (append_assoc stage.taken (x ∷ []) rest ∙ sym (append_assoc stage.taken (x ∷ xs) (option_to_list (item_ahead (view_of second_now)))))
           (settles_seen join stage.written s.comes.bytes (stage.taken ++ x ∷ []) rest
-          (subst (λ (o : Option Feature). Settles join stage.written s.comes.bytes (stage.taken ++ option_to_list o) false) ahead settles))
+          (subst (λ (o : Option Feature). SettlesPair join stage.written s.comes.bytes (stage.taken ++ option_to_list o) false) ahead settles))
 
-      settled_seen : IsKnown pair → Settles join stage.written s.comes.bytes ((stage.taken ++ ss) ++ option_to_list (item_ahead (view_of second_now))) stage.b_ended
+      settled_seen : IsKnown pair → SettlesPair join stage.written s.comes.bytes ((stage.taken ++ ss) ++ option_to_list (item_ahead (view_of second_now))) stage.b_ended
       settled_seen known = seen_by stage.b_ended refl ss refl (s.comes.settles known)
 
       ends_then : sweep.phase ≡ First → (stage.b_ended ≡ true) × (item_ahead (view_of second_now) ≡ None)
@@ -447,9 +419,9 @@ module _ {A B O : Type 0} {g : Ghosts O} (source_a : Source A) (source_b : Sourc
           (e, ap (λ (l : List Feature). option_map (λ m. m.item) (first_from (suc (lines_given (below second_now))) l)) (none_second e).1)
 
       -- so far are the lines of some more settled
-      settled_more : (written newly : List Feature) (bytes : List ℕ) → ArePlaced order (intervals_of newly) → SettlesEach order sweep.phase newly (ss ++ option_to_list (item_ahead (view_of second_now)))
-          → Settles join written bytes ((stage.taken ++ ss) ++ option_to_list (item_ahead (view_of second_now))) stage.b_ended
-          → Settles join (written ++ newly) (bytes ++ intersect config.shape config.rule newly (stage.taken ++ ss)) ((stage.taken ++ ss) ++ option_to_list (item_ahead (view_of second_now))) stage.b_ended
+      settled_more : (written newly : List Feature) (bytes : List ℕ) → ArePlaced order (intervals_of newly) → Settles order sweep.phase newly (ss ++ option_to_list (item_ahead (view_of second_now)))
+          → SettlesPair join written bytes ((stage.taken ++ ss) ++ option_to_list (item_ahead (view_of second_now))) stage.b_ended
+          → SettlesPair join (written ++ newly) (bytes ++ intersect config.shape config.rule newly (stage.taken ++ ss)) ((stage.taken ++ ss) ++ option_to_list (item_ahead (view_of second_now))) stage.b_ended
       settled_more written newly bytes placed each settles =
           settles_newly order total config written newly bytes (stage.taken ++ ss) (item_ahead (view_of second_now)) stage.b_ended sweep.phase settles placed ends_then ss stage.taken refl each
 
@@ -486,7 +458,7 @@ module _ {A B O : Type 0} {g : Ghosts O} (source_a : Source A) (source_b : Sourc
             (subst (λ (l : List Feature). AreWithin order config.limit l s.past_second) (sym whole) (within_given order config.limit (given stage) fs s.past_second (s.fits known))))
 
         -- the lines of some more, which are settled then, weren't all written
-        cuts_later : TakenEach order config.limit (option_to_list sweep.current ++ fs) stage.taken ss → SettlesEach order sweep.phase newly (ss ++ option_to_list (item_ahead (view_of second_now)))
+        cuts_later : TakenEach order config.limit (option_to_list sweep.current ++ fs) stage.taken ss → Settles order sweep.phase newly (ss ++ option_to_list (item_ahead (view_of second_now)))
             → (fault : FaultValue) (now : Output) → FailsToAdd grown (intersect config.shape config.rule newly (stage.taken ++ ss)) fault now → Ends (Some fault) first_now second_now now
         cuts_later each settles fault now fails =
             let items : given later ≡ given stage ++ member_items more_first = given_later ∙ ap (λ (l : List Feature). given stage ++ l) (sym items_first) in
@@ -494,11 +466,11 @@ module _ {A B O : Type 0} {g : Ghosts O} (source_a : Source A) (source_b : Sourc
             (stage.written ++ newly) (option_to_list w) items
             (λ known. subst (λ (l : List Feature). AreWithin order config.limit l (s.past_second ++ more_second)) items (fits_later each known))
             ended_second [] (intersect config.shape config.rule newly (stage.taken ++ ss))
-            (λ known. subst (λ (l : List Feature). Settles join (stage.written ++ newly) (s.comes.bytes ++ intersect config.shape config.rule newly (stage.taken ++ ss)) ((stage.taken ++ l) ++ option_to_list (item_ahead (view_of second_now))) stage.b_ended) (sym items_second)
+            (λ known. subst (λ (l : List Feature). SettlesPair join (stage.written ++ newly) (s.comes.bytes ++ intersect config.shape config.rule newly (stage.taken ++ ss)) ((stage.taken ++ l) ++ option_to_list (item_ahead (view_of second_now))) stage.b_ended) (sym items_second)
             (settled_more stage.written newly s.comes.bytes newly_placed settles (settled_seen known)))
             grown now fault (grown_none grown) fails
 
-        module _ (each : SettlesEach order sweep.phase newly (ss ++ option_to_list (item_ahead (view_of second_now)))) (now : Output) (puts : PutsEach order sweep fs ss newly grown now) where
+        module _ (each : Settles order sweep.phase newly (ss ++ option_to_list (item_ahead (view_of second_now)))) (now : Output) (puts : PutsEach order sweep fs ss newly grown now) where
           comes_later : Comes join pair out (stage_of later) (s.past_first ++ more_first) (s.past_second ++ more_second) (view_of first_now) (view_of second_now) now
           comes_later =
               turned.goes_on join pair out (stage_of stage) s.past_first s.past_second (view_of first) (view_of second) grown s.comes more_first more_second (view_of first_now) (view_of second_now) further further_second ended_first ended_second newly (stage_of later)
@@ -523,8 +495,6 @@ module _ {A B O : Type 0} {g : Ghosts O} (source_a : Source A) (source_b : Sourc
           comes = comes_later first_now second_now gives.firsts gives.seconds gives.takes gives.newly swept.current gives.are gives.settles now gives.puts;
           first_order = gives.takes.first_order ∙ s.first_order;
           second_order = gives.takes.second_order ∙ s.second_order;
-          first_begins = s.first_begins;
-          second_begins = s.second_begins;
           fits = fits_later first_now second_now gives.firsts gives.seconds gives.takes gives.newly swept.current gives.are
               (by_config (λ c. TakenEach order c.limit (option_to_list sweep.current ++ gives.firsts) stage.taken gives.seconds) (gives.each stage s.stands placed placed_second));
         }
@@ -556,7 +526,7 @@ module _ {A B O : Type 0} {g : Ghosts O} (source_a : Source A) (source_b : Sourc
                 let placed_last = placed_back order (stage.written ++ fails.newly) (last ∷ []) (subst (λ (l : List Feature). ArePlaced order (intervals_of l)) (sym (given_later first_now second_now fs ss fails.takes fails.newly (Some last) are)) placed) in
                 elim (by_config (λ c. CannotBeHeld c.limit last (stage.taken ++ ss) lack.m.line fault) (lack.lacks stage s.stands placed placed_taken)) [
                   | inl full ↦
-                      limit_case fault first_now second_now (fails.takes.second_order ∙ s.second_order ∙ same_order) s.second_begins (stage_after stage fails.newly (Some last) ss) last refl
+                      limit_case fault first_now second_now (fails.takes.second_order ∙ s.second_order ∙ same_order) (stage_after stage fails.newly (Some last) ss) last refl
                       (not_ended_with first_now second_now fs ss fails.takes lack.m lack.ahead stage.b_ended refl) past_first past_second now comes asks fits lack.m lack.ahead lack.chrom lack.starts lack.ends placed_last.0 full.0 full.1
                   | inr ran ↦ stop.lacks_memory join pair out (stage_of (stage_after stage fails.newly (Some last) ss)) past_first past_second (view_of first_now) (view_of second_now) now comes asks fits fault ran.1
                 ]

@@ -22,11 +22,17 @@ use Rattle.bt_bed.specs.model.feature.LineKind.{IsBedKind, fault_at_line}
 use Rattle.bt_bed.specs.model.order.Order.{Order}
 use Rattle.bt_bed.specs.calls.Reading.{MemberReader, TellsOwnFailure}
 use Rattle.bt_bed.specs.declared.order.genome.Genome.{Genome as GenomeTable}
+use Rattle.bt_bed.specs.model.order.Genome.{Entry}
+use Rattle.bt_lines.specs.model.Handed.{Handed}
+use Rattle.bt_lines.specs.model.Lines.{TextLine}
+use Rattle.bt_tool.specs.model.report.Behaviour.{behaviour_of}
+use Rattle.bt_tool.specs.inside.feed.RunsBy.{RunsAlone, RunsBy}
+use Rattle.bt_tool.proofs.lemmas.running.feed.WritingLemmas.{behaves_alone}
 use Rattle.bt_tool.specs.calls.run.Chromosomes.{WritesOutput}
 use Rattle.bt_tool.specs.inside.feed.Feeding.{FeedsUpTo}
 use Rattle.bt_tool.specs.inside.feed.Flushing.{Flushes, FlushesAll, FlushFails, StaysFailed}
 use Rattle.bt_tool.specs.inside.pair.Pair.{JoinDef, Pair}
-use Rattle.bt_tool.specs.inside.pair.Endings.{Finishes, InputsEnd, Why}
+use Rattle.bt_tool.specs.inside.pair.Endings.{PairEnds, InputsEnd, Why}
 use Rattle.bt_tool.specs.inside.feed.Passed.{HasFaultBehind, IsKeptBelow, IsOwnFault, KeepsOwnFault}
 use Rattle.bt_tool.specs.model.report.SweepReport.{IsSweptKind}
 use Rattle.bt_tool.specs.calls.run.OwnReads.{AnswersNoRead, IsOwnFailure, ReadsServe, ReadsServeIf, TellsNoRead, TellsOwnReads}
@@ -115,8 +121,20 @@ pub tells_write : (G F S : Type 0) (fault : FaultValue) → fault ≡ write_fail
 tells_write G F S fault is = tells_none G F S (Some fault) (λ input line e. write_no_read input line (sym is ∙ some_is fault (read_failed input line) e))
 
 -- one input of several
-pub tells_first : (S F : Type 0) (fault : Option FaultValue) → TellsOwnReads ⊥ F ⊥ fault → TellsOwnReads ⊥ F S fault
+tells_first : (S F : Type 0) (fault : Option FaultValue) → TellsOwnReads ⊥ F ⊥ fault → TellsOwnReads ⊥ F S fault
 tells_first S F fault own = record { genome_file = own.genome_file; first_input = own.first_input; second_input = λ line e. absurd (own.second_input line e) }
+
+-- what a command does of one input, a second that isn't touched beside it
+pub runs_alone : {A B : Type 0} (source_a : Source A) (source_b : Source B) (command : Command) (chromosomes : Option (List Entry))
+    → ((one : Handed) (two : Option Handed) → (behaviour_of command chromosomes).report one None ≡ (behaviour_of command chromosomes).report one two)
+    → ((two : Option Handed) (lines : List TextLine) → (behaviour_of command chromosomes).settles None lines ≡ (behaviour_of command chromosomes).settles two lines)
+    → (is : Command) → is ≡ command → (first : A) (second : Option B) (out : Output) (fault : Option FaultValue) (first_after : A) (grown : Output)
+    → RunsAlone source_a (behaviour_of command chromosomes) first out fault first_after grown → RunsBy source_a source_b (behaviour_of is chromosomes) first second out fault first_after second grown
+runs_alone source_a source_b command chromosomes same same_settle is e first second out fault first_after grown runs = record {
+  written = behaves_alone source_a source_b command chromosomes same same_settle is e first second out fault first_after grown runs.written;
+  reads = λ never. ((runs.reads never).0, serve_same_if source_b.is_read second);
+  own_failure = tells_first _ _ fault runs.own_failure;
+}
 
 -- an input at its end, and what it was at first
 module _ {S A State : Type 0} (device : Source S) (format : Format A State) (input : Input) (first : S) (old : MemberReader S A State) (begins : BeginsAt device.left format input first old)
@@ -140,11 +158,11 @@ module _ {S A State : Type 0} (device : Source S) (format : Format A State) (fir
       λ other line e.
       let is = some_is fault (read_failed other line) e in
       elim fed.cause [
-        | inl reading ↦ behind_own device format First first old begins new last ended own Kinds never fed.past fault reading.behind other line is
-        | inr others ↦ elim others [
-          | inl growing ↦ absurd (memory_no_read other line (sym growing.lacks.is ∙ is))
-          | inr writing ↦ absurd (write_no_read other line (sym writing.is ∙ is))
+        | inl taking ↦ elim taking.cause [
+          | inl behind ↦ behind_own device format First first old begins new last ended own Kinds never fed.past fault behind other line is
+          | inr lacks ↦ absurd (memory_no_read other line (sym lacks.is ∙ is))
         ]
+        | inr writing ↦ absurd (write_no_read other line (sym writing.is ∙ is))
       ]
       in
       record {
@@ -157,7 +175,7 @@ module _ {S A State : Type 0} (device : Source S) (format : Format A State) (fir
 module _ {A B X Y U V : Type 0} (join : JoinDef X Y) (pair : Pair A B X Y U V) (out : Output) (first_format : Format X U) (second_format : Format Y V)
     (one_before : A) (two_before : B) (begins : BeginsAt pair.source_a.left first_format First one_before pair.first) (begins_second : BeginsAt pair.source_b.left second_format Second two_before pair.second)
     (first : MemberReader A X U) (second : MemberReader B Y V) (one_after : A) (two_after : B) (ended : source_of first.below ≡ one_after) (ended_second : source_of second.below ≡ two_after) (fault : Option FaultValue) (grown : Output)
-    (w : Finishes join pair out fault first second grown) (no_first : join.first_kinds ReadFailed → ⊥) (no_second : join.second_kinds ReadFailed → ⊥) (own : KeepsOwnFault pair.source_a.is_read pair.first.below first) (own_second : KeepsOwnFault pair.source_b.is_read pair.second.below second) where
+    (w : PairEnds join pair out fault first second grown) (no_first : join.first_kinds ReadFailed → ⊥) (no_second : join.second_kinds ReadFailed → ⊥) (own : KeepsOwnFault pair.source_a.is_read pair.first.below first) (own_second : KeepsOwnFault pair.source_b.is_read pair.second.below second) where
   abbrev OwnFirst : Input → Type 0
   OwnFirst input = (input ≡ First) × IsOwnFailure pair.source_a.is_read one_before one_after
 

@@ -28,7 +28,7 @@ use Rattle.bt_runs.specs.model.Depth.{settled_depths}
 use Rattle.bt_runs.specs.model.Gaps.{settled_gaps}
 use Rattle.bt_tool.specs.model.usage.Kinds.{IsOneOf}
 use Rattle.bt_tool.specs.calls.run.Chromosomes.{KnowsChromosomes, LacksChromosomes, ReadsChromosomes, StopsAtGenome, WritesOutput}
-use Rattle.bt_tool.specs.calls.run.FaultSource.{IsFaultButWrite, IsOfInput, IsPutTo, IsWithin, ReadsNoFurther, TellsDevice, TellsInput, TellsInputIf, TellsLine, TellsRead}
+use Rattle.bt_tool.specs.calls.run.FaultSource.{IsFaultButWrite, IsOfInput, IsPutTo, IsWithin, ReadsNoFurther, TellsDevice, TellsInput, TellsInputIf}
 use Rattle.bt_tool.specs.calls.run.Writing.{WritesBy}
 use Rattle.bt_tool.specs.inside.feed.Flushing.{Flushes, FlushesAll, FlushFails, StaysFailed}
 use Rattle.bt_tool.specs.calls.run.RunContract.{Runs, TellsOther, is_of_genome, lies_in_genome}
@@ -159,20 +159,14 @@ taken_all (Some taken) before e =
     omega (arith, ap length same, ap length (append-nil before))
 
 -- a fault of the first input lies there
-line_elsewhere : (kinds : Kind → Type 0) (input : Input) (t : FaultValue) → is_of_genome input ≡ false → TellsLine kinds input t → lies_in_genome t.place ≡ true → ⊥
-line_elsewhere kinds input t other tells lies = false≢true (sym other ∙ sym (ap (λ (f : FaultValue). lies_in_genome f.place) tells.is) ∙ lies)
-
-read_elsewhere : {A : Type 0} (device : Source A) (input : Input) (before after : A) (t : FaultValue) → is_of_genome input ≡ false → TellsRead device input before after t → lies_in_genome t.place ≡ true → ⊥
-read_elsewhere device input before after t other tells lies = false≢true (sym other ∙ sym (ap (λ (f : FaultValue). lies_in_genome f.place) tells.is) ∙ lies)
-
 device_elsewhere : (b : Bool) (t : FaultValue) → TellsDevice b t → lies_in_genome t.place ≡ true → ⊥
 device_elsewhere b t (inl write) lies = false≢true (sym (ap (λ (f : FaultValue). lies_in_genome f.place) write.0) ∙ lies)
 device_elsewhere b t (inr memory) lies = false≢true (sym (ap (λ (f : FaultValue). lies_in_genome f.place) memory) ∙ lies)
 
 input_elsewhere : {A : Type 0} (device : Source A) (kinds : Kind → Type 0) (input : Input) (before after : A) (t : FaultValue) → is_of_genome input ≡ false
     → TellsInput device kinds input before after t → lies_in_genome t.place ≡ true → ⊥
-input_elsewhere device kinds input before after t other (inl tells) lies = line_elsewhere kinds input t other tells lies
-input_elsewhere device kinds input before after t other (inr tells) lies = read_elsewhere device input before after t other tells lies
+input_elsewhere device kinds input before after t other (inl tells) lies = false≢true (sym other ∙ sym (ap (λ (f : FaultValue). lies_in_genome f.place) tells.is) ∙ lies)
+input_elsewhere device kinds input before after t other (inr tells) lies = false≢true (sym other ∙ sym (ap (λ (f : FaultValue). lies_in_genome f.place) tells.is) ∙ lies)
 
 if_elsewhere : {B : Type 0} (device : Source B) (kinds : Kind → Type 0) (input : Input) (before after : Option B) (t : FaultValue) → is_of_genome input ≡ false
     → TellsInputIf device kinds input before after t → lies_in_genome t.place ≡ true → ⊥

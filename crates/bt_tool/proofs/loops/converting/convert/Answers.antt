@@ -5,35 +5,28 @@ use Rattle.bt_tool.proofs.lemmas.running.feed.ConvertLemmas.{own_up_to, writes_a
 use Rattle.bt_tool.proofs.lemmas.running.whole.OwnFailureLemmas.{kept_below, served_of, tells_nothing}
 use Rattle.bt_tool.proofs.loops.converting.convert.Goals as goal
 
-pub returns-in-Ok-clause-written : goal.returns-in-Ok-clause-written
-returns-in-Ok-clause-written g c =
+pub returns-in-Ok : goal.returns-in-Ok
+returns-in-Ok g c =
     let reader = c.new-lines.ensures in
     let done = c.in-Ok.ensures.converts in
-    writes_all c.args.split c.args.cigar g.A.Source c.args.first c.new-lines.result reader.source reader.input reader.none_taken.0 reader.none_fed reader.none_given reader.going.0 reader.lines reader.sound
-    c.new-converter.result c.new-converter.ensures c.args.out.now.output done.0 c.into_source-first.result (ap source_of done.1 ∙ sym c.into_source-first.ensures) c.convert_all-converted.new.out.output done.2
+    let ended = sym c.into_source-first.ensures in
+    record {
+      written = writes_all c.args.split c.args.cigar g.A.Source c.args.first c.new-lines.result reader.source reader.input reader.none_taken.0 reader.none_fed reader.none_given reader.going.0 reader.lines reader.sound
+          c.new-converter.result c.new-converter.ensures c.args.out.now.output done.0 c.into_source-first.result (ap source_of done.1 ∙ ended) c.convert_all-converted.new.out.output done.2;
+      reads = λ never. (served_of g.A.Source.is_read c.args.first c.into_source-first.result c.new-lines.result c.convert_all-converted.new.lines reader.source ended (c.in-Ok.ensures.reads tt), tt);
+      own_failure = tells_nothing ⊥ _ ⊥ None refl;
+    }
 
-pub returns-in-Err-clause-written : goal.returns-in-Err-clause-written
-returns-in-Err-clause-written g c =
+pub returns-in-Err : goal.returns-in-Err
+returns-in-Err g c =
     let reader = c.new-lines.ensures in
     let done = c.in-Err.ensures.converts in
-    writes_up_to c.args.split c.args.cigar g.A.Source c.args.first c.new-lines.result reader.source reader.input reader.none_taken.0 reader.none_fed reader.none_given reader.going.0 reader.lines reader.sound
-    c.new-converter.result c.new-converter.ensures c.args.out.now.output done.0 c.into_source-first.result (ap source_of done.1 ∙ sym c.into_source-first.ensures) c.convert_all-converted.new.out.output (fault_value c.in-Err.fault) done.2
-
-pub returns-in-Ok-clause-own_failure : goal.returns-in-Ok-clause-own_failure
-returns-in-Ok-clause-own_failure g c = tells_nothing ⊥ _ ⊥ None refl
-
-pub returns-in-Err-clause-own_failure : goal.returns-in-Err-clause-own_failure
-returns-in-Err-clause-own_failure g c =
-    let reader = c.new-lines.ensures in
-    let done = c.in-Err.ensures.converts in
-    own_up_to c.args.split c.args.cigar g.A.Source c.args.first c.new-lines.result reader.source reader.input reader.none_taken.0 reader.none_fed reader.none_given reader.going.0 reader.lines reader.sound
-    c.new-converter.result c.new-converter.ensures c.args.out.now.output done.0 c.into_source-first.result (ap source_of done.1 ∙ sym c.into_source-first.ensures) c.convert_all-converted.new.out.output
-    (kept_below g.A.Source.is_read c.new-lines.result done.0 c.convert_all-converted.new.lines done.1 done.3 c.convert_all-converted.ensures.own_failure) (fault_value c.in-Err.fault) done.2
-
-pub returns-in-Ok-clause-reads : goal.returns-in-Ok-clause-reads
-returns-in-Ok-clause-reads g c = λ never.
-    served_of g.A.Source.is_read c.args.first c.into_source-first.result c.new-lines.result c.convert_all-converted.new.lines c.new-lines.ensures.source (sym c.into_source-first.ensures) (c.in-Ok.ensures.reads tt)
-
-pub returns-in-Err-clause-reads : goal.returns-in-Err-clause-reads
-returns-in-Err-clause-reads g c = λ never.
-    served_of g.A.Source.is_read c.args.first c.into_source-first.result c.new-lines.result c.convert_all-converted.new.lines c.new-lines.ensures.source (sym c.into_source-first.ensures) (c.in-Err.ensures.reads never)
+    let ended = sym c.into_source-first.ensures in
+    record {
+      written = writes_up_to c.args.split c.args.cigar g.A.Source c.args.first c.new-lines.result reader.source reader.input reader.none_taken.0 reader.none_fed reader.none_given reader.going.0 reader.lines reader.sound
+          c.new-converter.result c.new-converter.ensures c.args.out.now.output done.0 c.into_source-first.result (ap source_of done.1 ∙ ended) c.convert_all-converted.new.out.output (fault_value c.in-Err.fault) done.2;
+      reads = λ never. (served_of g.A.Source.is_read c.args.first c.into_source-first.result c.new-lines.result c.convert_all-converted.new.lines reader.source ended (c.in-Err.ensures.reads never), tt);
+      own_failure = own_up_to c.args.split c.args.cigar g.A.Source c.args.first c.new-lines.result reader.source reader.input reader.none_taken.0 reader.none_fed reader.none_given reader.going.0 reader.lines reader.sound
+          c.new-converter.result c.new-converter.ensures c.args.out.now.output done.0 c.into_source-first.result (ap source_of done.1 ∙ ended) c.convert_all-converted.new.out.output
+          (kept_below g.A.Source.is_read c.new-lines.result done.0 c.convert_all-converted.new.lines done.1 done.3 c.convert_all-converted.ensures.own_failure) (fault_value c.in-Err.fault) done.2;
+    }

@@ -11,8 +11,8 @@ use Rattle.bt_bed.specs.model.order.Sorting.{sorting_of}
 use Rattle.bt_tool.specs.inside.feed.Feeding.{AreInOrder, member_items}
 use Rattle.bt_tool.specs.model.report.Written.{Written}
 use Rattle.bt_tool.proofs.lemmas.running.feed.FeedLemmas.{goes_failed}
-use Rattle.bt_tool.proofs.lemmas.running.feed.DrivingLemmas.{drives_all, drives_cut, drives_fault, finish_cut, finish_goes, finish_put, finish_serves, fresh_start, records_sorted, sorted_start}
-use Rattle.bt_tool.proofs.lemmas.running.pair.StartLemmas.{begins_by}
+use Rattle.bt_tool.proofs.lemmas.running.feed.DrivingLemmas.{drives_all, drives_cut, drives_fault, finish_cut, finish_goes, finish_put, finish_serves, records_sorted, sorted_start}
+use Rattle.bt_tool.proofs.lemmas.running.members.CameMembers.{begins_over, fresh_over}
 use Rattle.bt_tool.proofs.lemmas.running.whole.OwnFailureLemmas.{bed_no_read, feeds_own, served_of, tells_nothing, tells_write}
 use Rattle.bt_tool.proofs.loops.driving.drive.Goals as goal
 
@@ -20,88 +20,77 @@ pub feed_all-fed-requires-clause-fresh : goal.feed_all-fed-requires-clause-fresh
 feed_all-fed-requires-clause-fresh g c =
     let reader = c.new-reader.ensures in
     let records = c.new-records.ensures in
-    fresh_start _ c.new-reader.result c.new-records.result records.below reader.none_given reader.none_taken.0 reader.none_fed (records.fault ∙ reader.going.0) records.none_buffered reader.sound
+    fresh_over _ c.new-reader.result (view_of c.new-records.result) records.below reader.none_taken.0 reader.none_fed reader.none_given (records.fault ∙ reader.going.0) records.none_buffered reader.sound
 
 pub feed_all-fed-requires-clause-sorted : goal.feed_all-fed-requires-clause-sorted
 feed_all-fed-requires-clause-sorted g c = sorted_start c.new-records.result
 
-pub returns-in-Err-clause-written : goal.returns-in-Err-clause-written
-returns-in-Err-clause-written g c =
+pub returns-in-Err : goal.returns-in-Err
+returns-in-Err g c =
     let reader = c.new-reader.ensures in
     let records = c.new-records.ensures in
     let order = g.O.ChromOrder.order c.args.order.now in
     let written : Written Feature = record { whole = g.E.Engine.output c.args.engine; settled = g.E.Engine.settled c.args.engine } in
-    let starts = begins_by g.A.Source.left order First c.args.first c.new-reader.result c.new-records.result records.below reader.source reader.input reader.none_taken.0 reader.none_fed reader.going.0 reader.lines records.good in
+    let starts = begins_over g.A.Source c.new-reader.result (view_of c.new-records.result) records.below reader.none_taken.0 reader.none_fed (bed_format (sorting_of order)) First c.args.first reader.source reader.input reader.going.0 reader.lines records.good in
     let ended = sym (c.into_source-first.ensures ∙ ap source_of c.into_reader.ensures) in
-    rw records.order at (drives_fault written (IsBedKind (order_in c.new-records.result)) (AreInOrder (order_in c.new-records.result)) (g.E.Engine.takes c.args.engine) c.requires.stays c.requires.begins g.A.Source (bed_format (sorting_of order))
-    (records_sorted (g.E.Engine.takes c.args.engine) order (g.met.O.ChromOrder.total c.args.order.now) c.requires.takes) (view_of c.new-records.result) c.args.first c.args.out.now.output starts (view_of c.feed_all-fed.new.records) c.into_source-first.result ended
-    (fault_value c.in-Err.fault) c.feed_all-fed.new.out.output c.in-Err.ensures.feeds)
+    record {
+      written = rw records.order at (drives_fault written (IsBedKind (order_in c.new-records.result)) (AreInOrder (order_in c.new-records.result)) (g.E.Engine.takes c.args.engine) c.requires.stays c.requires.begins g.A.Source (bed_format (sorting_of order))
+          (records_sorted (g.E.Engine.takes c.args.engine) order (g.met.O.ChromOrder.total c.args.order.now) c.requires.takes) (view_of c.new-records.result) c.args.first c.args.out.now.output starts (view_of c.feed_all-fed.new.records) c.into_source-first.result ended
+          (fault_value c.in-Err.fault) c.feed_all-fed.new.out.output c.in-Err.ensures.feeds);
+      reads = λ never. (
+        served_of g.A.Source.is_read c.args.first c.into_source-first.result (below c.new-records.result) (below c.feed_all-fed.new.records)
+            (ap source_of records.below ∙ reader.source) ended (c.in-Err.ensures.reads never),
+        tt,
+      );
+      own_failure = feeds_own g.A.Source (bed_format (sorting_of order)) c.args.first (view_of c.new-records.result) starts (view_of c.feed_all-fed.new.records) c.into_source-first.result ended c.feed_all-fed.ensures.own_failure
+          (g.E.Engine.settled c.args.engine) (IsBedKind (order_in c.new-records.result)) (bed_no_read (order_in c.new-records.result)) (AreInOrder (order_in c.new-records.result)) c.args.out.now.output (fault_value c.in-Err.fault) c.feed_all-fed.new.out.output c.in-Err.ensures.feeds;
+    }
 
-pub returns-in-Err-finish-clause-written : goal.returns-in-Err-finish-clause-written
-returns-in-Err-finish-clause-written g c =
+pub returns-in-Err-finish : goal.returns-in-Err-finish
+returns-in-Err-finish g c =
     let reader = c.new-reader.ensures in
     let records = c.new-records.ensures in
     let order = g.O.ChromOrder.order c.args.order.now in
     let written : Written Feature = record { whole = g.E.Engine.output c.args.engine; settled = g.E.Engine.settled c.args.engine } in
-    let starts = begins_by g.A.Source.left order First c.args.first c.new-reader.result c.new-records.result records.below reader.source reader.input reader.none_taken.0 reader.none_fed reader.going.0 reader.lines records.good in
+    let starts = begins_over g.A.Source c.new-reader.result (view_of c.new-records.result) records.below reader.none_taken.0 reader.none_fed (bed_format (sorting_of order)) First c.args.first reader.source reader.input reader.going.0 reader.lines records.good in
     let ended = sym (c.into_source-first.ensures ∙ ap source_of c.into_reader.ensures) in
     let fed = c.in_default.ensures.feeds in
     let takes = c.requires.takes (member_items fed.past) (subst (λ o. ArePlaced o (intervals_of (member_items fed.past))) records.order fed.took.sorted.0) fed.took.sorted.1 in
     let said = finish_cut g.E.Engine.takes g.E.Engine.is_after g.E.Engine.fault g.E.Engine.settled g.E.Engine.output c.args.engine c.feed_all-fed.new.engine (member_items fed.past) c.feed_all-fed.new.out.output c.finish.new.out.output c.in-Err-finish.fault fed.stands takes c.in-Err-finish.ensures in
-    rw records.order at (drives_cut written (IsBedKind (order_in c.new-records.result)) (AreInOrder (order_in c.new-records.result)) (g.E.Engine.takes c.args.engine) c.requires.stays c.requires.begins g.A.Source (bed_format (sorting_of order))
-    (records_sorted (g.E.Engine.takes c.args.engine) order (g.met.O.ChromOrder.total c.args.order.now) c.requires.takes) (view_of c.new-records.result) c.args.first c.args.out.now.output starts (view_of c.feed_all-fed.new.records) c.into_source-first.result ended
-    (λ past. g.E.Engine.is_after c.args.engine past c.feed_all-fed.new.engine) c.feed_all-fed.new.out.output fed c.finish.new.out.output (goes_failed c.feed_all-fed.new.out.output c.finish.new.out.output c.in-Err-finish.ensures.grows said.failed)
-    (fault_value c.in-Err-finish.fault) said.is said.cuts.bytes said.cuts.goes_on said.cuts.front said.sink_failed)
+    record {
+      written = rw records.order at (drives_cut written (IsBedKind (order_in c.new-records.result)) (AreInOrder (order_in c.new-records.result)) (g.E.Engine.takes c.args.engine) c.requires.stays c.requires.begins g.A.Source (bed_format (sorting_of order))
+          (records_sorted (g.E.Engine.takes c.args.engine) order (g.met.O.ChromOrder.total c.args.order.now) c.requires.takes) (view_of c.new-records.result) c.args.first c.args.out.now.output starts (view_of c.feed_all-fed.new.records) c.into_source-first.result ended
+          (λ past. g.E.Engine.is_after c.args.engine past c.feed_all-fed.new.engine) c.feed_all-fed.new.out.output fed c.finish.new.out.output (goes_failed c.feed_all-fed.new.out.output c.finish.new.out.output c.in-Err-finish.ensures.grows said.failed)
+          (fault_value c.in-Err-finish.fault) said.is said.cuts.bytes said.cuts.goes_on said.cuts.front said.sink_failed);
+      reads = λ never. (
+        served_of g.A.Source.is_read c.args.first c.into_source-first.result (below c.new-records.result) (below c.feed_all-fed.new.records)
+            (ap source_of records.below ∙ reader.source) ended (c.in_default.ensures.reads tt),
+        tt,
+      );
+      own_failure = tells_write ⊥ _ ⊥ (fault_value c.in-Err-finish.fault) said.is;
+    }
 
-pub returns-clause-written : goal.returns-clause-written
-returns-clause-written g c =
+pub returns : goal.returns
+returns g c =
     let reader = c.new-reader.ensures in
     let records = c.new-records.ensures in
     let order = g.O.ChromOrder.order c.args.order.now in
     let written : Written Feature = record { whole = g.E.Engine.output c.args.engine; settled = g.E.Engine.settled c.args.engine } in
-    let starts = begins_by g.A.Source.left order First c.args.first c.new-reader.result c.new-records.result records.below reader.source reader.input reader.none_taken.0 reader.none_fed reader.going.0 reader.lines records.good in
+    let starts = begins_over g.A.Source c.new-reader.result (view_of c.new-records.result) records.below reader.none_taken.0 reader.none_fed (bed_format (sorting_of order)) First c.args.first reader.source reader.input reader.going.0 reader.lines records.good in
     let ended = sym (c.into_source-first.ensures ∙ ap source_of c.into_reader.ensures) in
     let fed = c.in_default.ensures.feeds in
     let takes = c.requires.takes (member_items fed.past) (subst (λ o. ArePlaced o (intervals_of (member_items fed.past))) records.order fed.took.sorted.0) fed.took.sorted.1 in
     let puts = finish_put g.E.Engine.takes g.E.Engine.is_after g.E.Engine.fault g.E.Engine.settled g.E.Engine.output c.args.engine c.feed_all-fed.new.engine (member_items fed.past) c.feed_all-fed.new.out.output c.finish.new.out.output fed.stands takes c.in_default-finish.ensures in
-    rw records.order at (drives_all written (IsBedKind (order_in c.new-records.result)) (AreInOrder (order_in c.new-records.result)) (g.E.Engine.takes c.args.engine) c.requires.stays c.requires.begins g.A.Source (bed_format (sorting_of order))
-    (records_sorted (g.E.Engine.takes c.args.engine) order (g.met.O.ChromOrder.total c.args.order.now) c.requires.takes) (view_of c.new-records.result) c.args.first c.args.out.now.output starts (view_of c.feed_all-fed.new.records) c.into_source-first.result ended
-    (λ past. g.E.Engine.is_after c.args.engine past c.feed_all-fed.new.engine) c.feed_all-fed.new.out.output fed c.finish.new.out.output (finish_goes g.E.Engine.takes g.E.Engine.is_after g.E.Engine.fault g.E.Engine.settled g.E.Engine.output c.args.engine c.feed_all-fed.new.engine (member_items fed.past) c.feed_all-fed.new.out.output c.finish.new.out.output c.in_default-finish.ensures)
-    puts.bytes puts.goes_on puts.appends
-    (finish_serves g.E.Engine.takes g.E.Engine.is_after g.E.Engine.fault g.E.Engine.settled g.E.Engine.output c.args.engine c.feed_all-fed.new.engine (member_items fed.past) c.feed_all-fed.new.out.output c.finish.new.out.output c.in_default-finish.ensures))
-
-pub returns-in-Err-clause-own_failure : goal.returns-in-Err-clause-own_failure
-returns-in-Err-clause-own_failure g c =
-    let reader = c.new-reader.ensures in
-    let records = c.new-records.ensures in
-    let order = g.O.ChromOrder.order c.args.order.now in
-    let starts = begins_by g.A.Source.left order First c.args.first c.new-reader.result c.new-records.result records.below reader.source reader.input reader.none_taken.0 reader.none_fed reader.going.0 reader.lines records.good in
-    let ended = sym (c.into_source-first.ensures ∙ ap source_of c.into_reader.ensures) in
-    feeds_own g.A.Source (bed_format (sorting_of order)) c.args.first (view_of c.new-records.result) starts (view_of c.feed_all-fed.new.records) c.into_source-first.result ended c.feed_all-fed.ensures.own_failure
-    (g.E.Engine.settled c.args.engine) (IsBedKind (order_in c.new-records.result)) (bed_no_read (order_in c.new-records.result)) (AreInOrder (order_in c.new-records.result)) c.args.out.now.output (fault_value c.in-Err.fault) c.feed_all-fed.new.out.output c.in-Err.ensures.feeds
-
-pub returns-in-Err-finish-clause-own_failure : goal.returns-in-Err-finish-clause-own_failure
-returns-in-Err-finish-clause-own_failure g c =
-    let records = c.new-records.ensures in
-    let fed = c.in_default.ensures.feeds in
-    let takes = c.requires.takes (member_items fed.past) (subst (λ o. ArePlaced o (intervals_of (member_items fed.past))) records.order fed.took.sorted.0) fed.took.sorted.1 in
-    let said = finish_cut g.E.Engine.takes g.E.Engine.is_after g.E.Engine.fault g.E.Engine.settled g.E.Engine.output c.args.engine c.feed_all-fed.new.engine (member_items fed.past) c.feed_all-fed.new.out.output c.finish.new.out.output c.in-Err-finish.fault fed.stands takes c.in-Err-finish.ensures in
-    tells_write ⊥ _ ⊥ (fault_value c.in-Err-finish.fault) said.is
-
-pub returns-clause-own_failure : goal.returns-clause-own_failure
-returns-clause-own_failure g c = tells_nothing ⊥ _ ⊥ None refl
-
-pub returns-in-Err-clause-reads : goal.returns-in-Err-clause-reads
-returns-in-Err-clause-reads g c = λ never.
-    served_of g.A.Source.is_read c.args.first c.into_source-first.result (below c.new-records.result) (below c.feed_all-fed.new.records) (ap source_of c.new-records.ensures.below ∙ c.new-reader.ensures.source)
-    (sym (c.into_source-first.ensures ∙ ap source_of c.into_reader.ensures)) (c.in-Err.ensures.reads never)
-
-pub returns-in-Err-finish-clause-reads : goal.returns-in-Err-finish-clause-reads
-returns-in-Err-finish-clause-reads g c = λ never.
-    served_of g.A.Source.is_read c.args.first c.into_source-first.result (below c.new-records.result) (below c.feed_all-fed.new.records) (ap source_of c.new-records.ensures.below ∙ c.new-reader.ensures.source)
-    (sym (c.into_source-first.ensures ∙ ap source_of c.into_reader.ensures)) (c.in_default.ensures.reads tt)
-
-pub returns-clause-reads : goal.returns-clause-reads
-returns-clause-reads g c = λ never.
-    served_of g.A.Source.is_read c.args.first c.into_source-first.result (below c.new-records.result) (below c.feed_all-fed.new.records) (ap source_of c.new-records.ensures.below ∙ c.new-reader.ensures.source)
-    (sym (c.into_source-first.ensures ∙ ap source_of c.into_reader.ensures)) (c.in_default.ensures.reads tt)
+    record {
+      written = rw records.order at (drives_all written (IsBedKind (order_in c.new-records.result)) (AreInOrder (order_in c.new-records.result)) (g.E.Engine.takes c.args.engine) c.requires.stays c.requires.begins g.A.Source (bed_format (sorting_of order))
+          (records_sorted (g.E.Engine.takes c.args.engine) order (g.met.O.ChromOrder.total c.args.order.now) c.requires.takes) (view_of c.new-records.result) c.args.first c.args.out.now.output starts (view_of c.feed_all-fed.new.records) c.into_source-first.result ended
+          (λ past. g.E.Engine.is_after c.args.engine past c.feed_all-fed.new.engine) c.feed_all-fed.new.out.output fed c.finish.new.out.output (finish_goes g.E.Engine.takes g.E.Engine.is_after g.E.Engine.fault g.E.Engine.settled g.E.Engine.output c.args.engine c.feed_all-fed.new.engine (member_items fed.past) c.feed_all-fed.new.out.output c.finish.new.out.output c.in_default-finish.ensures)
+          puts.bytes puts.goes_on puts.appends
+          (finish_serves g.E.Engine.takes g.E.Engine.is_after g.E.Engine.fault g.E.Engine.settled g.E.Engine.output c.args.engine c.feed_all-fed.new.engine (member_items fed.past) c.feed_all-fed.new.out.output c.finish.new.out.output c.in_default-finish.ensures));
+      reads = λ never. (
+        served_of g.A.Source.is_read c.args.first c.into_source-first.result (below c.new-records.result) (below c.feed_all-fed.new.records)
+            (ap source_of records.below ∙ reader.source) ended (c.in_default.ensures.reads tt),
+        tt,
+      );
+      own_failure = tells_nothing ⊥ _ ⊥ None refl;
+    }

@@ -13,10 +13,11 @@ use Rattle.bt_tool.specs.model.report.SweepReport.{intersect_reaches, intersect_
 use Rattle.bt_tool.specs.inside.pair.SweepLoop.{config_of, records_pair, sweep_join}
 use Rattle.bt_tool.proofs.lemmas.running.pair.PairMet.{writes_both}
 use Rattle.bt_tool.proofs.lemmas.running.pair.PairNear.{near_both}
-use Rattle.bt_tool.proofs.lemmas.running.pair.StartLemmas.{begins_by, sweeps_start}
+use Rattle.bt_tool.proofs.lemmas.running.members.CameMembers.{begins_over, fresh_over}
+use Rattle.bt_tool.proofs.lemmas.running.sweep.SweepBegun.{sweeps_start}
 use Rattle.bt_tool.proofs.lemmas.running.sweep.SweepFacts.{sweep_needs}
 use Rattle.bt_tool.proofs.lemmas.running.sweep.SweepLimits.{sweep_limits}
-use Rattle.bt_tool.proofs.lemmas.running.feed.DrivingLemmas.{fresh_start, sorted_start}
+use Rattle.bt_tool.proofs.lemmas.running.feed.DrivingLemmas.{sorted_start}
 use Rattle.bt_tool.proofs.lemmas.running.whole.OwnFailureLemmas.{bed_no_read, both_own, served_of, swept_no_read}
 use Rattle.bt_tool.proofs.loops.sweeping.sweep.Goals as goal
 
@@ -28,21 +29,25 @@ run_two-fault-requires g c =
     let records_2 = c.new-seconds.ensures in
     let sweep = c.new-sweep.ensures in
     record {
-      total = records.total;
-      same_order = records_2.order ∙ sym records.order;
-      is_bed = sorted_start c.new-firsts.result;
-      is_bed_second = sorted_start c.new-seconds.result;
+      begun = record {
+        total = records.total;
+        same_order = records_2.order ∙ sym records.order;
+        is_bed = sorted_start c.new-firsts.result;
+        is_bed_second = sorted_start c.new-seconds.result;
+        none_last = records.none_last;
+        none_last_second = records_2.none_last;
+      };
       sweeps = sweeps_start g.A.Source g.B.Source (config_of (state_of c.new-sweep.result)) c.new-firsts.result c.new-seconds.result c.args.out.now.output
-          (fresh_start _ c.new.result c.new-firsts.result records.below reader.none_given reader.none_taken.0 reader.none_fed (records.fault ∙ reader.going.0) records.none_buffered reader.sound) records.none_last
-          (fresh_start _ c.new-2.result c.new-seconds.result records_2.below reader_2.none_given reader_2.none_taken.0 reader_2.none_fed (records_2.fault ∙ reader_2.going.0) records_2.none_buffered reader_2.sound) records_2.none_last
+          (fresh_over _ c.new.result (view_of c.new-firsts.result) records.below reader.none_taken.0 reader.none_fed reader.none_given (records.fault ∙ reader.going.0) records.none_buffered reader.sound)
+          (fresh_over _ c.new-2.result (view_of c.new-seconds.result) records_2.below reader_2.none_taken.0 reader_2.none_fed reader_2.none_given (records_2.fault ∙ reader_2.going.0) records_2.none_buffered reader_2.sound)
           c.requires.block (state_of c.new-sweep.result)
           (rw (← records.order) at sweep.stands) refl;
       order_is = sweep.order ∙ sym records.order;
       reads = (reads_same g.A.Source.is_read (below c.new-firsts.result) (below c.new-firsts.result) refl, reads_same g.B.Source.is_read (below c.new-seconds.result) (below c.new-seconds.result) refl);
     }
 
-pub returns-clause-written : goal.returns-clause-written
-returns-clause-written g c =
+pub returns : goal.returns
+returns g c =
     let reader = c.new.ensures in
     let records = c.new-firsts.ensures in
     let reader_2 = c.new-2.ensures in
@@ -54,41 +59,22 @@ returns-clause-written g c =
     let join = sweep_join order c.args.config in
     let pair = records_pair g.A.Source g.B.Source c.new-firsts.result c.new-seconds.result in
     let format = bed_format (sorting_of order) in
-    let begins = begins_by g.A.Source.left order First c.args.sources.first c.new.result c.new-firsts.result records.below reader.source reader.input reader.none_taken.0 reader.none_fed reader.going.0 reader.lines records.good in
-    let begins_second = begins_by g.B.Source.left order Second c.args.sources.second c.new-2.result c.new-seconds.result records_2.below reader_2.source reader_2.input reader_2.none_taken.0 reader_2.none_fed reader_2.going.0 reader_2.lines records_2.good in
+    let begins = begins_over g.A.Source c.new.result (view_of c.new-firsts.result) records.below reader.none_taken.0 reader.none_fed format First c.args.sources.first reader.source reader.input reader.going.0 reader.lines records.good in
+    let begins_second = begins_over g.B.Source c.new-2.result (view_of c.new-seconds.result) records_2.below reader_2.none_taken.0 reader_2.none_fed format Second c.args.sources.second reader_2.source reader_2.input reader_2.going.0 reader_2.lines records_2.good in
     let ended = sym (c.into_source-first.ensures ∙ ap source_of c.into_reader.ensures) in
     let ended_second = sym (c.into_source-second.ensures ∙ ap source_of c.into_reader-2.ensures) in
-    writes_both join pair c.args.out.now.output format format (λ two. placed_good Second order two c.requires.total) (sweep_limits order c.args.config) c.args.sources.first c.args.sources.second begins begins_second
-    (view_of c.run_two-fault.new.engine.first) (view_of c.run_two-fault.new.engine.second) c.into_source-first.result c.into_source-second.result ended ended_second fault c.run_two-fault.new.out.output ends
-    (intersect_settles order c.args.config.shape c.args.config.rule) (intersect_reaches order)
-    (near_both join pair c.args.out.now.output format format (λ two. placed_good Second order two c.requires.total) (sweep_needs order c.args.config) c.args.sources.first c.args.sources.second begins begins_second
-    (view_of c.run_two-fault.new.engine.first) (view_of c.run_two-fault.new.engine.second) c.into_source-first.result c.into_source-second.result ended ended_second fault c.run_two-fault.new.out.output ends)
-
-pub returns-clause-own_failure : goal.returns-clause-own_failure
-returns-clause-own_failure g c =
-    let reader = c.new.ensures in
-    let records = c.new-firsts.ensures in
-    let reader_2 = c.new-2.ensures in
-    let records_2 = c.new-seconds.ensures in
-    let order = g.O.ChromOrder.order c.args.order.now in
-    let fault = option_map fault_value c.run_two-fault.result in
-    let sweep = c.new-sweep.ensures in
-    let ends = rw (records.order, sweep.shape, sweep.rule, sweep.limit) at c.run_two-fault.ensures.finishes in
-    let join = sweep_join order c.args.config in
-    let pair = records_pair g.A.Source g.B.Source c.new-firsts.result c.new-seconds.result in
-    let format = bed_format (sorting_of order) in
-    let begins = begins_by g.A.Source.left order First c.args.sources.first c.new.result c.new-firsts.result records.below reader.source reader.input reader.none_taken.0 reader.none_fed reader.going.0 reader.lines records.good in
-    let begins_second = begins_by g.B.Source.left order Second c.args.sources.second c.new-2.result c.new-seconds.result records_2.below reader_2.source reader_2.input reader_2.none_taken.0 reader_2.none_fed reader_2.going.0 reader_2.lines records_2.good in
-    let ended = sym (c.into_source-first.ensures ∙ ap source_of c.into_reader.ensures) in
-    let ended_second = sym (c.into_source-second.ensures ∙ ap source_of c.into_reader-2.ensures) in
-    both_own join pair c.args.out.now.output format format c.args.sources.first c.args.sources.second begins begins_second
-    (view_of c.run_two-fault.new.engine.first) (view_of c.run_two-fault.new.engine.second) c.into_source-first.result c.into_source-second.result ended ended_second fault c.run_two-fault.new.out.output ends
-    (bed_no_read order) (swept_no_read order c.args.config.limit) c.run_two-fault.ensures.own_first c.run_two-fault.ensures.own_second
-
-pub returns-clause-reads : goal.returns-clause-reads
-returns-clause-reads g c = λ never. (
-  served_of g.A.Source.is_read c.args.sources.first c.into_source-first.result (below c.new-firsts.result) (below c.run_two-fault.new.engine.first) (ap source_of c.new-firsts.ensures.below ∙ c.new.ensures.source)
-      (sym (c.into_source-first.ensures ∙ ap source_of c.into_reader.ensures)) (c.run_two-fault.ensures.reads never).0,
-  served_of g.B.Source.is_read c.args.sources.second c.into_source-second.result (below c.new-seconds.result) (below c.run_two-fault.new.engine.second) (ap source_of c.new-seconds.ensures.below ∙ c.new-2.ensures.source)
-      (sym (c.into_source-second.ensures ∙ ap source_of c.into_reader-2.ensures)) (c.run_two-fault.ensures.reads never).1,
-)
+    record {
+      written = writes_both join pair c.args.out.now.output format format (λ two. placed_good Second order two c.requires.total) (sweep_limits order c.args.config) c.args.sources.first c.args.sources.second begins begins_second
+          (view_of c.run_two-fault.new.engine.first) (view_of c.run_two-fault.new.engine.second) c.into_source-first.result c.into_source-second.result ended ended_second fault c.run_two-fault.new.out.output ends
+          (intersect_settles order c.args.config.shape c.args.config.rule) (intersect_reaches order)
+          (near_both join pair c.args.out.now.output format format (λ two. placed_good Second order two c.requires.total) (sweep_needs order c.args.config) c.args.sources.first c.args.sources.second begins begins_second
+          (view_of c.run_two-fault.new.engine.first) (view_of c.run_two-fault.new.engine.second) c.into_source-first.result c.into_source-second.result ended ended_second fault c.run_two-fault.new.out.output ends);
+      reads = λ never.
+          let served = c.run_two-fault.ensures.reads never in (
+            served_of g.A.Source.is_read c.args.sources.first c.into_source-first.result (below c.new-firsts.result) (below c.run_two-fault.new.engine.first) (ap source_of records.below ∙ reader.source) ended served.0,
+            served_of g.B.Source.is_read c.args.sources.second c.into_source-second.result (below c.new-seconds.result) (below c.run_two-fault.new.engine.second) (ap source_of records_2.below ∙ reader_2.source) ended_second served.1,
+          );
+      own_failure = both_own join pair c.args.out.now.output format format c.args.sources.first c.args.sources.second begins begins_second
+          (view_of c.run_two-fault.new.engine.first) (view_of c.run_two-fault.new.engine.second) c.into_source-first.result c.into_source-second.result ended ended_second fault c.run_two-fault.new.out.output ends
+          (bed_no_read order) (swept_no_read order c.args.config.limit) c.run_two-fault.ensures.own_first c.run_two-fault.ensures.own_second;
+    }

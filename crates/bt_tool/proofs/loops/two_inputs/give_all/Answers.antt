@@ -1,7 +1,12 @@
 use Rattle.bt_bed.proofs.lemmas.order.ResultLemmas.{passed_on}
-use Rattle.bt_tool.specs.inside.pair.Rounds.{fault_of}
-use Rattle.bt_tool.proofs.lemmas.running.pair.RoundLemmas.{round_is_less}
+use Rattle.std.proofs.Common.{ℕ, ◌<◌, inl, inr, arith}
+use Rattle.bt_tool.specs.inside.pair.Rounds.{IsLessIfReady, IsLessOrReady, fault_of}
 use Rattle.bt_tool.proofs.loops.two_inputs.give_all.Goals as goal
+
+-- a round leaves less to be wanted
+round_is_less : {E : Type 0} (is_ready : E → Type 0) (left : E → ℕ) (old filled given : E) → IsLessOrReady is_ready left old filled → IsLessIfReady is_ready left filled given → left given < left old
+round_is_less is_ready left old filled given (inl less) few = omega (arith, less, few.0)
+round_is_less is_ready left old filled given (inr at) few = omega (arith, at.0, few.1 at.1)
 
 pub loop-engine-init : goal.loop-engine-init
 loop-engine-init g c = c.requires

@@ -1,5 +1,5 @@
 use Rattle.bt_tool.proofs.lemmas.running.mask.MaskRounds.{lines_filled, lines_over, lines_stopped}
-use Rattle.bt_tool.proofs.loops.masking.MaskInputsTwoInputEngine.fill_first.Goals as goal
+use Rattle.bt_tool.proofs.loops.masking.MaskRunTwoInputEngine.fill_first.Goals as goal
 
 pub returns-in_err-fill : goal.returns-in_err-fill
 returns-in_err-fill g c = λ grown start out s.

@@ -1,6 +1,6 @@
 use Rattle.std.proofs.Common.{refl}
 use Rattle.bt_tool.proofs.lemmas.running.sweep.SweepRounds.{second_filled, second_over, second_stopped}
-use Rattle.bt_tool.proofs.loops.sweeping.SweepInputsTwoInputEngine.fill_second.Goals as goal
+use Rattle.bt_tool.proofs.loops.sweeping.SweepRunTwoInputEngine.fill_second.Goals as goal
 
 pub returns-in_err-fill : goal.returns-in_err-fill
 returns-in_err-fill g c = λ start out s.

@@ -1,5 +1,5 @@
 use Rattle.bt_tool.proofs.lemmas.running.mask.MaskRounds.{gave_both}
-use Rattle.bt_tool.proofs.loops.masking.MaskInputsTwoInputEngine.give_buffered.Goals as goal
+use Rattle.bt_tool.proofs.loops.masking.MaskRunTwoInputEngine.give_buffered.Goals as goal
 
 pub returns : goal.returns
 returns g c = λ start out s.

@@ -1,5 +1,5 @@
 use Rattle.bt_tool.proofs.lemmas.running.sweep.SweepRounds.{finished}
-use Rattle.bt_tool.proofs.loops.sweeping.SweepInputsTwoInputEngine.finish.Goals as goal
+use Rattle.bt_tool.proofs.loops.sweeping.SweepRunTwoInputEngine.finish.Goals as goal
 
 pub returns : goal.returns
 returns g c = λ grown start out s.

@@ -1,6 +1,6 @@
 use Rattle.std.proofs.Common.{refl}
 use Rattle.bt_tool.proofs.lemmas.running.sweep.SweepRounds.{first_ended, first_filled, first_stopped}
-use Rattle.bt_tool.proofs.loops.sweeping.SweepInputsTwoInputEngine.fill_first.Goals as goal
+use Rattle.bt_tool.proofs.loops.sweeping.SweepRunTwoInputEngine.fill_first.Goals as goal
 
 pub returns-in_err-fill : goal.returns-in_err-fill
 returns-in_err-fill g c = λ grown start out s.

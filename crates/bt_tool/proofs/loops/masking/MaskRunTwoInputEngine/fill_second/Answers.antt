@@ -1,5 +1,5 @@
 use Rattle.bt_tool.proofs.lemmas.running.mask.MaskRounds.{records_filled, records_over, records_stopped}
-use Rattle.bt_tool.proofs.loops.masking.MaskInputsTwoInputEngine.fill_second.Goals as goal
+use Rattle.bt_tool.proofs.loops.masking.MaskRunTwoInputEngine.fill_second.Goals as goal
 
 pub returns-in_err-fill : goal.returns-in_err-fill
 returns-in_err-fill g c = λ start out s.
