@@ -48,7 +48,10 @@ impl InlineText {
             let form = Form::Short(bytes);
             return Ok((InlineText { form }, left));
         }
-        let form = Form::Long(joined(alloc, name, rest)?);
+        let mut text = Vec::with_capacity(alloc, name.len() + rest.len())?;
+        text.extend_from_slice(name)?;
+        text.extend_from_slice(rest)?;
+        let form = Form::Long(text);
         Ok((InlineText { form }, 0))
     }
 
@@ -74,29 +77,10 @@ fn put_both(bytes: &mut [u8], piece: &[u8], next: &[u8]) -> Option<u32>
 {
     let middle = piece.len();
     let used = middle + next.len();
-    let left = left_after(bytes.len(), used)?;
-    copy_piece(&mut bytes[..middle], piece);
-    copy_piece(&mut bytes[middle..used], next);
-    Some(left)
-}
-
-// How many of `len` bytes are left after those that are used, if these fit.
-fn left_after(len: usize, used: usize) -> Option<u32>
-    requires { len ≤ SHORT }
-    ensures { IfSome result (λ left. left + used ≡ len) }
-{
-    if len < used {
+    if bytes.len() < used {
         return None;
     }
-    Some((len - used) as u32)
-}
-
-// Two pieces, one after the other, for which memory is taken once.
-fn joined(alloc: Global, piece: &[u8], next: &[u8]) -> Result<Vec<u8>, AllocError>
-    ensures { IfOk result (λ text. text.items ≡ piece.now ++ next.now) }
-{
-    let mut text = Vec::with_capacity(alloc, piece.len() + next.len())?;
-    text.extend_from_slice(piece)?;
-    text.extend_from_slice(next)?;
-    Ok(text)
+    copy_piece(&mut bytes[..middle], piece);
+    copy_piece(&mut bytes[middle..used], next);
+    Some((bytes.len() - used) as u32)
 }
