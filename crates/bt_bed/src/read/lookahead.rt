@@ -3,9 +3,10 @@
 use crate::parse::faults::at_line;
 use crate::parse::names::is_same_name;
 use crate::parse::parsing::parse_bed;
+use crate::read::batch::Batch;
 use crate::read::sorted::Sorted;
 use crate::record::bed::BedRef;
-use bt_lines::{Fault, Kind, Place, no_memory};
+use bt_lines::{BufferedLines, Fault, Kind, Place, no_memory};
 use std::alloc::Global;
 
 // What the next record is checked against. The names of chromosomes are in buffers that are used again. A record on the
@@ -25,11 +26,13 @@ pub(crate) struct OrderedLookahead<Q> {
 
 #[tactic(auto, unfolding(crate::specs::inside::OrderedLookahead::last_in, crate::specs::inside::OrderedLookahead::name_in, crate::specs::inside::OrderedLookahead::start_in))]
 impl<Q: Sorted> OrderedLookahead<Q> {
-    ghost use Rattle.std.specs.Prelude.{◌≡◌, None, IsTrue, true};
+    ghost use Rattle.std.specs.Prelude.{◌≡◌, ◌<◌, None, length};
+    ghost use Rattle.bt_lines.specs.calls.Buffered.{lines_in, rest_in};
+    ghost use Rattle.bt_bed.specs.calls.Batch.{chrom_in, cursor_in, left, start_in as start_of};
     ghost use Rattle.bt_bed.specs.calls.Bed.{feature_lent};
-    ghost use Rattle.bt_bed.specs.model.input.GoodBed.{locus_at};
-    ghost use Rattle.bt_bed.specs.model.order.Sorting.{falls_in};
-    ghost use Rattle.bt_bed.specs.inside.OrderedLookahead.{FitsOr, HoldsChrom, IsKnownLast, KeepsLast, MakesLast, TakesLine, goes_on, last_in, name_in, start_in};
+    ghost use Rattle.bt_bed.specs.calls.Run.{run_of};
+    ghost use Rattle.bt_bed.specs.inside.FirstColumns.{IsRecordName};
+    ghost use Rattle.bt_bed.specs.inside.OrderedLookahead.{FitsOr, IsKnownLast, MakesLast, TakesLine, goes_on, last_in, name_in, start_in};
 
     // No record yet.
     pub(crate) fn new(alloc: Global, rule: Q) -> OrderedLookahead<Q>
@@ -45,25 +48,18 @@ impl<Q: Sorted> OrderedLookahead<Q> {
         }
     }
 
-    // The name of the chromosome of the record ahead.
-    pub(crate) fn name(&self) -> &[u8]
-        ensures { result.now ≡ name_in self.now }
+    // The records of these lines on the chromosome of the record ahead, which fit after the last one.
+    pub(crate) fn batch<'a>(&'a self, lines: BufferedLines<'a>) -> Batch<'a>
+        requires { 0 < length (rest_in lines) → IsRecordName (name_in self.now) }
+        ensures left { left result ≡ run_of (name_in self.now) (start_in self.now) (lines_in lines.entry) }
+        ensures cursor { cursor_in result ≡ lines.entry }
+        ensures chrom { chrom_in result ≡ name_in self.now }
+        ensures start { start_of result ≡ start_in self.now }
     {
         if self.is_elsewhere {
-            self.ahead_name.as_slice()
-        } else {
-            self.last_name.as_slice()
+            return Batch::new(lines, self.ahead_name.as_slice(), 0);
         }
-    }
-
-    // From where on records may start on that chromosome.
-    pub(crate) fn start(&self) -> u64
-        ensures { result ≡ start_in self.now }
-    {
-        match self.last {
-            Some(start) if !self.is_elsewhere => start,
-            _ => 0,
-        }
+        Batch::new(lines, self.last_name.as_slice(), self.last.unwrap_or(0))
     }
 
     // Makes a record on the chromosome of the one ahead, which starts here, the last one.
@@ -88,22 +84,19 @@ impl<Q: Sorted> OrderedLookahead<Q> {
             Ok(None) => return Ok(false),
             Err(kind) => return Err(at_line(kind, place)),
         };
-        let is_same = self.goes_on(bed.chrom);
+        let is_same = self.last.is_some() && is_same_name(self.last_name.as_slice(), bed.chrom);
         if let Err(kind) = self.check(is_same, bed) {
             return Err(at_line(kind, place));
         }
-        if self.hold(is_same, bed.chrom) {
-            Ok(true)
-        } else {
-            Err(no_memory())
+        self.is_elsewhere = !is_same;
+        if is_same {
+            return Ok(true);
         }
-    }
-
-    // Whether a chromosome is that of the last record.
-    fn goes_on(&self, chrom: &[u8]) -> bool
-        ensures { result ≡ goes_on self.now chrom.now }
-    {
-        self.last.is_some() && is_same_name(self.last_name.as_slice(), chrom)
+        self.ahead_name.clear();
+        match self.ahead_name.extend_from_slice(bed.chrom) {
+            Ok(()) => Ok(true),
+            Err(_) => Err(no_memory()),
+        }
     }
 
     // Whether a record fits after the last one, or what is wrong with it. Its chromosome isn't looked
@@ -116,39 +109,14 @@ impl<Q: Sorted> OrderedLookahead<Q> {
         if !is_same && !self.rule.knows(bed.chrom) {
             return Err(Kind::UnknownChrom);
         }
-        if self.falls_below(is_same, bed) {
-            return Err(Kind::OutOfOrder);
-        }
-        Ok(())
-    }
-
-    // Whether a record on a known chromosome lies below the last one.
-    fn falls_below(&self, is_same: bool, bed: BedRef<'_>) -> bool
-        requires same { is_same ≡ goes_on self.now bed.chrom.now }
-        requires last { IsKnownLast (Q.sorting self.now.rule) (last_in self.now) }
-        requires known { IsTrue ((Q.sorting self.now.rule).knows bed.chrom.now) }
-        ensures { result ≡ falls_in (Q.sorting self.now.rule) (last_in self.now)
-            (locus_at (feature_lent bed.entry)) }
-    {
-        match self.last {
+        let is_below = match self.last {
             Some(last) if is_same => bed.start < last,
             Some(_) => self.rule.comes_before(bed.chrom, self.last_name.as_slice()),
             None => false,
+        };
+        if is_below {
+            return Err(Kind::OutOfOrder);
         }
-    }
-
-    // Holds the chromosome of the record ahead: its name is copied if it is another than the last. It is false if
-    // there is no room for that.
-    fn hold(&mut self, is_same: bool, chrom: &[u8]) -> bool
-        requires same { is_same ≡ goes_on self.old chrom.now }
-        ensures keeps { KeepsLast self.old self.new }
-        ensures held { result ≡ true → HoldsChrom self.old chrom.now self.new }
-    {
-        self.is_elsewhere = !is_same;
-        if is_same {
-            return true;
-        }
-        self.ahead_name.clear();
-        self.ahead_name.extend_from_slice(chrom).is_ok()
+        Ok(())
     }
 }

@@ -136,9 +136,9 @@ pub record_said : (text : List ℕ) (f : Feature) → record_of text ≡ Ok (Som
 unfolding record_of
 record_said text f e = skipped_or_said (is_header text) (columns_say (pieces 9 text)) f e
 
--- a line that is no header says the feature that its columns say
-pub columns_say_feature : (text : List ℕ) (f : Feature) → is_header text ≡ false → Ok f ≡ columns_say (pieces 9 text) → Ok (Some f) ≡ record_of text
-columns_say_feature text f h e = ap not_skipped e ∙ sym (columns_of_line text h)
+-- a line that is no header says what its columns say
+pub said_by_columns : (text : List ℕ) (said : Result Feature Kind) → is_header text ≡ false → said ≡ columns_say (pieces 9 text) → not_skipped said ≡ record_of text
+said_by_columns text said h e = ap not_skipped e ∙ sym (columns_of_line text h)
 
 -- three columns, the numbers of which were found
 pub three_say : (text a b c : List ℕ) (rest : List (List ℕ)) (bounds : ℕ × ℕ) → pieces 9 text ≡ a ∷ b ∷ c ∷ rest

@@ -1,4 +1,4 @@
-use Rattle.std.proofs.Common.{◌≡◌, ◌∙◌, ℕ, ◌<◌, Some, ap, false, inl, inr, map, sym}
+use Rattle.std.proofs.Common.{◌∙◌, ℕ, ◌<◌, Some, ap, inl, inr, map, sym}
 use Rattle.std.specs.Prelude.{All, Vec, is_some}
 use Rattle.std.specs.declared.alloc.Global.{Global}
 use Rattle.bt_lines.specs.declared.fault.Kind.TheVariants.{RepeatedChrom}
@@ -7,7 +7,6 @@ use Rattle.bt_bed.proofs.lemmas.read.good.SaidLemmas.{genome_of_line}
 use Rattle.bt_bed.proofs.lemmas.order.ResultLemmas.{either_way}
 use Rattle.bt_bed.proofs.lemmas.order.TableLemmas.{entries_non_empty, entries_push, refused_at_place, says_new, says_repeated}
 use Rattle.bt_bed.specs.model.order.Genome.{entry_of, new_entry}
-use Rattle.bt_bed.specs.model.order.Rank.{rank_of}
 use Rattle.bt_bed.specs.calls.GenomeTable.{entries, entry_lent, entry_seen, names_of}
 use Rattle.bt_bed.proofs.order.genome.Genome.add_line.Goals as goal
 
