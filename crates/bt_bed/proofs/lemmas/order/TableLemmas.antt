@@ -25,12 +25,12 @@ use Rattle.std.specs.declared.alloc.Global.{Global}
 use Rattle.std.proofs.lemmas.Iterator.Adapters.{position_from-zero}
 use Rattle.std.proofs.lemmas.Bool.{or_parts}
 use Rattle.bt_lines.specs.declared.device.Source.{Ghosts as Source}
-use Rattle.bt_lines.proofs.lemmas.reader.lines.ReaderLemmas.{not_told}
+use Rattle.bt_lines.proofs.lemmas.reader.lines.ReaderLemmas.{hands_both, not_told}
 use Rattle.indexmap.specs.IndexMap.{insert_entry}
 use Rattle.bt_bed.specs.model.order.Genome.{Entry, is_skipped, genome_names, genome_from, genome_of, new_entry, entry_of, entry_from, columns_give}
 use Rattle.bt_bed.specs.model.feature.LineKind.{fault_at_line, is_genome_kind}
 use Rattle.bt_bed.specs.model.order.Rank.{is_among, rank_of, AreDistinct}
-use Rattle.bt_bed.proofs.lemmas.order.HandsLemmas.{Passed, cut_fault, hands_both, near_fault, near_line, passed_line, passed_none}
+use Rattle.bt_bed.proofs.lemmas.order.HandsLemmas.{Passed, cut_fault, near_fault, near_line, passed_line, passed_none}
 use Rattle.bt_bed.specs.model.feature.Record.{not_skipped}
 use Rattle.bt_bed.specs.calls.GenomeTable.{entries, names_of, entry_seen, IsToldFirst, LineAdded, LineRefused, LineUnkept, ReadsAll, EntryIsWrong, ReadingStops, StopCause}
 use Rattle.bt_bed.specs.declared.order.genome.Genome.{Genome}
