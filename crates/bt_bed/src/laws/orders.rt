@@ -22,19 +22,16 @@ pub fn records_are_ordered()
     ensures sorted { sorted_by_places }
 {}
 
-/// The good records of an input are in order, and each has a base.
+/// The good records of an input are in order, and each has a base. Those of an input in blocks are in order in each
+/// of them, each has a base, and they are on the lines of the text. In blocks every name is a chromosome, so no line
+/// is at fault for it.
 pub fn good_records_are_in_order()
     ensures placed { good_are_placed }
     ensures non_empty { good_are_non_empty }
-{}
-
-/// The good records of an input in blocks are in order in each of them, each has a base, and they are
-/// on the lines of the text. In blocks every name is a chromosome, so no line is at fault for it.
-pub fn good_blocks_are_in_order()
     ensures in_blocks { good_are_in_blocks }
-    ensures non_empty { good_in_blocks_are_non_empty }
-    ensures lines { good_in_blocks_stand_on_lines }
-    ensures known { blocks_know_each_chromosome }
+    ensures non_empty_in_blocks { good_in_blocks_are_non_empty }
+    ensures lines_of_blocks { good_in_blocks_stand_on_lines }
+    ensures known_in_blocks { blocks_know_each_chromosome }
 {}
 
 /// A genome file without a fault has each chromosome once. The lines before the first fault of one have none.

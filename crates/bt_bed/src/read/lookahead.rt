@@ -3,10 +3,9 @@
 use crate::parse::faults::at_line;
 use crate::parse::names::is_same_name;
 use crate::parse::parsing::parse_bed;
-use crate::read::batch::Batch;
 use crate::read::sorted::Sorted;
 use crate::record::bed::BedRef;
-use bt_lines::{BufferedLines, Fault, Kind, Place, no_memory};
+use bt_lines::{Fault, Kind, Place, no_memory};
 use std::alloc::Global;
 
 // What the next record is checked against. The names of chromosomes are in buffers that are used again. A record on the
@@ -26,12 +25,8 @@ pub(crate) struct OrderedLookahead<Q> {
 
 #[tactic(auto, unfolding(crate::specs::inside::OrderedLookahead::last_in, crate::specs::inside::OrderedLookahead::name_in, crate::specs::inside::OrderedLookahead::start_in))]
 impl<Q: Sorted> OrderedLookahead<Q> {
-    ghost use Rattle.std.specs.Prelude.{◌≡◌, ◌<◌, None, length};
-    ghost use Rattle.bt_lines.specs.calls.Buffered.{lines_in, rest_in};
-    ghost use Rattle.bt_bed.specs.calls.Batch.{chrom_in, cursor_in, left, start_in as start_of};
+    ghost use Rattle.std.specs.Prelude.{◌≡◌, None};
     ghost use Rattle.bt_bed.specs.calls.Bed.{feature_lent};
-    ghost use Rattle.bt_bed.specs.calls.Run.{run_of};
-    ghost use Rattle.bt_bed.specs.inside.FirstColumns.{IsRecordName};
     ghost use Rattle.bt_bed.specs.inside.OrderedLookahead.{FitsOr, IsKnownLast, MakesLast, TakesLine, goes_on, last_in, name_in, start_in};
 
     // No record yet.
@@ -48,18 +43,25 @@ impl<Q: Sorted> OrderedLookahead<Q> {
         }
     }
 
-    // The records of these lines on the chromosome of the record ahead, which fit after the last one.
-    pub(crate) fn batch<'a>(&'a self, lines: BufferedLines<'a>) -> Batch<'a>
-        requires { 0 < length (rest_in lines) → IsRecordName (name_in self.now) }
-        ensures left { left result ≡ run_of (name_in self.now) (start_in self.now) (lines_in lines.entry) }
-        ensures cursor { cursor_in result ≡ lines.entry }
-        ensures chrom { chrom_in result ≡ name_in self.now }
-        ensures start { start_of result ≡ start_in self.now }
+    // The name of the chromosome of the record ahead.
+    pub(crate) fn name(&self) -> &[u8]
+        ensures { result.now ≡ name_in self.now }
     {
         if self.is_elsewhere {
-            return Batch::new(lines, self.ahead_name.as_slice(), 0);
+            self.ahead_name.as_slice()
+        } else {
+            self.last_name.as_slice()
         }
-        Batch::new(lines, self.last_name.as_slice(), self.last.unwrap_or(0))
+    }
+
+    // From where on records may start on that chromosome.
+    pub(crate) fn start(&self) -> u64
+        ensures { result ≡ start_in self.now }
+    {
+        match self.last {
+            Some(start) if !self.is_elsewhere => start,
+            _ => 0,
+        }
     }
 
     // Makes a record on the chromosome of the one ahead, which starts here, the last one.
@@ -92,6 +94,7 @@ impl<Q: Sorted> OrderedLookahead<Q> {
         if is_same {
             return Ok(true);
         }
+        // Only the name of another chromosome is copied.
         self.ahead_name.clear();
         match self.ahead_name.extend_from_slice(bed.chrom) {
             Ok(()) => Ok(true),

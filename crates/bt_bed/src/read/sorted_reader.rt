@@ -76,9 +76,9 @@ impl<S: Source, Q: Sorted + Drop> SortedReader<S, Q> {
     {
         let lines = self.reader.buffered();
         if !self.is_ahead {
-            return self.lookahead.batch(lines.none());
+            return Batch::new(lines.none(), self.lookahead.name(), self.lookahead.start());
         }
-        self.lookahead.batch(lines)
+        Batch::new(lines, self.lookahead.name(), self.lookahead.start())
     }
 
     // The first of them.
