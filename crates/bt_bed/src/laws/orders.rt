@@ -40,15 +40,11 @@ pub fn chromosomes_come_once()
     ensures first { first_lines_make_entries }
 {}
 
-/// The ranks of names give a total order of them, in which only equal names compare as equal.
-pub fn ranks_give_an_order()
-    ensures { ranks_are_total }
-{}
-
-/// The bytes of names give a total order of all names, in which only equal names compare as equal. A
-/// name comes before the longer ones that it begins, and else the first byte that differs decides. No
+/// The ranks of names give a total order of them, in which only equal names compare as equal, and so do the bytes of
+/// all names. By bytes a name comes before the longer ones that it begins, and else the first byte that differs decides. No
 /// chromosome is unknown to it.
-pub fn bytes_give_an_order()
+pub fn names_are_ordered()
+    ensures ranks { ranks_are_total }
     ensures total { bytes_are_total }
     ensures prefix { prefixes_come_first }
     ensures difference { first_difference_decides }

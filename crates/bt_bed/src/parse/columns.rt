@@ -77,16 +77,9 @@ fn number_at(bytes: &[u8], at: usize) -> ParsedNumber
     ensures begins { BeginsWith (drop at bytes.now) result }
     ensures short { result.end ≤ 9 }
 {
-    let Some(value) = eight_digits(&word_at(bytes, at)) else {
-        return number_of_few(&word_at(bytes, at));
-    };
-    let byte = bytes[at + 8];
-    if !byte.is_ascii_digit() {
-        return ParsedNumber { value, end: 8 };
-    }
-    ParsedNumber {
-        value: value * 10 + u64::from(byte - b'0'),
-        end: 9,
+    match eight_digits(&word_at(bytes, at)) {
+        Some(value) => number_of_eight(bytes, at, value),
+        None => number_of_few(&word_at(bytes, at)),
     }
 }
 
@@ -107,4 +100,22 @@ fn number_of_few(bytes: &[u8; 8]) -> ParsedNumber
 {
     let (value, end) = few_digits(bytes);
     ParsedNumber { value, end }
+}
+
+// The number of eight digits that are read already, and of a ninth, if there is one.
+#[inline(always)]
+fn number_of_eight(bytes: &[u8], at: usize, value: u64) -> ParsedNumber
+    requires at { at + 9 ≤ length bytes.now }
+    requires value { value_of (take 8 (drop at bytes.now)) ≡ Some value }
+    ensures begins { BeginsWith (drop at bytes.now) result }
+    ensures short { result.end ≤ 9 }
+{
+    let byte = bytes[at + 8];
+    if !byte.is_ascii_digit() {
+        return ParsedNumber { value, end: 8 };
+    }
+    ParsedNumber {
+        value: value * 10 + u64::from(byte - b'0'),
+        end: 9,
+    }
 }
