@@ -1,5 +1,6 @@
 -- Lemmas on order.
 pub mod ByteOrderLemmas
+pub mod ContiguousLemmas
 pub mod GenomeLemmas
 pub mod HandsLemmas
 pub mod KnownChromLemmas
@@ -7,4 +8,3 @@ pub mod RankLemmas
 pub mod ResultLemmas
 pub mod SortingLemmas
 pub mod TableLemmas
-pub mod TogetherLemmas

@@ -16,10 +16,6 @@ feature_lent bed =
       rest = bed.rest.now;
     }
 
-abbrev pub feature_seen : Result BedRef Kind → Result Feature Kind
-feature_seen (Ok bed) = Ok (feature_lent bed)
-feature_seen (Err kind) = Err kind
-
 abbrev pub record_seen : Result (Option BedRef) Kind → Result (Option Feature) Kind
 record_seen (Ok bed) = Ok (option_map feature_lent bed)
 record_seen (Err kind) = Err kind

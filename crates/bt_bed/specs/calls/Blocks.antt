@@ -15,7 +15,7 @@ use Rattle.bt_bed.specs.model.input.GoodBed.{locus_at}
 use Rattle.bt_bed.specs.model.input.GoodBlocks.{IsBlockUpTo}
 use Rattle.bt_bed.specs.model.order.Locus.{Locus}
 use Rattle.bt_bed.specs.calls.Reading.{AnswersFault, EndsMembers, GivesMember, MemberReader, Takes}
-use Rattle.bt_bed.specs.calls.Reading.{TellsOwnFailure, ahead_in, good_coming, line_of_ahead, room as room_in}
+use Rattle.bt_bed.specs.calls.Reading.{TellsOwnFailure, ahead_in, good_coming, line_of_ahead}
 use Rattle.bt_bed.specs.model.feature.Record.{IsFeature}
 use Rattle.bt_bed.specs.model.order.Sorting.{block_sorting}
 use Rattle.bt_bed.specs.declared.read.batch.Batch.{Batch}
@@ -55,10 +55,6 @@ module _ {S : Type 0} where
   -- what is still to come, the records that are buffered included, if the source's bytes are known
   abbrev pub good_left : (S → Option (List ℕ)) → Blocks S → Option (Good Feature)
   good_left left blocks = good_coming left (view_of blocks)
-
-  -- how many bytes may still come: it never rises, and falls with each record taken
-  abbrev pub room : Blocks S → ℕ
-  room blocks = room_in (view_of blocks)
 
   -- a record is ahead
   pub record GivesRecord (device : Source S) (old : Blocks S)

@@ -25,10 +25,6 @@ use Rattle.bt_bed.specs.declared.order.genome.Genome.{Genome}
 abbrev pub entry_lent : EntryRef → Entry
 entry_lent entry = record { name = entry.name.now; length = entry.length }
 
-abbrev pub columns_lent : Result EntryRef Kind → Result Entry Kind
-columns_lent (Ok entry) = Ok (entry_lent entry)
-columns_lent (Err kind) = Err kind
-
 abbrev pub entry_said : Result (Option EntryRef) Kind → Result (Option Entry) Kind
 entry_said (Ok entry) = Ok (option_map entry_lent entry)
 entry_said (Err kind) = Err kind

@@ -11,57 +11,40 @@ ghost use Rattle.bt_bed.specs.model.order.Rank.{ranks_are_total};
 ghost use Rattle.bt_bed.specs.model.order.Sorting.{sorted_by_places};
 ghost use Rattle.bt_bed.specs.model.order.Contiguous.{prefixes_are_contiguous, placed_are_contiguous, contiguous_grows};
 
-/// Records in order stay so with a next one that isn't below the last, and so do the first of them.
-pub fn order_grows()
+/// Records in order stay so with a next one that isn't below the last, and so do the first of them. In a total order
+/// of the chromosomes the records of each are contiguous, and records are sorted by their places.
+pub fn records_are_ordered()
     ensures placed { placed_grows }
     ensures contiguous { contiguous_grows }
     ensures placed_prefix { prefixes_are_placed }
     ensures contiguous_prefix { prefixes_are_contiguous }
+    ensures gathered { placed_are_contiguous }
+    ensures sorted { sorted_by_places }
 {}
 
-/// In a total order of the chromosomes the records of each are contiguous.
-pub fn order_gathers()
-    ensures { placed_are_contiguous }
-{}
-
-/// The good records of an input are in order, and each has a base.
+/// The good records of an input are in order, and each has a base. Those of an input in blocks are in order in each
+/// of them, each has a base, and they are on the lines of the text. In blocks every name is a chromosome, so no line
+/// is at fault for it.
 pub fn good_records_are_in_order()
     ensures placed { good_are_placed }
     ensures non_empty { good_are_non_empty }
-{}
-
-/// The good records of an input in blocks are in order in each of them, each has a base, and they are
-/// on the lines of the text.
-pub fn good_blocks_are_in_order()
     ensures in_blocks { good_are_in_blocks }
-    ensures non_empty { good_in_blocks_are_non_empty }
-    ensures lines { good_in_blocks_stand_on_lines }
+    ensures non_empty_in_blocks { good_in_blocks_are_non_empty }
+    ensures lines_of_blocks { good_in_blocks_stand_on_lines }
+    ensures known_in_blocks { blocks_know_each_chromosome }
 {}
 
-/// A genome file without a fault has each chromosome once.
+/// A genome file without a fault has each chromosome once. The lines before the first fault of one have none.
 pub fn chromosomes_come_once()
-    ensures { genome_names_are_distinct }
+    ensures distinct { genome_names_are_distinct }
+    ensures first { first_lines_make_entries }
 {}
 
-/// The lines before the first fault of a genome file have none.
-pub fn first_lines_have_the_first_chromosomes()
-    ensures { first_lines_make_entries }
-{}
-
-/// In a total order records are sorted by their places.
-pub fn sorted_records_follow_the_order()
-    ensures { sorted_by_places }
-{}
-
-/// The ranks of names give a total order of them, in which only equal names compare as equal.
-pub fn ranks_give_an_order()
-    ensures { ranks_are_total }
-{}
-
-/// The bytes of names give a total order of all names, in which only equal names compare as equal. A
-/// name comes before the longer ones that it begins, and else the first byte that differs decides. No
+/// The ranks of names give a total order of them, in which only equal names compare as equal, and so do the bytes of
+/// all names. By bytes a name comes before the longer ones that it begins, and else the first byte that differs decides. No
 /// chromosome is unknown to it.
-pub fn bytes_give_an_order()
+pub fn names_are_ordered()
+    ensures ranks { ranks_are_total }
     ensures total { bytes_are_total }
     ensures prefix { prefixes_come_first }
     ensures difference { first_difference_decides }
@@ -70,9 +53,4 @@ pub fn bytes_give_an_order()
     ensures prefix_of_a_number { byte_order.compare (codes "chr1") (codes "chr10") ≡ Less }
     ensures no_number { byte_order.compare (codes "chr10") (codes "chr2") ≡ Less }
     ensures capital { byte_order.compare (codes "chrX") (codes "chra") ≡ Less }
-{}
-
-/// In blocks every name is a chromosome, so no line is at fault for it.
-pub fn blocks_know_each_chromosome()
-    ensures { blocks_know_each_chromosome }
 {}

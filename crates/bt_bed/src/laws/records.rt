@@ -10,13 +10,10 @@ ghost use Rattle.bt_bed.specs.model.feature.Stretches.{scan_finds_stretches, str
 use crate::record::strand::Strand;
 use bt_lines::Kind;
 
-/// The bases that two intervals share are those that both have.
-pub fn shared_bases_are_common()
-    ensures { shared_are_common }
-{}
-
-/// A set of positions is made up by one list of intervals, which a scan finds.
-pub fn stretches_are_determined()
+/// The bases that two intervals share are those that both have. A set of positions is made up by one list of
+/// intervals, which a scan finds.
+pub fn intervals_are_sets_of_bases()
+    ensures shared { shared_are_common }
     ensures one { stretches_are_one }
     ensures found { scan_finds_stretches }
 {}
@@ -33,14 +30,10 @@ pub fn wrong_lines_are_of_bed()
 {}
 
 /// What a line says is a feature: its name is one column, it has a base, and its numbers have at most
-/// twelve digits.
-pub fn lines_say_features()
-    ensures { said_are_features }
-{}
-
-/// A feature's bytes, unless they are a header line, say the feature again; and so do those of each
-/// feature that was read.
+/// twelve digits. A feature's bytes, unless they are a header line, say the feature again; and so do those
+/// of each feature that was read.
 pub fn written_records_are_read_back()
+    ensures said { said_are_features }
     ensures read_back { written_are_read }
     ensures rewritten { read_are_rewritten }
 {}

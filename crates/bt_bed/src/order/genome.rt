@@ -2,7 +2,6 @@
 
 ghost use Rattle.std.specs.Prelude.{◌<◌, All};
 
-use crate::order::entry::EntryRef;
 use crate::order::genome_line::entry;
 use crate::parse::faults::at_line;
 use bt_lines::{Fault, Kind, LineReader, Place, Source, no_memory};
@@ -99,19 +98,14 @@ impl Genome {
         ensures refused { IfErr result (λ fault.
             LineRefused place text.now self.old (fault_value fault) ⊎ LineUnkept text.now self.old (fault_value fault)) }
     {
-        match self.new_entry(text) {
-            Ok(Some(entry)) => self.push(alloc, entry),
-            Ok(None) => Ok(()),
-            Err(kind) => Err(at_line(kind, place)),
+        let entry = match entry(text) {
+            Ok(Some(entry)) => entry,
+            Ok(None) => return Ok(()),
+            Err(kind) => return Err(at_line(kind, place)),
+        };
+        if self.rank(entry.name).is_some() {
+            return Err(at_line(Kind::RepeatedChrom, place));
         }
-    }
-
-    // Adds a new chromosome after the others.
-    fn push(&mut self, alloc: Global, entry: EntryRef<'_>) -> Result<(), Fault>
-        requires { is_among (names_of self.old) entry.name.now ≡ false }
-        ensures added { OnOk result (entries self.new ≡ entries self.old ++ entry_lent entry.entry ∷ []) }
-        ensures refused { IfErr result (λ fault. fault_value fault ≡ no_memory) }
-    {
         let Ok(name) = Vec::from_slice(alloc, entry.name) else {
             return Err(no_memory());
         };
@@ -119,19 +113,6 @@ impl Genome {
             Ok(_new) => Ok(()),
             Err(_failed) => Err(no_memory()),
         }
-    }
-
-    // What a line says after the lines before it.
-    fn new_entry<'t>(&self, text: &'t [u8]) -> Result<Option<EntryRef<'t>>, Kind>
-        ensures { entry_said result ≡ new_entry (names_of self.now) (entry_of text.now) }
-    {
-        let Some(entry) = entry(text)? else {
-            return Ok(None);
-        };
-        if self.rank(entry.name).is_some() {
-            return Err(Kind::RepeatedChrom);
-        }
-        Ok(Some(entry))
     }
 }
 

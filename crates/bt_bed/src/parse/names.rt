@@ -15,13 +15,10 @@ pub fn is_same_name(left: &[u8], right: &[u8]) -> bool
     if left.len() != right.len() || left.len() > LONGEST {
         return is_same_text(left, right);
     }
-    let (Some(first), Some(last)) = (first_word(left), last_word(left)) else {
+    let (Some(ends), Some(others)) = (ends_of(left), ends_of(right)) else {
         return is_same_text(left, right);
     };
-    let (Some(other_first), Some(other_last)) = (first_word(right), last_word(right)) else {
-        return is_same_text(left, right);
-    };
-    first == other_first && last == other_last
+    ends.0 == others.0 && ends.1 == others.1
 }
 
 // The same for names of any length. Those of an assembly's parts mostly differ in their last byte.
@@ -36,18 +33,14 @@ fn is_same_text(left: &[u8], right: &[u8]) -> bool
     left == right
 }
 
-// The first four bytes of a name as one number, if it has that many.
-fn first_word(name: &[u8]) -> Option<u32>
-    ensures { IfSome result (λ word. (4 ≤ length name.now)
-        × (word ≡ from_le_bytes w32 (take 4 name.now))) }
+// The first and the last four bytes of a name as one number each, if it has that many.
+#[inline(always)]
+fn ends_of(name: &[u8]) -> Option<(u32, u32)>
+    ensures { IfSome result (λ ends. (4 ≤ length name.now)
+        × (ends.0 ≡ from_le_bytes w32 (take 4 name.now))
+        × (ends.1 ≡ from_le_bytes w32 (drop (length name.now - 4) name.now))) }
 {
-    Some(u32::from_le_bytes(*name.first_chunk::<4>()?))
-}
-
-// The last four bytes of a name as one number, if it has that many.
-fn last_word(name: &[u8]) -> Option<u32>
-    ensures { IfSome result (λ word. (4 ≤ length name.now)
-        × (word ≡ from_le_bytes w32 (drop (length name.now - 4) name.now))) }
-{
-    Some(u32::from_le_bytes(*name.last_chunk::<4>()?))
+    let first = name.first_chunk::<4>()?;
+    let last = name.last_chunk::<4>()?;
+    Some((u32::from_le_bytes(*first), u32::from_le_bytes(*last)))
 }

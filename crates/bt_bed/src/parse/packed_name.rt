@@ -22,18 +22,10 @@ impl PackedName {
     pub(crate) fn of(name: &[u8]) -> PackedName
         ensures { HasKey name.now result }
     {
-        PackedName::new(&front_of(name), name)
-    }
-
-    // The key of a name, from eight bytes that begin with it and a tab.
-    #[inline(always)]
-    fn new(bytes: &[u8; 8], name: &[u8]) -> PackedName
-        requires { length name.now ≤ 7 → take (length name.now + 1) bytes.now ≡ name.now ++ 9 ∷ [] }
-        ensures { HasKey name.now result }
-    {
-        let factor = factor_of(name.len());
+        let bytes = front_of(name);
+        let factor = 1 << (8 * LONGEST_KEYED.saturating_sub(name.len()));
         PackedName {
-            word: upper_word(bytes, factor),
+            word: upper_word(&bytes, factor),
             factor,
         }
     }
@@ -58,14 +50,6 @@ fn front_of(name: &[u8]) -> [u8; 8]
     }
     bytes[..name.len()].copy_from_slice(name);
     bytes
-}
-
-// What moves a name of this length and a tab to the upper bytes of a number.
-#[inline(always)]
-fn factor_of(length: usize) -> u64
-    ensures { length ≤ 7 → result * 256 ^ (length + 1) ≡ 2 ^ 64 }
-{
-    1 << (8 * LONGEST_KEYED.saturating_sub(length))
 }
 
 // The first of these bytes as the upper bytes of a number.

@@ -1,8 +1,8 @@
 //! What a line of a BED file says.
 
 ghost use Rattle.std.specs.Prelude.{◌≡◌, ◌≤◌, List, drop, length, ℕ};
-ghost use Rattle.bt_bed.specs.calls.Bed.{EndsWithRest, feature_between, feature_seen, record_seen};
-ghost use Rattle.bt_bed.specs.model.feature.Record.{columns_say, feature_of, record_of};
+ghost use Rattle.bt_bed.specs.calls.Bed.{EndsWithRest, feature_between, record_seen};
+ghost use Rattle.bt_bed.specs.model.feature.Record.{feature_of, record_of};
 ghost use Rattle.bt_lines.specs.model.Lines.{pieces};
 ghost use Rattle.bt_lines.specs.model.Number.{value_of};
 
@@ -16,7 +16,7 @@ use bt_lines::{Kind, columns, number};
 /// columns are divided by tabs, the first base is numbered 0, and the end isn't included. `Err` has
 /// the first fault that applies: fewer than three columns; an empty name of a chromosome; a start or an
 /// end that isn't a number of at most twelve digits; a start that isn't below the end. It doesn't
-/// allocate, and the feature borrows from the text.
+/// allocate, and the feature borrows from the text: what it keeps begins at the tab after the third column.
 pub fn parse_bed(text: &[u8]) -> Result<Option<BedRef<'_>>, Kind>
     ensures said { record_seen result ≡ record_of text.now }
     ensures suffix { EndsWithRest text.now result }
@@ -24,15 +24,6 @@ pub fn parse_bed(text: &[u8]) -> Result<Option<BedRef<'_>>, Kind>
     if is_header(text) {
         return Ok(None);
     }
-    let feature = first_columns(text)?;
-    Ok(Some(feature))
-}
-
-// The feature of a text's columns. What it keeps isn't copied: it begins at the tab after the third
-// column.
-fn first_columns(text: &[u8]) -> Result<BedRef<'_>, Kind>
-    ensures { feature_seen result ≡ columns_say (pieces 9 text.now) }
-{
     let mut columns = columns(text);
     let Some(chrom) = columns.next() else {
         return Err(Kind::TooFewColumns);
@@ -47,13 +38,13 @@ fn first_columns(text: &[u8]) -> Result<BedRef<'_>, Kind>
     let rest = behind(text, end);
     let (start, stop) = bounds(chrom, start, stop)?;
     let strand = kept_strand(text, end);
-    Ok(BedRef {
+    Ok(Some(BedRef {
         chrom,
         start,
         stop,
         strand,
         rest,
-    })
+    }))
 }
 
 // What a text has from an index on.

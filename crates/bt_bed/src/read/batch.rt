@@ -13,6 +13,7 @@ use crate::parse::names::is_same_name;
 use crate::parse::packed_name::PackedName;
 use crate::parse::parsed_number::parse_number;
 use crate::parse::parsing::parse_bed;
+use crate::read::cursor::Cursor;
 use crate::record::raw_record::RawRecord;
 use bt_lines::{BufferedLines, ConsumedLines, without_return};
 
@@ -78,7 +79,8 @@ impl<'a> Batch<'a> {
         ensures unchanged { IfNone result (self.new ≡ self.old) }
     {
         let record = self.first()?;
-        self.consume(&record);
+        self.lines.consume(record.line.len() + 1);
+        self.start = record.start.value;
         Some(record)
     }
 
@@ -98,17 +100,28 @@ impl<'a> Batch<'a> {
         Some(record)
     }
 
-    // The record of the next line, which is this one, if it lies on the chromosome.
+    // The record of the next line, which is this one, if it lies on the chromosome: by a scan, or else by the parser.
     #[inline(always)]
     fn read(&self, line: &'a [u8]) -> Option<RawRecord<'a>>
         requires { take (length line.now) (rest_in (cursor_in self.now)) ≡ line.now }
         ensures some { IfSome result (IsOnLine line.now (chrom_in self.now)) }
         ensures none { IfNone result (is_on (chrom_in self.now) (record_of (strip_last 13 line.now)) ≡ false) }
     {
-        match self.scan(line) {
-            Some(record) => Some(record),
-            None => self.parse(line),
+        if let Some(record) = self.scan(line) {
+            return Some(record);
         }
+        if !is_record_on(line, self.name) {
+            return None;
+        }
+        let text = without_return(line);
+        let start = parse_number(text, self.name.len() + 1);
+        let stop = parse_number(text, self.name.len() + start.end + 2);
+        Some(RawRecord {
+            line,
+            name: self.name.len(),
+            start,
+            stop,
+        })
     }
 
     // The record by a scan of the first columns; `None` says nothing.
@@ -134,72 +147,6 @@ impl<'a> Batch<'a> {
         })
     }
 
-    // The record by the parser; `None` only if the line says none on the chromosome.
-    #[inline(always)]
-    fn parse(&self, line: &'a [u8]) -> Option<RawRecord<'a>>
-        ensures some { IfSome result (IsOnLine line.now (chrom_in self.now)) }
-        ensures none { IfNone result (is_on (chrom_in self.now) (record_of (strip_last 13 line.now)) ≡ false) }
-    {
-        if !is_record_on(line, self.name) {
-            return None;
-        }
-        let text = without_return(line);
-        let start = parse_number(text, self.name.len() + 1);
-        let stop = parse_number(text, self.name.len() + start.end + 2);
-        Some(RawRecord {
-            line,
-            name: self.name.len(),
-            start,
-            stop,
-        })
-    }
-
-    /// Consumes the next record, which is this one.
-    #[inline(always)]
-    pub fn consume(&mut self, raw: &RawRecord<'a>)
-        requires { StandsFirst self.old raw.now }
-        ensures passes { Passes self.old (record_in raw.now ∷ []) self.new }
-        ensures line { consumed_in self.new ≡ consumed_in self.old ++ raw_in raw.now }
-    {
-        self.lines.consume(raw.size());
-        self.start = raw.start.value;
-    }
-
-    /// The chromosome of the records.
-    #[inline(always)]
-    pub fn chrom(&self) -> &'a [u8]
-        ensures { result.now ≡ chrom_in self.now }
-    {
-        self.name
-    }
-
-    /// The number of the line, counted from 1, of the record that was consumed last; before the first one that of the
-    /// line before it, or 0.
-    #[inline(always)]
-    pub fn line(&self) -> u64
-        ensures { result ≡ line_in self.now }
-    {
-        self.lines.lines()
-    }
-
-    /// How many bytes of lines were consumed of this batch, line ends included.
-    #[inline(always)]
-    pub fn offset(&self) -> usize
-        ensures { result ≡ length (consumed_in self.now) }
-    {
-        self.lines.offset()
-    }
-
-    /// The bytes that were consumed between two offsets, both counted as [`Batch::offset`] counts. `to` isn't included.
-    #[inline(always)]
-    pub fn between(&self, from: usize, to: usize) -> &'a [u8]
-        requires ordered { from ≤ to }
-        requires within { to ≤ length (consumed_in self.now) }
-        ensures { take to (consumed_in self.now) ≡ take from (consumed_in self.now) ++ result.now }
-    {
-        self.lines.between(from, to)
-    }
-
     /// What was consumed.
     #[inline(never)]
     pub fn consumed(&self) -> Consumed
@@ -211,6 +158,57 @@ impl<'a> Batch<'a> {
             is_ahead: self.first().is_some(),
         }
     }
+}
+
+#[tactic(auto, unfolding(crate::specs::calls::Batch::chrom_in, crate::specs::calls::Batch::line_in))]
+impl<'a> Cursor for Batch<'a> {
+    ghost use Rattle.bt_bed.specs.calls.Batch.{HasEnded, Passes, batch_room, chrom_in, consumed_in, line_in};
+    ghost use Rattle.bt_bed.specs.calls.CursorLaws.{batch_gives_more, batch_gives_none, batch_gives_same};
+
+    type Record = RawRecord<'a>;
+
+    ghost name = { chrom_in };
+
+    ghost gives = { Passes };
+
+    ghost has_ended = { HasEnded };
+
+    ghost room = { batch_room };
+
+    ghost line = { line_in };
+
+    ghost consumed = { consumed_in };
+
+    #[inline(always)]
+    fn chrom(&self) -> &[u8] {
+        self.name
+    }
+
+    #[inline(always)]
+    fn line(&self) -> u64 {
+        self.lines.lines()
+    }
+
+    #[inline(always)]
+    fn offset(&self) -> usize {
+        self.lines.offset()
+    }
+
+    #[inline(always)]
+    fn between(&self, from: usize, to: usize) -> &[u8] {
+        self.lines.between(from, to)
+    }
+
+    #[inline(always)]
+    fn next(&mut self) -> Option<RawRecord<'a>> {
+        self.next()
+    }
+
+    ghost gives_none = { batch_gives_none };
+
+    ghost gives_more = { batch_gives_more };
+
+    ghost gives_same = { batch_gives_same };
 }
 
 // Whether the column of a line that reaches up to `end` ends there. The byte before `end` is no carriage return.

@@ -99,15 +99,17 @@ impl<S: Source> Blocks<S> {
         requires { IsSome (line_ahead self.now) }
         ensures { line_ahead self.now ≡ Some result }
     {
-        self.sorted.line()
+        self.sorted.reader.lines() + 1
     }
 
     /// Gives back the reader of lines.
     pub fn into_reader(self) -> LineReader<S>
         ensures { result ≡ below self }
     {
-        let Blocks { sorted } = self;
-        sorted.into_reader()
+        let Blocks {
+            sorted: SortedReader { reader, .. },
+        } = self;
+        reader
     }
 }
 

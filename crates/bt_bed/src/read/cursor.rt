@@ -4,13 +4,11 @@ ghost use Rattle.std.specs.Prelude.{◌≡◌, ◌∷◌, ◌++◌, ◌<◌, ◌
 ghost use Rattle.bt_bed.specs.model.feature.Feature.{Feature};
 ghost use Rattle.bt_bed.specs.declared.record.bed.BedRef.{BedRef};
 
-use crate::read::batch::Batch;
 use crate::record::Record;
 use crate::record::bed::BedRef;
-use crate::record::raw_record::RawRecord;
 
 /// Records of one chromosome in order, of which the first are consumed: those that a reader has buffered
-/// ([`Batch`]), or one ([`Single`]).
+/// ([`Batch`](crate::Batch)), or one ([`Single`]).
 pub trait Cursor: Copy {
     type Record: Record;
 
@@ -168,54 +166,6 @@ impl<'a> Cursor for Single<'a> {
     ghost gives_more = { single_gives_more };
 
     ghost gives_same = { single_gives_same };
-}
-
-impl<'a> Cursor for Batch<'a> {
-    ghost use Rattle.bt_bed.specs.calls.Batch.{HasEnded, Passes, batch_room, chrom_in, consumed_in, line_in};
-    ghost use Rattle.bt_bed.specs.calls.CursorLaws.{batch_gives_more, batch_gives_none, batch_gives_same};
-
-    type Record = RawRecord<'a>;
-
-    ghost name = { chrom_in };
-
-    ghost gives = { Passes };
-
-    ghost has_ended = { HasEnded };
-
-    ghost room = { batch_room };
-
-    ghost line = { line_in };
-
-    ghost consumed = { consumed_in };
-
-    fn chrom(&self) -> &[u8] {
-        self.chrom()
-    }
-
-    fn line(&self) -> u64 {
-        self.line()
-    }
-
-    #[inline(always)]
-    fn offset(&self) -> usize {
-        self.offset()
-    }
-
-    #[inline(always)]
-    fn between(&self, from: usize, to: usize) -> &[u8] {
-        self.between(from, to)
-    }
-
-    #[inline(always)]
-    fn next(&mut self) -> Option<RawRecord<'a>> {
-        self.next()
-    }
-
-    ghost gives_none = { batch_gives_none };
-
-    ghost gives_more = { batch_gives_more };
-
-    ghost gives_same = { batch_gives_same };
 }
 
 #[cfg(test)]

@@ -25,11 +25,9 @@ pub(crate) struct OrderedLookahead<Q> {
 
 #[tactic(auto, unfolding(crate::specs::inside::OrderedLookahead::last_in, crate::specs::inside::OrderedLookahead::name_in, crate::specs::inside::OrderedLookahead::start_in))]
 impl<Q: Sorted> OrderedLookahead<Q> {
-    ghost use Rattle.std.specs.Prelude.{◌≡◌, None, IsTrue, true};
+    ghost use Rattle.std.specs.Prelude.{◌≡◌, None};
     ghost use Rattle.bt_bed.specs.calls.Bed.{feature_lent};
-    ghost use Rattle.bt_bed.specs.model.input.GoodBed.{locus_at};
-    ghost use Rattle.bt_bed.specs.model.order.Sorting.{falls_in};
-    ghost use Rattle.bt_bed.specs.inside.OrderedLookahead.{FitsOr, HoldsChrom, IsKnownLast, KeepsLast, MakesLast, TakesLine, goes_on, last_in, name_in, start_in};
+    ghost use Rattle.bt_bed.specs.inside.OrderedLookahead.{FitsOr, IsKnownLast, MakesLast, TakesLine, goes_on, last_in, name_in, start_in};
 
     // No record yet.
     pub(crate) fn new(alloc: Global, rule: Q) -> OrderedLookahead<Q>
@@ -88,22 +86,20 @@ impl<Q: Sorted> OrderedLookahead<Q> {
             Ok(None) => return Ok(false),
             Err(kind) => return Err(at_line(kind, place)),
         };
-        let is_same = self.goes_on(bed.chrom);
+        let is_same = self.last.is_some() && is_same_name(self.last_name.as_slice(), bed.chrom);
         if let Err(kind) = self.check(is_same, bed) {
             return Err(at_line(kind, place));
         }
-        if self.hold(is_same, bed.chrom) {
-            Ok(true)
-        } else {
-            Err(no_memory())
+        self.is_elsewhere = !is_same;
+        if is_same {
+            return Ok(true);
         }
-    }
-
-    // Whether a chromosome is that of the last record.
-    fn goes_on(&self, chrom: &[u8]) -> bool
-        ensures { result ≡ goes_on self.now chrom.now }
-    {
-        self.last.is_some() && is_same_name(self.last_name.as_slice(), chrom)
+        // Only the name of another chromosome is copied.
+        self.ahead_name.clear();
+        match self.ahead_name.extend_from_slice(bed.chrom) {
+            Ok(()) => Ok(true),
+            Err(_) => Err(no_memory()),
+        }
     }
 
     // Whether a record fits after the last one, or what is wrong with it. Its chromosome isn't looked
@@ -116,39 +112,14 @@ impl<Q: Sorted> OrderedLookahead<Q> {
         if !is_same && !self.rule.knows(bed.chrom) {
             return Err(Kind::UnknownChrom);
         }
-        if self.falls_below(is_same, bed) {
-            return Err(Kind::OutOfOrder);
-        }
-        Ok(())
-    }
-
-    // Whether a record on a known chromosome lies below the last one.
-    fn falls_below(&self, is_same: bool, bed: BedRef<'_>) -> bool
-        requires same { is_same ≡ goes_on self.now bed.chrom.now }
-        requires last { IsKnownLast (Q.sorting self.now.rule) (last_in self.now) }
-        requires known { IsTrue ((Q.sorting self.now.rule).knows bed.chrom.now) }
-        ensures { result ≡ falls_in (Q.sorting self.now.rule) (last_in self.now)
-            (locus_at (feature_lent bed.entry)) }
-    {
-        match self.last {
+        let is_below = match self.last {
             Some(last) if is_same => bed.start < last,
             Some(_) => self.rule.comes_before(bed.chrom, self.last_name.as_slice()),
             None => false,
+        };
+        if is_below {
+            return Err(Kind::OutOfOrder);
         }
-    }
-
-    // Holds the chromosome of the record ahead: its name is copied if it is another than the last. It is false if
-    // there is no room for that.
-    fn hold(&mut self, is_same: bool, chrom: &[u8]) -> bool
-        requires same { is_same ≡ goes_on self.old chrom.now }
-        ensures keeps { KeepsLast self.old self.new }
-        ensures held { result ≡ true → HoldsChrom self.old chrom.now self.new }
-    {
-        self.is_elsewhere = !is_same;
-        if is_same {
-            return true;
-        }
-        self.ahead_name.clear();
-        self.ahead_name.extend_from_slice(chrom).is_ok()
+        Ok(())
     }
 }

@@ -106,15 +106,17 @@ impl<'o, S: Source, O: ChromOrder> Records<'o, S, O> {
         requires { IsSome (line_ahead self.now) }
         ensures { line_ahead self.now ≡ Some result }
     {
-        self.sorted.line()
+        self.sorted.reader.lines() + 1
     }
 
     /// Gives back the reader of lines.
     pub fn into_reader(self) -> LineReader<S>
         ensures { result ≡ below self.entry }
     {
-        let Records { sorted } = self;
-        sorted.into_reader()
+        let Records {
+            sorted: SortedReader { reader, .. },
+        } = self;
+        reader
     }
 }
 

@@ -15,7 +15,7 @@ use std::alloc::Global;
 // the reader's own.
 #[derive(Drop)]
 pub(crate) struct SortedReader<S, Q> {
-    reader: LineReader<S>,
+    pub(crate) reader: LineReader<S>,
     pub(crate) lookahead: OrderedLookahead<Q>,
     // Whether the reader's next line is known to say a record that fits after the last one.
     is_ahead: bool,
@@ -126,27 +126,6 @@ impl<S: Source, Q: Sorted + Drop> SortedReader<S, Q> {
         let _ = batch.next();
         let consumed = batch.consumed();
         self.consume(consumed);
-    }
-
-    // The line of the record ahead.
-    pub(crate) fn line(&self) -> u64
-        requires { (r : Feature) × (more : List Feature) × (buffered_in self.now ≡ r ∷ more) }
-        ensures { result ≡ lines_given self.now.reader + 1 }
-    {
-        self.reader.lines() + 1
-    }
-
-    // Gives back the reader of lines.
-    pub(crate) fn into_reader(self) -> LineReader<S>
-        ensures { result ≡ self.reader }
-    {
-        let SortedReader {
-            reader,
-            lookahead: _,
-            is_ahead: _,
-            fault: _,
-        } = self;
-        reader
     }
 
     // Reads on to the next record, if there is one, and keeps the fault.

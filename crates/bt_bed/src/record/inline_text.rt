@@ -1,10 +1,10 @@
 //! The text of a record that is kept.
 
-ghost use Rattle.std.specs.Prelude.{◌≡◌, ◌+◌, ◌≤◌, ◌++◌, ◌-◌, length, take, IfOk, IfSome};
+ghost use Rattle.std.specs.Prelude.{◌≡◌, ◌≤◌, ◌++◌, ◌-◌, length, take, IfOk, IfSome};
+ghost use Rattle.bt_bed.specs.inside.KeptForm.{bytes_of};
 
 use bt_lines::copy_piece;
 use std::alloc::{AllocError, Global};
-use std::marker::Model;
 
 // That many bytes stand inside. A record that is kept takes 64 bytes with them, and most names and further columns fit.
 const SHORT: usize = 31;
@@ -13,24 +13,9 @@ const SHORT: usize = 31;
 // holds: a short text stands inside, so that no memory is taken for it and none given back. A longer one is in a
 // buffer.
 #[derive(Debug, Drop)]
-pub(crate) struct InlineText {
-    form: Form,
-}
-
-#[derive(Debug, Drop)]
-enum Form {
+pub(crate) enum InlineText {
     Short([u8; SHORT]),
     Long(Vec<u8>),
-}
-
-impl Model for InlineText {
-    ghost use Rattle.std.specs.Prelude.{ℕ, List};
-
-    ghost Value = { List ℕ };
-
-    ghost use Rattle.bt_bed.specs.inside.KeptForm.{bytes_of};
-
-    ghost view = { λ t. bytes_of t.form };
 }
 
 impl InlineText {
@@ -40,26 +25,27 @@ impl InlineText {
         name: &[u8],
         rest: &[u8],
     ) -> Result<(InlineText, u32), AllocError>
-        ensures within { IfOk result (λ kept. kept.1 ≤ length kept.0) }
-        ensures filled { IfOk result (λ kept. take (length kept.0 - kept.1) kept.0 ≡ name.now ++ rest.now) }
+        ensures within { IfOk result (λ kept. kept.1 ≤ length (bytes_of kept.0)) }
+        ensures filled { IfOk result (λ kept. take (length (bytes_of kept.0) - kept.1) (bytes_of kept.0) ≡ name.now ++ rest.now) }
     {
         let mut bytes = [0; SHORT];
         if let Some(left) = put_both(&mut bytes, name, rest) {
-            let form = Form::Short(bytes);
-            return Ok((InlineText { form }, left));
+            return Ok((InlineText::Short(bytes), left));
         }
-        let form = Form::Long(joined(alloc, name, rest)?);
-        Ok((InlineText { form }, 0))
+        let mut text = Vec::with_capacity(alloc, name.len() + rest.len())?;
+        text.extend_from_slice(name)?;
+        text.extend_from_slice(rest)?;
+        Ok((InlineText::Long(text), 0))
     }
 
     // All its bytes.
     #[inline(always)]
     pub(crate) fn as_slice(&self) -> &[u8]
-        ensures { result.now ≡ self.now }
+        ensures { result.now ≡ bytes_of self.now }
     {
-        match &self.form {
-            Form::Short(bytes) => bytes,
-            Form::Long(text) => text.as_slice(),
+        match self {
+            InlineText::Short(bytes) => bytes,
+            InlineText::Long(text) => text.as_slice(),
         }
     }
 }
@@ -74,29 +60,10 @@ fn put_both(bytes: &mut [u8], piece: &[u8], next: &[u8]) -> Option<u32>
 {
     let middle = piece.len();
     let used = middle + next.len();
-    let left = left_after(bytes.len(), used)?;
-    copy_piece(&mut bytes[..middle], piece);
-    copy_piece(&mut bytes[middle..used], next);
-    Some(left)
-}
-
-// How many of `len` bytes are left after those that are used, if these fit.
-fn left_after(len: usize, used: usize) -> Option<u32>
-    requires { len ≤ SHORT }
-    ensures { IfSome result (λ left. left + used ≡ len) }
-{
-    if len < used {
+    if bytes.len() < used {
         return None;
     }
-    Some((len - used) as u32)
-}
-
-// Two pieces, one after the other, for which memory is taken once.
-fn joined(alloc: Global, piece: &[u8], next: &[u8]) -> Result<Vec<u8>, AllocError>
-    ensures { IfOk result (λ text. text.items ≡ piece.now ++ next.now) }
-{
-    let mut text = Vec::with_capacity(alloc, piece.len() + next.len())?;
-    text.extend_from_slice(piece)?;
-    text.extend_from_slice(next)?;
-    Ok(text)
+    copy_piece(&mut bytes[..middle], piece);
+    copy_piece(&mut bytes[middle..used], next);
+    Some((bytes.len() - used) as u32)
 }

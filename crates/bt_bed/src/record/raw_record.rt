@@ -40,14 +40,6 @@ impl<'a> RawRecord<'a> {
         without_return(self.line)
     }
 
-    /// How many bytes the line has, with its end.
-    #[inline(always)]
-    pub(crate) fn size(&self) -> usize
-        ensures { result ≡ length (raw_in self.now) }
-    {
-        self.line.len() + 1
-    }
-
     /// The record, for as long as the line.
     #[inline(always)]
     pub fn to_bed(&self) -> BedRef<'a>

@@ -29,14 +29,15 @@ impl Model for Rec {
     ghost use Rattle.std.specs.Prelude.{◌-◌, ◌≤◌, length, take};
     ghost use Rattle.bt_bed.specs.model.feature.Feature.{Feature};
     ghost use Rattle.bt_bed.specs.calls.Rec.{IsFeatureIn, feature_in};
+    ghost use Rattle.bt_bed.specs.inside.KeptForm.{bytes_of};
 
     ghost Value = { Feature };
 
-    ghost view = { λ r. feature_in (take (length r.text - r.stale_len) r.text)
+    ghost view = { λ r. feature_in (take (length (bytes_of r.text) - r.stale_len) (bytes_of r.text))
         r.name_len r.start r.stop r.strand };
 
-    ghost invariant = { λ r. (r.stale_len ≤ length r.text)
-        × IsFeatureIn (take (length r.text - r.stale_len) r.text)
+    ghost invariant = { λ r. (r.stale_len ≤ length (bytes_of r.text))
+        × IsFeatureIn (take (length (bytes_of r.text) - r.stale_len) (bytes_of r.text))
         r.name_len r.start r.stop r.strand };
 }
 

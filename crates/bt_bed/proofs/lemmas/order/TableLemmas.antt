@@ -1,7 +1,7 @@
 -- Lemmas on a table of chromosomes and on reading one.
 use Rattle.std.proofs.Common.{◌≡◌, ℕ, zero, suc, ◌+◌, ◌-◌, Bool, true, false, cond, List, [], ◌∷◌, ◌++◌, map, length, take, Option, Some, None, Result, Ok, Err, refl, sym, ap, ◌∙◌, subst, append_assoc, append-nil, add-zero, length-append, inl, inr, arith}
 use Rattle.std.proofs.lemmas.List.Elements.{All-push, All-head, All-tail}
-use Rattle.std.specs.Prelude.{◌⊎◌, ◌==◌, ◌<◌, All, IfSome, Vec, bytes_eq, option_map, position, slice_get}
+use Rattle.std.specs.Prelude.{◌⊎◌, ◌==◌, ◌<◌, All, IfSome, Vec, bytes_eq, is_some, option_map, position, slice_get}
 use Rattle.std.specs.Option.{option_to_list}
 use Rattle.std.proofs.lemmas.List.{map-append}
 use Rattle.std.proofs.lemmas.Option.{slice_get-map}
@@ -17,6 +17,7 @@ use Rattle.bt_lines.specs.declared.fault.Kind.TheVariants.{TooFewColumns, EmptyN
 use Rattle.bt_lines.specs.declared.fault.Place.{Place}
 use Rattle.bt_lines.specs.declared.reader.line_reader.LineReader.{LineReader}
 use Rattle.bt_bed.proofs.lemmas.order.GenomeLemmas.{before_err, before_ok, distinct_push, is_new, says_then}
+use Rattle.bt_bed.proofs.lemmas.order.RankLemmas.{among_ranked}
 use Rattle.bt_bed.proofs.lemmas.parse.NameLemmas.{name_eq-sym}
 use Rattle.std.specs.List.{position_from}
 use Rattle.std.specs.Map.{keys_of}
@@ -24,12 +25,12 @@ use Rattle.std.specs.declared.alloc.Global.{Global}
 use Rattle.std.proofs.lemmas.Iterator.Adapters.{position_from-zero}
 use Rattle.std.proofs.lemmas.Bool.{or_parts}
 use Rattle.bt_lines.specs.declared.device.Source.{Ghosts as Source}
-use Rattle.bt_lines.proofs.lemmas.reader.lines.ReaderLemmas.{not_told}
+use Rattle.bt_lines.proofs.lemmas.reader.lines.ReaderLemmas.{hands_both, not_told}
 use Rattle.indexmap.specs.IndexMap.{insert_entry}
 use Rattle.bt_bed.specs.model.order.Genome.{Entry, is_skipped, genome_names, genome_from, genome_of, new_entry, entry_of, entry_from, columns_give}
 use Rattle.bt_bed.specs.model.feature.LineKind.{fault_at_line, is_genome_kind}
 use Rattle.bt_bed.specs.model.order.Rank.{is_among, rank_of, AreDistinct}
-use Rattle.bt_bed.proofs.lemmas.order.HandsLemmas.{Passed, cut_fault, hands_both, near_fault, near_line, passed_line, passed_none}
+use Rattle.bt_bed.proofs.lemmas.order.HandsLemmas.{Passed, cut_fault, near_fault, near_line, passed_line, passed_none}
 use Rattle.bt_bed.specs.model.feature.Record.{not_skipped}
 use Rattle.bt_bed.specs.calls.GenomeTable.{entries, names_of, entry_seen, IsToldFirst, LineAdded, LineRefused, LineUnkept, ReadsAll, EntryIsWrong, ReadingStops, StopCause}
 use Rattle.bt_bed.specs.declared.order.genome.Genome.{Genome}
@@ -72,6 +73,15 @@ place_of_new : (names : List (List ℕ)) (said : Result (Option Entry) Kind) (ki
 place_of_new names (Err k) kind e h = same_place {T = Option Entry} (Err k) k kind refl e (h k refl)
 place_of_new names (Ok None) kind e h = cc
 place_of_new names (Ok (Some entry)) kind e h = place_of_repeated (is_among names entry.name) entry kind e
+
+-- a line's entry is new if its name has no rank, and else repeated
+pub says_new : (names : List (List ℕ)) (said : Result (Option Entry) Kind) (entry : Entry) → said ≡ Ok (Some entry) → is_some (rank_of names entry.name) ≡ false → new_entry names said ≡ Ok (Some entry)
+says_new names said entry e unranked =
+    ap (new_entry names) e ∙ ap (λ b. cond b (Err RepeatedChrom) (Ok (Some entry))) (sym (among_ranked names entry.name) ∙ unranked)
+
+pub says_repeated : (names : List (List ℕ)) (said : Result (Option Entry) Kind) (entry : Entry) → said ≡ Ok (Some entry) → is_some (rank_of names entry.name) ≡ true → new_entry names said ≡ Err RepeatedChrom
+says_repeated names said entry e ranked =
+    ap (new_entry names) e ∙ ap (λ b. cond b (Err RepeatedChrom) (Ok (Some entry))) (sym (among_ranked names entry.name) ∙ ranked)
 
 -- what is wrong with a line is of a line
 pub refused_at_place : (names : List (List ℕ)) (text : List ℕ) (kind : Kind) → new_entry names (entry_of text) ≡ Err kind → is_genome_kind kind ≡ true

@@ -1,7 +1,6 @@
 -- Lemmas on the feature that a line says.
-use Rattle.std.proofs.Common.{◌≡◌, ℕ, ◌+◌, ◌-◌, ◌<◌, ◌≤◌, Bool, true, false, ◌&&◌, cond, List, [], ◌∷◌, ◌++◌, length, drop, Option, Some, None, Result, Ok, Err, refl, sym, ap, ◌∙◌, subst, arith, ltb, leb}
+use Rattle.std.proofs.Common.{◌≡◌, ℕ, ◌+◌, ◌<◌, ◌≤◌, Bool, true, false, ◌&&◌, cond, List, [], ◌∷◌, ◌++◌, length, drop, Option, Some, None, Result, Ok, Err, refl, sym, ap, ◌∙◌, subst, arith, ltb, leb}
 use Rattle.std.proofs.lemmas.Bool.{leb-true, ltb-true, and_parts}
-use Rattle.std.proofs.lemmas.List.{length-append, drop_at}
 use Rattle.std.specs.List.{AllByRecursion, list_all}
 use Rattle.std.specs.Char.{is_ascii_digit}
 use Rattle.std.specs.Str.Parse.{digits_value}
@@ -9,7 +8,7 @@ use Rattle.bt_lines.specs.model.Lines.{pieces}
 use Rattle.bt_lines.specs.model.Number.{value_of, is_number}
 use Rattle.bt_lines.specs.declared.fault.Kind.{Kind}
 use Rattle.bt_lines.specs.declared.fault.Kind.TheVariants.{EmptyFeature}
-use Rattle.bt_bed.specs.calls.Bed.{EndsWith, feature_between}
+use Rattle.bt_bed.specs.calls.Bed.{feature_between}
 use Rattle.bt_bed.specs.model.feature.Feature.{Feature}
 use Rattle.bt_bed.specs.model.feature.Header.{is_header}
 use Rattle.bt_bed.specs.model.feature.Record.{IsFeature, IsName, is_kept, record_of, not_skipped, columns_in, columns_say, feature_of, kept_columns, strand_of}
@@ -104,18 +103,6 @@ said_stands text f e =
     let split : text ≡ (m.chrom ++ 9 ∷ (m.start ++ 9 ∷ m.stop)) ++ kept_columns m.rest = three_columns text m.chrom m.start m.stop m.rest m.cut in
     (m.start ++ 9 ∷ m.stop, split ∙ ap (λ l. (l ++ 9 ∷ (m.start ++ 9 ∷ m.stop)) ++ kept_columns m.rest) chrom ∙ ap (λ l. (f.chrom ++ 9 ∷ (m.start ++ 9 ∷ m.stop)) ++ l) rest)
 
--- a text that ends with other bytes
-pub ends_with : (text front bytes : List ℕ) → text ≡ front ++ bytes → EndsWith text bytes
-ends_with text front bytes e =
-    let size : length text ≡ length front + length bytes = ap length e ∙ length-append front bytes in
-    record {
-      within = omega arith;
-      same = ap (drop (length text - length bytes)) e ∙ drop_at front bytes (length text - length bytes) (omega arith);
-    }
-
-pub said_ends : (text : List ℕ) (f : Feature) → columns_say (pieces 9 text) ≡ Ok f → EndsWith text f.rest
-said_ends text f e = let s = said_stands text f e in ends_with text (f.chrom ++ 9 ∷ s.0) f.rest s.1
-
 -- a header line says nothing
 pub header_says : (text : List ℕ) → is_header text ≡ true → record_of text ≡ Ok None
 unfolding record_of
@@ -136,9 +123,9 @@ pub record_said : (text : List ℕ) (f : Feature) → record_of text ≡ Ok (Som
 unfolding record_of
 record_said text f e = skipped_or_said (is_header text) (columns_say (pieces 9 text)) f e
 
--- a line that is no header says the feature that its columns say
-pub columns_say_feature : (text : List ℕ) (f : Feature) → is_header text ≡ false → Ok f ≡ columns_say (pieces 9 text) → Ok (Some f) ≡ record_of text
-columns_say_feature text f h e = ap not_skipped e ∙ sym (columns_of_line text h)
+-- a line that is no header says what its columns say
+pub said_by_columns : (text : List ℕ) (said : Result Feature Kind) → is_header text ≡ false → said ≡ columns_say (pieces 9 text) → not_skipped said ≡ record_of text
+said_by_columns text said h e = ap not_skipped e ∙ sym (columns_of_line text h)
 
 -- three columns, the numbers of which were found
 pub three_say : (text a b c : List ℕ) (rest : List (List ℕ)) (bounds : ℕ × ℕ) → pieces 9 text ≡ a ∷ b ∷ c ∷ rest

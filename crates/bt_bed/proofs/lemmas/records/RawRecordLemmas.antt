@@ -19,12 +19,12 @@ use Rattle.bt_bed.specs.model.feature.Record.{IsFeature, bed_text, columns_in, r
 use Rattle.bt_bed.specs.calls.RawRecord.{IsAsWritten, IsOnLine, kept_in, record_in, text_in}
 use Rattle.bt_bed.specs.declared.parse.parsed_number.ParsedNumber.{ParsedNumber}
 use Rattle.bt_bed.specs.declared.record.raw_record.RawRecord.{RawRecord}
-use Rattle.bt_bed.proofs.lemmas.parse.FeatureLemmas.{columns_say_feature, record_said, said_is_feature}
+use Rattle.bt_bed.proofs.lemmas.parse.FeatureLemmas.{record_said, said_by_columns, said_is_feature}
 use Rattle.bt_bed.proofs.lemmas.read.FirstColumnLemmas.{bounds_say, rest_stands}
 
 pub says_its_record : (line : RawRecord) → record_of (text_in line) ≡ Ok (Some (record_in line))
 unfolding text_in record_in kept_in
-says_its_record line = sym (columns_say_feature (strip_last 13 line.line.now) (record_in line) line.no_header (bounds_say (strip_last 13 line.line.now) (kept_in line) line.name line.start line.stop (strand_of (columns_in (kept_in line))) line.named line.bounds refl refl))
+says_its_record line = sym (said_by_columns (strip_last 13 line.line.now) (Ok (record_in line)) line.no_header (bounds_say (strip_last 13 line.line.now) (kept_in line) line.name line.start line.stop (strand_of (columns_in (kept_in line))) line.named line.bounds refl refl))
 
 -- it says no other
 pub same_record : (line : RawRecord) (r : Feature) → record_of (text_in line) ≡ Ok (Some r) → record_in line ≡ r

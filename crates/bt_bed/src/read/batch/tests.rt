@@ -37,7 +37,8 @@ fn gives_lines(batch: Batch<'_>) -> bool {
     if to < from {
         return false;
     }
-    let between = ahead.between(from, to);
+    let passed = ahead;
+    let between = passed.between(from, to);
     let Some(third) = ahead.next() else {
         return false;
     };

@@ -2,6 +2,7 @@
 
 use super::*;
 use crate::order::genome::Genome;
+use crate::read::cursor::Cursor;
 use crate::record::strand::Strand;
 use bt_lines::{Input, Kind, Place, ScriptSource};
 use std::alloc::AllocError;

@@ -40,7 +40,7 @@ use Rattle.bt_bed.specs.model.order.Locus.{ArePlaced, Locus}
 use Rattle.bt_bed.specs.model.order.Order.{Order, IsTotal}
 use Rattle.bt_bed.specs.model.order.Sorting.{block_sorting, falls_in, is_less, sorting_of}
 use Rattle.bt_bed.proofs.lemmas.laws.GoodBedLemmas.{placed_good}
-use Rattle.bt_bed.proofs.lemmas.order.TogetherLemmas.{placed_together}
+use Rattle.bt_bed.proofs.lemmas.order.ContiguousLemmas.{placed_contiguous}
 use Rattle.bt_runs.specs.model.Counted.{counted}
 use Rattle.bt_runs.specs.model.Merged.{chromosomes, runs_of}
 use Rattle.bt_runs.specs.model.RunOrder.{ordered_runs}
@@ -244,11 +244,11 @@ module _ (inputs : Inputs) (genome : Option Handed) (merging : Option (List Entr
   all : counted All as_read ≡ intervals_of as_read
   all = all_counted as_read
 
-  bed_together : AreContiguous (intervals_of as_read)
-  bed_together = placed_together order (intervals_of as_read) total placed
+  bed_contiguous : AreContiguous (intervals_of as_read)
+  bed_contiguous = placed_contiguous order (intervals_of as_read) total placed
 
-  runs_together : AreContiguous (intervals_of (map three_columns runs))
-  runs_together = subst AreContiguous (sym (back runs)) (placed_together order runs total (merge_placed order total 0 All as_read said placed))
+  runs_contiguous : AreContiguous (intervals_of (map three_columns runs))
+  runs_contiguous = subst AreContiguous (sym (back runs)) (placed_contiguous order runs total (merge_placed order total 0 All as_read said placed))
 
   same_chroms : chromosomes (intervals_of (map three_columns runs)) ≡ chromosomes (intervals_of as_read)
   same_chroms = ap chromosomes (back runs) ∙ run_names order total 0 All as_read placed full ∙ ap chromosomes all
@@ -260,11 +260,11 @@ module _ (inputs : Inputs) (genome : Option Handed) (merging : Option (List Entr
 
   own_covers : (names : List (List ℕ)) (p : ℕ) → list_any (covers p) (own_records names (items_in (block_good Second bed))) ≡ list_any (covers p) (own_records names (items_in (block_good Second (whole_text text))))
   own_covers names p =
-      ap (λ rs. list_any (covers p) (own_records names rs)) bed_is.items ∙ own_alike as_read (map three_columns runs) bed_together runs_together same_chroms same_cover names p
+      ap (λ rs. list_any (covers p) (own_records names rs)) bed_is.items ∙ own_alike as_read (map three_columns runs) bed_contiguous runs_contiguous same_chroms same_cover names p
       ∙ ap (λ rs. list_any (covers p) (own_records names rs)) (sym runs_items)
 
   leaves : (names : List (List ℕ)) → leave (Some names) None (items_in (block_good Second (whole_text text))) ≡ leave (Some names) None (items_in (block_good Second bed))
-  leaves names = ap (leave (Some names) None) runs_items ∙ leave_alike as_read (map three_columns runs) bed_together runs_together same_chroms names ∙ ap (leave (Some names) None) (sym bed_is.items)
+  leaves names = ap (leave (Some names) None) runs_items ∙ leave_alike as_read (map three_columns runs) bed_contiguous runs_contiguous same_chroms names ∙ ap (leave (Some names) None) (sym bed_is.items)
 
 pub by_merged : masked_by_merged
 by_merged how full inputs chromosomes genome merging well merged =

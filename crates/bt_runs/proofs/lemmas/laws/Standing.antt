@@ -11,7 +11,7 @@ use Rattle.bt_bed.proofs.lemmas.parse.NameLemmas.{same_name, name_eq, name_ne-sy
 use Rattle.bt_bed.specs.model.feature.Interval.{Interval, last_from, last_of}
 use Rattle.bt_bed.specs.model.order.Locus.{ArePlaced, IsUpTo, locus_of}
 use Rattle.bt_bed.specs.model.order.Contiguous.{has_records}
-use Rattle.bt_bed.proofs.lemmas.order.TogetherLemmas.{last_of-push}
+use Rattle.bt_bed.proofs.lemmas.order.ContiguousLemmas.{last_of-push}
 
 -- ranks compared
 pub cmp_less : (a b : ℕ) → a < b → nat_cmp a b ≡ Less

@@ -8,7 +8,7 @@ use Rattle.bt_bed.specs.model.feature.Interval.{Interval, last_from, last_of}
 use Rattle.bt_bed.specs.model.order.Contiguous.{has_records, AreContiguous}
 use Rattle.bt_bed.specs.declared.record.strand.Strand.{Strand}
 use Rattle.bt_bed.specs.declared.record.strand.Strand.TheVariants.{Plus, Minus, Dot}
-use Rattle.bt_bed.proofs.lemmas.order.TogetherLemmas.{last_of-push}
+use Rattle.bt_bed.proofs.lemmas.order.ContiguousLemmas.{last_of-push}
 use Rattle.bt_runs.specs.model.Counted.{is_counted}
 use Rattle.bt_bed.specs.model.feature.Strands.{is_strand}
 use Rattle.bt_runs.specs.model.Merged.{chromosomes, merged}

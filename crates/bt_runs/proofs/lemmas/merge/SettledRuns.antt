@@ -6,7 +6,7 @@ use Rattle.bt_bed.specs.model.feature.Interval.{Interval}
 use Rattle.bt_bed.specs.model.order.Locus.{ArePlaced}
 use Rattle.bt_bed.specs.model.order.Rank.{AreDistinct, rank_order}
 use Rattle.bt_bed.specs.model.order.Contiguous.{AreContiguous}
-use Rattle.bt_bed.proofs.lemmas.order.TogetherLemmas.{placed_front, together_front}
+use Rattle.bt_bed.proofs.lemmas.order.ContiguousLemmas.{placed_prefix, contiguous_prefix}
 use Rattle.bt_runs.specs.model.Merged.{chromosomes, merged}
 use Rattle.bt_runs.specs.model.MergedRuns.{is_closed, passed_by, merged_runs, settled_runs, kept_runs, AreTaken, settled_runs_stay, settled_runs_begin, one_run_is_kept}
 use Rattle.bt_runs.specs.calls.Settling.{Settles}
@@ -28,7 +28,7 @@ same_names (n ∷ ns) = ap (λ ms. n ∷ ms) (same_names ns)
 -- the first records of those that may be taken
 pub taken_front : (past more : List Feature) → AreTaken (past ++ more) → AreTaken past
 taken_front past more t = record {
-  contiguous = together_front (intervals_of past) (intervals_of more) (subst AreContiguous (map-append interval_of past more) t.contiguous);
+  contiguous = contiguous_prefix (intervals_of past) (intervals_of more) (subst AreContiguous (map-append interval_of past more) t.contiguous);
   full = full_front past more t.full;
 }
 
@@ -55,7 +55,7 @@ module _ (gap : ℕ) (strand : MergeStrand) where
         distinct = subst AreDistinct same distinct;
         in_order = subst (λ (ns : List (List ℕ)). InOrder ns all) same (record { placed = placed; full = t.full });
         written = λ past more is. written names past distinct
-            (placed_front (rank_order names) (intervals_of past) (intervals_of more) (subst (λ (l : List Interval). ArePlaced (rank_order names) l) (ap intervals_of (sym is) ∙ map-append interval_of past more) placed));
+            (placed_prefix (rank_order names) (intervals_of past) (intervals_of more) (subst (λ (l : List Interval). ArePlaced (rank_order names) l) (ap intervals_of (sym is) ∙ map-append interval_of past more) placed));
       }
 
   -- what is settled begins what is settled later

@@ -12,7 +12,7 @@ use Rattle.bt_bed.specs.model.feature.Feature.{Feature, interval_of, intervals_o
 use Rattle.bt_bed.specs.model.feature.Interval.{Interval}
 use Rattle.bt_bed.specs.model.order.Locus.{ArePlaced, IsPlacedBefore, IsUpTo, Locus, locus_of}
 use Rattle.bt_bed.specs.model.order.Order.{IsTotal, Order}
-use Rattle.bt_bed.proofs.lemmas.order.TogetherLemmas.{placed_together}
+use Rattle.bt_bed.proofs.lemmas.order.ContiguousLemmas.{placed_contiguous}
 use Rattle.bt_runs.specs.model.MergedRuns.{AreTaken}
 use Rattle.bt_runs.specs.calls.StrandOrder.{first_place, first_start, strand_runs_come_in_order}
 use Rattle.bt_runs.specs.calls.StrandOrder.{strand_runs_come_in_turn, strand_runs_start_with_records}
@@ -343,7 +343,7 @@ start_with_records gap records taken =
 
 pub in_order : strand_runs_come_in_order
 in_order order gap records total placed full =
-    let contiguous = placed_together order (intervals_of records) total placed in
+    let contiguous = placed_contiguous order (intervals_of records) total placed in
     let taken : AreTaken records = record { contiguous = contiguous; full = full } in
     placed_more gap order total [] records taken
     (subst (λ (l : List StrandRun). ArePlaced order (places_of l ++ intervals_of records))

@@ -10,7 +10,7 @@ use Rattle.bt_bed.specs.model.feature.Feature.{Feature, interval_of, intervals_o
 use Rattle.bt_bed.specs.model.feature.Interval.{Interval, last_from, last_of}
 use Rattle.bt_bed.specs.model.order.Contiguous.{AreContiguous}
 use Rattle.bt_bed.proofs.lemmas.parse.NameLemmas.{cases_name, name_eq}
-use Rattle.bt_bed.proofs.lemmas.order.TogetherLemmas.{last_of-push}
+use Rattle.bt_bed.proofs.lemmas.order.ContiguousLemmas.{last_of-push}
 use Rattle.bt_bed.specs.model.feature.Strands.{is_strand}
 use Rattle.bt_runs.specs.model.MergedRuns.{AreTaken, is_closed}
 use Rattle.bt_runs.specs.calls.Settling.{Settles}

@@ -22,7 +22,7 @@ use Rattle.bt_bed.specs.model.order.Locus.{ArePlaced}
 use Rattle.bt_bed.specs.model.order.Rank.{is_among, AreDistinct, rank_order}
 use Rattle.bt_bed.specs.model.order.Contiguous.{has_records}
 use Rattle.bt_bed.proofs.lemmas.parse.NameLemmas.{name_ne-sym}
-use Rattle.bt_bed.proofs.lemmas.order.TogetherLemmas.{placed_front}
+use Rattle.bt_bed.proofs.lemmas.order.ContiguousLemmas.{placed_prefix}
 use Rattle.bt_runs.specs.calls.Settling.{Settles}
 use Rattle.bt_runs.proofs.lemmas.laws.Standing.{AllCompare, all_after, all_before, Arrives, GoesTo, NoneOn, Stand, begins_at, elsewhere_of, goes, last_rank, none_at_first, stand_at}
 
@@ -91,7 +91,7 @@ pub record InOrder (names : List (List ℕ)) (past : List Feature) : Type 0 wher
 
 pub order_front : (names : List (List ℕ)) (past more : List Feature) → InOrder names (past ++ more) → InOrder names past
 order_front names past more o = record {
-  placed = placed_front (rank_order names) (intervals_of past) (intervals_of more) (subst (λ (l : List Interval). ArePlaced (rank_order names) l) (map-append interval_of past more) o.placed);
+  placed = placed_prefix (rank_order names) (intervals_of past) (intervals_of more) (subst (λ (l : List Interval). ArePlaced (rank_order names) l) (map-append interval_of past more) o.placed);
   full = full_front past more o.full;
 }
 

@@ -9,7 +9,7 @@ use Rattle.bt_bed.specs.model.order.Order.{Order, IsTotal}
 use Rattle.bt_bed.specs.model.order.Rank.{rank_order}
 use Rattle.bt_bed.specs.inside.RankTotal.{ranks_total}
 use Rattle.bt_bed.specs.model.order.Contiguous.{has_records}
-use Rattle.bt_bed.proofs.lemmas.order.TogetherLemmas.{placed_together}
+use Rattle.bt_bed.proofs.lemmas.order.ContiguousLemmas.{placed_contiguous}
 use Rattle.bt_runs.specs.model.Counted.{counted, is_counted}
 use Rattle.bt_runs.specs.model.Merged.{chromosomes, merged, without}
 use Rattle.bt_runs.specs.model.RunOrder.{file_runs_are_ordered, in_order, ordered_runs, ordered_runs_come, put_in_order}
@@ -26,7 +26,7 @@ module _ (order : Order) (total : IsTotal order) where
   gone : (r s : Interval) (ss : List Interval) → ArePlaced order (r ∷ s ∷ ss)
       → order.compare r.chrom s.chrom ≡ Less → has_records r.chrom (s ∷ ss) ≡ false
   gone r s ss placed less =
-      elim (placed_together order (r ∷ s ∷ ss) total placed).0 [
+      elim (placed_contiguous order (r ∷ s ∷ ss) total placed).0 [
         | inl same ↦
             let equal : order.compare r.chrom s.chrom ≡ Equal
             = rw same.0 (total.same r.chrom placed.0) in

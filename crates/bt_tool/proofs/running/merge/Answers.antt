@@ -5,7 +5,7 @@ use Rattle.bt_bed.specs.model.feature.Feature.{intervals_of}
 use Rattle.bt_bed.specs.calls.GenomeTable.{names_of}
 use Rattle.bt_bed.specs.model.order.Rank.{rank_order}
 use Rattle.bt_bed.specs.inside.RankTotal.{ranks_total}
-use Rattle.bt_bed.proofs.lemmas.order.TogetherLemmas.{placed_together}
+use Rattle.bt_bed.proofs.lemmas.order.ContiguousLemmas.{placed_contiguous}
 use Rattle.bt_tool.proofs.lemmas.running.feed.WriteLemmas.{merge_begins, merge_begins_whole, merge_stays, merge_runs}
 use Rattle.bt_tool.proofs.running.merge.Goals as goal
 
@@ -15,7 +15,7 @@ drive-requires-clause-nothing g c = merge_begins c.new-engine.result
 pub drive-requires-clause-takes : goal.drive-requires-clause-takes
 drive-requires-clause-takes g c = λ past placed full.
     let names = names_of c.in-Some.genome in
-    record { contiguous = placed_together (rank_order names) (intervals_of past) (ranks_total names) placed; full = full }
+    record { contiguous = placed_contiguous (rank_order names) (intervals_of past) (ranks_total names) placed; full = full }
 
 pub drive-requires-clause-stays : goal.drive-requires-clause-stays
 drive-requires-clause-stays g c = merge_stays c.new-engine.result
@@ -28,7 +28,7 @@ drive-requires-in-None-clause-nothing g c = merge_begins c.new-engine.result
 
 pub drive-requires-in-None-clause-takes : goal.drive-requires-in-None-clause-takes
 drive-requires-in-None-clause-takes g c = λ past placed full.
-    record { contiguous = placed_together byte_order (intervals_of past) bytes_total placed; full = full }
+    record { contiguous = placed_contiguous byte_order (intervals_of past) bytes_total placed; full = full }
 
 pub drive-requires-in-None-clause-stays : goal.drive-requires-in-None-clause-stays
 drive-requires-in-None-clause-stays g c = merge_stays c.new-engine.result

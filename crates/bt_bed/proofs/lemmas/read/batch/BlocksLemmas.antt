@@ -1,15 +1,12 @@
 -- Lemmas on the reader of records in blocks.
-use Rattle.std.proofs.Common.{◌≡◌, ℕ, suc, Bool, true, false, List, [], ◌∷◌, Option, Some, None, Ok, Err, take, refl, sym, ap, ◌∙◌, subst}
-use Rattle.std.specs.Prelude.{IfSome, IfNone, Result, option_map}
+use Rattle.std.proofs.Common.{◌≡◌, ℕ, Bool, true, false, List, [], ◌∷◌, Option, Some, Ok, Err, take, refl, sym, ap, ◌∙◌}
+use Rattle.std.specs.Prelude.{Result, option_map}
 use Rattle.bt_lines.specs.declared.device.Source.{Ghosts as Source}
-use Rattle.bt_lines.specs.calls.Reader.{lines_given}
 use Rattle.bt_lines.specs.declared.fault.Fault.{Fault}
 use Rattle.bt_bed.proofs.lemmas.laws.GoodBedLemmas.{line_said}
 use Rattle.bt_bed.proofs.lemmas.laws.GoodBlocksLemmas.{block_up_to}
-use Rattle.bt_bed.proofs.lemmas.read.batch.RecordsLemmas.{ahead_is, none_is}
 use Rattle.bt_bed.proofs.lemmas.read.good.SaidLemmas.{said_features}
-use Rattle.bt_bed.specs.calls.Bed.{feature_lent}
-use Rattle.bt_bed.specs.calls.Blocks.{Answers, FillAnswers, FillsBlocks, GivesRecord, PassesBlocks, TakesBlocks, buffered_in, view_of}
+use Rattle.bt_bed.specs.calls.Blocks.{FillAnswers, FillsBlocks, GivesRecord, PassesBlocks, TakesBlocks, view_of}
 use Rattle.bt_bed.specs.calls.SortedReader.{buffered_in as records_in, view_in, view_with}
 use Rattle.bt_bed.specs.model.feature.Feature.{Feature}
 use Rattle.bt_bed.specs.model.input.Good.{Member}
@@ -17,7 +14,6 @@ use Rattle.bt_bed.specs.model.input.GoodBed.{locus_at}
 use Rattle.bt_bed.specs.model.order.Locus.{Locus}
 use Rattle.bt_bed.specs.calls.Reading.{Fills, FillAnswers as MembersAnswers, GivesMember, Takes, TellsOwnFailure, first_from}
 use Rattle.bt_bed.specs.model.order.Sorting.{block_sorting}
-use Rattle.bt_bed.specs.declared.record.bed.BedRef.{BedRef}
 use Rattle.bt_bed.specs.declared.read.blocks.Blocks.{Blocks}
 
 module _ {S : Type 0} (device : Source S) where
@@ -42,19 +38,6 @@ module _ {S : Type 0} (device : Source S) where
       → TellsOwnFailure device.is_read (view_in block_sorting old.sorted).fault old.sorted.reader result new.sorted.reader → FillsBlocks device old result new
   unfolding view_of view_with
   fills_blocks old new result there own = record { answers = filled old new result there.answers; own_failure = own; kept = there.kept }
-
-  -- the first buffered record is returned
-  pub peeked : (old new : Blocks S) (done : Bool) (lent : Option BedRef) → FillAnswers device old (Ok done) new
-      → IfSome lent (λ bed. (more : List Feature) × (buffered_in new ≡ feature_lent bed ∷ more)) → IfNone lent (buffered_in new ≡ []) → Answers device old (Ok lent) new
-  peeked old new true None answers some none = absurd (none_is (suc (lines_given (view_of new).below)) (buffered_in new) _ none answers.1.read.ahead)
-  peeked old new true (Some bed) answers some none =
-      let same = ahead_is (suc (lines_given (view_of new).below)) (buffered_in new) (feature_lent bed) some.0 _ some.1 answers.1.read.ahead in
-      subst (λ (r : Feature). GivesRecord device old r new) (sym same) answers.1
-  peeked old new false None answers some none = answers
-  peeked old new false (Some bed) answers some none = absurd (no_both (buffered_in new) (feature_lent bed) some.0 some.1 answers.none_buffered)
-    where
-      no_both : (items : List Feature) (r : Feature) (more : List Feature) → items ≡ r ∷ more → items ≡ [] → ⊥
-      no_both items r more e h = cc
 
 module _ {S : Type 0} (device : Source S) (old new : Blocks S) where
   -- `consume` of the reader below

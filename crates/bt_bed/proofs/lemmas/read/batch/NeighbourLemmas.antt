@@ -79,6 +79,11 @@ pub held_same : (name chrom : List ℕ) (last : Option ℕ) → is_some last && 
 held_same name chrom None e = absurd (false≢true e)
 held_same name chrom (Some start) e = ((bytes_eq-Decides name chrom).0 e, rw e refl)
 
+-- if it is another
+pub held_other : (name chrom : List ℕ) (last : Option ℕ) → is_some last && bytes_eq name chrom ≡ false → start_on true last ≡ start_after (start_at name last) chrom
+held_other name chrom None e = refl
+held_other name chrom (Some start) e = rw e refl
+
 -- a record that fits behind the last one doesn't start below
 pub fits_above : (sorting : Sorting) (last : Option Locus) (r : Feature) → falls_in sorting last (locus_at r) ≡ false → start_after last r.chrom ≤ r.start
 fits_above sorting None r e = omega arith

@@ -1,17 +1,16 @@
 -- Lemmas on the reader of records.
-use Rattle.std.proofs.Common.{◌≡◌, ℕ, suc, Bool, true, false, List, [], ◌∷◌, Option, Some, None, Ok, Err, take, refl, sym, ap, ◌∙◌, subst}
-use Rattle.std.specs.Prelude.{IfSome, IsSome, IsTrue, IfNone, Result, option_map}
+use Rattle.std.proofs.Common.{◌≡◌, ℕ, Bool, true, false, List, [], ◌∷◌, Option, Some, None, Ok, Err, take, refl, sym, ap, ◌∙◌, subst}
+use Rattle.std.specs.Prelude.{IfSome, IsSome, IsTrue, Result, option_map}
 use Rattle.std.specs.Option.{ForSome}
 use Rattle.std.proofs.lemmas.Bool.{false≢true}
 use Rattle.bt_lines.specs.declared.device.Source.{Ghosts as Source}
-use Rattle.bt_lines.specs.calls.Reader.{input_of, lines_given, lines_left, fault_kept as line_fault}
+use Rattle.bt_lines.specs.calls.Reader.{input_of, lines_left, fault_kept as line_fault}
 use Rattle.bt_lines.specs.declared.fault.Fault.{Fault}
 use Rattle.bt_lines.specs.declared.reader.line_reader.LineReader.{LineReader}
 use Rattle.bt_bed.proofs.lemmas.laws.GoodBedLemmas.{line_said}
 use Rattle.bt_bed.proofs.lemmas.read.good.ReadingLemmas.{good_at_first}
 use Rattle.bt_bed.proofs.lemmas.read.good.SaidLemmas.{said_features}
 use Rattle.bt_bed.proofs.lemmas.order.SortingLemmas.{sorted_up_to}
-use Rattle.bt_bed.specs.calls.Bed.{feature_lent}
 use Rattle.bt_bed.specs.calls.SortedReader.{IsPlaced, buffered_in as records_in, view_in, view_with}
 use Rattle.bt_bed.specs.model.feature.Feature.{Feature}
 use Rattle.bt_bed.specs.model.input.Good.{Member, good}
@@ -21,10 +20,9 @@ use Rattle.bt_bed.specs.model.order.Order.{Order, IsTotal}
 use Rattle.bt_bed.specs.model.order.Locus.{Locus, IsUpTo}
 use Rattle.bt_bed.specs.calls.Reading.{Fills, FillAnswers as MembersAnswers, GivesMember, Takes, TellsOwnFailure, first_from, good_coming}
 use Rattle.bt_bed.specs.model.feature.Record.{IsFeature}
-use Rattle.bt_bed.specs.calls.Records.{Answers, FillAnswers, FillsRecords, GivesRecord, PassesRecord, TakesRecords, buffered_in, order_in, view_of}
+use Rattle.bt_bed.specs.calls.Records.{FillAnswers, FillsRecords, GivesRecord, PassesRecord, TakesRecords, order_in, view_of}
 use Rattle.bt_bed.specs.calls.Run.{is_some_left}
 use Rattle.bt_bed.specs.model.order.Sorting.{Sorting, sorting_of}
-use Rattle.bt_bed.specs.declared.record.bed.BedRef.{BedRef}
 use Rattle.bt_bed.specs.declared.read.sorted_reader.SortedReader.{SortedReader}
 use Rattle.bt_bed.specs.declared.read.sorted.ByOrder.{ByOrder}
 use Rattle.bt_bed.specs.declared.order.ChromOrder.{Ghosts}
@@ -50,18 +48,6 @@ said_behind order last text r total known says =
       in_order = sorted_up_to order last (locus_at r) total (for_if last (λ place. IsTrue (order.knows place.chrom)) known) said.known said.stays;
     }
 
--- the record ahead is the first of those that are buffered
-pub ahead_is : {A : Type 0} (line : ℕ) (items : List A) (item : A) (more : List A) (m : Member A) → items ≡ item ∷ more → first_from line items ≡ Some m → item ≡ m.item
-ahead_is line [] item more m e h = cc
-ahead_is {A} line (x ∷ xs) item more m e h =
-    let first : record { line = line; item = x } ≡ m = cc in
-    let same : x ≡ item = cc in
-    sym same ∙ ap (λ (m : Member A). m.item) first
-
-pub none_is : {A : Type 0} (line : ℕ) (items : List A) (m : Member A) → items ≡ [] → first_from line items ≡ Some m → ⊥
-none_is line [] m e h = cc
-none_is line (x ∷ xs) m e h = cc
-
 pub some_first : {A : Type 0} (line : ℕ) (items : List A) → IsSome (option_map (λ m. m.line) (first_from line items)) → (item : A) × (more : List A) × (items ≡ item ∷ more)
 some_first line [] some = absurd (false≢true some)
 some_first line (x ∷ xs) some = (x, xs, refl)
@@ -78,19 +64,6 @@ module _ {S O : Type 0} {g : Ghosts O} (device : Source S) where
   filled old new (Ok true) total makes = (makes.m.item, given old new makes.m total makes.gives)
   filled old new (Ok false) total ends = ends
   filled old new (Err fault) total answers = answers
-
-  -- the first buffered record is returned
-  pub peeked : (old new : Records S O g) (done : Bool) (lent : Option BedRef) → FillAnswers device old (Ok done) new
-      → IfSome lent (λ bed. (more : List Feature) × (buffered_in new ≡ feature_lent bed ∷ more)) → IfNone lent (buffered_in new ≡ []) → Answers device old (Ok lent) new
-  peeked old new true None answers some none = absurd (none_is (suc (lines_given (view_of new).below)) (buffered_in new) _ none answers.1.read.ahead)
-  peeked old new true (Some bed) answers some none =
-      let same = ahead_is (suc (lines_given (view_of new).below)) (buffered_in new) (feature_lent bed) some.0 _ some.1 answers.1.read.ahead in
-      subst (λ (r : Feature). GivesRecord device old r new) (sym same) answers.1
-  peeked old new false None answers some none = answers
-  peeked old new false (Some bed) answers some none = absurd (no_both (buffered_in new) (feature_lent bed) some.0 some.1 answers.none_buffered)
-    where
-      no_both : (items : List Feature) (r : Feature) (more : List Feature) → items ≡ r ∷ more → items ≡ [] → ⊥
-      no_both items r more e h = cc
 
 module _ {S Q : Type 0} (device : Source S) (sorting : Sorting) (sorted : SortedReader S Q) where
   -- a reader that has given no record has all of the good ones left

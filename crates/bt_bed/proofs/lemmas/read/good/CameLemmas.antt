@@ -16,18 +16,19 @@ use Rattle.bt_lines.specs.declared.reader.buffered_lines.ConsumedLines.{Consumed
 use Rattle.bt_lines.specs.declared.reader.line_reader.LineReader.{LineReader}
 use Rattle.bt_bed.specs.calls.Reading.{LinesPass}
 
-no_pass : (lines : Option (List TextLine)) (n : ℕ) → IfSome lines (λ all. lines ≡ Some (drop (n - n) all))
+-- lines that were passed none at a time, or some and then others
+pub no_pass : (lines : Option (List TextLine)) (n : ℕ) → IfSome lines (λ all. lines ≡ Some (drop (n - n) all))
 no_pass None n = tt
 no_pass (Some all) n = let none : n - n ≡ 0 = omega arith in rw none refl
 
-pass_more : (a b c : Option (List TextLine)) (i j k : ℕ) → IfSome a (λ all. b ≡ Some (drop i all)) → IfSome b (λ all. c ≡ Some (drop j all)) → k ≡ i + j → IfSome a (λ all. c ≡ Some (drop k all))
+pub pass_more : (a b c : Option (List TextLine)) (i j k : ℕ) → IfSome a (λ all. b ≡ Some (drop i all)) → IfSome b (λ all. c ≡ Some (drop j all)) → k ≡ i + j → IfSome a (λ all. c ≡ Some (drop k all))
 pass_more None b c i j k p q e = tt
 pass_more (Some all) None c i j k p q e = cc
 pass_more (Some all) (Some some) c i j k p q e =
     let same : some ≡ drop i all = cc in
     q ∙ ap (λ l. Some (drop j l)) same ∙ ap Some (drop-drop j i all) ∙ ap (λ n. Some (drop n all)) (sym e)
 
-near_pass : (a b : Option (List TextLine)) (rest : Option (List ℕ)) (i j k : ℕ) → IfSome a (λ all. b ≡ Some (drop i all)) → k ≡ i + j
+pub near_pass : (a b : Option (List TextLine)) (rest : Option (List ℕ)) (i j k : ℕ) → IfSome a (λ all. b ≡ Some (drop i all)) → k ≡ i + j
     → IfSome b (λ all. IfSome rest (λ bytes. bytes_in (drop j all) ≤ length bytes + block_size))
     → IfSome a (λ all. IfSome rest (λ bytes. bytes_in (drop k all) ≤ length bytes + block_size))
 near_pass None b rest i j k p e q = tt
@@ -41,7 +42,8 @@ numbered_by : (n : ℕ) (bytes : Option (List ℕ)) → IfSome (option_map (line
 numbered_by n None = tt
 numbered_by n (Some bytes) = lines_are_numbered n bytes
 
-front_of_both : (first second : List ℕ) (n m : ℕ) → n ≡ length first + m → take n (first ++ second) ≡ first ++ take m second
+-- the first n bytes of two texts, if the first text has at most n
+pub front_of_both : (first second : List ℕ) (n m : ℕ) → n ≡ length first + m → take n (first ++ second) ≡ first ++ take m second
 front_of_both first second n m e = rw e (take-append-add first second m)
 
 same_pass : (a b : Option (List TextLine)) (n m : ℕ) → SameLines a b → m ≡ n → IfSome a (λ all. b ≡ Some (drop (m - n) all))

@@ -62,10 +62,6 @@ module _ {A State : Type 0} (format : Format A State) where
   said_fewer state [] more said = tt
   said_fewer state (item ∷ items) more said = (said.0, said_fewer (format.after state item) items more said.1)
 
-  pub said_behind : (state : State) (items more : List A) → AreSaid format state (items ++ more) → AreSaid format (state_behind format state items) more
-  said_behind state [] more said = said
-  said_behind state (item ∷ items) more said = said_behind (format.after state item) items more said.1
-
 placed_is_by : (name : List ℕ) (start : ℕ) (said : Result (Option Feature) Kind) (r : Feature) → placed_on name start said ≡ Some r → (said ≡ Ok (Some r)) × (r.chrom ≡ name) × (start ≤ r.start)
 placed_is_by name start (Err kind) r e = cc
 placed_is_by name start (Ok None) r e = cc

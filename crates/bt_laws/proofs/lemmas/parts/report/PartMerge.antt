@@ -11,7 +11,7 @@ use Rattle.bt_bed.specs.model.feature.IntervalLine.{interval_lines, interval_lin
 use Rattle.bt_bed.specs.model.order.Locus.{ArePlaced}
 use Rattle.bt_bed.specs.model.order.Order.{Order, IsTotal}
 use Rattle.bt_bed.specs.model.order.Contiguous.{has_records}
-use Rattle.bt_bed.proofs.lemmas.order.TogetherLemmas.{placed_together}
+use Rattle.bt_bed.proofs.lemmas.order.ContiguousLemmas.{placed_contiguous}
 use Rattle.bt_runs.specs.model.Counted.{counted, is_counted}
 use Rattle.bt_runs.specs.model.Merged.{chromosomes, merged, runs_of, runs_on, without}
 use Rattle.bt_runs.specs.model.MergedRuns.{AreTaken, is_closed, merged_runs, passed_by, settled_runs}
@@ -138,7 +138,7 @@ module _ (gap : ℕ) where
 
       pub pooled_split : Splits (pooled_written order gap strand) (pooled_written order gap strand) (pooled_written order gap strand) ones twos
       pooled_split =
-          let front = begin_by ones twos (record { contiguous = placed_together order (intervals_of ones) total one; full = full }) away in
+          let front = begin_by ones twos (record { contiguous = placed_contiguous order (intervals_of ones) total one; full = full }) away in
           record {
             all = ap interval_lines (come (ones ++ twos) both_placed ∙ runs_both ones twos away ∙ ap₂ (λ a b. a ++ b) (sym (come ones one)) (sym (come twos two))) ∙ flat_map-append interval_line (ordered_runs order gap strand ones) (ordered_runs order gap strand twos);
             first = refl;

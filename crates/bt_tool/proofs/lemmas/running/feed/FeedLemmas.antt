@@ -20,7 +20,7 @@ use Rattle.bt_bed.specs.model.input.Good.{Format, Member}
 use Rattle.bt_bed.specs.model.input.GoodBed.{bed_format}
 use Rattle.bt_bed.specs.model.order.Sorting.{sorting_of}
 use Rattle.bt_bed.proofs.lemmas.read.batch.NeighbourLemmas.{wrong_of_bed}
-use Rattle.bt_bed.proofs.lemmas.order.TogetherLemmas.{placed_front}
+use Rattle.bt_bed.proofs.lemmas.order.ContiguousLemmas.{placed_prefix}
 use Rattle.bt_bed.specs.model.feature.LineKind.{IsBedKind}
 use Rattle.bt_bed.specs.model.feature.Interval.{AreNonEmpty, Interval}
 use Rattle.bt_bed.specs.model.order.Order.{IsTotal, Order}
@@ -271,7 +271,7 @@ full_front (r ∷ front) rest full =
 pub order_front : (order : Order) (front rest : List Feature) → AreInOrder order (front ++ rest) → AreInOrder order front
 order_front order front rest sorted =
     let parts : intervals_of (front ++ rest) ≡ intervals_of front ++ intervals_of rest = map-append interval_of front rest in (
-      placed_front order (intervals_of front) (intervals_of rest) (subst (ArePlaced order) parts sorted.0),
+      placed_prefix order (intervals_of front) (intervals_of rest) (subst (ArePlaced order) parts sorted.0),
       full_front (intervals_of front) (intervals_of rest) (subst AreNonEmpty parts sorted.1),
     )
 

@@ -23,7 +23,7 @@ use Rattle.bt_bed.specs.model.order.Sorting.{sorting_of}
 use Rattle.bt_bed.specs.declared.order.ChromOrder.{Ghosts}
 use Rattle.bt_bed.specs.declared.read.records.Records.{Records}
 use Rattle.bt_bed.proofs.lemmas.read.batch.RecordsLemmas.{said_behind}
-use Rattle.bt_bed.proofs.lemmas.order.TogetherLemmas.{last_of-push, grows_placed}
+use Rattle.bt_bed.proofs.lemmas.order.ContiguousLemmas.{last_of-push, grows_placed}
 use Rattle.bt_tool.specs.inside.feed.Feeding.{AreInOrder}
 use Rattle.bt_tool.specs.inside.feed.Passed.{HasTaken, IsFilled, IsOver, IsStopped}
 

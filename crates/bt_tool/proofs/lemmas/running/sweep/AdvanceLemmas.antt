@@ -26,7 +26,7 @@ use Rattle.bt_bed.specs.declared.read.batch.Consumed.{Consumed}
 use Rattle.bt_bed.specs.declared.order.ChromOrder.{Ghosts}
 use Rattle.bt_bed.specs.declared.read.records.Records.{Records}
 use Rattle.bt_bed.proofs.lemmas.order.SortingLemmas.{sorted_up_to}
-use Rattle.bt_bed.proofs.lemmas.order.TogetherLemmas.{grows_placed, last_of-push}
+use Rattle.bt_bed.proofs.lemmas.order.ContiguousLemmas.{grows_placed, last_of-push}
 use Rattle.bt_bed.proofs.lemmas.read.good.TokenLemmas.{taken_are, token_is}
 use Rattle.bt_sweep.specs.calls.Advancing.{AdvancesOn, Settles, StopsFor}
 use Rattle.bt_sweep.specs.model.Deciding.{decided}

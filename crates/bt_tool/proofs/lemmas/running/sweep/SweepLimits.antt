@@ -14,7 +14,7 @@ use Rattle.bt_bed.specs.model.input.Good.{Good, Member, items_in}
 use Rattle.bt_bed.specs.model.feature.LineKind.{fault_at_line}
 use Rattle.bt_bed.specs.model.order.Locus.{ArePlaced}
 use Rattle.bt_bed.specs.model.order.Order.{Order}
-use Rattle.bt_bed.proofs.lemmas.order.TogetherLemmas.{placed_front}
+use Rattle.bt_bed.proofs.lemmas.order.ContiguousLemmas.{placed_prefix}
 use Rattle.bt_sweep.specs.model.Deciding.{decided, decides}
 use Rattle.bt_sweep.specs.model.Limit.{are_too_many, cut_behind, is_held, limited}
 use Rattle.bt_sweep.specs.calls.Steps.{has_room}
@@ -145,7 +145,7 @@ module _ (order : Order) where
 
   front_placed : (past rest : List (Member Feature)) → ArePlaced order (intervals_of (member_items (past ++ rest))) → ArePlaced order (intervals_of (member_items past))
   front_placed past rest placed =
-      placed_front order (intervals_of (member_items past)) (intervals_of (member_items rest))
+      placed_prefix order (intervals_of (member_items past)) (intervals_of (member_items rest))
       (subst (ArePlaced order) (ap intervals_of (map-append (λ m. m.item) past rest) ∙ map-append _ (member_items past) (member_items rest)) placed)
 
   done_limited : (limit : Option ℕ) (first : List Feature) (past : List (Member Feature)) (ahead : Option (Member Feature)) (rest : List (Member Feature)) (fault : Option FaultValue) → AreWithin order limit first past

@@ -1,14 +1,69 @@
-use Rattle.std.proofs.Common.{sym}
+use Rattle.std.proofs.Common.{◌∙◌, ℕ, ◌<◌, Some, ap, inl, inr, map, sym}
+use Rattle.std.specs.Prelude.{All, Vec, is_some}
+use Rattle.std.specs.declared.alloc.Global.{Global}
+use Rattle.bt_lines.specs.declared.fault.Kind.TheVariants.{RepeatedChrom}
 use Rattle.bt_bed.proofs.lemmas.order.GenomeLemmas.{is_new}
 use Rattle.bt_bed.proofs.lemmas.read.good.SaidLemmas.{genome_of_line}
-use Rattle.bt_bed.proofs.lemmas.order.TableLemmas.{refused_at_place}
-use Rattle.bt_bed.specs.model.order.Genome.{entry_of}
-use Rattle.bt_bed.specs.calls.GenomeTable.{entry_lent, names_of}
+use Rattle.bt_bed.proofs.lemmas.order.ResultLemmas.{either_way}
+use Rattle.bt_bed.proofs.lemmas.order.TableLemmas.{entries_non_empty, entries_push, refused_at_place, says_new, says_repeated}
+use Rattle.bt_bed.specs.model.order.Genome.{entry_of, new_entry}
+use Rattle.bt_bed.specs.calls.GenomeTable.{entries, entry_lent, entry_seen, names_of}
 use Rattle.bt_bed.proofs.order.genome.Genome.add_line.Goals as goal
 
 pub at_line-requires : goal.at_line-requires
 at_line-requires c =
-    genome_of_line c.in-Err.kind (refused_at_place (names_of c.args.self.now) c.args.text.now c.in-Err.kind (sym c.in-Err.ensures))
+    let names = names_of c.args.self.now in
+    genome_of_line c.in-Err.kind (refused_at_place names c.args.text.now c.in-Err.kind (ap (new_entry names) (sym c.in-Err.ensures)))
 
-pub push-requires : goal.push-requires
-push-requires c = rw c.in-Ok-Some.entry-is (is_new (names_of c.args.self.now) (entry_of c.args.text.now) (entry_lent c.in-Ok-Some.entry) (sym (rw c.in-Ok-Some.field-0-is at c.in-Ok-Some.ensures)))
+pub returns-then-is_some-clause-refused : goal.returns-then-is_some-clause-refused
+returns-then-is_some-clause-refused c =
+    let said = sym (rw c.in-Ok-Some.field-0-is at c.in-Ok-Some.ensures) in
+    let ranked = sym (c.is_some.ensures ∙ ap is_some c.rank.ensures) ∙ c.if-is_some.true in
+    inl (record {
+      kind = RepeatedChrom;
+      says = says_repeated (names_of c.args.self.now) (entry_of c.args.text.now) (entry_lent c.in-Ok-Some.entry) said ranked;
+      is = c.at_line-then-is_some.ensures;
+    })
+
+pub returns-in_default-clause-refused : goal.returns-in_default-clause-refused
+returns-in_default-clause-refused c =
+    let said = sym (rw c.in-Ok-Some.field-0-is at c.in-Ok-Some.ensures) in
+    let unranked = sym (c.is_some.ensures ∙ ap is_some c.rank.ensures) ∙ c.if-is_some.false in
+    let entry = entry_lent c.in-Ok-Some.entry in
+    inr (record { entry = entry; says = says_new (names_of c.args.self.now) (entry_of c.args.text.now) entry said unranked; is = c.no_memory.ensures })
+
+pub invariant_of-self : goal.invariant_of-self
+unfolding entries
+invariant_of-self c =
+    let said = sym (rw c.in-Ok-Some.field-0-is at c.in-Ok-Some.ensures) in
+    let unranked = sym (c.is_some.ensures ∙ ap is_some c.rank.ensures) ∙ c.if-is_some.false in
+    let names = names_of c.args.self.now in
+    let text = entry_of c.args.text.now in
+    let entry = entry_lent c.in-Ok-Some.entry in
+    let new = is_new names text entry (says_new names text entry said unranked) in
+    record {
+      non_empty = either_way (All (λ (chromosome : Vec ℕ Global × ℕ). 0 < chromosome.1)) c.insert.result c.insert.new.self.entries _ _ c.insert.ensures.entries c.insert.ensures.err
+          (entries_non_empty c.args.self.now.lengths.entries c.in-Ok.name entry.length entry.name c.in-Ok.ensures.items new c.args.self.now.non_empty c.in-Ok-Some.entry.non_empty) c.args.self.now.non_empty;
+    }
+
+pub returns-in-Ok-insert-clause-added : goal.returns-in-Ok-insert-clause-added
+unfolding entries
+returns-in-Ok-insert-clause-added c =
+    let said = sym (rw c.in-Ok-Some.field-0-is at c.in-Ok-Some.ensures) in
+    let unranked = sym (c.is_some.ensures ∙ ap is_some c.rank.ensures) ∙ c.if-is_some.false in
+    let names = names_of c.args.self.now in
+    let text = entry_of c.args.text.now in
+    let entry = entry_lent c.in-Ok-Some.entry in
+    let says = says_new names text entry said unranked in
+    record {
+      entry = Some entry;
+      says = says;
+      added = ap (map entry_seen) c.in-Ok-insert.ensures.entries ∙ entries_push c.args.self.now.lengths.entries c.in-Ok.name entry.length entry.name c.in-Ok.ensures.items (is_new names text entry says);
+    }
+
+pub returns-in-Err-insert-clause-refused : goal.returns-in-Err-insert-clause-refused
+returns-in-Err-insert-clause-refused c =
+    let said = sym (rw c.in-Ok-Some.field-0-is at c.in-Ok-Some.ensures) in
+    let unranked = sym (c.is_some.ensures ∙ ap is_some c.rank.ensures) ∙ c.if-is_some.false in
+    let entry = entry_lent c.in-Ok-Some.entry in
+    inr (record { entry = entry; says = says_new (names_of c.args.self.now) (entry_of c.args.text.now) entry said unranked; is = c.no_memory-in-Err-insert.ensures })

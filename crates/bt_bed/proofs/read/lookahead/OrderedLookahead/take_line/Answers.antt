@@ -1,8 +1,10 @@
-use Rattle.std.proofs.Common.{refl, inl, inr, Some, None}
+use Rattle.std.proofs.Common.{◌≡◌, ◌∙◌, refl, inl, inr, rules, sym, Some, None}
 use Rattle.bt_bed.proofs.lemmas.read.good.SaidLemmas.{bed_of_line, wrong_is_of_line}
-use Rattle.bt_bed.proofs.lemmas.read.batch.NeighbourLemmas.{says_nothing, says_wrong, says_misplaced, says_record}
+use Rattle.bt_bed.proofs.lemmas.read.batch.NeighbourLemmas.{held_other, held_same, says_nothing, says_wrong, says_misplaced, says_record}
 use Rattle.bt_bed.specs.calls.Bed.{feature_lent}
+use Rattle.bt_bed.specs.inside.OrderedLookahead.{goes_on, last_in, name_in, start_in}
 use Rattle.bt_bed.proofs.read.lookahead.OrderedLookahead.take_line.Goals as goal
+use Rattle.bt_bed.proofs.read.lookahead.OrderedLookahead.take_line.Goals.{then-is_some, else-is_some}
 
 pub returns-in-Ok-None : goal.returns-in-Ok-None
 returns-in-Ok-None g c =
@@ -32,20 +34,42 @@ returns-in-Err-check g c =
       keeps = record { rule = refl; last = refl };
     }
 
-pub returns-then-hold : goal.returns-then-hold
-returns-then-hold g c =
+pub returns-then-is_same : goal.returns-then-is_same
+unfolding last_in name_in start_in
+returns-then-is_same g c =
     let bed = feature_lent c.in-Ok-Some.bed in
     let said = rw c.in-Ok-Some.field-0-is at c.in-Ok-Some.ensures.said in
+    let is : c.if-is_some.is_same ≡ goes_on c.args.self.now bed.chrom = elim c.if-is_some.branch [ then-is_some w ↦ search rules | else-is_some w ↦ search rules ] in
+    let held = held_same c.args.self.now.last_name.items bed.chrom c.args.self.now.last (sym is ∙ c.if-is_same.true) in
     record {
       said = Some bed;
       says = says_record _ _ c.args.text.now bed said c.in_default.ensures.known c.in_default.ensures.in_order;
       is = refl;
-      ahead = c.hold.ensures.held c.if-hold.true;
-      keeps = c.hold.ensures.keeps;
+      ahead = rw c.if-is_same.true (record { name_is = held.0; start_is = held.1 });
+      keeps = record { rule = refl; last = refl };
     }
 
-pub returns-else-hold : goal.returns-else-hold
-returns-else-hold g c =
+pub returns-in-Ok : goal.returns-in-Ok
+unfolding last_in name_in start_in
+returns-in-Ok g c =
+    let bed = feature_lent c.in-Ok-Some.bed in
+    let said = rw c.in-Ok-Some.field-0-is at c.in-Ok-Some.ensures.said in
+    let is : c.if-is_some.is_same ≡ goes_on c.args.self.now bed.chrom = elim c.if-is_some.branch [ then-is_some w ↦ search rules | else-is_some w ↦ search rules ] in
+    record {
+      said = Some bed;
+      says = says_record _ _ c.args.text.now bed said c.in_default.ensures.known c.in_default.ensures.in_order;
+      is = refl;
+      ahead = rw c.if-is_same.false
+          (record {
+            name_is = search rules;
+            start_is = held_other c.args.self.now.last_name.items bed.chrom c.args.self.now.last (sym is ∙ c.if-is_same.false);
+          });
+      keeps = record { rule = refl; last = refl };
+    }
+
+pub returns-in-Err-extend_from_slice : goal.returns-in-Err-extend_from_slice
+unfolding last_in
+returns-in-Err-extend_from_slice g c =
     let bed = feature_lent c.in-Ok-Some.bed in
     let said = rw c.in-Ok-Some.field-0-is at c.in-Ok-Some.ensures.said in
     record {
@@ -54,5 +78,5 @@ returns-else-hold g c =
         says = says_record _ _ c.args.text.now bed said c.in_default.ensures.known c.in_default.ensures.in_order;
         is = c.no_memory.ensures;
       });
-      keeps = c.hold.ensures.keeps;
+      keeps = record { rule = refl; last = refl };
     }

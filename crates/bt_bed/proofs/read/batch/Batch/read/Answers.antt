@@ -9,7 +9,7 @@ use Rattle.bt_bed.specs.calls.Batch.{chrom_in}
 use Rattle.bt_bed.specs.inside.FirstColumns.{EndsFirst}
 use Rattle.bt_bed.specs.calls.Run.{is_on}
 use Rattle.bt_bed.specs.model.feature.Record.{record_of}
-use Rattle.bt_bed.proofs.read.batch.Batch.parse.Goals as goal
+use Rattle.bt_bed.proofs.read.batch.Batch.read.Goals as goal
 
 pub parse_number-start-requires : goal.parse_number-start-requires
 parse_number-start-requires c =

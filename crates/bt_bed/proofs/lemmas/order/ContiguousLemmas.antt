@@ -17,11 +17,11 @@ has_records-append name (x ∷ xs) ys f =
     (or_from (bytes_eq x.chrom name) (has_records name xs) parts.0 rest.0, rest.1)
 
 -- records in order: the last of them, and one more
-pub together_front : prefixes_are_contiguous
-together_front [] ys t = tt
-together_front (x ∷ []) ys t = (tt, tt)
-together_front (x ∷ y ∷ zs) ys t =
-    let rest = together_front (y ∷ zs) ys t.1 in
+pub contiguous_prefix : prefixes_are_contiguous
+contiguous_prefix [] ys t = tt
+contiguous_prefix (x ∷ []) ys t = (tt, tt)
+contiguous_prefix (x ∷ y ∷ zs) ys t =
+    let rest = contiguous_prefix (y ∷ zs) ys t.1 in
     let next : IsFollowed x (y ∷ zs) = elim t.0 [
       | inl same ↦ inl same
       | inr gone ↦ inr (has_records-append x.chrom (y ∷ zs) ys gone).0
@@ -85,9 +85,9 @@ grows_from q (s ∷ ss) r t next =
     ] in
     (first, grows_from s ss r t.1 later)
 
-pub grows_together : contiguous_grows
-grows_together [] r t next = (tt, tt)
-grows_together (q ∷ qs) r t next = grows_from q qs r t next
+pub grows_contiguous : contiguous_grows
+grows_contiguous [] r t next = (tt, tt)
+grows_contiguous (q ∷ qs) r t next = grows_from q qs r t next
 
 -- a name that comes before another isn't that one
 lower_is_other : (order : Order) (a b : List ℕ) → IsTotal order → IsTrue (order.knows a) → order.compare a b ≡ Less → b ≡ a → ⊥
@@ -116,14 +116,14 @@ followed order r (s ∷ ss) total placed =
       | inr same ↦ inl (sym same.0, same.1)
     ]
 
-pub placed_together : placed_are_contiguous
-placed_together order [] total placed = tt
-placed_together order (r ∷ rs) total placed = (followed order r rs total placed, placed_together order rs total placed.2)
+pub placed_contiguous : placed_are_contiguous
+placed_contiguous order [] total placed = tt
+placed_contiguous order (r ∷ rs) total placed = (followed order r rs total placed, placed_contiguous order rs total placed.2)
 
-pub placed_front : prefixes_are_placed
-placed_front order [] ys placed = tt
-placed_front order (x ∷ []) ys placed = (placed.0, tt, tt)
-placed_front order (x ∷ y ∷ zs) ys placed = (placed.0, placed.1, placed_front order (y ∷ zs) ys placed.2)
+pub placed_prefix : prefixes_are_placed
+placed_prefix order [] ys placed = tt
+placed_prefix order (x ∷ []) ys placed = (placed.0, tt, tt)
+placed_prefix order (x ∷ y ∷ zs) ys placed = (placed.0, placed.1, placed_prefix order (y ∷ zs) ys placed.2)
 
 placed_from : (order : Order) (q : Interval) (qs : List Interval) (r : Interval) → ArePlaced order (q ∷ qs) → IsTrue (order.knows r.chrom) → IsUpTo order (locus_of (last_from q qs)) (locus_of r) → ArePlaced order (q ∷ qs ++ r ∷ [])
 placed_from order q [] r placed known next = (placed.0, next, (known, tt, tt))

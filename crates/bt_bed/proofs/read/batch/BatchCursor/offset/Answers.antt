@@ -1,7 +1,7 @@
 use Rattle.std.proofs.Common.{◌∙◌, sym}
 use Rattle.std.proofs.lemmas.List.{length-take-le}
 use Rattle.bt_bed.specs.calls.Batch.{consumed_in}
-use Rattle.bt_bed.proofs.read.batch.Batch.offset.Goals as goal
+use Rattle.bt_bed.proofs.read.batch.BatchCursor.offset.Goals as goal
 
 pub returns : goal.returns
 unfolding consumed_in

@@ -1,9 +1,13 @@
 use Rattle.bt_bed.proofs.lemmas.laws.Apart.{one_list}
 use Rattle.bt_bed.proofs.lemmas.laws.Scan.{scan_finds}
-use Rattle.bt_bed.proofs.laws.records.stretches_are_determined.Goals as goal
+use Rattle.bt_bed.proofs.lemmas.laws.BaseLemmas.{common_bases}
+use Rattle.bt_bed.proofs.laws.records.intervals_are_sets_of_bases.Goals as goal
 
 pub returns-clause-one : goal.returns-clause-one
 returns-clause-one c = one_list
 
 pub returns-clause-found : goal.returns-clause-found
 returns-clause-found c = scan_finds
+
+pub returns-clause-shared : goal.returns-clause-shared
+returns-clause-shared c = common_bases

@@ -1,6 +1,7 @@
+use Rattle.bt_bed.specs.inside.RankTotal.{ranks_total}
 use Rattle.bt_bed.specs.model.order.ByteOrder.{bytes_total}
 use Rattle.bt_bed.proofs.lemmas.order.ByteOrderLemmas.{difference_decides, know_each, prefix_first}
-use Rattle.bt_bed.proofs.laws.orders.bytes_give_an_order.Goals as goal
+use Rattle.bt_bed.proofs.laws.orders.names_are_ordered.Goals as goal
 
 pub returns-clause-total : goal.returns-clause-total
 returns-clause-total c = bytes_total
@@ -13,3 +14,6 @@ returns-clause-difference c = difference_decides
 
 pub returns-clause-known : goal.returns-clause-known
 returns-clause-known c = know_each
+
+pub returns-clause-ranks : goal.returns-clause-ranks
+returns-clause-ranks c = ranks_total

@@ -1,5 +1,0 @@
-use Rattle.bt_bed.proofs.lemmas.order.TogetherLemmas.{placed_together}
-use Rattle.bt_bed.proofs.laws.orders.order_gathers.Goals as goal
-
-pub returns : goal.returns
-returns c = placed_together
