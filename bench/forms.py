@@ -23,8 +23,8 @@ from compare import COUNTED, NO_OTHERS, PROGRAM, WORKLOADS, check_same, instruct
 TOP = PROGRAM.parent.parent
 FILE = Path("crates", "bt_tool", "src", "loops", "sweeping.rt")
 OURS, OTHER = "HeldIndex", "HeldList"
-# Where it is imported, and where the sweep is made.
-PLACES = 2
+# Where it is imported, where the sweep is declared, and where it is made.
+PLACES = 4
 
 
 def build(copy):
