@@ -23,6 +23,7 @@ impl PackedName {
         ensures { HasKey name.now result }
     {
         let bytes = front_of(name);
+        // It moves the name and its tab to the upper bytes.
         let factor = 1 << (8 * LONGEST_KEYED.saturating_sub(name.len()));
         PackedName {
             word: upper_word(&bytes, factor),

@@ -16,7 +16,7 @@ use bt_lines::{Kind, columns, number};
 /// columns are divided by tabs, the first base is numbered 0, and the end isn't included. `Err` has
 /// the first fault that applies: fewer than three columns; an empty name of a chromosome; a start or an
 /// end that isn't a number of at most twelve digits; a start that isn't below the end. It doesn't
-/// allocate, and the feature borrows from the text: what it keeps begins at the tab after the third column.
+/// allocate, and the feature borrows from the text: its `rest` begins at the tab after the third column.
 pub fn parse_bed(text: &[u8]) -> Result<Option<BedRef<'_>>, Kind>
     ensures said { record_seen result ≡ record_of text.now }
     ensures suffix { EndsWithRest text.now result }

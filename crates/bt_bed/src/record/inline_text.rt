@@ -6,12 +6,11 @@ ghost use Rattle.bt_bed.specs.inside.KeptForm.{bytes_of};
 use bt_lines::copy_piece;
 use std::alloc::{AllocError, Global};
 
-// That many bytes stand inside. A record that is kept takes 64 bytes with them, and most names and further columns fit.
+// That many bytes are inside. A record that is kept takes 64 bytes with them, and most names and later columns fit.
 const SHORT: usize = 31;
 
-// The bytes of a record that is kept, of which some at the end may be unspecified. A sweep keeps each record that it
-// holds: a short text stands inside, so that no memory is taken for it and none given back. A longer one is in a
-// buffer.
+// The bytes of a record that is kept, of which some at the end may be unspecified. A short text is inside, so that
+// nothing is allocated for it. A longer one is in a buffer.
 #[derive(Debug, Drop)]
 pub(crate) enum InlineText {
     Short([u8; SHORT]),

@@ -75,7 +75,7 @@ impl<'a> ScriptSource<'a> {
     }
 }
 
-// How many of `most` bytes a script lets pass that has moved some, or none if its good bytes are used up.
+// How many of `most` bytes a script moves after `moved` others, or none if its good bytes are used up.
 pub(crate) fn let_through(good: Option<usize>, moved: usize, most: usize) -> Option<usize>
     ensures spent { IfNone result (is_spent good moved ≡ true) }
     ensures works { IfSome result (λ n. is_spent good moved ≡ false) }

@@ -233,7 +233,7 @@ impl<S: Source> LineReader<S> {
         self.step()
     }
 
-    // The same, without the mark that it is rarely called, with which little is inlined into it.
+    // The same. It isn't marked as cold, so that the search for a line feed is inlined.
     fn step(&mut self) -> bool
         requires { complete self.old.buffer ≡ [] }
         ensures moved { result ≡ true → Moves S.Source self.old self.new }

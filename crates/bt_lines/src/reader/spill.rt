@@ -69,7 +69,7 @@ pub(crate) fn read_lines<S: Source>(
     Stop::LineFeed
 }
 
-// The same if what was read of a line fills the block: moves it to a vector, and reads on up to its line feed.
+// Reads on in a line that fills the block: moves it to a vector, and reads up to its line feed.
 fn read_long<S: Source>(source: &mut S, buffer: &mut ReadBuffer, taken: &mut u64) -> Stop
     requires counted { taken.old < 2 ^ 63 }
     requires none { complete buffer.old ≡ [] }

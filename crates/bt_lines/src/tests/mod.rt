@@ -226,7 +226,7 @@ fn lines_of_texts(rt: HostRuntime) {
     assert_eq!(rt; first_misdivided_text(rt.alloc(), &TEXTS), None);
 }
 
-// Whether so many lines are given.
+// Whether `count` lines are given.
 fn gives_some<S: Source>(reader: &mut LineReader<S>, count: u64) -> bool {
     for _ in 0..count {
         match reader.next() {

@@ -124,7 +124,7 @@ impl<K: Sink> Out<K> {
         true
     }
 
-    // Puts two short pieces, as `try_put_pair` does, and no others: so nothing is called where they are put.
+    // Puts two short pieces, as `try_put_pair` does, and no others. It is out of line, and calls nothing.
     #[inline(never)]
     pub(crate) fn hold_short(&mut self, piece: &[u8], next: &[u8]) -> bool
         ensures held { result ≡ true → PutsAll self.old.output (piece.now ++ next.now) self.new.output }

@@ -12,10 +12,10 @@ use bt_sweep::Want;
 
 // Two readers, and the engine that is given what they have buffered.
 pub(crate) trait TwoInputEngine {
-    // From this engine and output it has come to these.
+    // A run that began with the first engine and output has come to the second ones.
     ghost comes: { Self → Output → Self → Output → Type 0 };
 
-    // From this engine and output it has ended with this fault or none, as these.
+    // A run that began with the first engine and output has ended with this fault or none, and the second ones.
     ghost ends: { Self → Output → Option FaultValue → Self → Output → Type 0 };
 
     // The input that is wanted.
@@ -24,7 +24,7 @@ pub(crate) trait TwoInputEngine {
     // Something of that input is buffered.
     ghost is_ready: { Self → Type 0 };
 
-    // How much is still wanted. It falls with each round.
+    // How much is still wanted. It falls with each input that is read on and then given.
     ghost left: { Self → ℕ };
 
     // The input that is wanted next.

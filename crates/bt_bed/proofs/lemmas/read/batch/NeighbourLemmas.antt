@@ -84,7 +84,7 @@ pub held_other : (name chrom : List ℕ) (last : Option ℕ) → is_some last &&
 held_other name chrom None e = refl
 held_other name chrom (Some start) e = rw e refl
 
--- a record that fits behind the last one doesn't start below
+-- a record that fits after the last one doesn't start below
 pub fits_above : (sorting : Sorting) (last : Option Locus) (r : Feature) → falls_in sorting last (locus_at r) ≡ false → start_after last r.chrom ≤ r.start
 fits_above sorting None r e = omega arith
 fits_above sorting (Some place) r e = by (bytes_eq place.chrom r.chrom) e
