@@ -42,7 +42,6 @@
 mod example;
 #[cfg(test)]
 mod growth_tests;
-pub mod laws;
 mod order;
 mod parse;
 mod read;

@@ -4,4 +4,9 @@ pub mod back
 pub mod counts
 pub mod parts
 pub mod pipes
+pub mod records
+pub mod reports
+pub mod runs
 pub mod same
+pub mod sequences
+pub mod sweeps

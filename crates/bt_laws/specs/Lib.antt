@@ -1,5 +1,10 @@
-pub mod Runs
+pub mod WholeRuns
 pub mod counts
 pub mod parts
 pub mod pipes
+pub mod records
+pub mod reports
+pub mod runs
 pub mod same
+pub mod sequences
+pub mod sweeps

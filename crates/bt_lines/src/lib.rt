@@ -31,7 +31,6 @@
 
 mod device;
 mod fault;
-pub mod laws;
 mod numbers;
 mod reader;
 #[cfg(test)]

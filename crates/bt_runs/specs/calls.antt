@@ -1,13 +1,11 @@
 -- What calls do, as contracts say it.
 pub mod Calls
 pub mod Complementing
-pub mod CoveredLevels
 pub mod Covering
 pub mod Engine
 pub mod MergeKind
 pub mod Merging
 pub mod Ruled
 pub mod Settling
-pub mod StrandOrder
 pub mod Stranding
 pub mod Unstranded

@@ -36,7 +36,6 @@ mod coverage;
 mod engine;
 #[cfg(test)]
 mod example;
-pub mod laws;
 mod merge;
 mod plain;
 #[cfg(test)]

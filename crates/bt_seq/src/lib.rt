@@ -35,7 +35,6 @@
 mod bamtobed;
 #[cfg(test)]
 mod example;
-pub mod laws;
 mod mask;
 mod sam;
 
@@ -47,5 +46,6 @@ pub use mask::mask_want::MaskWant;
 pub use sam::SamRef;
 pub use sam::block_iter::SamBlocks;
 pub use sam::cigar::cigar_span;
+pub use sam::operation::Operation;
 pub use sam::sam_text::sam_line;
 pub use sam::splitting::blocks;

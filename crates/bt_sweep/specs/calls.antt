@@ -8,4 +8,3 @@ pub mod Steps
 pub mod SweepState
 pub mod SweepView
 pub mod Taking
-pub mod Worked

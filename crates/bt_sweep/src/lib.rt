@@ -36,7 +36,6 @@ mod active;
 #[cfg(test)]
 mod example;
 mod hits;
-pub mod laws;
 mod output;
 mod plain;
 mod sweep;

@@ -38,7 +38,7 @@ pub use running::{Ended, run};
 
 #[cfg(test)]
 mod example;
-pub mod laws;
+pub mod headline;
 mod loops;
 mod options;
 mod planning;

@@ -1,6 +1,5 @@
 -- Lemmas on laws.
 pub mod Apart
-pub mod BaseLemmas
 pub mod GoodBedLemmas
 pub mod GoodBlocksLemmas
 pub mod MeetingLemmas

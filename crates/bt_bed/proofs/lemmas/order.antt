@@ -3,7 +3,6 @@ pub mod ByteOrderLemmas
 pub mod ContiguousLemmas
 pub mod GenomeLemmas
 pub mod HandsLemmas
-pub mod KnownChromLemmas
 pub mod RankLemmas
 pub mod ResultLemmas
 pub mod SortingLemmas

@@ -1,4 +1,3 @@
 -- Lemmas on write.
 pub mod IntervalLineLemmas
 pub mod RecordLineLemmas
-pub mod RoundTrip

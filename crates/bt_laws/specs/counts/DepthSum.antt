@@ -7,7 +7,7 @@ use Rattle.bt_runs.specs.model.Depth.{DepthInterval, coverage, depth_lines, is_c
 use Rattle.bt_runs.specs.model.Gaps.{length_in}
 use Rattle.bt_tool.specs.model.report.Inputs.{Inputs}
 use Rattle.bt_tool.specs.declared.planning.plan_type.Command.TheVariants.{Coverage}
-use Rattle.bt_laws.specs.Runs.{RunWrites, RunsWithoutFault, first_records}
+use Rattle.bt_laws.specs.WholeRuns.{RunWrites, RunsWithoutFault, first_records}
 
 -- depth times length of an interval
 abbrev pub depth_bases : DepthInterval → ℕ

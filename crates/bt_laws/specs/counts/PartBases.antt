@@ -11,7 +11,7 @@ use Rattle.bt_tool.specs.model.report.Behaviour.{order_of}
 use Rattle.bt_tool.specs.model.report.Inputs.{Inputs}
 use Rattle.bt_tool.specs.model.report.Report.{report_of}
 use Rattle.bt_tool.specs.declared.planning.plan_type.Command.TheVariants.{Intersect, Subtract}
-use Rattle.bt_laws.specs.Runs.{RunsWithoutFault, first_records, second_records}
+use Rattle.bt_laws.specs.WholeRuns.{RunsWithoutFault, first_records, second_records}
 use Rattle.bt_laws.specs.pipes.SweepLines.{records_written}
 use Rattle.bt_laws.specs.pipes.Taken.{AreDisjoint, IsInput}
 

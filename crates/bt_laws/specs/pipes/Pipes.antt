@@ -7,7 +7,7 @@ use Rattle.bt_bed.specs.model.feature.Interval.{Interval}
 use Rattle.bt_bed.specs.model.feature.IntervalLine.{interval_lines}
 use Rattle.bt_bed.specs.model.order.Order.{Order}
 use Rattle.bt_bed.specs.declared.record.strand.Strand.{Strand}
-use Rattle.bt_runs.specs.calls.CoveredLevels.{interval_at}
+use Rattle.bt_laws.specs.runs.CoveredLevels.{interval_at}
 use Rattle.bt_runs.specs.model.Depth.{coverage, depth_lines}
 use Rattle.bt_runs.specs.model.Gaps.{complement}
 use Rattle.bt_runs.specs.model.RunOrder.{ordered_runs}
@@ -23,7 +23,7 @@ use Rattle.bt_tool.specs.model.report.Inputs.{Inputs}
 use Rattle.bt_tool.specs.model.report.Report.{report_of}
 use Rattle.bt_tool.specs.declared.planning.plan_type.Command.TheVariants.{Merge, Complement, Coverage}
 use Rattle.bt_tool.specs.declared.planning.plan_type.Command.TheVariants.{Intersect, Subtract}
-use Rattle.bt_laws.specs.Runs.{RunsWithoutFault, first_records, second_records}
+use Rattle.bt_laws.specs.WholeRuns.{RunsWithoutFault, first_records, second_records}
 use Rattle.bt_laws.specs.pipes.SweepLines.{EndsPlain, KeepsStrand, TakesNoStrand, begins_with_a}
 use Rattle.bt_laws.specs.pipes.SweepLines.{copies_written, is_a_alone, records_for, records_written}
 use Rattle.bt_laws.specs.pipes.Taken.{AreDisjoint, AreSeparate, IsInput, four_columns}

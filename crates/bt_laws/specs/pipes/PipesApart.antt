@@ -9,7 +9,7 @@ use Rattle.bt_runs.specs.declared.merge.merge_strand.MergeStrand.TheVariants.{Ea
 use Rattle.bt_tool.specs.model.report.Inputs.{Inputs}
 use Rattle.bt_tool.specs.declared.planning.plan_type.Command.{Command}
 use Rattle.bt_tool.specs.declared.planning.plan_type.Command.TheVariants.{Merge, Complement, Coverage}
-use Rattle.bt_laws.specs.Runs.{RunsWithoutFault, first_records, piped}
+use Rattle.bt_laws.specs.WholeRuns.{RunsWithoutFault, first_records, piped}
 use Rattle.bt_laws.specs.pipes.Taken.{AreDisjoint}
 
 -- no two records of the output overlap, once it is the first input of the next command: the

@@ -14,7 +14,7 @@ use Rattle.bt_runs.specs.declared.merge.merge_strand.MergeStrand.TheVariants.{Al
 use Rattle.bt_tool.specs.model.report.Inputs.{Inputs}
 use Rattle.bt_tool.specs.model.report.Report.{report_of}
 use Rattle.bt_tool.specs.declared.planning.plan_type.Command.TheVariants.{Merge, Complement, Coverage}
-use Rattle.bt_laws.specs.Runs.{RunWrites, RunsWithoutFault, first_records, piped}
+use Rattle.bt_laws.specs.WholeRuns.{RunWrites, RunsWithoutFault, first_records, piped}
 use Rattle.bt_laws.specs.same.SameSweeps.{LieWithinLengths}
 
 -- a run cut at the length of its chromosome; one that starts there or past it is left out

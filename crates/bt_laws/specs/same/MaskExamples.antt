@@ -2,7 +2,7 @@
 use Rattle.std.specs.Prelude.{ℕ, false, List, [], codes}
 use Rattle.bt_seq.specs.declared.mask.mask_how.MaskHow.TheVariants.{Soft}
 use Rattle.bt_tool.specs.declared.planning.plan_type.Command.TheVariants.{MaskFasta}
-use Rattle.bt_laws.specs.Runs.{RunWrites, two_texts}
+use Rattle.bt_laws.specs.WholeRuns.{RunWrites, two_texts}
 
 -- two sequences of one name, and one between them
 abbrev pub named_twice : List ℕ

@@ -18,7 +18,7 @@ use Rattle.bt_seq.specs.declared.mask.mask_how.MaskHow.TheVariants.{Soft, Hard}
 use Rattle.bt_tool.specs.model.report.Inputs.{Inputs, or_empty}
 use Rattle.bt_tool.specs.model.report.Report.{report_of}
 use Rattle.bt_tool.specs.declared.planning.plan_type.Command.TheVariants.{MaskFasta, Merge}
-use Rattle.bt_laws.specs.Runs.{RunWrites, RunsWithoutFault, piped, second_alone}
+use Rattle.bt_laws.specs.WholeRuns.{RunWrites, RunsWithoutFault, piped, second_alone}
 
 -- A mask that can't end a line, as a line feed or a carriage return does, or begin a header, as `>`
 -- does. Options allow printable characters of ASCII alone, so there it is any of these but `>`.

@@ -10,7 +10,7 @@ use Rattle.bt_sweep.specs.declared.output.shape.Shape.TheVariants.{Count, Missin
 use Rattle.bt_tool.specs.model.report.Inputs.{Inputs}
 use Rattle.bt_tool.specs.model.report.Report.{report_of}
 use Rattle.bt_tool.specs.declared.planning.plan_type.Command.TheVariants.{Intersect, Subtract}
-use Rattle.bt_laws.specs.Runs.{RunWrites, RunsWithoutFault, first_records}
+use Rattle.bt_laws.specs.WholeRuns.{RunWrites, RunsWithoutFault, first_records}
 
 -- intersect -v is subtract -A with the same rule: the same bytes and the same fault, whatever the
 -- inputs

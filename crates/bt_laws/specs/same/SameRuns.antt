@@ -15,7 +15,7 @@ use Rattle.bt_tool.specs.model.report.Inputs.{Inputs}
 use Rattle.bt_tool.specs.model.report.Report.{report_of}
 use Rattle.bt_tool.specs.declared.planning.plan_type.Command.{Command}
 use Rattle.bt_tool.specs.declared.planning.plan_type.Command.TheVariants.{Merge, Complement, Coverage}
-use Rattle.bt_laws.specs.Runs.{RunWrites, RunsWithoutFault, first_records, piped}
+use Rattle.bt_laws.specs.WholeRuns.{RunWrites, RunsWithoutFault, first_records, piped}
 
 -- merge of merge is merge, with the same -d; the first may have been of one strand
 abbrev pub merge_of_merge : Type 0

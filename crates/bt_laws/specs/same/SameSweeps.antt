@@ -12,7 +12,7 @@ use Rattle.bt_tool.specs.model.report.Inputs.{Inputs}
 use Rattle.bt_tool.specs.model.report.Report.{report_of}
 use Rattle.bt_tool.specs.declared.planning.plan_type.Command.TheVariants.{Complement, Intersect, Merge}
 use Rattle.bt_tool.specs.declared.planning.plan_type.Command.TheVariants.{Subtract}
-use Rattle.bt_laws.specs.Runs.{RunWrites, RunsWithoutFault, first_records, with_second}
+use Rattle.bt_laws.specs.WholeRuns.{RunWrites, RunsWithoutFault, first_records, with_second}
 
 -- one shared base is enough; -r may be given, and says nothing without -f
 abbrev pub one_base : Bool → HitRule

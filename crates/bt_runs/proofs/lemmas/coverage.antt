@@ -1,9 +1,7 @@
 -- Lemmas on coverage.
 pub mod CallLemmas
 pub mod CoverageForm
-pub mod CoveredLevels
 pub mod DepthCounts
-mod DepthExamples
 pub mod DepthLemmas
 pub mod DepthLines
 pub mod DepthSteps

@@ -1,6 +1,5 @@
 -- Lemmas on laws.
 pub mod EachLemmas
-mod Examples
 pub mod Passing
 pub mod PlainSpans
 pub mod SettlingLemmas

@@ -7,6 +7,5 @@ pub mod PendingRunsLemmas
 pub mod PerStrandLemmas
 pub mod SettledRuns
 pub mod StrandListing
-pub mod StrandOrder
 pub mod StrandSettling
 pub mod UnstrandedLemmas

@@ -3,6 +3,5 @@ pub mod ByChromosome
 pub mod ChromosomeLemmas
 pub mod FileOrder
 pub mod GenomeRanks
-pub mod NameOrder
 pub mod OwnOrder
 pub mod RunOrder

@@ -1,9 +1,7 @@
 -- What `bedtools genomecov` gives with -bg: the intervals of equal depth above 0 of each
 -- chromosome, in the order of the genome file. With -bga it gives those of depth 0 too (bedtools
 -- manual, genomecov, options -bg, -bga and -strand).
-use Rattle.std.specs.Prelude.{◌≡◌, ℕ, Bool, true, ◌&&◌, ◌||◌, nat_le, nat_lt, cond, min}
-use Rattle.std.specs.Prelude.{List, [], ◌∷◌, ◌++◌, length, map, filter, flat_map, codes, decimal}
-use Rattle.std.specs.Prelude.{Option, Some, None}
+use Rattle.std.specs.Prelude.{◌≡◌, ℕ, Bool, true, ◌&&◌, ◌||◌, nat_le, nat_lt, cond, min, List, [], ◌∷◌, ◌++◌, length, map, filter, flat_map, codes, decimal, Option, Some, None}
 use Rattle.bt_bed.specs.model.feature.Feature.{Feature, intervals_of}
 use Rattle.bt_bed.specs.model.order.Genome.{Entry, genome_names}
 use Rattle.bt_bed.specs.model.feature.Interval.{Interval, Span, last_of, spans_on}
@@ -138,21 +136,3 @@ known_to entries (Some last) =
 
 unfoldable pub known_place : List Entry → List Feature → List Locus
 known_place entries records = known_to entries (last_of (intervals_of records))
-
--- what is settled begins what is settled later
-abbrev pub settled_depths_stay : Type 0
-settled_depths_stay =
-    (zeros : Bool) (strand : Option Strand) (entries : List Entry) (past more : List Feature)
-    → AreTaken entries (past ++ more)
-    → (rest : List DepthInterval)
-    × (settled_depths zeros strand entries (past ++ more)
-    ≡ settled_depths zeros strand entries past ++ rest)
-
--- and the whole output
-abbrev pub settled_depths_begin : Type 0
-settled_depths_begin =
-    (zeros : Bool) (strand : Option Strand) (entries : List Entry) (past more : List Feature)
-    → AreTaken entries (past ++ more)
-    → (rest : List DepthInterval)
-    × (coverage zeros strand entries (past ++ more)
-    ≡ settled_depths zeros strand entries past ++ rest)

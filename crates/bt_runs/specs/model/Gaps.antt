@@ -1,9 +1,7 @@
 -- What `bedtools complement` gives: the parts of each chromosome that no feature covers, in the
 -- order of the genome file. With -L it gives only those of chromosomes that
 -- have records (bedtools manual, complement).
-use Rattle.std.specs.Prelude.{◌≡◌, ℕ, ◌<◌, ◌≤◌, length, Bool, true, false, not, ◌||◌, List, [], ◌∷◌}
-use Rattle.std.specs.Prelude.{◌++◌, map, filter, flat_map, cond, min, nat_le, bytes_eq, Option}
-use Rattle.std.specs.Prelude.{Some, None}
+use Rattle.std.specs.Prelude.{◌≡◌, ℕ, ◌<◌, ◌≤◌, length, Bool, true, false, not, ◌||◌, List, [], ◌∷◌, ◌++◌, map, filter, flat_map, cond, min, nat_le, bytes_eq, Option, Some, None}
 use Rattle.std.specs.declared.cmp.Ordering.{Ordering}
 use Rattle.std.specs.declared.cmp.Ordering.TheVariants.{Less, Equal, Greater}
 use Rattle.bt_bed.specs.model.feature.Feature.{Feature, intervals_of}
@@ -94,24 +92,3 @@ pub record AreTaken (entries : List Entry) (records : List Feature) : Type 0 whe
   pub distinct : AreDistinct (genome_names entries)
   pub placed : ArePlaced (rank_order (genome_names entries)) (intervals_of records)
   pub full : AreNonEmpty (intervals_of records)
-
--- what is settled begins what is settled later
-abbrev pub settled_gaps_stay : Type 0
-settled_gaps_stay =
-    (limit : Bool) (entries : List Entry) (past more : List Feature)
-    → AreTaken entries (past ++ more)
-    → (rest : List Interval) × (settled_gaps limit entries (past ++ more)
-    ≡ settled_gaps limit entries past ++ rest)
-
--- and the whole output
-abbrev pub settled_gaps_begin : Type 0
-settled_gaps_begin =
-    (limit : Bool) (entries : List Entry) (past more : List Feature)
-    → AreTaken entries (past ++ more)
-    → (rest : List Interval) × (complement limit entries (past ++ more)
-    ≡ settled_gaps limit entries past ++ rest)
-
--- one place at most is kept
-abbrev pub one_place_is_kept : Type 0
-one_place_is_kept =
-    (entries : List Entry) (records : List Feature) → length (kept_place entries records) ≤ 1

@@ -1,8 +1,7 @@
 -- Positions of one chromosome of which some have a value, and the one list of intervals of equal
 -- value that they make up. A set of positions is the case of one
 -- value (see `stretches_are_levels`).
-use Rattle.std.specs.Prelude.{◌≡◌, ℕ, zero, suc, ◌+◌, ◌<◌, ◌≤◌, Bool, true, false, cond, ◌⊎◌, ⊤}
-use Rattle.std.specs.Prelude.{IsTrue, List, [], ◌∷◌, ◌++◌, map, ◌==◌, Option, Some, None}
+use Rattle.std.specs.Prelude.{◌≡◌, ℕ, zero, suc, ◌+◌, ◌<◌, ◌≤◌, Bool, true, false, cond, ◌⊎◌, ⊤, IsTrue, List, [], ◌∷◌, ◌++◌, map, ◌==◌, Option, Some, None}
 use Rattle.bt_bed.specs.model.feature.Interval.{Span}
 use Rattle.bt_bed.specs.model.feature.Stretches.{AreStretchesOf}
 
@@ -11,29 +10,6 @@ pub record Level : Type 0 where
   pub start : ℕ
   pub stop : ℕ
   pub value : ℕ
-
--- the position lies in one of the intervals, and that has the value
-abbrev pub HasValue : List Level → ℕ → ℕ → Type 0
-HasValue [] p value = ⊥
-HasValue (l ∷ ls) p value = ((l.start ≤ p) × (p < l.stop) × (l.value ≡ value)) ⊎ HasValue ls p value
-
--- if the next interval touches this one, its value is another
-abbrev pub DiffersFromNext : Level → List Level → Type 0
-DiffersFromNext l [] = ⊤
-DiffersFromNext l (m ∷ ms) = l.stop ≡ m.start → l.value ≡ m.value → ⊥
-
--- ascending and disjoint, from a first position on: none is empty,
--- and two that touch differ in value
-abbrev pub AreDisjointFrom : ℕ → List Level → Type 0
-AreDisjointFrom first [] = ⊤
-AreDisjointFrom first (l ∷ ls) =
-    (first ≤ l.start) × (l.start < l.stop) × DiffersFromNext l ls × AreDisjointFrom l.stop ls
-
--- the list of intervals that the values of the positions below a length make up
-pub record AreLevelsOf (value : ℕ → Option ℕ) (size : ℕ) (levels : List Level) : Type 0 where
-  pub disjoint : AreDisjointFrom 0 levels
-  pub within : (p v : ℕ) → HasValue levels p v → (p < size) × (value p ≡ Some v)
-  pub whole : (p v : ℕ) → p < size → value p ≡ Some v → HasValue levels p v
 
 -- an interval that isn't ended: where it began, and its value
 pub record Begun : Type 0 where
@@ -84,24 +60,3 @@ levels_from value first n begun =
 -- the intervals of equal value of a chromosome of this length
 abbrev pub levels_of : (ℕ → Option ℕ) → ℕ → List Level
 levels_of value size = levels_from value 0 size None
-
--- so they are
-abbrev pub levels_are : Type 0
-levels_are = (value : ℕ → Option ℕ) (size : ℕ) → AreLevelsOf value size (levels_of value size)
-
--- no other list is
-abbrev pub levels_only : Type 0
-levels_only =
-    (value : ℕ → Option ℕ) (size : ℕ) (levels : List Level) → AreLevelsOf value size levels
-    → levels ≡ levels_of value size
-
--- a span whose positions have a value
-abbrev pub level_on : ℕ → Span → Level
-level_on value span = record { start = span.start; stop = span.stop; value = value }
-
--- the stretches of a set of positions are the intervals of those that have one value
-abbrev pub stretches_are_levels : Type 0
-stretches_are_levels =
-    (test : ℕ → Bool) (size : ℕ) (spans : List Span)
-    → AreStretchesOf (λ p. (p < size) × IsTrue (test p)) spans
-    → map (level_on 0) spans ≡ levels_of (λ p. cond (test p) (Some 0) None) size

@@ -1,6 +1,5 @@
 -- What a merge writes, and which of its runs are settled: a later record can't change them.
-use Rattle.std.specs.Prelude.{◌≡◌, ℕ, ◌+◌, ◌≤◌, Bool, not, ◌||◌, List, [], ◌++◌, drop, length}
-use Rattle.std.specs.Prelude.{filter, Option, Some, None, nat_lt, bytes_eq}
+use Rattle.std.specs.Prelude.{◌≡◌, ℕ, ◌+◌, ◌≤◌, Bool, not, ◌||◌, List, [], ◌++◌, drop, length, filter, Option, Some, None, nat_lt, bytes_eq}
 use Rattle.bt_bed.specs.model.feature.Feature.{Feature, intervals_of}
 use Rattle.bt_bed.specs.model.feature.Interval.{Interval, AreNonEmpty, last_of}
 use Rattle.bt_bed.specs.model.order.Locus.{ArePlaced}
@@ -54,13 +53,6 @@ settled_runs_begin =
     (gap : ℕ) (strand : MergeStrand) (past more : List Feature) → AreTaken (past ++ more)
     → (rest : List Interval) × (merged_runs gap strand (past ++ more)
     ≡ settled_runs gap strand past ++ rest)
-
--- the settled runs and the kept ones are all, and one run at most is kept
-abbrev pub one_run_is_kept : Type 0
-one_run_is_kept =
-    (gap : ℕ) (strand : MergeStrand) (past : List Feature) → AreTaken past
-    → (merged_runs gap strand past ≡ settled_runs gap strand past ++ kept_runs gap strand past)
-    × (length (kept_runs gap strand past) ≤ 1)
 
 -- for records in the order of a genome file,
 -- the order in which the chromosomes come is that of the file

@@ -1,7 +1,6 @@
 -- What `bedtools merge -s` gives: the records of each strand are merged separately (bedtools
 -- manual, merge, option -s), and the runs of all strands are listed by their first records.
-use Rattle.std.specs.Prelude.{◌≡◌, ℕ, Bool, not, ◌&&◌, List, [], ◌∷◌, ◌++◌, drop, filter, length}
-use Rattle.std.specs.Prelude.{map, Option, Some, None, nat_le, bytes_eq}
+use Rattle.std.specs.Prelude.{◌≡◌, ℕ, Bool, not, ◌&&◌, List, [], ◌∷◌, ◌++◌, drop, filter, length, map, Option, Some, None, nat_le, bytes_eq}
 use Rattle.std.specs.List.{list_any, take_while}
 use Rattle.bt_bed.specs.model.feature.Feature.{Feature, interval_of, intervals_of}
 use Rattle.bt_bed.specs.model.feature.Interval.{Interval, last_of}
@@ -63,13 +62,6 @@ kept_strand_runs gap records =
 abbrev pub places_of : List StrandRun → List Interval
 places_of items = map (λ item. item.run) items
 
--- the runs of one strand come in their order, each of them once
-abbrev pub strands_stay_in_order : Type 0
-strands_stay_in_order =
-    (gap : ℕ) (records : List Feature) (strand : Strand) → AreTaken records
-    → filter (λ item. is_strand item.strand strand) (strand_runs gap records)
-    ≡ runs_of_strand gap records strand
-
 -- what is settled begins what is settled later
 abbrev pub strand_runs_stay : Type 0
 strand_runs_stay =
@@ -83,9 +75,3 @@ strand_runs_begin =
     (gap : ℕ) (past more : List Feature) → AreTaken (past ++ more)
     → (rest : List StrandRun)
     × (strand_runs gap (past ++ more) ≡ settled_strand_runs gap past ++ rest)
-
--- the settled runs and the kept ones are all
-abbrev pub strand_runs_divide : Type 0
-strand_runs_divide =
-    (gap : ℕ) (past : List Feature)
-    → strand_runs gap past ≡ settled_strand_runs gap past ++ kept_strand_runs gap past

@@ -1,9 +1,7 @@
 -- Lemmas on sam.
 pub mod AlignmentLemmas
-pub mod BetweenLemmas
 pub mod BlockLemmas
 pub mod CigarLemmas
-pub mod DivisionLemmas
 pub mod ExtentLemmas
 pub mod SamKindLemmas
 pub mod ShortNumbers

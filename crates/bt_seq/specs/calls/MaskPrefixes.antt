@@ -1,6 +1,5 @@
 -- What lines that are decided early are in the end.
-use Rattle.std.specs.Prelude.{◌≡◌, ℕ, true, List, [], ◌∷◌, ◌++◌, flat_map, Option, None, Some}
-use Rattle.std.specs.Prelude.{is_some, map}
+use Rattle.std.specs.Prelude.{◌≡◌, ℕ, true, List, [], ◌∷◌, ◌++◌, flat_map, Option, None, Some, is_some, map}
 use Rattle.bt_bed.specs.model.feature.Feature.{Feature}
 use Rattle.bt_bed.specs.model.input.Good.{Good, Member, items_in}
 use Rattle.bt_bed.specs.model.input.GoodBlocks.{AreInBlocks}
@@ -33,35 +32,6 @@ LineBefore how line taken r = (more : List Feature) → AreInBlocks (taken ++ r 
 abbrev pub masked_lines_are_before : Type 0
 masked_lines_are_before = (how : MaskHow) (line : SequenceLine) (taken : List Feature) (r : Feature)
     → decided line (taken ++ r ∷ []) ≡ true → LineBefore how line taken r
-
--- what the first records of the second input make of the lines
-abbrev pub early_mask_rule : MaskHow → List Feature → Rule SequenceLine ℕ FaultValue
-early_mask_rule how records = record {
-  decided = λ line. decided line records;
-  lines = masked_line how records;
-  fault = None;
-  last = None;
-}
-
--- the lines that are decided by a prefix of each input, and so are written, begin what is written for all of the inputs
-abbrev pub masked_are_a_prefix : Type 0
-masked_are_a_prefix =
-    (how : MaskHow) (names : List (List ℕ)) (first more_first : List SequenceLine)
-    (fault : Option FaultValue)
-    (second : Good Feature) (seen more : List Feature) → items_in second ≡ seen ++ more
-    → AreInBlocks (seen ++ more)
-    → (rest : List ℕ)
-    × ((join_report (mask_rule how names second) (first ++ more_first) fault).lines
-    ≡ written (early_mask_rule how seen) first ++ rest)
-
--- if the second input has no fault, all lines are written, masked
-abbrev pub faultless_are_masked : Type 0
-faultless_are_masked =
-    (how : MaskHow) (names : List (List ℕ)) (first : List SequenceLine) (fault : Option FaultValue)
-    (second : Good Feature)
-    → second.fault ≡ None
-    → (join_report (mask_rule how names second) first fault).lines
-    ≡ flat_map (masked_line how (items_in second)) first
 
 -- if the block of each record belongs to a sequence, none lacks one
 abbrev pub owned_lack_none : Type 0

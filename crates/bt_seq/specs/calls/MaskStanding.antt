@@ -1,6 +1,5 @@
 -- The stage of a masking engine.
-use Rattle.std.specs.Prelude.{◌≡◌, ◌⊎◌, Bool, true, false, List, [], ◌++◌, map, Option, Some}
-use Rattle.std.specs.Prelude.{None, is_some, option_map}
+use Rattle.std.specs.Prelude.{◌≡◌, ◌⊎◌, Bool, true, false, List, [], ◌++◌, map, Option, Some, None, is_some, option_map}
 use Rattle.std.specs.List.{AllByRecursion}
 use Rattle.bt_bed.specs.model.feature.Feature.{Feature}
 use Rattle.bt_bed.specs.model.input.GoodBlocks.{AreInBlocks}
@@ -53,10 +52,3 @@ pub record MaskMovesTo (how : MaskHow) (full : Bool) (stage : MaskStage)
   pub stands : MaskStandsAt stage new
   pub how_is : new.how ≡ how
   pub full_is : new.full ≡ full
-
--- No prefix of the records taken decides all lines given: so none was taken after the first record
--- that did.
-abbrev pub taken_are_first : Type 0
-taken_are_first = (lines : List SequenceLine) (before rest : List Feature)
-    → IsOpen (line_given_last lines) (before ++ rest)
-    → (before ++ rest ≡ []) ⊎ (AllByRecursion (λ line. decided line before ≡ true) lines → ⊥)

@@ -1,6 +1,5 @@
 -- What the calls of a masking engine do.
-use Rattle.std.specs.Prelude.{◌≡◌, ◌⊎◌, ◌||◌, ℕ, length, nat_lt, not, Bool, true, false, cond, List}
-use Rattle.std.specs.Prelude.{[], ◌∷◌, ◌++◌, Some, None, is_some, Result, Ok, Err}
+use Rattle.std.specs.Prelude.{◌≡◌, ◌⊎◌, ◌||◌, ℕ, length, nat_lt, not, Bool, true, false, cond, List, [], ◌∷◌, ◌++◌, Some, None, is_some, Result, Ok, Err}
 use Rattle.bt_bed.specs.model.feature.Feature.{Feature}
 use Rattle.bt_bed.specs.model.feature.LineKind.{fault_at_line}
 use Rattle.bt_lines.specs.model.Fault.{FaultValue, no_memory}
@@ -149,14 +148,3 @@ abbrev pub EndsCheck : {A : Type 0} → MaskHow → Bool → MaskStage → Outpu
 EndsCheck how full stage out (Ok done) new grown =
     MaskMovesTo how full (with_bed_ended stage) new × (grown ≡ out)
 EndsCheck how full stage out (Err fault) new grown = ⊥
-
--- a record that leaves the line undecided and hasn't to be held is taken, and nothing is written
-abbrev pub quiet_records_are_taken : Type 0
-quiet_records_are_taken =
-    (how : MaskHow) (full : Bool) (stage : MaskStage) (line : SequenceLine) (r : Feature)
-    (out : Output)
-    (answer : Result Taken Fault) (new : Masking) (grown : Output)
-    → GivesBed how full stage line r out answer new grown
-    → decided line (stage.taken ++ r ∷ []) ≡ false
-    → held_for line (stage.taken ++ r ∷ []) ≡ held_for line stage.taken
-    → (answer ≡ Ok Yes) × (grown ≡ out)

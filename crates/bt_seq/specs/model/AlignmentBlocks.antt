@@ -1,8 +1,7 @@
 -- The blocks of an alignment, one for each maximal list of its operations without N. An N is a
 -- region of the reference that the read skips (Sequence Alignment/Map Format Specification, section
 -- 1.4, field 6; bedtools manual, bamtobed, option -split).
-use Rattle.std.specs.Prelude.{◌≡◌, ℕ, ◌+◌, ◌<◌, ◌≤◌, ◌==◌, Bool, true, not, List, [], ◌∷◌, ◌++◌, flat_map}
-use Rattle.std.specs.Prelude.{nat_lt, Option, Some, None, if◌then◌else◌}
+use Rattle.std.specs.Prelude.{◌≡◌, ℕ, ◌+◌, ◌<◌, ◌≤◌, ◌==◌, Bool, true, not, List, [], ◌∷◌, ◌++◌, flat_map, nat_lt, Option, Some, None, if◌then◌else◌}
 use Rattle.std.specs.List.{list_all, take_while}
 use Rattle.bt_bed.specs.model.feature.Interval.{Span}
 use Rattle.bt_seq.specs.model.Alignment.{Alignment}
@@ -61,22 +60,3 @@ abbrev pub alignment_blocks : Bool → Alignment → List Span
 alignment_blocks split a =
     if split then blocks_in a.start (operations_of a.cigar)
     else record { start = a.start; stop = a.stop } ∷ []
-
--- operations without an N are one block, if they cover a base
-abbrev pub unskipped_are_one_block : Type 0
-unskipped_are_one_block =
-    (start : ℕ) (operations : List Operation)
-    → list_all (λ operation. not (is_skip operation)) operations ≡ true
-    → blocks_of start operations ≡ with_bases start (start + reference_length operations)
-
--- these blocks lie one after another from one place up to the other, each with a base
-abbrev pub AreBetween : ℕ → ℕ → List Span → Type 0
-AreBetween start stop [] = start ≤ stop
-AreBetween start stop (block ∷ blocks) =
-    (start ≤ block.start) × (block.start < block.stop) × AreBetween block.stop stop blocks
-
--- so do those of an alignment, from its start to its end
-abbrev pub blocks_are_within : Type 0
-blocks_are_within =
-    (split : Bool) (a : Alignment) → a.start < a.stop → EndsAt a.cigar a.start a.stop
-    → AreBetween a.start a.stop (alignment_blocks split a)

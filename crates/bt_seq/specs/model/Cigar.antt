@@ -1,8 +1,6 @@
 -- CIGAR strings (Sequence Alignment/Map Format Specification, section 1.4, field 6): `*`, or one or
 -- more operations, each a number and a letter.
-use Rattle.std.specs.Prelude.{◌≡◌, ℕ, ◌+◌, ◌==◌, ◌&&◌, ◌||◌, Bool, IsTrue, List, [], ◌∷◌, ◌++◌, codes}
-use Rattle.std.specs.Prelude.{bytes_eq, flat_map, min, sum_by, Option, Some, None, option_map}
-use Rattle.std.specs.Prelude.{if◌then◌else◌}
+use Rattle.std.specs.Prelude.{◌≡◌, ℕ, ◌+◌, ◌==◌, ◌&&◌, ◌||◌, Bool, IsTrue, List, [], ◌∷◌, ◌++◌, codes, bytes_eq, flat_map, min, sum_by, Option, Some, None, option_map, if◌then◌else◌}
 use Rattle.std.specs.List.{list_all}
 use Rattle.bt_lines.specs.model.Number.{is_number, value_of}
 use Rattle.bt_seq.specs.declared.sam.operation.Operation.{Operation}
@@ -30,19 +28,6 @@ reference_length operations = sum_by covered_by operations
 pub record Part : Type 0 where
   pub digits : List ℕ
   pub letter : ℕ
-
--- the bytes of a part
-abbrev pub spelled : Part → List ℕ
-spelled part = part.digits ++ part.letter ∷ []
-
--- whether a part is a number and the letter of an operation
-abbrev pub is_operation : Part → Bool
-is_operation part = is_number part.digits && is_letter part.letter
-
--- the parts are a division of the text into numbers and letters
-pub record Divides (text : List ℕ) (parts : List Part) : Type 0 where
-  pub whole : flat_map spelled parts ≡ text
-  pub all : IsTrue (list_all is_operation parts)
 
 -- a part before others
 abbrev pub with_part : Part → Option (List Part) → Option (List Part)
@@ -105,21 +90,3 @@ span_with more operations =
 -- the CIGAR is well formed, and the end is the start and its reference length
 abbrev pub EndsAt : List ℕ → ℕ → ℕ → Type 0
 EndsAt cigar start stop = option_map (λ length. start + length) (length_of cigar) ≡ Some stop
-
--- a text can be divided in one way only
-abbrev pub division_is_one : Type 0
-division_is_one =
-    (text : List ℕ) (parts others : List Part) → Divides text parts → Divides text others
-    → parts ≡ others
-
--- the operations are those of that division
-abbrev pub division_is_found : Type 0
-division_is_found =
-    (text : List ℕ) (parts : List Part) → Divides text parts
-    → operations_in text ≡ each_operation parts
-
--- and if there are operations, there is a division
-abbrev pub operations_are_divided : Type 0
-operations_are_divided =
-    (text : List ℕ) (operations : List Operation) → operations_in text ≡ Some operations
-    → (parts : List Part) × (Divides text parts × (each_operation parts ≡ Some operations))

@@ -1,11 +1,9 @@
 -- Lemmas on laws.
 pub mod DecidingLemmas
-pub mod FirstLemmas
 pub mod HitLemmas
 pub mod LimitLemmas
 pub mod PieceLemmas
 pub mod PlacedLemmas
-pub mod QuietLemmas
 pub mod RisingLemmas
 pub mod RuleLemmas
 pub mod SweepsLemmas

@@ -1,6 +1,5 @@
 -- After which records of both inputs a sweep is.
-use Rattle.std.specs.Prelude.{◌≡◌, ◌≤◌, Bool, true, false, not, IfSome, IsTrue, cond, List, []}
-use Rattle.std.specs.Prelude.{◌∷◌, ◌++◌, length, Option, Some, None, is_some, option_to_list}
+use Rattle.std.specs.Prelude.{◌≡◌, ◌≤◌, Bool, true, false, not, IfSome, IsTrue, cond, List, [], ◌∷◌, ◌++◌, length, Option, Some, None, is_some, option_to_list}
 use Rattle.std.specs.List.{list_any, list_all, take_while}
 use Rattle.bt_bed.specs.model.feature.Feature.{Feature, intervals_of}
 use Rattle.bt_bed.specs.model.order.Locus.{ArePlaced}
@@ -99,14 +98,3 @@ with_a_ended stage = record stage { a_ended = true }
 
 abbrev pub with_b_ended : Stage → Stage
 with_b_ended stage = record (with_lines stage) { b_ended = true }
-
--- If each record taken leaves one of the given undecided, and the next one with those decides
--- all, the records taken are those before the first that decides all.
-abbrev pub taken_are_first : Type 0
-taken_are_first =
-    (order : Order) (as_given taken more : List Feature) (next : Feature) → IsTotal order
-    → ArePlaced order (intervals_of as_given)
-    → ArePlaced order (intervals_of (taken ++ next ∷ more))
-    → IsTrue (list_all (leaves_some order as_given) taken)
-    → IsTrue (list_all (λ a. decided order a (taken ++ next ∷ [])) as_given)
-    → take_while (leaves_some order as_given) (taken ++ next ∷ more) ≡ taken

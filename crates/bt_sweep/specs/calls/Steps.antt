@@ -1,6 +1,5 @@
 -- What the calls of a sweep do.
-use Rattle.std.specs.Prelude.{◌≡◌, ◌⊎◌, ℕ, Bool, true, false, cond, List, [], Option}
-use Rattle.std.specs.Prelude.{Some, None, Result, Ok, Err, length, nat_lt}
+use Rattle.std.specs.Prelude.{◌≡◌, ◌⊎◌, ℕ, Bool, true, false, cond, List, [], Option, Some, None, Result, Ok, Err, length, nat_lt}
 use Rattle.bt_lines.specs.model.Fault.{FaultValue, no_memory}
 use Rattle.bt_lines.specs.calls.Names.{fault_value}
 use Rattle.bt_lines.specs.calls.Output.{Output}
@@ -13,8 +12,7 @@ use Rattle.bt_bed.specs.model.feature.LineKind.{fault_at_line}
 use Rattle.bt_bed.specs.model.order.Order.{Order}
 use Rattle.bt_sweep.specs.model.Deciding.{decides}
 use Rattle.bt_sweep.specs.model.IntersectLines.{LinesBefore, lines_for}
-use Rattle.bt_sweep.specs.calls.Standing.{MovesTo, Stage, held_for, is_held, with_a, with_b}
-use Rattle.bt_sweep.specs.calls.Standing.{with_b_ended, with_lines}
+use Rattle.bt_sweep.specs.calls.Standing.{MovesTo, Stage, held_for, is_held, with_a, with_b, with_b_ended, with_lines}
 use Rattle.bt_sweep.specs.calls.SweepState.{Sweeping, want_in}
 use Rattle.bt_bed.specs.declared.record.taken.Taken.{Taken}
 use Rattle.bt_bed.specs.declared.record.taken.Taken.TheVariants.{Yes, No}
@@ -101,13 +99,3 @@ module _ (order : Order) (stage : Stage) (a b : Feature) (line : ℕ) (old : Swe
       (want_in new ≡ Nothing)
       × (FailsToWriteA (fault_value fault) grown
       ⊎ (PassesLimit (fault_value fault) grown ⊎ FailsToHold (fault_value fault) grown))
-
--- a record that leaves the waiting one undecided and hasn't to be held is taken,
--- and nothing is written
-abbrev pub quiet_are_taken : Type 0
-quiet_are_taken =
-    (order : Order) (stage : Stage) (a b : Feature) (line : ℕ) (old : Sweeping) (out : Output)
-    (answer : Result Taken Fault) (new : Sweeping) (grown : Output)
-    → GivesB order stage a b line old out answer new grown → decides order a b ≡ false
-    → is_held a b ≡ false
-    → (answer ≡ Ok Yes) × (grown ≡ out)

@@ -18,8 +18,3 @@ decides order a b = not (is_below order (locus_at b) (end_of a))
 -- whether one of the records decides a
 abbrev pub decided : Order → Feature → List Feature → Bool
 decided order a bs = list_any (decides order a) bs
-
--- what is decided stays so
-abbrev pub decided_stays : Type 0
-decided_stays = (order : Order) (a : Feature) (bs more : List Feature)
-    → IsTrue (decided order a bs) → IsTrue (decided order a (bs ++ more))

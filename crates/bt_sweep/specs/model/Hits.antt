@@ -1,7 +1,6 @@
 -- Which records hit one another: all pairs are compared
 -- (bedtools manual, intersect, options -f, -r and -s).
-use Rattle.std.specs.Prelude.{◌≡◌, ℕ, ◌*◌, Bool, false, not, ◌&&◌, ◌||◌, List, filter, nat_le}
-use Rattle.std.specs.Prelude.{nat_lt}
+use Rattle.std.specs.Prelude.{◌≡◌, ℕ, ◌*◌, Bool, false, not, ◌&&◌, ◌||◌, List, filter, nat_le, nat_lt}
 use Rattle.bt_bed.specs.model.feature.Bases.{length_of, shared}
 use Rattle.bt_bed.specs.model.feature.Feature.{Feature, interval_of}
 use Rattle.bt_bed.specs.model.feature.Strands.{is_strand}
@@ -37,9 +36,3 @@ any_overlap = record { billionths = 0; both = false; same_strand = false }
 -- the records that hit a, in file order
 abbrev pub hits_among : HitRule → Feature → List Feature → List Feature
 hits_among rule a bs = filter (hits rule a) bs
-
--- without a fraction it doesn't matter whether it is required of both
-abbrev pub both_of_nothing : Type 0
-both_of_nothing = (both same_strand : Bool) (a b : Feature)
-    → hits (record { billionths = 0; both = both; same_strand = same_strand }) a b
-    ≡ hits (record { billionths = 0; both = false; same_strand = same_strand }) a b

@@ -20,11 +20,6 @@ sweep_rule order shape rule second fault = record {
   last = fault;
 }
 
--- what the first good records of the second input make of them
-abbrev pub early_rule : Order → Shape → HitRule → List Feature → Rule Feature ℕ FaultValue
-early_rule order shape rule second =
-    record (sweep_rule order shape rule second None) { decided = λ a. decided order a second }
-
 -- the lines that intersect writes of two inputs, and the fault that it tells
 abbrev pub intersect_met : Order → Shape → HitRule → Good Feature → Good Feature → Met ℕ FaultValue
 intersect_met order shape rule first second =
@@ -37,17 +32,3 @@ faultless_are_all =
     (fault : Option FaultValue)
     → (join_report (sweep_rule order shape rule second None) first fault).lines
     ≡ intersect shape rule first second
-
--- the bytes that are decided by a prefix of each input, and so are written, begin what is written for all of both,
--- whatever their faults
-abbrev pub written_are_a_prefix : Type 0
-written_are_a_prefix =
-    (order : Order) (shape : Shape) (rule : HitRule)
-    (first more_first second more_second : List Feature)
-    (first_fault second_fault : Option FaultValue)
-    → IsTotal order → ArePlaced order (intervals_of first)
-    → ArePlaced order (intervals_of (second ++ more_second))
-    → (rest : List ℕ)
-    × ((join_report (sweep_rule order shape rule (second ++ more_second) second_fault)
-    (first ++ more_first)
-    first_fault).lines ≡ written (early_rule order shape rule second) first ++ rest)

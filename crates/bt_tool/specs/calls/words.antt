@@ -3,7 +3,6 @@ pub mod Given
 pub mod ItemLent
 pub mod Limits
 pub mod NamesLent
-pub mod OptionLaws
 pub mod Plan
 pub mod Refusal
 pub mod TableLent

@@ -1,5 +1,4 @@
 use super::*;
-use crate::laws::option_laws::{division, worked_cases};
 use crate::options::usage::usage_line;
 use std::process::Abort;
 use std::test::Fail;
@@ -372,10 +371,4 @@ fn words_of_bamtobed(rt: HostRuntime) -> Result<(), Fail> {
 #[test]
 fn words_of_maskfasta(rt: HostRuntime) -> Result<(), Fail> {
     check_all(&rt, rt.alloc(), "maskfasta", &MASK_FASTA)
-}
-
-#[test]
-fn laws_can_be_called() {
-    division();
-    worked_cases();
 }

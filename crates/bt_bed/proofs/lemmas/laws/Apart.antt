@@ -2,7 +2,7 @@
 use Rattle.std.proofs.Common.{◌≡◌, ℕ, ◌+◌, ◌≤◌, inl, inr, List, [], ◌∷◌, refl, ap₂, arith, IsTrue}
 use Rattle.std.proofs.lemmas.Bool.{cases_lt}
 use Rattle.bt_bed.specs.model.feature.Interval.{Span}
-use Rattle.bt_bed.specs.model.feature.Stretches.{IsCovered, AreApartFrom, AreStretchesOf, stretches_are_one}
+use Rattle.bt_bed.specs.model.feature.Stretches.{IsCovered, AreApartFrom, AreStretchesOf}
 
 -- the positions that spans cover are at or after their first position
 pub covered_from : (first : ℕ) (xs : List Span) (p : ℕ) → AreApartFrom first xs → IsCovered xs p → first ≤ p
@@ -66,6 +66,3 @@ same_apart f g (x ∷ xs) (y ∷ ys) a b to back =
 -- two lists that make up one set are one list
 pub stretches_are_same : (S : ℕ → Type 0) (xs ys : List Span) → AreStretchesOf S xs → AreStretchesOf S ys → xs ≡ ys
 stretches_are_same S xs ys a b = same_apart 0 0 xs ys a.apart b.apart (λ p c. b.whole p (a.within p c)) (λ p c. a.whole p (b.within p c))
-
-pub one_list : stretches_are_one
-one_list test xs ys a b = stretches_are_same (λ p. IsTrue (test p)) xs ys a b

@@ -10,7 +10,7 @@ use Rattle.bt_lines.specs.declared.fault.Kind.{Kind}
 use Rattle.bt_lines.specs.declared.fault.Kind.TheVariants.{UnknownChrom, OutOfOrder}
 use Rattle.bt_bed.specs.model.feature.Feature.{Feature, interval_of, intervals_of}
 use Rattle.bt_bed.specs.model.input.Good.{good, Good, good_from, good_with, items_in}
-use Rattle.bt_bed.specs.model.input.GoodBed.{bed_format, good_are_placed, good_are_non_empty, good_stand_on_lines, first_lines_have_the_first, line_says, said_after, locus_at}
+use Rattle.bt_bed.specs.model.input.GoodBed.{bed_format, good_are_placed, good_are_non_empty, line_says, said_after, locus_at}
 use Rattle.bt_bed.specs.model.feature.Interval.{AreNonEmpty}
 use Rattle.bt_bed.specs.model.order.Order.{Order, IsTotal}
 use Rattle.bt_bed.specs.model.order.Locus.{Locus, IsUpTo, ArePlaced, IsPlacedBefore}
@@ -111,17 +111,3 @@ non_empty_from input sorting last (line ∷ lines) =
 -- the good records have positions
 pub non_empty_good : good_are_non_empty
 non_empty_good input order handed = non_empty_from input (sorting_of order) None (lines_handed handed)
-
--- each is on a line of the text
-pub good_on_lines : good_stand_on_lines
-good_on_lines input order text =
-    let lines = text_lines text in
-    let numbered = lines_are_numbered 1 text in (
-      ascend_from (bed_format (sorting_of order)) input 1 None lines numbered,
-      within_from (bed_format (sorting_of order)) input (length lines) 1 None lines numbered (omega arith),
-    )
-
-pub first_have_first : first_lines_have_the_first
-first_have_first input order count text past rest fault e up beyond =
-    first_from (bed_format (sorting_of order)) input count count 1 None (text_lines text) past rest fault (omega arith) (lines_are_numbered 1 text)
-    (ap (λ (g : Good Feature). g.members) e) (ap (λ (g : Good Feature). g.fault) e) up beyond

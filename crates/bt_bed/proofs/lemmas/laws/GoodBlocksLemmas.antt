@@ -11,7 +11,7 @@ use Rattle.bt_lines.specs.declared.fault.Kind.{Kind}
 use Rattle.bt_bed.specs.model.feature.Feature.{Feature}
 use Rattle.bt_bed.specs.model.input.Good.{Good, good_from, good_with, items_in}
 use Rattle.bt_bed.specs.model.input.GoodBed.{line_says, locus_at}
-use Rattle.bt_bed.specs.model.input.GoodBlocks.{AreInBlocks, IsBlockUpTo, block_format, good_are_in_blocks, good_in_blocks_are_non_empty, good_in_blocks_stand_on_lines}
+use Rattle.bt_bed.specs.model.input.GoodBlocks.{AreInBlocks, IsBlockUpTo, block_format, good_are_in_blocks}
 use Rattle.bt_bed.specs.model.order.Locus.{Locus}
 use Rattle.bt_bed.specs.model.order.Sorting.{block_sorting, falls_in}
 use Rattle.bt_bed.proofs.lemmas.laws.GoodBedLemmas.{line_said, non_empty_from}
@@ -55,14 +55,3 @@ blocked_from input last (line ∷ lines) =
 
 pub good_in_blocks : good_are_in_blocks
 good_in_blocks input handed = (blocked_from input None (lines_handed handed)).blocks
-
-pub good_blocks_non_empty : good_in_blocks_are_non_empty
-good_blocks_non_empty input handed = non_empty_from input block_sorting None (lines_handed handed)
-
-pub good_blocks_on_lines : good_in_blocks_stand_on_lines
-good_blocks_on_lines input text =
-    let lines = text_lines text in
-    let numbered = lines_are_numbered 1 text in (
-      ascend_from block_format input 1 None lines numbered,
-      within_from block_format input (length lines) 1 None lines numbered (omega arith),
-    )

@@ -6,7 +6,7 @@ use Rattle.std.proofs.lemmas.Bool.{false≢true, and_parts, and_left, and_right}
 use Rattle.std.proofs.lemmas.List.Folds.{list_all-append}
 use Rattle.std.specs.Option.{option_or}
 use Rattle.std.proofs.lemmas.List.Sums.{take_while-cons}
-use Rattle.bt_bed.specs.model.input.TwoInputReport.{Rule, Met, join_report, written, StaysDecided}
+use Rattle.bt_bed.specs.model.input.TwoInputReport.{Rule, Met, join_report, written}
 
 met_either : {L F : Type 0} (b : Bool) (x y : Met L F) (lines : List L) → (b ≡ true → x.lines ≡ lines) → y.lines ≡ lines → (if b then x else y).lines ≡ lines
 met_either true x y lines first second = first refl
@@ -38,32 +38,6 @@ module _ {A L F : Type 0} where
   -- the lines that are written are those of the members before the first that isn't decided
   pub met_lines : (rule : Rule A L F) (members : List A) (fault : Option F) → (join_report rule members fault).lines ≡ written rule members
   met_lines rule members fault = met_either (list_all rule.decided members) _ _ _ (all_written rule members) refl
-
-  begin_at : (early late : Rule A L F) (a : A) (members more : List A) (d : Bool) → early.decided a ≡ d → StaysDecided early late a
-      → (rest : List L) × (written late (members ++ more) ≡ written early members ++ rest)
-      → (rest : List L) × (written late (a ∷ members ++ more) ≡ written early (a ∷ members) ++ rest)
-  begin_at early late a members more true e stays rest =
-      let now = stays e in (
-        rest.0,
-        written_at late a (members ++ more) true now.0
-            ∙ ap (λ l. l ++ written late (members ++ more)) (sym now.1)
-            ∙ ap (λ l. early.lines a ++ l) rest.1
-            ∙ sym (append_assoc (early.lines a) (written early members) rest.0)
-            ∙ ap (λ l. l ++ rest.0) (sym (written_at early a members true e)),
-      )
-  begin_at early late a members more false e stays rest =
-      (written late (a ∷ members ++ more), ap (λ l. l ++ written late (a ∷ members ++ more)) (sym (written_at early a members false e)))
-
-  begins : (early late : Rule A L F) (members more : List A) → AllByRecursion (StaysDecided early late) members
-      → (rest : List L) × (written late (members ++ more) ≡ written early members ++ rest)
-  begins early late [] more stays = (written late more, refl)
-  begins early late (a ∷ members) more stays = begin_at early late a members more (early.decided a) refl stays.0 (begins early late members more stays.1)
-
-  pub written_begins : (early late : Rule A L F) (members more : List A) (fault : Option F) → AllByRecursion (StaysDecided early late) members
-      → (rest : List L) × ((join_report late (members ++ more) fault).lines ≡ written early members ++ rest)
-  written_begins early late members more fault stays =
-      let rest = begins early late members more stays in
-      (rest.0, met_lines late (members ++ more) fault ∙ rest.1)
 
   pub met_fault_all : (rule : Rule A L F) (members : List A) (fault : Option F) → list_all rule.decided members ≡ true → (join_report rule members fault).fault ≡ option_or fault rule.last
   met_fault_all rule members fault e = fault_yes (list_all rule.decided members) _ _ e

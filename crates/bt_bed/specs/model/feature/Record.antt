@@ -1,14 +1,11 @@
 -- What a line of a BED file says: nothing if it is blank or a header, or else a feature (UCSC
 -- BED description, fields chrom, chromStart, chromEnd and strand).
-use Rattle.std.specs.Prelude.{◌≡◌, ℕ, ◌<◌, ◌≤◌, ◌==◌, Bool, true, false, IsTrue, length, List, []}
-use Rattle.std.specs.Prelude.{◌∷◌, ◌++◌, codes, decimal, flat_map, bytes_eq, Option, Some, None}
-use Rattle.std.specs.Prelude.{Result, Ok, Err, nat_lt, if◌then◌else◌}
+use Rattle.std.specs.Prelude.{◌≡◌, ℕ, ◌<◌, ◌≤◌, ◌==◌, Bool, true, false, IsTrue, length, List, [], ◌∷◌, ◌++◌, codes, decimal, flat_map, bytes_eq, Option, Some, None, Result, Ok, Err, nat_lt, if◌then◌else◌}
 use Rattle.std.specs.List.{All}
 use Rattle.bt_lines.specs.model.Lines.{pieces}
 use Rattle.bt_lines.specs.model.Number.{max_number, value_of}
 use Rattle.bt_lines.specs.declared.fault.Kind.{Kind}
-use Rattle.bt_lines.specs.declared.fault.Kind.TheVariants.{TooFewColumns, EmptyName, BadStart}
-use Rattle.bt_lines.specs.declared.fault.Kind.TheVariants.{BadStop, EmptyFeature}
+use Rattle.bt_lines.specs.declared.fault.Kind.TheVariants.{TooFewColumns, EmptyName, BadStart, BadStop, EmptyFeature}
 use Rattle.bt_bed.specs.model.feature.Feature.{Feature}
 use Rattle.bt_bed.specs.model.feature.Header.{is_header}
 use Rattle.bt_bed.specs.declared.record.strand.Strand.{Strand}
@@ -108,15 +105,3 @@ pub record IsFeature (feature : Feature) : Type 0 where
 abbrev pub said_are_features : Type 0
 said_are_features =
     (text : List ℕ) (feature : Feature) → record_of text ≡ Ok (Some feature) → IsFeature feature
-
--- the bytes of such a feature say it, unless they are a header line
-abbrev pub written_are_read : Type 0
-written_are_read =
-    (feature : Feature) → IsFeature feature → is_header (bed_text feature) ≡ false
-    → record_of (bed_text feature) ≡ Ok (Some feature)
-
--- what a line says is said by its bytes, written anew
-abbrev pub read_are_rewritten : Type 0
-read_are_rewritten =
-    (text : List ℕ) (feature : Feature) → record_of text ≡ Ok (Some feature)
-    → record_of (bed_text feature) ≡ Ok (Some feature)

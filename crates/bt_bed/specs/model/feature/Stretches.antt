@@ -1,6 +1,5 @@
 -- Sets of positions of one chromosome, and the one list of intervals that makes each of them up.
-use Rattle.std.specs.Prelude.{◌≡◌, ℕ, zero, suc, ◌+◌, ◌<◌, ◌≤◌, Bool, cond, ◌⊎◌, ⊤, IsTrue, List}
-use Rattle.std.specs.Prelude.{[], ◌∷◌, ◌==◌}
+use Rattle.std.specs.Prelude.{◌≡◌, ℕ, zero, suc, ◌+◌, ◌<◌, ◌≤◌, Bool, cond, ◌⊎◌, ⊤, IsTrue, List, [], ◌∷◌, ◌==◌}
 use Rattle.bt_bed.specs.model.feature.Interval.{Span}
 
 -- the position lies in one of the spans
@@ -19,12 +18,6 @@ pub record AreStretchesOf (S : ℕ → Type 0) (spans : List Span) : Type 0 wher
   pub apart : AreApartFrom 0 spans
   pub within : (p : ℕ) → IsCovered spans p → S p
   pub whole : (p : ℕ) → S p → IsCovered spans p
-
--- two lists that make up one set, given by a test, are one list
-abbrev pub stretches_are_one : Type 0
-stretches_are_one =
-    (test : ℕ → Bool) (xs ys : List Span) → AreStretchesOf (λ p. IsTrue (test p)) xs
-    → AreStretchesOf (λ p. IsTrue (test p)) ys → xs ≡ ys
 
 -- the position as one more stretch before the others,
 -- or as the first position of the first if they touch

@@ -1,8 +1,7 @@
 -- The good records of a BED input. Sorted input has its chromosomes in an order, as that of the
 -- genome file, and on each of them the starts don't fall (bedtools manual, sorted input and genome
 -- files).
-use Rattle.std.specs.Prelude.{◌≡◌, ℕ, ◌≤◌, All, List, ◌++◌, length, take, Option, Some, None}
-use Rattle.std.specs.Prelude.{Result, Ok, Err, if◌then◌else◌}
+use Rattle.std.specs.Prelude.{◌≡◌, ℕ, ◌≤◌, All, List, ◌++◌, length, take, Option, Some, None, Result, Ok, Err, if◌then◌else◌}
 use Rattle.bt_lines.specs.model.Handed.{Handed}
 use Rattle.bt_lines.specs.model.Fault.{FaultValue}
 use Rattle.bt_lines.specs.model.Lines.{text_lines}
@@ -68,21 +67,3 @@ good_are_placed = (input : Input) (order : Order) (handed : Handed) → IsTotal 
 abbrev pub good_are_non_empty : Type 0
 good_are_non_empty = (input : Input) (order : Order) (handed : Handed)
     → AreNonEmpty (intervals_of (items_in (bed_good input order handed)))
-
--- each member of a text is on a line of its own, in their order
-abbrev pub good_stand_on_lines : Type 0
-good_stand_on_lines = (input : Input) (order : Order) (text : List ℕ)
-    → AreAscending 1 (good (bed_format (sorting_of order)) input (text_lines text)).members
-    × All (λ m. m.line ≤ length (text_lines text))
-    (good (bed_format (sorting_of order)) input (text_lines text)).members
-
--- If the members of a text up to some line are these, and what else it has lies after that
--- line, they are what is good of its first lines.
-abbrev pub first_lines_have_the_first : Type 0
-first_lines_have_the_first = (input : Input) (order : Order) (count : ℕ) (text : List ℕ)
-    (past rest : List (Member Feature)) (fault : Option FaultValue)
-    → good (bed_format (sorting_of order)) input
-    (text_lines text) ≡ record { members = past ++ rest; fault = fault }
-    → All (λ m. m.line ≤ count) past → IsBeyond count (record { members = rest; fault = fault })
-    → good (bed_format (sorting_of order)) input
-    (take count (text_lines text)) ≡ record { members = past; fault = None }

@@ -37,20 +37,3 @@ AreInBlocks (r ∷ s ∷ rs) = IsBlockUpTo (locus_at r) (locus_at s) × AreInBlo
 abbrev pub good_are_in_blocks : Type 0
 good_are_in_blocks = (input : Input) (handed : Handed)
     → AreInBlocks (items_in (block_good input handed))
-
--- each has at least one base
-abbrev pub good_in_blocks_are_non_empty : Type 0
-good_in_blocks_are_non_empty = (input : Input) (handed : Handed)
-    → AreNonEmpty (intervals_of (items_in (block_good input handed)))
-
--- each member of a text is on a line of its own, in their order
-abbrev pub good_in_blocks_stand_on_lines : Type 0
-good_in_blocks_stand_on_lines = (input : Input) (text : List ℕ)
-    → AreAscending 1 (good block_format input (text_lines text)).members
-    × All (λ m. m.line ≤ length (text_lines text))
-    (good block_format input (text_lines text)).members
-
--- no line is at fault for its chromosome: every name is one
-abbrev pub blocks_know_each_chromosome : Type 0
-blocks_know_each_chromosome = (input : Input) (handed : Handed)
-    → IfSome (block_good input handed).fault (λ fault. fault.kind ≢ UnknownChrom)

@@ -35,14 +35,3 @@ module _ {A L F : Type 0} where
   join_report rule members fault = if list_all rule.decided members
       then record { lines = flat_map rule.lines members; fault = option_or fault rule.last }
       else record { lines = written rule members; fault = rule.fault }
-
-  -- a member that is decided early stays decided, and has the lines that it has in the end
-  abbrev pub StaysDecided : Rule A L F → Rule A L F → A → Type 0
-  StaysDecided early late member = IsTrue (early.decided member)
-      → IsTrue (late.decided member) × (early.lines member ≡ late.lines member)
-
--- what is written early begins what is written in the end, whichever fault is reported
-abbrev pub EarlyLinesBegin : (A L F : Type 0) → Type 0
-EarlyLinesBegin A L F = (early late : Rule A L F) (members more : List A) (fault : Option F)
-    → All (StaysDecided early late) members
-    → (rest : List L) × ((join_report late (members ++ more) fault).lines ≡ written early members ++ rest)

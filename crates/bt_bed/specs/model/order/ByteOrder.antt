@@ -20,22 +20,6 @@ byte_order = record { knows = λ name. true; compare = slice_cmp nat_cmp }
 abbrev pub bytes_are_total : Type 0
 bytes_are_total = IsTotal byte_order
 
--- a name comes before the longer ones that it begins
-abbrev pub prefixes_come_first : Type 0
-prefixes_come_first =
-    (name : List ℕ) (byte : ℕ) (rest : List ℕ)
-    → byte_order.compare name (name ++ byte ∷ rest) ≡ Less
-
--- of two other names the first byte in which they differ decides, whatever their lengths
-abbrev pub first_difference_decides : Type 0
-first_difference_decides =
-    (front : List ℕ) (low high : ℕ) (left right : List ℕ) → low < high
-    → byte_order.compare (front ++ low ∷ left) (front ++ high ∷ right) ≡ Less
-
--- so no chromosome is unknown to it
-abbrev pub bytes_know_each_chromosome : Type 0
-bytes_know_each_chromosome = (kind : Kind) → IsBedKind byte_order kind → kind ≢ UnknownChrom
-
 pub bytes_total : bytes_are_total
 bytes_total = record {
   same = λ name known. tied_itself nat_list_cmp_total name;

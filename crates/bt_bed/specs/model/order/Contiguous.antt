@@ -1,6 +1,5 @@
 -- Records of which those of one chromosome are contiguous, whatever the order of the chromosomes.
-use Rattle.std.specs.Prelude.{◌≡◌, ℕ, ◌≤◌, Bool, false, ◌⊎◌, ◌||◌, ⊤, IsFalse, IfSome, ◌++◌, List}
-use Rattle.std.specs.Prelude.{[], ◌∷◌, bytes_eq}
+use Rattle.std.specs.Prelude.{◌≡◌, ℕ, ◌≤◌, Bool, false, ◌⊎◌, ◌||◌, ⊤, IsFalse, IfSome, ◌++◌, List, [], ◌∷◌, bytes_eq}
 use Rattle.bt_bed.specs.model.feature.Interval.{Interval, last_of}
 use Rattle.bt_bed.specs.model.order.Order.{Order, IsTotal}
 use Rattle.bt_bed.specs.model.order.Locus.{ArePlaced}
@@ -27,13 +26,6 @@ abbrev pub placed_are_contiguous : Type 0
 placed_are_contiguous =
     (order : Order) (records : List Interval) → IsTotal order → ArePlaced order records
     → AreContiguous records
-
--- a record keeps them together that goes on from the last, or is the first of its chromosome
-abbrev pub contiguous_grows : Type 0
-contiguous_grows =
-    (past : List Interval) (r : Interval) → AreContiguous past
-    → IfSome (last_of past) (λ last. ((r.chrom ≡ last.chrom) × (last.start ≤ r.start))
-    ⊎ IsFalse (has_records r.chrom past)) → AreContiguous (past ++ r ∷ [])
 
 -- a prefix of contiguous records is contiguous
 abbrev pub prefixes_are_contiguous : Type 0

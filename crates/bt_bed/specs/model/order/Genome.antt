@@ -1,16 +1,14 @@
 -- The chromosomes of a genome file, in its order: a name, a tab and a length on each line. Other
 -- columns are ignored, so that an index of samtools faidx is one too. Blank lines and lines that begin
 -- with `#` are skipped (bedtools manual, genome file format).
-use Rattle.std.specs.Prelude.{◌≡◌, ℕ, Bool, true, ◌==◌, IfErr, List, [], ◌∷◌, ◌++◌, map, take}
-use Rattle.std.specs.Prelude.{Option, Some, None, Result, Ok, Err, if◌then◌else◌}
+use Rattle.std.specs.Prelude.{◌≡◌, ℕ, Bool, true, ◌==◌, IfErr, List, [], ◌∷◌, ◌++◌, map, take, Option, Some, None, Result, Ok, Err, if◌then◌else◌}
 use Rattle.bt_lines.specs.model.Fault.{FaultValue}
 use Rattle.bt_lines.specs.model.Handed.{Handed, cut_fault, lines_handed}
 use Rattle.bt_lines.specs.model.Lines.{TextLine, pieces, text_lines}
 use Rattle.bt_lines.specs.model.Number.{value_of}
 use Rattle.bt_lines.specs.declared.fault.Input.{Input}
 use Rattle.bt_lines.specs.declared.fault.Kind.{Kind}
-use Rattle.bt_lines.specs.declared.fault.Kind.TheVariants.{TooFewColumns, EmptyName, BadLength}
-use Rattle.bt_lines.specs.declared.fault.Kind.TheVariants.{RepeatedChrom}
+use Rattle.bt_lines.specs.declared.fault.Kind.TheVariants.{TooFewColumns, EmptyName, BadLength, RepeatedChrom}
 use Rattle.bt_bed.specs.model.input.GoodLines.{IsFaultBeyond}
 use Rattle.bt_bed.specs.model.feature.LineKind.{fault_at_line}
 use Rattle.bt_bed.specs.model.order.Rank.{is_among, AreDistinct}
@@ -88,14 +86,3 @@ genome_cut (Some fault) (Err first) = Err first
 abbrev pub genome_handed : Input → Handed → Result (List Entry) FaultValue
 genome_handed input handed = genome_cut (cut_fault input handed)
     (genome_of input (lines_handed handed))
-
--- no chromosome comes twice
-abbrev pub genome_names_are_distinct : Type 0
-genome_names_are_distinct = (input : Input) (lines : List TextLine) (entries : List Entry)
-    → genome_of input lines ≡ Ok entries → AreDistinct (genome_names entries)
-
--- if a text's fault, if it has one, lies after the first `count` lines, these have no fault
-abbrev pub first_lines_make_entries : Type 0
-first_lines_make_entries = (input : Input) (count : ℕ) (text : List ℕ)
-    → IfErr (genome_of input (text_lines text)) (IsFaultBeyond count)
-    → (entries : List Entry) × (genome_of input (take count (text_lines text)) ≡ Ok entries)

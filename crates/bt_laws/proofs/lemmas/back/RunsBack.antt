@@ -23,7 +23,7 @@ use Rattle.bt_runs.specs.declared.merge.merge_strand.MergeStrand.{MergeStrand}
 use Rattle.bt_runs.specs.declared.merge.merge_strand.MergeStrand.TheVariants.{One}
 use Rattle.bt_bed.specs.declared.record.strand.Strand.{Strand}
 use Rattle.bt_runs.proofs.lemmas.order.FileOrder.{some_placed}
-use Rattle.bt_runs.proofs.lemmas.order.NameOrder.{names_in_order}
+use Rattle.bt_laws.proofs.lemmas.runs.NameOrder.{names_in_order}
 use Rattle.bt_runs.proofs.lemmas.order.OwnOrder.{distinct_chromosomes}
 use Rattle.bt_laws.specs.pipes.Taken.{AreSeparate, IsInput, is_no_header, three_columns, AreDisjoint, four_columns}
 use Rattle.bt_laws.proofs.lemmas.Lists.{EachPair, all_any, all_filter, all_flat_map, all_map, all_so, filter_all, all_zip, all_unmap, map_map}
@@ -37,11 +37,12 @@ use Rattle.bt_lines.specs.model.Lines.{pieces}
 use Rattle.bt_bed.specs.model.order.Genome.{Entry, genome_names}
 use Rattle.bt_bed.specs.model.order.Rank.{AreDistinct, rank_order}
 use Rattle.bt_bed.specs.inside.RankTotal.{ranks_total}
-use Rattle.bt_runs.specs.calls.CoveredLevels.{interval_at}
+use Rattle.bt_laws.specs.runs.CoveredLevels.{interval_at}
 use Rattle.bt_runs.specs.model.Depth.{DepthInterval, coverage, depth_line, depth_lines, depth_on, depth_of, depths_on, counted_on}
 use Rattle.bt_runs.specs.model.Gaps.{complement, gaps_of, gaps_on, is_asked}
-use Rattle.bt_runs.specs.model.Levels.{AreDisjointFrom, AreLevelsOf, HasValue, Level, levels_of}
-use Rattle.bt_runs.proofs.lemmas.coverage.LevelLemmas.{are_levels}
+use Rattle.bt_laws.specs.runs.Levels.{AreDisjointFrom, AreLevelsOf, HasValue}
+use Rattle.bt_runs.specs.model.Levels.{Level, levels_of}
+use Rattle.bt_laws.proofs.lemmas.runs.LevelLemmas.{are_levels}
 use Rattle.bt_laws.proofs.lemmas.back.Clear.{clear_tab, clear_number, strip_number, number_column}
 
 -- ---- lines of three columns

@@ -12,7 +12,7 @@ use Rattle.bt_bed.specs.model.feature.Header.{ends_word, first_word, is_header, 
 use Rattle.bt_bed.specs.model.feature.Record.{IsName, columns_in, is_kept, record_of, strand_of}
 use Rattle.bt_bed.proofs.lemmas.parse.FeatureLemmas.{header_says}
 use Rattle.bt_bed.proofs.lemmas.parse.HeaderLemmas.{of_word}
-use Rattle.bt_bed.proofs.lemmas.write.RoundTrip.{written_feature}
+use Rattle.bt_laws.proofs.lemmas.records.RoundTrip.{written_feature}
 use Rattle.bt_laws.proofs.lemmas.back.Clear.{clear_both, clear_tab, clear_number, strip_decimal}
 
 -- ---- a byte at the end

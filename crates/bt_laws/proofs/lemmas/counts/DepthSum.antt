@@ -17,7 +17,7 @@ use Rattle.bt_runs.specs.model.Levels.{Begun, Level, begun_after, begun_at, ende
 use Rattle.bt_runs.proofs.lemmas.order.ChromosomeLemmas.{spans_on-elsewhere, spans_on-here}
 use Rattle.bt_runs.proofs.lemmas.coverage.LevelLemmas.{levels_more}
 use Rattle.bt_laws.specs.counts.DepthSum.{bases_below, depth_bases, depths_sum}
-use Rattle.bt_laws.specs.Runs.{first_records}
+use Rattle.bt_laws.specs.WholeRuns.{first_records}
 use Rattle.bt_laws.proofs.lemmas.pipes.Covers.{depth_both}
 use Rattle.bt_laws.proofs.lemmas.pipes.PipeLaws.{chroms_of, genomecov_whole}
 

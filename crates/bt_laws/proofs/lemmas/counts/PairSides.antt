@@ -26,7 +26,7 @@ use Rattle.bt_tool.specs.model.report.Behaviour.{order_of}
 use Rattle.bt_tool.specs.model.report.Inputs.{or_empty}
 use Rattle.bt_tool.specs.declared.planning.plan_type.Command.TheVariants.{Intersect}
 use Rattle.bt_laws.specs.counts.PairSides.{IsMutual, HitPair, exchanged, pair_line, pairs_have_two_sides, pairs_of, with_sides_exchanged}
-use Rattle.bt_laws.specs.Runs.{first_records, second_records, RunWrites}
+use Rattle.bt_laws.specs.WholeRuns.{first_records, second_records, RunWrites}
 use Rattle.bt_laws.proofs.lemmas.pipes.PipeLaws.{intersect_whole, well_there}
 use Rattle.bt_laws.proofs.lemmas.same.SameSweeps.{writes_lines, cut_none, like_from, met_faultless, met_none, other_input, sweeps_from, uncut}
 use Rattle.std.proofs.lemmas.List.Folds.{flat_map-map}

@@ -16,7 +16,7 @@ use Rattle.bt_sweep.specs.declared.output.shape.Shape.TheVariants.{Cut, Pieces}
 use Rattle.bt_sweep.proofs.lemmas.laws.PieceLemmas.{are_pieces}
 use Rattle.bt_tool.specs.model.report.RecordReport.{Report}
 use Rattle.bt_tool.specs.declared.planning.plan_type.Command.TheVariants.{Intersect, Subtract}
-use Rattle.bt_laws.specs.Runs.{RunsWithoutFault, first_records, second_records}
+use Rattle.bt_laws.specs.WholeRuns.{RunsWithoutFault, first_records, second_records}
 use Rattle.bt_laws.specs.counts.PartBases.{PartBases, intersect_and_subtract_part}
 use Rattle.bt_laws.specs.pipes.SweepLines.{read_alone, records_for, records_written}
 use Rattle.bt_laws.proofs.lemmas.same.GapsHit.{covered_cut, cut_covered, cut_span}

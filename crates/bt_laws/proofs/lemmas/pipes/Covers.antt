@@ -9,8 +9,8 @@ use Rattle.bt_runs.specs.model.Gaps.{IsBare, gaps_of}
 use Rattle.bt_runs.specs.model.Levels.{levels_of}
 use Rattle.bt_runs.specs.model.Merged.{Bridged, runs_of}
 use Rattle.bt_runs.proofs.lemmas.merge.Bridging.{are_runs, bridged_here, is_covered-Decides, only_runs}
-use Rattle.bt_runs.proofs.lemmas.coverage.CoveredLevels.{covered_depth}
-use Rattle.bt_runs.proofs.lemmas.coverage.LevelLemmas.{are_levels, only_levels}
+use Rattle.bt_laws.proofs.lemmas.runs.CoveredLevels.{covered_depth}
+use Rattle.bt_laws.proofs.lemmas.runs.LevelLemmas.{are_levels, only_levels}
 use Rattle.bt_runs.proofs.lemmas.complement.OneGap.{are_gaps, only_gaps}
 
 pub record SameCover (xs ys : List Span) : Type 0 where

@@ -10,16 +10,17 @@ use Rattle.bt_bed.specs.model.input.Good.{items_in}
 use Rattle.bt_bed.specs.model.input.GoodBed.{bed_good}
 use Rattle.bt_bed.specs.model.feature.Interval.{Span}
 use Rattle.bt_bed.specs.declared.record.strand.Strand.{Strand}
-use Rattle.bt_runs.specs.calls.CoveredLevels.{interval_at}
+use Rattle.bt_laws.specs.runs.CoveredLevels.{interval_at}
 use Rattle.bt_runs.specs.model.Depth.{DepthInterval, counted_on, coverage, depth_at, depth_lines, depth_of, depth_on, depths_on}
 use Rattle.bt_runs.specs.model.Gaps.{complement}
-use Rattle.bt_runs.specs.model.Levels.{AreDisjointFrom, DiffersFromNext, HasValue, Level, levels_of}
-use Rattle.bt_runs.proofs.lemmas.coverage.CoveredLevels.{gaps_depth_0}
-use Rattle.bt_runs.proofs.lemmas.coverage.LevelLemmas.{are_levels, looser, only_levels}
+use Rattle.bt_laws.specs.runs.Levels.{AreDisjointFrom, DiffersFromNext, HasValue}
+use Rattle.bt_runs.specs.model.Levels.{Level, levels_of}
+use Rattle.bt_laws.proofs.lemmas.runs.CoveredLevels.{gaps_depth_0}
+use Rattle.bt_laws.proofs.lemmas.runs.LevelLemmas.{are_levels, looser, only_levels}
 use Rattle.bt_tool.specs.model.report.Behaviour.{entries_in, order_of}
 use Rattle.bt_tool.specs.model.report.Written.{complement_written, coverage_written}
 use Rattle.bt_tool.specs.declared.planning.plan_type.Command.TheVariants.{Complement, Coverage}
-use Rattle.bt_laws.specs.Runs.{first_records}
+use Rattle.bt_laws.specs.WholeRuns.{first_records}
 use Rattle.bt_laws.specs.same.SameRuns.{bg_is_bga_above_0, depth_0_is_complement, without_depth}
 use Rattle.bt_laws.proofs.lemmas.pipes.PipeLaws.{complement_whole, genomecov_whole}
 use Rattle.bt_laws.proofs.lemmas.same.SameRuns.{fault_as, told_same}

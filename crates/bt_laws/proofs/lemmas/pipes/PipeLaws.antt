@@ -21,14 +21,14 @@ use Rattle.bt_bed.specs.model.order.Order.{Order, IsTotal}
 use Rattle.bt_bed.specs.model.order.Rank.{AreDistinct}
 use Rattle.bt_bed.specs.declared.record.strand.Strand.{Strand}
 use Rattle.bt_bed.proofs.lemmas.laws.GoodBedLemmas.{non_empty_good, placed_good}
-use Rattle.bt_runs.specs.calls.CoveredLevels.{interval_at}
+use Rattle.bt_laws.specs.runs.CoveredLevels.{interval_at}
 use Rattle.bt_runs.specs.model.Depth.{coverage, depth_lines, DepthInterval}
 use Rattle.bt_runs.specs.model.Gaps.{complement}
 use Rattle.bt_runs.specs.model.RunOrder.{ordered_runs}
 use Rattle.bt_runs.specs.model.StrandRuns.{places_of, strand_runs}
 use Rattle.bt_runs.specs.declared.merge.merge_strand.MergeStrand.{MergeStrand}
 use Rattle.bt_runs.specs.declared.merge.merge_strand.MergeStrand.TheVariants.{All, Each, One}
-use Rattle.bt_runs.proofs.lemmas.merge.StrandOrder.{in_order}
+use Rattle.bt_laws.proofs.lemmas.runs.StrandOrder.{in_order}
 use Rattle.bt_sweep.specs.model.IntersectLines.{intersect}
 use Rattle.bt_sweep.specs.model.Limit.{are_too_many, cut_behind, limited}
 use Rattle.bt_sweep.specs.model.Subtract.{subtract_shape}
@@ -45,7 +45,7 @@ use Rattle.bt_tool.specs.model.report.SweepReport.{met_within}
 use Rattle.bt_tool.specs.model.report.Written.{Written, complement_written, coverage_written, merge_written}
 use Rattle.bt_tool.specs.declared.planning.plan_type.Command.{Command}
 use Rattle.bt_tool.specs.declared.planning.plan_type.Command.TheVariants.{Complement, Coverage, Intersect, Merge, Subtract}
-use Rattle.bt_laws.specs.Runs.{RunsWithoutFault, first_records, second_records}
+use Rattle.bt_laws.specs.WholeRuns.{RunsWithoutFault, first_records, second_records}
 use Rattle.bt_laws.specs.pipes.Pipes.{runs_by, complement_is_input, cut_intersect_is_input, cut_strands_stay, genomecov_is_input, intersect_is_input, kept_places_stay, kept_records_stay, kept_strands_stay, merge_is_input, subtract_is_input, whole_subtract_is_input}
 use Rattle.bt_laws.specs.pipes.SweepLines.{begins_with_a, records_written}
 use Rattle.bt_laws.specs.pipes.Taken.{AreSeparate, AreDisjoint, IsInput, four_columns, is_no_header, three_columns}

@@ -10,7 +10,7 @@ use Rattle.bt_bed.specs.model.order.Order.{Order, IsTotal}
 use Rattle.bt_bed.specs.model.order.Rank.{AreDistinct, compare_ranks, is_among, rank_of, rank_order}
 use Rattle.bt_bed.specs.model.feature.Stretches.{AreApartFrom}
 use Rattle.bt_bed.proofs.lemmas.parse.NameLemmas.{name_ne-sym}
-use Rattle.bt_runs.specs.model.RunOrder.{AreAscending, AreKnown}
+use Rattle.bt_laws.specs.runs.RunOrder.{AreAscending, AreKnown}
 use Rattle.bt_runs.proofs.lemmas.laws.Standing.{cmp_less, less_cmp}
 use Rattle.bt_runs.proofs.lemmas.order.FileOrder.{rank_of-here, rank_of-later}
 use Rattle.bt_laws.specs.pipes.Taken.{AreSeparate, AreDisjoint}

@@ -12,7 +12,7 @@ use Rattle.bt_lines.specs.declared.fault.Input.TheVariants.{First}
 use Rattle.bt_bed.specs.model.order.Locus.{ArePlaced}
 use Rattle.bt_bed.proofs.lemmas.laws.GoodBedLemmas.{placed_good}
 use Rattle.bt_bed.proofs.lemmas.parse.NameLemmas.{cases_name, name_eq, name_ne-sym}
-use Rattle.bt_runs.proofs.lemmas.order.NameOrder.{names_in_order}
+use Rattle.bt_laws.proofs.lemmas.runs.NameOrder.{names_in_order}
 use Rattle.bt_runs.proofs.lemmas.order.OwnOrder.{distinct_chromosomes}
 use Rattle.bt_laws.proofs.lemmas.back.LinesBack.{placed_known}
 use Rattle.bt_laws.proofs.lemmas.back.RunsBack.{ordered_all}
@@ -30,7 +30,8 @@ use Rattle.bt_runs.specs.model.Counted.{counted, is_counted}
 use Rattle.bt_runs.specs.model.Depth.{coverage, depth_at, depth_lines, depth_of, depth_on, depths_on, is_counted_by, reported}
 use Rattle.bt_runs.specs.model.Gaps.{complement, gaps_on, is_asked}
 use Rattle.bt_runs.specs.model.Merged.{chromosomes, merged, runs_on}
-use Rattle.bt_runs.specs.model.RunOrder.{AreKnown, in_order, ordered_runs}
+use Rattle.bt_laws.specs.runs.RunOrder.{AreKnown}
+use Rattle.bt_runs.specs.model.RunOrder.{in_order, ordered_runs}
 use Rattle.bt_runs.specs.declared.merge.merge_strand.MergeStrand.{MergeStrand}
 use Rattle.bt_runs.specs.declared.merge.merge_strand.MergeStrand.TheVariants.{All, Each, One}
 use Rattle.bt_runs.proofs.lemmas.order.ChromosomeLemmas.{among_chromosomes, spans_on-append}
@@ -39,7 +40,7 @@ use Rattle.bt_tool.specs.model.report.Behaviour.{entries_in, order_of}
 use Rattle.bt_tool.specs.model.report.Inputs.{Inputs}
 use Rattle.bt_tool.specs.model.report.Report.{report_of}
 use Rattle.bt_tool.specs.declared.planning.plan_type.Command.TheVariants.{Complement, Merge}
-use Rattle.bt_laws.specs.Runs.{RunsWithoutFault, first_records}
+use Rattle.bt_laws.specs.WholeRuns.{RunsWithoutFault, first_records}
 use Rattle.bt_laws.specs.same.SameRuns.{IsRepeated, exchanged_complement, exchanged_genomecov, exchanged_merge, repeated_complement, repeated_merge}
 use Rattle.bt_laws.proofs.lemmas.pipes.Covers.{SameCover, depth_both, same_by_depth, same_gaps, same_levels, same_runs}
 use Rattle.bt_laws.proofs.lemmas.Lists.{EachPair, all_any, filter_all, filter_same, flat_map_same}

@@ -30,7 +30,7 @@ use Rattle.bt_tool.specs.model.report.RecordReport.{Report}
 use Rattle.bt_tool.specs.model.report.Report.{chromosomes_of}
 use Rattle.bt_tool.specs.model.report.Written.{complement_written}
 use Rattle.bt_tool.specs.declared.planning.plan_type.Command.TheVariants.{Complement, Intersect, Subtract}
-use Rattle.bt_laws.specs.Runs.{first_records, second_records, RunWrites, of_second, with_second}
+use Rattle.bt_laws.specs.WholeRuns.{first_records, second_records, RunWrites, of_second, with_second}
 use Rattle.bt_laws.specs.same.SameSweeps.{LieWithinLengths, subtract_by_complement}
 use Rattle.bt_laws.specs.pipes.Taken.{AreSeparate, IsInput, is_no_header, three_columns}
 use Rattle.bt_laws.proofs.lemmas.Lists.{EachPair, all_any, all_map, all_so, filter_all, flat_map_same, all_zip}

@@ -24,13 +24,13 @@ use Rattle.bt_runs.specs.model.RunOrder.{ordered_runs}
 use Rattle.bt_runs.specs.declared.merge.merge_strand.MergeStrand.TheVariants.{All}
 use Rattle.bt_runs.proofs.lemmas.merge.Bridging.{are_runs, is_covered-Decides}
 use Rattle.bt_runs.proofs.lemmas.complement.OneGap.{are_gaps, only_gaps}
-use Rattle.bt_runs.proofs.lemmas.order.RunOrder.{file_ordered}
+use Rattle.bt_laws.proofs.lemmas.runs.NameOrder.{file_ordered}
 use Rattle.bt_tool.specs.model.report.Behaviour.{order_of}
 use Rattle.bt_tool.specs.model.report.Report.{report_of}
 use Rattle.bt_tool.specs.model.report.Written.{complement_written, merge_written, coverage_written}
 use Rattle.bt_tool.specs.declared.planning.plan_type.Command.TheVariants.{Complement, Merge, Coverage}
 use Rattle.bt_laws.specs.same.LengthLaws.{complement_of_complement, cut_at_length, merge_of_genomecov}
-use Rattle.bt_laws.specs.Runs.{first_records, piped}
+use Rattle.bt_laws.specs.WholeRuns.{first_records, piped}
 use Rattle.bt_laws.specs.pipes.Taken.{IsInput, is_no_header, three_columns, four_columns}
 use Rattle.bt_laws.proofs.lemmas.pipes.Covers.{runs_cover, SameCover, covered_some, some_covered}
 use Rattle.bt_laws.proofs.lemmas.back.RunsBack.{gaps_back, coverage_back}
@@ -42,11 +42,12 @@ use Rattle.bt_laws.proofs.lemmas.same.SameRuns.{complement_on, fault_as, told_sa
 use Rattle.bt_laws.proofs.lemmas.parts.text.PartTexts.{order_total}
 use Rattle.std.proofs.lemmas.List.{map-append}
 use Rattle.bt_lines.specs.model.Handed.{whole_text}
-use Rattle.bt_runs.specs.calls.CoveredLevels.{interval_at}
+use Rattle.bt_laws.specs.runs.CoveredLevels.{interval_at}
 use Rattle.bt_runs.specs.model.Depth.{DepthInterval, counted_on, coverage, depth_at, depth_of, depth_on, depths_on}
-use Rattle.bt_runs.specs.model.Levels.{HasValue, Level, begun_after, ended_after, levels_of}
+use Rattle.bt_laws.specs.runs.Levels.{HasValue}
+use Rattle.bt_runs.specs.model.Levels.{Level, begun_after, ended_after, levels_of}
 use Rattle.bt_runs.proofs.lemmas.order.ChromosomeLemmas.{spans_on-append, spans_on-elsewhere}
-use Rattle.bt_runs.proofs.lemmas.coverage.LevelLemmas.{are_levels}
+use Rattle.bt_laws.proofs.lemmas.runs.LevelLemmas.{are_levels}
 use Rattle.bt_laws.specs.same.SameSweeps.{LieWithinLengths}
 use Rattle.bt_laws.proofs.lemmas.pipes.DepthParts.{shown}
 use Rattle.bt_laws.proofs.lemmas.back.SaidWell.{IsSaid, good_are_said}

@@ -22,7 +22,7 @@ use Rattle.bt_tool.specs.model.report.Report.{report_of}
 use Rattle.bt_tool.specs.model.report.SweepReport.{met_report}
 use Rattle.bt_tool.specs.declared.planning.plan_type.Command.TheVariants.{MaskFasta, Merge}
 use Rattle.bt_laws.specs.same.MaskLaws.{KeepsLines, sequence_lines, masked_by_both, masked_by_positions, masked_goes_on, with_bed, masked_by_merged, with_merged_bed}
-use Rattle.bt_laws.specs.Runs.{piped, RunsWithoutFault, second_alone}
+use Rattle.bt_laws.specs.WholeRuns.{piped, RunsWithoutFault, second_alone}
 use Rattle.bt_laws.proofs.lemmas.pipes.MaskPipes.{with_text}
 use Rattle.bt_laws.proofs.lemmas.same.MaskTwice.{header_from, masked_again, met_all, names_same, nones, output_there, read_items, read_none, second_none}
 use Rattle.bt_laws.proofs.lemmas.same.SameRuns.{report_there, writes_is, back, run_names, run_spans, all_counted}

@@ -13,14 +13,15 @@ use Rattle.bt_bed.specs.model.order.Genome.{Entry}
 use Rattle.bt_bed.specs.model.order.Rank.{is_among}
 use Rattle.bt_bed.proofs.lemmas.parse.NameLemmas.{cases_name, name_eq, name_ne-sym}
 use Rattle.bt_seq.specs.model.Masked.{covers, names_of, no_sequence}
-use Rattle.bt_seq.specs.model.Owners.{AreOfChrom, Block, Owned, blocks_by, items_if_last, items_of, left_at_last, names_behind, own_records, owned_from}
+use Rattle.bt_laws.specs.sequences.Owners.{AreOfChrom, items_of}
+use Rattle.bt_seq.specs.model.Owners.{Block, Owned, blocks_by, items_if_last, left_at_last, names_behind, own_records, owned_from}
 use Rattle.bt_seq.specs.model.Sequences.{SequenceLine, bases_up_to}
 use Rattle.bt_seq.specs.declared.mask.mask_how.MaskHow.{MaskHow}
 use Rattle.bt_seq.proofs.lemmas.laws.LeftLemmas.{leave, leave_all}
-use Rattle.bt_seq.proofs.lemmas.laws.OwnerLemmas.{maximal_runs}
+use Rattle.bt_laws.proofs.lemmas.sequences.OwnerLemmas.{maximal_runs}
 use Rattle.bt_tool.specs.model.report.Inputs.{Inputs}
 use Rattle.bt_tool.specs.declared.planning.plan_type.Command.TheVariants.{MaskFasta}
-use Rattle.bt_laws.specs.Runs.{RunsWithoutFault}
+use Rattle.bt_laws.specs.WholeRuns.{RunsWithoutFault}
 use Rattle.bt_laws.specs.same.MaskLaws.{NamesOne, bed_records, is_masked, masked_by_sorted, sequence_lines, with_bed}
 use Rattle.bt_laws.proofs.lemmas.parts.order.PartOwners.{off_behind}
 use Rattle.bt_laws.proofs.lemmas.parts.report.PartMasked.{none_owned}

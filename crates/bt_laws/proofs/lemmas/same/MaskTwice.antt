@@ -29,7 +29,7 @@ use Rattle.bt_tool.specs.model.report.Report.{report_of}
 use Rattle.bt_tool.specs.model.report.SweepReport.{met_report}
 use Rattle.bt_tool.specs.declared.planning.plan_type.Command.TheVariants.{MaskFasta}
 use Rattle.bt_laws.specs.same.MaskLaws.{KeepsLines, layout_of, masked_keep_layout, masked_twice}
-use Rattle.bt_laws.specs.Runs.{RunsWithoutFault, RunWrites, piped}
+use Rattle.bt_laws.specs.WholeRuns.{RunsWithoutFault, RunWrites, piped}
 use Rattle.bt_laws.proofs.lemmas.pipes.MaskPipes.{IsAgain, Stands, again_lines, with_text}
 use Rattle.bt_laws.proofs.lemmas.pipes.PipeLaws.{report_is, well_there}
 use Rattle.bt_laws.proofs.lemmas.same.SameRuns.{report_there, writes_is}

@@ -20,7 +20,7 @@ use Rattle.bt_tool.specs.model.report.Behaviour.{entries_in, order_of, behaviour
 use Rattle.bt_tool.specs.model.report.Inputs.{Inputs}
 use Rattle.bt_tool.specs.model.report.Report.{report_of, chromosomes_of, report_on}
 use Rattle.bt_tool.specs.declared.planning.plan_type.Command.TheVariants.{Complement, Merge}
-use Rattle.bt_laws.specs.Runs.{RunsWithoutFault, first_records, RunWrites, piped}
+use Rattle.bt_laws.specs.WholeRuns.{RunsWithoutFault, first_records, RunWrites, piped}
 use Rattle.bt_laws.specs.same.SameRuns.{complement_of_merge, merge_of_merge}
 use Rattle.bt_laws.proofs.lemmas.pipes.Covers.{SameCover, runs_again, runs_cover}
 use Rattle.bt_laws.proofs.lemmas.Lists.{all_any, filter_all, flat_map_same, all_filter, all_map, all_so}

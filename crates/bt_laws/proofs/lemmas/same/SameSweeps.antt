@@ -26,7 +26,7 @@ use Rattle.bt_tool.specs.model.report.Inputs.{Inputs, or_empty}
 use Rattle.bt_tool.specs.model.report.Report.{chromosomes_of, report_of, report_on}
 use Rattle.bt_tool.specs.model.report.SweepReport.{met_report, met_within}
 use Rattle.bt_tool.specs.declared.planning.plan_type.Command.TheVariants.{Intersect, Subtract, Merge}
-use Rattle.bt_laws.specs.Runs.{RunsWithoutFault, first_records, second_records, RunWrites, of_second, with_second}
+use Rattle.bt_laws.specs.WholeRuns.{RunsWithoutFault, first_records, second_records, RunWrites, of_second, with_second}
 use Rattle.bt_laws.specs.same.SameLines.{Counted, counts_say_all, missing_is_whole, own_line}
 use Rattle.bt_laws.proofs.lemmas.Lists.{all_any, flat_map_same, map_map, all_so}
 use Rattle.bt_laws.proofs.lemmas.parts.report.PartSweep.{written_same, all_true}
@@ -49,7 +49,8 @@ use Rattle.bt_runs.specs.declared.merge.merge_strand.MergeStrand.TheVariants.{Al
 use Rattle.bt_runs.proofs.lemmas.order.ChromosomeLemmas.{spans_on-here, spans_on-elsewhere}
 use Rattle.bt_sweep.specs.model.Pieces.{IsLeft, pieces, spans_of}
 use Rattle.bt_sweep.proofs.lemmas.laws.PieceLemmas.{are_pieces, only_pieces}
-use Rattle.bt_sweep.proofs.lemmas.laws.RuleLemmas.{enough_of_nothing, of_nothing}
+use Rattle.bt_sweep.proofs.lemmas.laws.RuleLemmas.{enough_of_nothing}
+use Rattle.bt_laws.proofs.lemmas.sweeps.EarlyLemmas.{of_nothing}
 use Rattle.bt_tool.specs.model.report.RecordReport.{Report, report_by}
 use Rattle.bt_tool.specs.model.report.Written.{Written, merge_written}
 use Rattle.bt_tool.specs.declared.planning.plan_type.Command.{Command}

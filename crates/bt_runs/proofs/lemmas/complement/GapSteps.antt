@@ -6,7 +6,7 @@ use Rattle.bt_bed.specs.model.feature.Interval.{Interval, last_of}
 use Rattle.bt_bed.specs.model.order.Locus.{Locus}
 use Rattle.bt_bed.specs.model.order.Rank.{AreDistinct}
 use Rattle.bt_runs.specs.inside.walk.GapStep.{bare_gap, last_gap}
-use Rattle.bt_runs.specs.model.Gaps.{AreTaken, complement, kept_at, kept_place, length_in, one_place_is_kept, settled_gaps}
+use Rattle.bt_runs.specs.model.Gaps.{AreTaken, complement, kept_at, kept_place, length_in, settled_gaps}
 use Rattle.bt_runs.specs.calls.Settling.{Settles}
 use Rattle.bt_runs.specs.inside.walk.Walk.{AreReached, Place, left_before, places}
 use Rattle.bt_runs.proofs.lemmas.complement.ComplementForm.{Own, gaps, owes, written}
@@ -63,12 +63,3 @@ module _ (limit : Bool) (entries : List Entry) where
   -- more and more gaps are settled
   pub settles_gaps : Settles (settled_gaps limit entries) (complement limit entries) (AreTaken entries)
   settles_gaps = settles_items (gaps limit entries) Own entries (owes limit entries) (written limit entries)
-
--- the kept place is one, or none
-kept_one : (entries : List Entry) (records : List Interval) (o : Option Interval) → length (kept_at entries records o) ≤ 1
-kept_one entries records None = omega arith
-kept_one entries records (Some last) = omega arith
-
-pub one_kept : one_place_is_kept
-unfolding kept_place
-one_kept entries records = kept_one entries (intervals_of records) (last_of (intervals_of records))

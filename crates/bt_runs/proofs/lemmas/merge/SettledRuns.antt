@@ -8,7 +8,7 @@ use Rattle.bt_bed.specs.model.order.Rank.{AreDistinct, rank_order}
 use Rattle.bt_bed.specs.model.order.Contiguous.{AreContiguous}
 use Rattle.bt_bed.proofs.lemmas.order.ContiguousLemmas.{placed_prefix, contiguous_prefix}
 use Rattle.bt_runs.specs.model.Merged.{chromosomes, merged}
-use Rattle.bt_runs.specs.model.MergedRuns.{is_closed, passed_by, merged_runs, settled_runs, kept_runs, AreTaken, settled_runs_stay, settled_runs_begin, one_run_is_kept}
+use Rattle.bt_runs.specs.model.MergedRuns.{is_closed, passed_by, merged_runs, settled_runs, kept_runs, AreTaken, settled_runs_stay, settled_runs_begin}
 use Rattle.bt_runs.specs.calls.Settling.{Settles}
 use Rattle.bt_runs.specs.inside.merge.MergeStep.{settled_by, kept_by, with_record}
 use Rattle.bt_runs.specs.model.Counted.{is_counted}
@@ -161,6 +161,3 @@ runs_stay gap strand = stays (settled_runs gap strand) (merged_runs gap strand) 
 
 pub runs_begin : settled_runs_begin
 runs_begin gap strand = begins (settled_runs gap strand) (merged_runs gap strand) AreTaken (settled_more gap strand)
-
-pub one_is_kept : one_run_is_kept
-one_is_kept gap strand past t = let whole = whole_taken gap strand past t in (whole.all, whole.few)

@@ -14,7 +14,7 @@ use Rattle.bt_bed.proofs.lemmas.order.ContiguousLemmas.{last_of-push}
 use Rattle.bt_bed.specs.model.feature.Strands.{is_strand}
 use Rattle.bt_runs.specs.model.MergedRuns.{AreTaken, is_closed}
 use Rattle.bt_runs.specs.calls.Settling.{Settles}
-use Rattle.bt_runs.specs.model.StrandRuns.{StrandRun, kept_strand_runs, closed_prefix, settled_strand_runs, strand_runs, strand_runs_begin, strand_runs_divide, strand_runs_stay, strands_stay_in_order}
+use Rattle.bt_runs.specs.model.StrandRuns.{StrandRun, kept_strand_runs, closed_prefix, settled_strand_runs, strand_runs, strand_runs_begin, strand_runs_stay}
 use Rattle.bt_runs.specs.inside.merge.StrandStep.{added_at, left_unsettled, settled_prefix, kept_with, last_place, place_among, run_from, run_with, with_added}
 use Rattle.bt_runs.proofs.lemmas.order.ByChromosome.{full_last, intervals_next}
 use Rattle.bt_runs.proofs.lemmas.laws.EachLemmas.{Each, Some_of, each_append, each_both, each_front, each_unmap, each_weaker, map_leaves, none_each, none_from, some_each, some_out}
@@ -310,9 +310,3 @@ stay gap = stays (settled_strand_runs gap) (strand_runs gap) AreTaken (settles_s
 
 pub begin : strand_runs_begin
 begin gap = begins (settled_strand_runs gap) (strand_runs gap) AreTaken (settles_strands gap)
-
-pub divide : strand_runs_divide
-divide gap = strand_runs_are_all gap
-
-pub in_order : strands_stay_in_order
-in_order gap records strand taken = (are_listed gap records taken).split strand

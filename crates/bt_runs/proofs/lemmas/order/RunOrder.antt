@@ -12,7 +12,7 @@ use Rattle.bt_bed.specs.model.order.Contiguous.{has_records}
 use Rattle.bt_bed.proofs.lemmas.order.ContiguousLemmas.{placed_contiguous}
 use Rattle.bt_runs.specs.model.Counted.{counted, is_counted}
 use Rattle.bt_runs.specs.model.Merged.{chromosomes, merged, without}
-use Rattle.bt_runs.specs.model.RunOrder.{file_runs_are_ordered, in_order, ordered_runs, ordered_runs_come, put_in_order}
+use Rattle.bt_runs.specs.model.RunOrder.{in_order, ordered_runs, ordered_runs_come, put_in_order}
 use Rattle.bt_runs.proofs.lemmas.order.ChromosomeLemmas.{among_chromosomes}
 use Rattle.bt_runs.proofs.lemmas.order.FileOrder.{in_file_order, same_chromosome, some_placed, without_absent}
 
@@ -59,8 +59,3 @@ ordered_come order gap strand records total placed =
     ap (λ names. merged names gap (counted strand records))
     (names_placed order total (counted strand records)
     (some_placed order total (λ r. is_counted strand r.strand) records placed))
-
-pub file_ordered : file_runs_are_ordered
-file_ordered names gap strand records distinct placed =
-    in_file_order names gap strand records distinct placed
-    ∙ sym (ordered_come (rank_order names) gap strand records (ranks_total names) placed)

@@ -6,7 +6,7 @@ use Rattle.std.proofs.lemmas.Bool.{false≢true, not-true, and_parts}
 use Rattle.std.proofs.lemmas.Bool.Decides.{nat_tests}
 use Rattle.std.proofs.lemmas.List.Sums.{sum_by-cons, sum_by_push, take_while-cons}
 use Rattle.bt_bed.specs.model.feature.Interval.{Span}
-use Rattle.bt_seq.specs.model.AlignmentBlocks.{begins_block, block_at, blocks_in, blocks_of, cuts, is_skip, unskipped_are_one_block, up_to_skip, with_bases}
+use Rattle.bt_seq.specs.model.AlignmentBlocks.{begins_block, block_at, blocks_in, blocks_of, cuts, is_skip, up_to_skip, with_bases}
 use Rattle.bt_seq.specs.model.Cigar.{covered_by, operations_in, reference_length, with_operation}
 use Rattle.bt_seq.specs.inside.sam.CigarSteps.{none_left}
 use Rattle.bt_seq.specs.inside.sam.Room.{FitBehind, fit_behind}
@@ -125,19 +125,6 @@ pub nothing_fits : (start : ℕ) → start ≤ 999999999999 → FitBehind start 
 unfolding operations_in
 nothing_fits start small = le_to (start + 0) 999999999999 (omega arith)
 
-second : (b : Bool) (x y : List Span) → b ≡ false → cond b x y ≡ y
+pub second : (b : Bool) (x y : List Span) → b ≡ false → cond b x y ≡ y
 second true x y e = absurd (false≢true (sym e))
 second false x y e = refl
-
--- operations without an N go on to their end
-open_unskipped : (start stop : ℕ) (operations : List Operation) → list_all (λ operation. not (is_skip operation)) operations ≡ true → open_blocks start stop operations ≡ with_bases start (stop + reference_length operations)
-open_unskipped start stop [] all = ap (with_bases start) (sym (add-zero stop))
-open_unskipped start stop (operation ∷ operations) all =
-    let p = and_parts (not (is_skip operation)) (list_all (λ o. not (is_skip o)) operations) all in
-    let goes : is_skip operation ≡ false = not-true (is_skip operation) p.0 in
-    let sum : stop + covered_by operation + reference_length operations ≡ stop + reference_length (operation ∷ operations) = omega (arith, sum_by-cons covered_by operation operations) in
-    second (is_skip operation) (with_bases start stop ++ open_blocks (stop + operation.length) (stop + operation.length) operations) (open_blocks start (stop + covered_by operation) operations) goes
-    ∙ open_unskipped start (stop + covered_by operation) operations p.1 ∙ ap (with_bases start) sum
-
-pub one_block : unskipped_are_one_block
-one_block start operations all = blocks_open start operations ∙ open_unskipped start start operations all

@@ -11,7 +11,7 @@ use Rattle.bt_bed.specs.model.feature.Feature.{Feature, intervals_of}
 use Rattle.bt_bed.specs.model.order.Order.{Order, IsTotal}
 use Rattle.bt_bed.specs.model.input.GoodBed.{locus_at}
 use Rattle.bt_bed.specs.model.order.Locus.{is_below_at, IsUpTo, ArePlaced}
-use Rattle.bt_sweep.specs.model.Deciding.{decides, decided, decided_stays}
+use Rattle.bt_sweep.specs.model.Deciding.{decides, decided}
 
 -- b lies on a later chromosome than a, or on its own at or past its end
 abbrev pub IsPast : Order → Feature → Feature → Type 0
@@ -101,6 +101,3 @@ none_by order a bs b e false f h = list_any-append (decides order a) bs (b ∷ [
 pub none_before : (order : Order) (a : Feature) (bs : List Feature) (b : Feature) → IsTotal order → IsTrue (order.knows a.chrom) → ArePlaced order (intervals_of (bs ++ b ∷ [])) → decides order a b ≡ false → decided order a (bs ++ b ∷ []) ≡ false
 none_before order a bs b total ka placed e =
     none_by order a bs b e (decided order a bs) refl (λ some. false≢true (sym e ∙ (and_parts (decides order a b) true (later_decide order a bs (b ∷ []) total ka placed some)).0))
-
-pub stays_decided : decided_stays
-stays_decided order a bs more e = list_any-append (decides order a) bs more ∙ or_left (decided order a bs) (decided order a more) e

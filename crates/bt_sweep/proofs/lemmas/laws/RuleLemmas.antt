@@ -4,7 +4,7 @@ use Rattle.std.proofs.lemmas.Bool.{false≢true, and_from, and_parts, ltb-true, 
 use Rattle.bt_bed.specs.model.feature.Feature.{Feature, interval_of}
 use Rattle.bt_bed.specs.model.feature.Bases.{length_of}
 use Rattle.bt_bed.specs.model.feature.Strands.{is_strand}
-use Rattle.bt_sweep.specs.model.Hits.{both_of_nothing, has_fraction, hits, is_enough, shared_bases, strands_agree}
+use Rattle.bt_sweep.specs.model.Hits.{has_fraction, hits, is_enough, shared_bases, strands_agree}
 use Rattle.bt_sweep.specs.declared.hits.hit_rule.HitRule.{HitRule}
 
 -- what hits a record shares a base with it
@@ -36,10 +36,3 @@ enough_of_nothing rule bases a b e =
     let any : (r : Feature) → has_fraction rule.billionths bases r ≡ true = λ r. ap (λ n. has_fraction n bases r) e ∙ none_asked bases r in
     and_from (has_fraction rule.billionths bases a) (not rule.both || has_fraction rule.billionths bases b) (any a)
     (or_right (not rule.both) (has_fraction rule.billionths bases b) (any b))
-
-pub of_nothing : both_of_nothing
-unfolding hits strands_agree
-of_nothing both same_strand a b =
-    ap (λ c. ltb 0 (shared_bases a b) && ((not same_strand || is_strand a.strand b.strand) && c))
-    (enough_of_nothing (record { billionths = 0; both = both; same_strand = same_strand }) (shared_bases a b) a b refl
-    ∙ sym (enough_of_nothing (record { billionths = 0; both = false; same_strand = same_strand }) (shared_bases a b) a b refl))

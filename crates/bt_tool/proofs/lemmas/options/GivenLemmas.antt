@@ -23,7 +23,7 @@ use Rattle.bt_tool.specs.declared.options.usage.Usage.{Usage}
 use Rattle.bt_tool.specs.declared.options.takes.Takes.TheVariants.{FileName}
 use Rattle.bt_tool.specs.declared.planning.tool.Tool.{Tool}
 use Rattle.bt_tool.proofs.lemmas.options.Asked.{options-checked}
-use Rattle.bt_tool.proofs.lemmas.laws.Division.{allowed}
+use Rattle.bt_tool.proofs.lemmas.options.Division.{allowed}
 
 -- what the words mean, once they divide into items
 pub options-given : (words : List (String Global)) (given : Given) (tool : Tool)

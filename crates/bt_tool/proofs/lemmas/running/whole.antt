@@ -1,4 +1,5 @@
 -- Lemmas on running, whole.
 pub mod ChromosomeLemmas
+pub mod HeadlineLemmas
 pub mod OwnFailureLemmas
 pub mod RunningLemmas

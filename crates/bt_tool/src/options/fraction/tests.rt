@@ -1,5 +1,4 @@
 use super::*;
-use crate::laws::option_laws::worked_fractions;
 use std::test::Fail;
 
 /// Words, and the fractions that they denote, in billionths.
@@ -58,9 +57,4 @@ fn other_words_denote_none(rt: HostRuntime) -> Result<(), Fail> {
         assert_eq!(rt; fraction(word), None, "at {word}");
     }
     Ok(())
-}
-
-#[test]
-fn laws_can_be_called() {
-    worked_fractions();
 }

@@ -8,7 +8,7 @@ use Rattle.std.proofs.lemmas.List.Folds.{list_any-append}
 use Rattle.bt_bed.specs.model.feature.Feature.{Feature}
 use Rattle.bt_bed.specs.model.order.Rank.{is_among}
 use Rattle.bt_bed.proofs.lemmas.parse.NameLemmas.{same_name}
-use Rattle.bt_seq.proofs.lemmas.laws.AgreeLemmas.{owners_stay_so}
+use Rattle.bt_laws.proofs.lemmas.sequences.AgreeLemmas.{owners_stay_so}
 use Rattle.bt_seq.proofs.lemmas.laws.LeftLemmas.{is_last, leave, one_leaves}
 use Rattle.bt_seq.proofs.lemmas.laws.MaskPrefixLemmas.{chrom_of, none_next}
 use Rattle.bt_seq.proofs.lemmas.laws.MaskMetLemmas.{none_leaves}

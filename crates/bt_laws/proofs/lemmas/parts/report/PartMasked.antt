@@ -15,7 +15,8 @@ use Rattle.bt_bed.specs.model.feature.LineKind.{fault_at_line}
 use Rattle.bt_bed.specs.model.input.TwoInputReport.{Rule, join_report}
 use Rattle.bt_bed.proofs.lemmas.laws.MeetingLemmas.{met_fault_all, met_fault_stop}
 use Rattle.bt_seq.proofs.lemmas.laws.LeftLemmas.{leave, leave_all}
-use Rattle.bt_seq.proofs.lemmas.laws.MaskMetLemmas.{faultless_masked, first_is_told, lack_none, items}
+use Rattle.bt_laws.proofs.lemmas.sequences.MaskMetLemmas.{faultless_masked}
+use Rattle.bt_seq.proofs.lemmas.laws.MaskMetLemmas.{first_is_told, lack_none, items}
 use Rattle.bt_seq.specs.model.Masked.{is_unnamed, mask_met, mask_rule, masked_from, masked_line, names_of, no_sequence}
 use Rattle.bt_seq.specs.model.Owners.{own_records}
 use Rattle.bt_seq.specs.model.Sequences.{SequenceLine, is_header, sequence_format}

@@ -34,7 +34,7 @@ use Rattle.bt_bed.specs.declared.record.strand.Strand.{Strand}
 use Rattle.bt_runs.specs.model.StrandRuns.{StrandRun, begun_by, is_in, listed_behind, closed_prefix, places_of, runs_of_strand, settled_strand_runs, strand_runs, kept_strand_runs}
 use Rattle.bt_runs.specs.declared.merge.merge_strand.MergeStrand.TheVariants.{One}
 use Rattle.bt_runs.proofs.lemmas.merge.StrandListing.{listed_append}
-use Rattle.bt_runs.proofs.lemmas.merge.StrandSettling.{divide}
+use Rattle.bt_laws.proofs.lemmas.runs.KeptLemmas.{divide}
 use Rattle.bt_laws.proofs.lemmas.parts.report.PartSweep.{any_behind}
 
 -- what isn't on a chromosome isn't when fewer records are looked at

@@ -35,7 +35,7 @@ use Rattle.bt_bed.specs.model.order.Order.{IsTotal, Order}
 use Rattle.bt_bed.specs.model.order.Sorting.{sorting_of}
 use Rattle.bt_bed.specs.declared.record.strand.Strand.{Strand}
 use Rattle.bt_bed.proofs.lemmas.laws.GoodBedLemmas.{non_empty_from, placed_lines}
-use Rattle.bt_bed.proofs.lemmas.order.GenomeLemmas.{distinct_genome}
+use Rattle.bt_laws.proofs.lemmas.records.GenomeLemmas.{distinct_genome}
 use Rattle.bt_runs.specs.model.Depth.{DepthInterval, counted_on, coverage, depth_line, depth_of, depth_on, depths_on, ended_by, is_counted_by, settled_depths}
 use Rattle.bt_runs.specs.model.Levels.{levels_of}
 use Rattle.bt_runs.specs.model.MergedRuns.{passed_by}

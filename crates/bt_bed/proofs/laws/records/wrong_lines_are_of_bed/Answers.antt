@@ -1,5 +1,0 @@
-use Rattle.bt_bed.proofs.lemmas.read.batch.NeighbourLemmas.{wrong_of_bed}
-use Rattle.bt_bed.proofs.laws.records.wrong_lines_are_of_bed.Goals as goal
-
-pub returns : goal.returns
-returns c = wrong_of_bed

@@ -1,0 +1,2 @@
+-- Lemmas on reports.
+pub mod Division

@@ -1,0 +1,7 @@
+use Rattle.std.proofs.lemmas.List.Elements.{recursion_from_All}
+use Rattle.bt_laws.specs.records.Inputs.{StaysDecided}
+use Rattle.bt_laws.proofs.lemmas.records.MeetingLemmas.{written_begins}
+use Rattle.bt_laws.proofs.records.features.early_lines_begin_the_whole.Goals as goal
+
+pub returns : goal.returns
+returns g c = λ early late members more fault stays. written_begins early late members more fault (recursion_from_All (StaysDecided early late) members stays)

@@ -1,0 +1,12 @@
+use Rattle.bt_runs.specs.model.Gaps.{AreTaken, complement, settled_gaps}
+use Rattle.bt_laws.proofs.lemmas.runs.KeptLemmas.{one_kept}
+use Rattle.bt_runs.proofs.lemmas.complement.GapSteps.{settles_gaps}
+use Rattle.bt_runs.proofs.lemmas.laws.SettlingLemmas.{begins, stays}
+use Rattle.bt_laws.proofs.runs.gaps.settled_gaps_are_a_prefix.Goals as goal
+
+pub returns : goal.returns
+returns c = record {
+  stay = λ limit entries. stays (settled_gaps limit entries) (complement limit entries) (AreTaken entries) (settles_gaps limit entries);
+  begin = λ limit entries. begins (settled_gaps limit entries) (complement limit entries) (AreTaken entries) (settles_gaps limit entries);
+  kept = one_kept;
+}

@@ -1,0 +1,5 @@
+use Rattle.bt_laws.proofs.lemmas.runs.CoveredLevels.{plain_runs_levels, runs_levels}
+use Rattle.bt_laws.proofs.runs.levels.runs_are_intervals_of_one_value.Goals as goal
+
+pub returns : goal.returns
+returns c = record { bridged = runs_levels; covered = plain_runs_levels }

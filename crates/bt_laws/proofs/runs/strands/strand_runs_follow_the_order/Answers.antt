@@ -1,0 +1,5 @@
+use Rattle.bt_laws.proofs.lemmas.runs.StrandOrder.{in_order, in_turn, start_with_records}
+use Rattle.bt_laws.proofs.runs.strands.strand_runs_follow_the_order.Goals as goal
+
+pub returns : goal.returns
+returns c = record { turn = in_turn; start = start_with_records; order = in_order }

@@ -1,0 +1,19 @@
+use Rattle.std.proofs.Common.{refl}
+use Rattle.std.specs.Fmt.{digits}
+use Rattle.bt_bed.specs.model.feature.Stretches.{stretches_from, with_position}
+use Rattle.bt_sweep.specs.model.Hits.{has_fraction, hits, is_enough, strands_agree}
+use Rattle.bt_sweep.specs.model.IntersectLines.{lines_for}
+use Rattle.bt_sweep.specs.model.Pieces.{pieces}
+use Rattle.bt_laws.proofs.sweeps.small_inputs_meet_within_a_limit.Goals as goal
+
+pub returns : goal.returns
+unfolding lines_for hits strands_agree is_enough has_fraction pieces stretches_from with_position digits
+returns c = record {
+  third = refl;
+  three = refl;
+  decided = refl;
+  first = refl;
+  none = refl;
+  before = λ fault. refl;
+  behind = λ fault. refl;
+}

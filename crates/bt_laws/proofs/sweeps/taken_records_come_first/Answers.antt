@@ -1,0 +1,5 @@
+use Rattle.bt_laws.proofs.lemmas.sweeps.FirstLemmas.{first_taken}
+use Rattle.bt_laws.proofs.sweeps.taken_records_come_first.Goals as goal
+
+pub returns : goal.returns
+returns c = first_taken

@@ -1,0 +1,4 @@
+-- Lines, records and their orders.
+pub mod Features
+pub mod Inputs
+pub mod Orders

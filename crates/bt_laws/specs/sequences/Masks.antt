@@ -1,0 +1,78 @@
+-- Laws of masked sequences.
+use Rattle.std.specs.Prelude.{◌≡◌, ℕ, true, List, [], ◌∷◌, ◌++◌, flat_map, Option, None, Some, is_some, map, ◌⊎◌, Bool, false, option_map, ◌||◌, length, nat_lt, not, cond, Result, Ok, Err}
+use Rattle.bt_bed.specs.model.feature.Feature.{Feature}
+use Rattle.bt_bed.specs.model.input.Good.{Good, Member, items_in}
+use Rattle.bt_bed.specs.model.input.GoodBlocks.{AreInBlocks}
+use Rattle.bt_bed.specs.model.feature.LineKind.{fault_at_line}
+use Rattle.bt_bed.specs.model.input.TwoInputReport.{Rule, join_report, written}
+use Rattle.bt_lines.specs.model.Fault.{FaultValue, no_memory}
+use Rattle.bt_lines.specs.declared.fault.Input.TheVariants.{Second, First}
+use Rattle.bt_lines.specs.declared.fault.Kind.TheVariants.{NoSequence}
+use Rattle.bt_seq.specs.model.Masked.{decided, mask_rule, masked_line, no_sequence, is_unnamed, held_for}
+use Rattle.bt_seq.specs.model.Owners.{left_after}
+use Rattle.bt_seq.specs.model.Sequences.{SequenceLine, is_header, line_says}
+use Rattle.bt_seq.specs.declared.mask.mask_how.MaskHow.{MaskHow}
+use Rattle.std.specs.List.{AllByRecursion}
+use Rattle.bt_seq.specs.calls.HeldMasks.{extent_of}
+use Rattle.bt_seq.specs.inside.mask.MaskInside.{KnowsStage}
+use Rattle.bt_seq.specs.calls.MaskStage.{MaskStage, given, held_by, line_given_last, reached, want_at, is_written_at_once, with_bed_ended, with_decided, with_line, with_record}
+use Rattle.bt_seq.specs.calls.MaskState.{Masking, Waiting}
+use Rattle.bt_seq.specs.calls.MaskStanding.{IsOpen, MaskMovesTo}
+use Rattle.bt_lines.specs.model.Lines.{TextLine}
+use Rattle.bt_lines.specs.calls.Names.{fault_value}
+use Rattle.bt_lines.specs.calls.Output.{Output}
+use Rattle.bt_lines.specs.calls.Putting.{FailsToAdd, Grown}
+use Rattle.bt_lines.specs.declared.fault.Fault.{Fault}
+use Rattle.bt_lines.specs.declared.fault.Kind.{Kind}
+use Rattle.bt_seq.specs.calls.MaskPrefixes.{LineBefore}
+use Rattle.bt_seq.specs.declared.mask.mask_want.MaskWant.TheVariants.{Nothing}
+use Rattle.bt_bed.specs.declared.record.taken.Taken.{Taken}
+use Rattle.bt_bed.specs.declared.record.taken.Taken.TheVariants.{Yes, No}
+use Rattle.bt_seq.specs.calls.MaskSteps.{GivesBed}
+
+-- what the first records of the second input make of the lines
+abbrev pub early_mask_rule : MaskHow → List Feature → Rule SequenceLine ℕ FaultValue
+early_mask_rule how records = record {
+  decided = λ line. decided line records;
+  lines = masked_line how records;
+  fault = None;
+  last = None;
+}
+
+-- the lines that are decided by a prefix of each input, and so are written, begin what is written for all of the inputs
+abbrev pub masked_are_a_prefix : Type 0
+masked_are_a_prefix =
+    (how : MaskHow) (names : List (List ℕ)) (first more_first : List SequenceLine)
+    (fault : Option FaultValue)
+    (second : Good Feature) (seen more : List Feature) → items_in second ≡ seen ++ more
+    → AreInBlocks (seen ++ more)
+    → (rest : List ℕ)
+    × ((join_report (mask_rule how names second) (first ++ more_first) fault).lines
+    ≡ written (early_mask_rule how seen) first ++ rest)
+
+-- if the second input has no fault, all lines are written, masked
+abbrev pub faultless_are_masked : Type 0
+faultless_are_masked =
+    (how : MaskHow) (names : List (List ℕ)) (first : List SequenceLine) (fault : Option FaultValue)
+    (second : Good Feature)
+    → second.fault ≡ None
+    → (join_report (mask_rule how names second) first fault).lines
+    ≡ flat_map (masked_line how (items_in second)) first
+
+-- No prefix of the records taken decides all lines given: so none was taken after the first record
+-- that did.
+abbrev pub taken_are_first : Type 0
+taken_are_first = (lines : List SequenceLine) (before rest : List Feature)
+    → IsOpen (line_given_last lines) (before ++ rest)
+    → (before ++ rest ≡ []) ⊎ (AllByRecursion (λ line. decided line before ≡ true) lines → ⊥)
+
+-- a record that leaves the line undecided and hasn't to be held is taken, and nothing is written
+abbrev pub quiet_records_are_taken : Type 0
+quiet_records_are_taken =
+    (how : MaskHow) (full : Bool) (stage : MaskStage) (line : SequenceLine) (r : Feature)
+    (out : Output)
+    (answer : Result Taken Fault) (new : Masking) (grown : Output)
+    → GivesBed how full stage line r out answer new grown
+    → decided line (stage.taken ++ r ∷ []) ≡ false
+    → held_for line (stage.taken ++ r ∷ []) ≡ held_for line stage.taken
+    → (answer ≡ Ok Yes) × (grown ≡ out)

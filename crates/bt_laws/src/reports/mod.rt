@@ -1,0 +1,3 @@
+//! Command lines and reports.
+
+pub mod options;

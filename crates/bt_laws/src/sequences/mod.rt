@@ -1,0 +1,4 @@
+//! Alignments and masked sequences.
+
+pub mod alignments;
+pub mod masks;

@@ -1,5 +1,0 @@
-use Rattle.bt_runs.proofs.lemmas.complement.OneGap.{are_gaps, only_gaps}
-use Rattle.bt_runs.proofs.laws.complement_laws.gaps_are_determined.Goals as goal
-
-pub returns : goal.returns
-returns c = record { are = are_gaps; only = only_gaps }

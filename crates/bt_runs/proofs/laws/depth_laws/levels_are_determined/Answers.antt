@@ -1,5 +1,0 @@
-use Rattle.bt_runs.proofs.lemmas.coverage.LevelLemmas.{are_levels, only_levels, levels_of_stretches}
-use Rattle.bt_runs.proofs.laws.depth_laws.levels_are_determined.Goals as goal
-
-pub returns : goal.returns
-returns c = record { are = are_levels; only = only_levels; stretches = levels_of_stretches }

@@ -1,5 +1,0 @@
-use Rattle.bt_runs.proofs.lemmas.coverage.CoveredLevels.{covered_depth, gaps_depth_0, gaps_levels}
-use Rattle.bt_runs.proofs.laws.level_laws.gaps_are_intervals_of_one_value.Goals as goal
-
-pub returns : goal.returns
-returns c = record { bare = gaps_levels; depth = covered_depth; coverage = gaps_depth_0 }

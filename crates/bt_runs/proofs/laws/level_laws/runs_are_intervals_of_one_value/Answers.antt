@@ -1,5 +1,0 @@
-use Rattle.bt_runs.proofs.lemmas.coverage.CoveredLevels.{plain_runs_levels, runs_levels}
-use Rattle.bt_runs.proofs.laws.level_laws.runs_are_intervals_of_one_value.Goals as goal
-
-pub returns : goal.returns
-returns c = record { bridged = runs_levels; covered = plain_runs_levels }

@@ -1,5 +1,0 @@
-use Rattle.bt_runs.proofs.lemmas.merge.Bridging.{are_runs, only_runs}
-use Rattle.bt_runs.proofs.laws.runs_are_determined.Goals as goal
-
-pub returns : goal.returns
-returns c = record { are = are_runs; only = only_runs }

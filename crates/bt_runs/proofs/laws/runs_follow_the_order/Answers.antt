@@ -1,5 +1,0 @@
-use Rattle.bt_runs.proofs.lemmas.order.RunOrder.{ordered_come}
-use Rattle.bt_runs.proofs.laws.runs_follow_the_order.Goals as goal
-
-pub returns : goal.returns
-returns c = ordered_come

@@ -1,5 +1,0 @@
-use Rattle.bt_runs.proofs.lemmas.merge.StrandOrder.{in_order, in_turn, start_with_records}
-use Rattle.bt_runs.proofs.laws.strand_laws.strand_runs_follow_the_order.Goals as goal
-
-pub returns : goal.returns
-returns c = record { turn = in_turn; start = start_with_records; order = in_order }

@@ -1,5 +1,0 @@
-use Rattle.bt_seq.proofs.lemmas.laws.LeftLemmas.{goes_on_or_begins}
-use Rattle.bt_seq.proofs.laws.masks.blocks_follow_one_another.Goals as goal
-
-pub returns : goal.returns
-returns c = goes_on_or_begins

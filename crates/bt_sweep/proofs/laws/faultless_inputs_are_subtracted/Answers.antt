@@ -1,5 +1,0 @@
-use Rattle.bt_sweep.proofs.lemmas.laws.SweepsLemmas.{subtract_met}
-use Rattle.bt_sweep.proofs.laws.faultless_inputs_are_subtracted.Goals as goal
-
-pub returns : goal.returns
-returns c = subtract_met

@@ -1,5 +1,0 @@
-use Rattle.bt_sweep.proofs.lemmas.laws.SweepsLemmas.{faultless_all}
-use Rattle.bt_sweep.proofs.laws.faultless_inputs_give_all_pairs.Goals as goal
-
-pub returns : goal.returns
-returns c = faultless_all

@@ -1,3 +1,0 @@
--- Lemmas on laws.
-pub mod Division
-pub mod HeadlineLemmas
