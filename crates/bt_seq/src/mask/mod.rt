@@ -13,9 +13,10 @@ ghost use Rattle.std.specs.Prelude.{◌≡◌, ◌<◌, ◌⊎◌, [], Bool, Non
 ghost use Rattle.bt_bed.specs.calls.Bed.{feature_lent};
 ghost use Rattle.bt_bed.specs.model.input.GoodBlocks.{AreInBlocks};
 ghost use Rattle.bt_lines.specs.calls.LentLine.{line_seen};
+ghost use Rattle.bt_lines.specs.declared.reader.buffered_lines.BufferedLines.{BufferedLines};
 ghost use Rattle.bt_seq.specs.calls.MaskStage.{IsNext, MaskStage, first_stage, given, held_by, line_given_last, want_at, with_lines_ended};
 ghost use Rattle.bt_seq.specs.calls.MaskStanding.{MaskMovesTo, MaskStandsAt};
-ghost use Rattle.bt_seq.specs.calls.MaskAdvance.{GivesBoth, GivesRecord, Stays, StopsAt, left_to_give};
+ghost use Rattle.bt_seq.specs.calls.MaskAdvance.{GivesBoth, Stays, StopsAt, left_to_give};
 ghost use Rattle.bt_seq.specs.calls.MaskSteps.{ChecksRecord, EndsCheck, EndsRecords, GivesNextLine, GivesBed};
 ghost use Rattle.bt_seq.specs.model.Sequences.{SequenceLine};
 
@@ -141,7 +142,8 @@ impl Mask {
         out: &mut Out<K>,
     ) -> Result<bool, Fault>
         requires { self.old.want ≡ MaskWant.Bed }
-        ensures gives { GivesRecord C.gives C.line C.has_ended self.old records.old out.old.output result self.new records.new out.new.output }
+        ensures gives { (lines : BufferedLines) → GivesBoth C.gives C.line C.has_ended self.old lines records.old out.old.output result
+            self.new lines records.new out.new.output }
         ensures stops { result ≡ Ok false → C.has_ended records.new × (self.new.want ≡ MaskWant.Bed) }
         ensures shrinks { result ≡ Ok true → (C.room records.new < C.room records.old)
             ⊎ ((records.new ≡ records.old) × (self.new.want ≡ MaskWant.Line)) }

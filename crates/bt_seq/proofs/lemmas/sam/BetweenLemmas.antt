@@ -19,16 +19,14 @@ is_below n m e = grind (arith, nat_tests)
 
 first_by : (b : Bool) (start stop last : ℕ) (rest : List Span) → nat_lt start stop ≡ b → start ≤ stop → AreBetween stop last rest
     → AreBetween start last (cond b (record { start = start; stop = stop } ∷ []) [] ++ rest)
-first_by true start stop last rest e h r = (omega arith, is_below start stop e, r)
-first_by false start stop last rest e h r = later start stop last rest h r
+first_by b start stop last rest e h r = grind (arith, nat_tests)
 
 -- a block before others, if it has a base
 first_between : (start stop last : ℕ) (rest : List Span) → start ≤ stop → AreBetween stop last rest → AreBetween start last (with_bases start stop ++ rest)
 first_between start stop last rest h r = first_by (nat_lt start stop) start stop last rest refl h r
 
 alone_by : (b : Bool) (start stop : ℕ) → nat_lt start stop ≡ b → start ≤ stop → AreBetween start stop (cond b (record { start = start; stop = stop } ∷ []) [])
-alone_by true start stop e h = (omega arith, is_below start stop e, omega arith)
-alone_by false start stop e h = h
+alone_by b start stop e h = grind (arith, nat_tests)
 
 between_by : (k : Bool) (operation : Operation) (operations : List Operation) (start stop last : ℕ) → is_skip operation ≡ k → start ≤ stop
     → (is_skip operation ≡ true → AreBetween (stop + operation.length) last (open_blocks (stop + operation.length) (stop + operation.length) operations))

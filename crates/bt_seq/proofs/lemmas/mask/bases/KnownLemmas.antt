@@ -1,5 +1,5 @@
 -- Lemmas on what is known of blocks, from call to call.
-use Rattle.std.proofs.Common.{◌≡◌, ℕ, ◌⊎◌, Bool, true, false, cond, ◌&&◌, not, List, [], ◌∷◌, ◌++◌, Option, Some, None, refl, sym, ap, ◌∙◌, subst, inl, inr, bytes_eq}
+use Rattle.std.proofs.Common.{◌≡◌, ℕ, ◌⊎◌, Bool, true, false, cond, ◌&&◌, not, List, [], ◌∷◌, ◌++◌, Option, Some, None, refl, sym, ap, ◌∙◌, subst, inl, inr, bytes_eq, arith}
 use Rattle.std.specs.Cmp.Lexicographic.{bytes_decides}
 use Rattle.std.specs.Prelude.{is_some}
 use Rattle.bt_bed.specs.model.feature.Feature.{Feature}
@@ -11,7 +11,7 @@ use Rattle.bt_seq.specs.inside.mask.MaskInside.{KnowsAhead, KnowsLast, KnowsNext
 use Rattle.bt_seq.specs.calls.MaskStage.{IsNext}
 use Rattle.bt_seq.specs.model.Masked.{is_unnamed}
 use Rattle.bt_seq.specs.model.Owners.{goes_on, left_after, left_by, names_behind}
-use Rattle.bt_seq.specs.declared.mask.matching.Owner.TheVariants.{Own, Earlier, Nobody}
+use Rattle.bt_seq.specs.declared.mask.matching.Owner.TheVariants.{Own, Nobody}
 
 pub never : false ≡ true → ⊥
 never e = absurd (let apart : false ≡ true = e in cc)
@@ -53,14 +53,10 @@ no_snoc (a ∷ xs) x e = absurd (let apart : Some [] ≡ Some (a ∷ (xs ++ x �
 
 -- what is left of a block whose owner is known
 own_left : (left : Option (List (List ℕ))) → Own ≡ owner_by left → left ≡ Some []
-own_left None e = absurd (let apart : Own ≡ Nobody = e in cc)
-own_left (Some []) e = refl
-own_left (Some (n ∷ ns)) e = absurd (let apart : Own ≡ Earlier = e in cc)
+own_left left e = grind arith
 
 pub nobody_left : (left : Option (List (List ℕ))) → Nobody ≡ owner_by left → left ≡ None
-nobody_left None e = refl
-nobody_left (Some []) e = absurd (let apart : Nobody ≡ Own = e in cc)
-nobody_left (Some (n ∷ ns)) e = absurd (let apart : Nobody ≡ Earlier = e in cc)
+nobody_left left e = grind arith
 
 module _ (names : List (List ℕ)) (taken : List Feature) (r : Feature) (m : Matched) where
   next_left : left_after names (taken ++ r ∷ []) ≡ cond (goes_on taken r) (left_after names taken) (left_by (left_after names taken) r.chrom)
@@ -149,13 +145,10 @@ module _ (names : List (List ℕ)) (taken : List Feature) (r : Feature) (m : Mat
   take_may k some = take_by k (goes_on taken r) refl some
 
   found_goes : (own name : Bool) → found_by own true name ≡ Nobody → ⊥
-  found_goes true name e = absurd (let apart : Own ≡ Nobody = e in cc)
-  found_goes false name e = absurd (let apart : Earlier ≡ Nobody = e in cc)
+  found_goes own name e = grind arith
 
   found_own : (own name : Bool) → found_by own false name ≡ Nobody → (not own && name) ≡ false
-  found_own true name e = refl
-  found_own false true e = absurd (let apart : Own ≡ Nobody = e in cc)
-  found_own false false e = refl
+  found_own own name e = grind arith
 
   -- it belongs to none
   nobody_by : MayTake → (goes : Bool) → goes_on taken r ≡ goes → owner_of m r.chrom ≡ Nobody → KnowsAhead names taken r (matched_with m r.chrom)
@@ -218,9 +211,7 @@ module _ (names : List (List ℕ)) (taken : List Feature) (r : Feature) (m : Mat
   ]
 
   not_nobody : (left : Option (List (List ℕ))) → is_some left ≡ true → owner_by left ≡ Nobody → ⊥
-  not_nobody None e o = never e
-  not_nobody (Some []) e o = absurd (let apart : Own ≡ Nobody = o in cc)
-  not_nobody (Some (n ∷ ns)) e o = absurd (let apart : Earlier ≡ Nobody = o in cc)
+  not_nobody left e o = grind arith
 
   -- it is taken: its block belongs to a sequence
   pub take_next : KnowsNone names taken m ⊎ (MayTake ⊎ KnowsLast names (taken ++ r ∷ []) m) → is_some (left_after names (taken ++ r ∷ [])) ≡ true → KnowsLast names (taken ++ r ∷ []) (matched_with m r.chrom)
@@ -292,8 +283,4 @@ module _ (names : List (List ℕ)) (n : List ℕ) (taken : List Feature) (m : Ma
 
 -- one more line of the same sequence
 pub with_plain : (names : List (List ℕ)) (taken : List Feature) (ahead : Option Feature) (m : Matched) → KnowsNext false names taken ahead m → KnowsNext true names taken ahead m
-with_plain names taken None m known = known
-with_plain names taken (Some r) m known = elim known [
-  | inl last ↦ inl (last.0, λ e. absurd (never (sym e)))
-  | inr ahead ↦ inr (ahead.0, λ e. absurd (never (sym e)))
-]
+with_plain names taken ahead m known = grind arith

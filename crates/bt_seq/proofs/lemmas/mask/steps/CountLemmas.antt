@@ -31,9 +31,7 @@ pub range_more : (rs : List Feature) (r : Feature) → AreInRange rs → r.stop 
 range_more rs r h low = all_both (λ (r : Feature). r.stop ≤ max_number) rs (r ∷ []) h (low, tt)
 
 item_range : (left : Option (List (List ℕ))) (r : Feature) → r.stop ≤ max_number → AreInRange (items_if_last left (r ∷ []))
-item_range None r h = tt
-item_range (Some []) r h = (h, tt)
-item_range (Some (n ∷ ns)) r h = tt
+item_range left r h = grind arith
 
 own_range : (left : Option (List (List ℕ))) (last : Option (List ℕ)) (rs : List Feature) → AreInRange rs → AreInRange (own_in (tags chrom_of left last rs))
 own_range left last [] h = tt
@@ -50,9 +48,7 @@ module _ (low : ℕ) where
   lt_false start e = grind (arith, nat_tests)
 
   item_low : (left : Option (List (List ℕ))) (r : Feature) → block_decides low left (r ∷ []) ≡ false → r.stop ≤ max_number → AllByRecursion (IsLow low) (items_if_last left (r ∷ []))
-  item_low None r e h = tt
-  item_low (Some []) r e h = ((lt_false r.start e, h), tt)
-  item_low (Some (n ∷ ns)) r e h = tt
+  item_low left r e h = grind (arith, nat_tests)
 
   pub own_low : (left : Option (List (List ℕ))) (last : Option (List ℕ)) (rs : List Feature) → list_any (tag_decides low) (tags chrom_of left last rs) ≡ false → AreInRange rs
       → AllByRecursion (IsLow low) (own_in (tags chrom_of left last rs))
@@ -75,16 +71,11 @@ module _ (first low high : ℕ) (up : first ≤ low) (further : low ≤ high) wh
 
   held_at : (r : Feature) (old new : List Feature) (q w : Bool) → q ≡ w → filter goes_past (map extent_of old) ≡ map extent_of new
       → cond q (extent_of r ∷ filter goes_past (map extent_of old)) (filter goes_past (map extent_of old)) ≡ map extent_of (cond w (r ∷ new) new)
-  held_at r old new true true e rest = ap (λ (l : List Extent). extent_of r ∷ l) rest
-  held_at r old new true false e rest = absurd (let apart : true ≡ false = e in cc)
-  held_at r old new false true e rest = absurd (let apart : false ≡ true = e in cc)
-  held_at r old new false false e rest = rest
+  held_at r old new q w e rest = grind arith
 
   held_if : (r : Feature) (old new : List Feature) (p w : Bool) → (p && nat_lt (min low limit) r.stop) ≡ w → filter goes_past (map extent_of old) ≡ map extent_of new
       → filter goes_past (map extent_of (cond p (r ∷ old) old)) ≡ map extent_of (cond w (r ∷ new) new)
-  held_if r old new true w e rest = held_at r old new (nat_lt (min low limit) r.stop) w e rest
-  held_if r old new false true e rest = absurd (let apart : false ≡ true = e in cc)
-  held_if r old new false false e rest = rest
+  held_if r old new p w e rest = grind (arith, nat_tests)
 
   tests_agree : (start stop : ℕ) → start < low → stop ≤ max_number → ((nat_lt start low && nat_lt first stop) && nat_lt (min low limit) stop) ≡ (nat_lt start high && nat_lt low stop)
   tests_agree start stop before short = grind (arith, nat_tests)
@@ -98,8 +89,7 @@ abbrev AreShort : List Extent → Type 0
 AreShort extents = AllByRecursion (λ (s : Extent). s.stop ≤ max_number) extents
 
 short_if : (p : Bool) (r : Feature) (rs : List Feature) → r.stop ≤ max_number → AreShort (map extent_of rs) → AreShort (map extent_of (cond p (r ∷ rs) rs))
-short_if true r rs h k = (h, k)
-short_if false r rs h k = k
+short_if p r rs h k = grind arith
 
 held_short : (p : Feature → Bool) (rs : List Feature) → AreInRange rs → AreShort (map extent_of (filter p rs))
 held_short p [] h = tt
@@ -157,6 +147,4 @@ module _ (how : MaskHow) (line : SequenceLine) (rs : List Feature) (range : AreI
 
 -- whether a record decides a line, by the bases as they are counted
 pub decides_alike : (bases : ℕ) (left : Option (List (List ℕ))) (r : Feature) → r.start < limit → decides_by (owner_by left) (min bases limit) r.start ≡ block_decides bases left (r ∷ [])
-decides_alike bases None r low = refl
-decides_alike bases (Some []) r low = grind (arith, nat_tests)
-decides_alike bases (Some (n ∷ ns)) r low = refl
+decides_alike bases left r low = grind (arith, nat_tests)

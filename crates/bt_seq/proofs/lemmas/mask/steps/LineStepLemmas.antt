@@ -12,11 +12,11 @@ use Rattle.bt_lines.specs.calls.Output.{Output}
 use Rattle.bt_lines.specs.calls.Putting.{FailsToAdd, Grown}
 use Rattle.bt_lines.specs.declared.fault.Fault.{Fault}
 use Rattle.bt_lines.specs.declared.fault.Kind.TheVariants.{TextBeforeHeader}
-use Rattle.bt_seq.proofs.lemmas.mask.steps.CountLemmas.{IsLow, decides_alike, held_on, own_low, text_masked}
+use Rattle.bt_seq.proofs.lemmas.mask.steps.CountLemmas.{IsLow, held_on, own_low, text_masked}
 use Rattle.bt_seq.proofs.lemmas.mask.bases.KnownLemmas.{never, with_header, with_plain}
 use Rattle.bt_seq.proofs.lemmas.laws.MaskPrefixLemmas.{decided_by_tags, masked_before}
 use Rattle.bt_seq.proofs.lemmas.mask.steps.NextLemmas.{decided_more, left_grows, named_more, none_own, undecided_header, undecided_next}
-use Rattle.bt_seq.proofs.lemmas.mask.steps.StandLemmas.{last_more, last_name_more, last_name_none, stands_at, unnamed_are, unnamed_untaken, wants_line}
+use Rattle.bt_seq.proofs.lemmas.mask.steps.StandLemmas.{last_more, last_name_more, last_name_none, stands_at, wants_line}
 use Rattle.bt_seq.proofs.lemmas.sam.TagLemmas.{own_tagged, tag_decides, tags_of}
 use Rattle.bt_seq.specs.calls.HeldMasks.{extent_of}
 use Rattle.bt_seq.specs.inside.mask.MaskInside.{AreInRange, Counts, KnowsNext, decided_up_to, last_name}
@@ -35,14 +35,11 @@ use Rattle.bt_seq.specs.declared.mask.mask_want.MaskWant.TheVariants.{Line, Bed,
 use Rattle.bt_seq.specs.declared.sam.extent.Extent.{Extent}
 
 pub neither : (a b c : Bool) → (a || (b || c)) ≡ false → (a ≡ false) × (b ≡ false)
-neither true b c e = absurd (never (sym e))
-neither false true c e = absurd (never (sym e))
-neither false false c e = (refl, refl)
+neither a b c e = grind arith
 
 -- a list that there is
 pub some_list : (o : Option (List (List ℕ))) → is_some o ≡ true → (l : List (List ℕ)) × (o ≡ Some l)
-some_list None e = absurd (never e)
-some_list (Some l) e = (l, refl)
+some_list o e = grind arith
 
 nothing_masked : (held : List Feature) → held ≡ [] → [] ≡ map extent_of held
 nothing_masked held e = sym (ap (λ (l : List Feature). map extent_of l) e)
@@ -57,12 +54,7 @@ module _ (taken : List Feature) (range : AreInRange taken) (line : TextLine) (pl
 
   held_untaken : (last : Option SequenceLine) (w : Bounds) → taken ≡ [] → w.held ≡ map extent_of (held_by last taken)
       → filter (λ (s : Extent). nat_lt w.bases s.stop) w.held ≡ map extent_of (held_for (next last) taken)
-  held_untaken None w none held =
-      ap (λ (l : List Extent). filter (λ (s : Extent). nat_lt w.bases s.stop) l) held
-      ∙ sym (ap (λ (rs : List Feature). map extent_of (held_for (next None) rs)) none)
-  held_untaken (Some l) w none held =
-      ap (λ (l : List Extent). filter (λ (s : Extent). nat_lt w.bases s.stop) l) (held ∙ ap (λ (rs : List Feature). map extent_of (held_for l rs)) none)
-      ∙ sym (ap (λ (rs : List Feature). map extent_of (held_for (next (Some l)) rs)) none)
+  held_untaken last w none held = grind (arith, nat_tests)
 
   undecided_tags : (l : SequenceLine) → decided l taken ≡ false → list_any (tag_decides (bases_up_to l)) (tags_of l.names taken) ≡ false
   undecided_tags l e = (or_parts (is_unnamed l.names) (list_any (tag_decides (bases_up_to l)) (tags_of l.names taken)) (sym (decided_by_tags l taken) ∙ e)).1
@@ -92,55 +84,37 @@ module _ (taken : List Feature) (range : AreInRange taken) (line : TextLine) (pl
   ]
 
 or_third : (a b c d : Bool) → (a ≡ false → b ≡ false → c ≡ d) → (a || (b || c)) ≡ (a || (b || d))
-or_third true b c d e = refl
-or_third false true c d e = refl
-or_third false false c d e = e refl refl
+or_third a b c d e = grind arith
 
 no_and : (a b : Bool) → a ≡ true → (not a && b) ≡ false
-no_and true b e = refl
-no_and false b e = absurd (never e)
+no_and a b e = grind arith
 
 -- the record ahead doesn't decide a header, and if it decides a line there is one
 header_ahead : (o : Option Feature) (taken : List Feature) (item : SequenceLine) → is_header item.text ≡ true
     → is_written_ahead o taken item ≡ false
-header_ahead None taken item e = refl
-header_ahead (Some r) taken item e = no_and (is_header item.text) (decided item (taken ++ r ∷ [])) e
+header_ahead o taken item e = grind (arith, nat_tests)
 
 decided_some : (o : Option Feature) (taken : List Feature) (item : SequenceLine) → is_written_ahead o taken item ≡ true
     → is_some o ≡ true
-decided_some None taken item e = e
-decided_some (Some r) taken item e = refl
+decided_some o taken item e = grind (arith, nat_tests)
 
 and_second : (a b : Bool) → (not a && b) ≡ true → b ≡ true
-and_second true b e = absurd (never e)
-and_second false b e = e
+and_second a b e = grind arith
 
 -- a line that is written at once while records may come is decided
 decided_at_once : (u : Bool) (o : Option Feature) (taken : List Feature) (item : SequenceLine)
     → is_unnamed item.names ≡ u → (u || is_written_ahead o taken item) ≡ true
     → decided item (taken ++ option_to_list o) ≡ true
-decided_at_once true o taken item unnamed e =
-    let records = taken ++ option_to_list o in
-    let decides = list_any (tag_decides (bases_up_to item)) (tags_of item.names records) in
-    decided_by_tags item records ∙ ap (λ b. b || decides) unnamed
-decided_at_once false None taken item is_named e = absurd (never e)
-decided_at_once false (Some r) taken item is_named e =
-    and_second (is_header item.text) (decided item (taken ++ r ∷ [])) e
+decided_at_once u o taken item unnamed e = grind (arith, nat_tests)
 
 or_rest : (a b : Bool) → (a || b) ≡ true → a ≡ false → b ≡ true
-or_rest true b e d = absurd (never (sym d))
-or_rest false b e d = e
+or_rest a b e d = grind arith
 
 -- whether it decides one more line of the sequence, by how far it decides them
 ahead_decides : (bases : ℕ) (left : Option (List (List ℕ))) (r : Feature) → r.start < limit
     → (left ≡ Some []) ⊎ (left ≡ None)
     → nat_le (min bases limit) (decided_up_to left r) ≡ block_decides bases left (r ∷ [])
-ahead_decides bases None r low which = grind (arith, nat_tests)
-ahead_decides bases (Some []) r low which = decides_alike bases (Some []) r low
-ahead_decides bases (Some (n ∷ ns)) r low which = elim which [
-  | inl own ↦ absurd (let apart : Some (n ∷ ns) ≡ Some [] = own in cc)
-  | inr none ↦ absurd (let apart : Some (n ∷ ns) ≡ None = none in cc)
-]
+ahead_decides bases left r low which = grind (arith, nat_tests)
 
 -- its block belongs to the last sequence, or to none
 ahead_left : (names : List (List ℕ)) (taken : List Feature) (r : Feature) (m : Matched) → KnowsNext false names taken (Some r) m
@@ -159,9 +133,7 @@ open_undecided item taken is_named open_at = elim open_at [
 ]
 
 not_strayed : (names : List (List ℕ)) (text : List ℕ) → may_stand names text ≡ not (is_unnamed names && nat_lt 0 (length text))
-not_strayed [] [] = refl
-not_strayed [] (byte ∷ bytes) = let some : nat_lt 0 (length (byte ∷ bytes)) ≡ true = grind (arith, nat_tests) in sym (ap not some)
-not_strayed (n ∷ ns) text = refl
+not_strayed names text = grind (arith, nat_tests)
 
 module _ (how : MaskHow) (full : Bool) (stage : MaskStage) (old : Masking) (s : MaskMovesTo how full stage old) (wants : old.want ≡ Line) where
   asked : (stage.waiting ≡ None) × (stage.lines_ended ≡ false)
@@ -197,8 +169,7 @@ module _ (how : MaskHow) (full : Bool) (stage : MaskStage) (old : Masking) (s : 
   going_known going = subst (λ (w : Option SequenceLine). KnowsNext (is_some w) names stage.taken stage.ahead old.matched) asked.0 (s.stands.inside.knows going)
 
   first_by : (u : Bool) → is_unnamed names ≡ u → (u ≡ false → is_some stage.ahead ≡ true) → is_some stage.ahead ≡ false → (names ≡ []) × (stage.taken ≡ [])
-  first_by true e ahead none = (unnamed_are names e, unnamed_untaken (line_given_last (given stage)) stage.taken open_at e)
-  first_by false e ahead none = absurd (never (sym none ∙ ahead refl))
+  first_by u e ahead none = grind arith
 
   first_header : stage.bed_ended ≡ false → is_some stage.ahead ≡ false → (names ≡ []) × (stage.taken ≡ [])
   first_header going none = first_by (is_unnamed names) refl (λ e. s.stands.inside.has_ahead (sym s.stands.want_is ∙ wants) going e) none
@@ -374,24 +345,24 @@ module _ (how : MaskHow) (full : Bool) (stage : MaskStage) (old : Masking) (s : 
     waiting_stands : stage.bed_ended ≡ false → is_unnamed item.names ≡ false
         → MaskMovesTo how full (record stage { waiting = Some item }) (record moved { waiting = Some (kept_line item); want = Bed })
     waiting_stands going is_named =
-        stands_at how full (record stage { waiting = Some item }) (record moved { waiting = Some (kept_line item); want = Bed }) (Some item) (last_more stage.written item) (record {
-          how_is = m.how_is;
-          full_is = m.full_is;
+        stands_at how full (record stage { waiting = Some item }) (record moved { waiting = Some (kept_line item); want = Bed }) (Some item) (last_more stage.written item) m.how_is m.full_is (record {
           waiting_is = refl;
           want_is = refl;
           bed_ended_is = m.bed_ended_is;
           waits = λ l e. let same : item ≡ l = cc in rw (← same) (record { lines = asked.1; bed = going; named = is_named; header = m.header });
-          counts = m.counts;
-          name_is = m.name_is;
           holds = λ e. m.holds;
           is_open = λ e. m.is_open;
-          is_decided = λ e. absurd (let apart : Some item ≡ None = e in cc);
           owned = m.owned;
-          in_range = s.stands.inside.in_range;
-          knows = λ e. m.waits_known going is_named;
-          has_ahead = λ e. absurd (let apart : Bed ≡ Line = e in cc);
-          ahead_in_range = s.stands.inside.ahead_in_range;
-          decided_to_is = λ e. absurd (let apart : Some item ≡ None = e in cc);
+          inside = record {
+            counts = m.counts;
+            name_is = m.name_is;
+            is_decided = λ e. absurd (let apart : Some item ≡ None = e in cc);
+            in_range = s.stands.inside.in_range;
+            knows = λ e. m.waits_known going is_named;
+            has_ahead = λ e. absurd (let apart : Bed ≡ Line = e in cc);
+            ahead_in_range = s.stands.inside.ahead_in_range;
+            decided_to_is = λ e. absurd (let apart : Some item ≡ None = e in cc);
+          };
         })
 
     abbrev written_stage : MaskStage
@@ -403,34 +374,32 @@ module _ (how : MaskHow) (full : Bool) (stage : MaskStage) (old : Masking) (s : 
         ∙ ap line_given_last (append-nil (stage.written ++ item ∷ [])) ∙ last_more stage.written item
 
     or_true : (a b c : Bool) → (a || (b || c)) ≡ true → a ≡ false → b ≡ false → c ≡ true
-    or_true true b c e d f = absurd (never (sym d))
-    or_true false true c e d f = absurd (never (sym f))
-    or_true false false c e d f = e
+    or_true a b c e d f = grind arith
 
     written_stands : is_written_at_once stage item ≡ true → MaskMovesTo how full written_stage (record moved { waiting = None; want = Line })
     written_stands now =
-        stands_at how full written_stage (record moved { waiting = None; want = Line }) (Some item) written_last (record {
-          how_is = m.how_is;
-          full_is = m.full_is;
+        stands_at how full written_stage (record moved { waiting = None; want = Line }) (Some item) written_last m.how_is m.full_is (record {
           waiting_is = sym (ap (λ (w : Option SequenceLine). option_map kept_line w) asked.0);
           want_is = sym (ap (λ (w : Option SequenceLine). want_of (is_some w) stage.lines_ended stage.bed_ended) asked.0 ∙ ap (λ b. want_of false b stage.bed_ended) asked.1);
           bed_ended_is = m.bed_ended_is;
           waits = λ l e. absurd (let apart : None ≡ Some l = sym asked.0 ∙ e in cc);
-          counts = m.counts;
-          name_is = m.name_is;
           holds = λ e. m.holds;
           is_open = λ e. m.is_open;
-          is_decided = λ n going.
-              let ahead = is_written_ahead stage.ahead stage.taken item in
-              decided_at_once (is_unnamed item.names) stage.ahead stage.taken item refl
-              (or_rest stage.bed_ended (is_unnamed item.names || ahead) now going);
           owned = m.owned;
-          in_range = s.stands.inside.in_range;
-          knows = λ going. rw asked.0 (m.written_known going now);
-          has_ahead = λ e going u. decided_some stage.ahead stage.taken item
-              (or_true stage.bed_ended (is_unnamed item.names) (is_written_ahead stage.ahead stage.taken item) now going u);
-          ahead_in_range = s.stands.inside.ahead_in_range;
-          decided_to_is = λ e going. m.written_to going now;
+          inside = record {
+            counts = m.counts;
+            name_is = m.name_is;
+            is_decided = λ n going.
+                let ahead = is_written_ahead stage.ahead stage.taken item in
+                decided_at_once (is_unnamed item.names) stage.ahead stage.taken item refl
+                (or_rest stage.bed_ended (is_unnamed item.names || ahead) now going);
+            in_range = s.stands.inside.in_range;
+            knows = λ going. rw asked.0 (m.written_known going now);
+            has_ahead = λ e going u. decided_some stage.ahead stage.taken item
+                (or_true stage.bed_ended (is_unnamed item.names) (is_written_ahead stage.ahead stage.taken item) now going u);
+            ahead_in_range = s.stands.inside.ahead_in_range;
+            decided_to_is = λ e going. m.written_to going now;
+          };
         })
 
     stands_with : (b : Bool) → is_written_at_once stage item ≡ b

@@ -2,12 +2,12 @@ use Rattle.std.proofs.Common.{◌≡◌, ◌∙◌, Bool, Ok, Result, ap, true, 
 use Rattle.std.proofs.lemmas.Result.{err_from_is_err_and}
 use Rattle.bt_lines.specs.declared.fault.Fault.{Fault}
 use Rattle.bt_seq.specs.calls.MaskState.{Masking}
-use Rattle.bt_seq.proofs.lemmas.mask.steps.AdvanceLemmas.{both_fail, both_more, nothing_both}
+use Rattle.bt_seq.proofs.lemmas.mask.steps.AdvanceLemmas.{both_fail, both_more, gave_none}
 use Rattle.bt_seq.proofs.mask.Mask.advance.Goals as goal
 
 pub loop-init : goal.loop-init
 loop-init g c = record {
-  gives = nothing_both g.C.Cursor.gives g.C.Cursor.line g.C.Cursor.has_ended g.met.C.Cursor.gives_none g.met.C.Cursor.gives_more g.met.C.Cursor.gives_same true
+  gives = gave_none g.C.Cursor.gives g.C.Cursor.line g.C.Cursor.has_ended g.met.C.Cursor.gives_none g.met.C.Cursor.gives_more g.met.C.Cursor.gives_same true
       c.args.self.now c.args.lines.now c.args.records.now c.args.out.now.output;
   idle = λ nothing. (refl, refl, refl, refl);
 }

@@ -1,5 +1,5 @@
 use Rattle.std.proofs.Common.{◌∙◌, sym, subst}
-use Rattle.bt_seq.proofs.lemmas.mask.steps.AdvanceLemmas.{line_shrinks, lines_both, nothing_both, record_both, record_shrinks}
+use Rattle.bt_seq.proofs.lemmas.mask.steps.AdvanceLemmas.{gave_none, line_shrinks, lines_both, record_shrinks}
 use Rattle.bt_seq.specs.calls.MaskAdvance.{GivesLines, StopsAt}
 use Rattle.bt_seq.specs.calls.MaskState.{Masking}
 use Rattle.bt_seq.specs.declared.mask.mask_want.MaskWant.{MaskWant}
@@ -21,9 +21,7 @@ returns-in-Line-clause-shrinks g c = λ e.
     line_shrinks g.C.Cursor.room c.args.self.now c.give_lines.new.self c.args.lines.now c.give_lines.new.lines c.args.records.now (c.give_lines.ensures.shrinks e)
 
 pub returns-in-Bed-clause-gives : goal.returns-in-Bed-clause-gives
-returns-in-Bed-clause-gives g c =
-    record_both g.C.Cursor.gives g.C.Cursor.line g.C.Cursor.has_ended g.met.C.Cursor.gives_none g.met.C.Cursor.gives_more g.met.C.Cursor.gives_same
-    c.args.self.now c.give_record.new.self c.args.lines.now c.args.records.now c.give_record.new.records c.args.out.now.output c.give_record.new.out.output c.give_record.result c.give_record.ensures.gives
+returns-in-Bed-clause-gives g c = c.give_record.ensures.gives c.args.lines.now
 
 pub returns-in-Bed-clause-stops : goal.returns-in-Bed-clause-stops
 returns-in-Bed-clause-stops g c = λ e.
@@ -36,5 +34,5 @@ returns-in-Bed-clause-shrinks g c = λ e.
 
 pub returns-in-Nothing-clause-gives : goal.returns-in-Nothing-clause-gives
 returns-in-Nothing-clause-gives g c =
-    nothing_both g.C.Cursor.gives g.C.Cursor.line g.C.Cursor.has_ended g.met.C.Cursor.gives_none g.met.C.Cursor.gives_more g.met.C.Cursor.gives_same _
+    gave_none g.C.Cursor.gives g.C.Cursor.line g.C.Cursor.has_ended g.met.C.Cursor.gives_none g.met.C.Cursor.gives_more g.met.C.Cursor.gives_same _
     c.args.self.now c.args.lines.now c.args.records.now c.args.out.now.output
