@@ -1,6 +1,6 @@
 //! What a masking engine keeps, and its steps.
 
-ghost use Rattle.std.specs.Prelude.{◌≡◌, ◌<◌, ◌&&◌, None, Some, [], OnOk, IfErr, IsErr, IsOk, cond, false, not, true, is_some, length, nat_eq, nat_le, nat_lt, if◌then◌else◌};
+ghost use Rattle.std.specs.Prelude.{◌≡◌, ◌<◌, ◌&&◌, None, Some, [], OnErr, OnOk, IfErr, IsErr, IsOk, cond, false, not, true, is_some, length, nat_eq, nat_le, nat_lt, if◌then◌else◌};
 ghost use Rattle.bt_lines.specs.model.Fault.{no_memory};
 ghost use Rattle.bt_lines.specs.calls.Names.{fault_value};
 ghost use Rattle.bt_bed.specs.calls.Bed.{feature_lent};
@@ -163,8 +163,10 @@ impl MaskState {
         bed: &BedRef<'_>,
         out: &mut Out<K>,
     ) -> Result<Taken, Fault>
-        ensures { (line : Waiting) → self.old.waiting ≡ Some line
+        ensures takes { (line : Waiting) → self.old.waiting ≡ Some line
             → TakesBed self.old line (feature_lent bed.now) out.old.output result self.new out.new.output }
+        ensures stops { OnErr result (self.new.want ≡ MaskWant.Nothing) }
+        ensures leaves { result ≡ Ok Taken.No → self.new.want ≡ MaskWant.Line }
     {
         let owner = self.matching.owner(bed.chrom);
         if self.is_decided(owner, bed.start) {
@@ -212,6 +214,7 @@ impl MaskState {
         ensures none_waits { self.old.waiting ≡ None → IsOk result
             × (self.new ≡ record self.old { bed_ended = true; want = MaskWant.Nothing })
             × (out.new.output ≡ out.old.output) }
+        ensures stops { OnErr result (self.new.want ≡ MaskWant.Nothing) }
     {
         self.bed_ended = true;
         if self.phase.waits() {
@@ -372,8 +375,10 @@ impl MaskState {
 
     // Writes the line that waits.
     fn write<K: Sink>(&mut self, out: &mut Out<K>) -> Result<(), Fault>
-        ensures { (line : Waiting) → self.old.waiting ≡ Some line
+        ensures writes { (line : Waiting) → self.old.waiting ≡ Some line
             → Writes self.old line out.old.output result self.new out.new.output }
+        ensures stops { OnErr result (self.new.want ≡ MaskWant.Nothing) }
+        ensures goes_on { OnOk result (self.new.want ≡ MaskWant.Line) }
     {
         self.window.mask(self.text.as_mut_slice(), self.how);
         let written = put_text(self.text.as_slice(), self.ending, out);

@@ -55,6 +55,7 @@ fn is_skipped(text: &[u8]) -> bool
 }
 
 // What the columns say.
+#[tactic(auto, unfolding(crate::specs::model::Alignment::fields_say))]
 #[inline(always)]
 fn alignment(fields: Fields<'_>) -> Result<Option<SamRef<'_>>, Kind>
     ensures { alignment_seen result ≡ fields_say (Some (fields_lent fields.entry)) }

@@ -1,6 +1,6 @@
 -- The blocks of an alignment, as they are found in one pass over its operations.
 use Rattle.std.proofs.Common.{◌≡◌, ℕ, ◌+◌, ◌≤◌, Bool, true, false, List, [], ◌∷◌, ◌++◌, length, Option, Some, None, refl, sym, ap, ◌∙◌, arith, cond, append-nil, add-zero, append_assoc}
-use Rattle.std.specs.Prelude.{flat_map, nat_le, nat_lt, not}
+use Rattle.std.specs.Prelude.{flat_map, nat_lt, not}
 use Rattle.std.specs.List.{list_all}
 use Rattle.std.proofs.lemmas.Bool.{false≢true, not-true, and_parts}
 use Rattle.std.proofs.lemmas.Bool.Decides.{nat_tests}
@@ -90,9 +90,6 @@ pub blocks_open_in : (start : ℕ) (operations : Option (List Operation)) → bl
 blocks_open_in start None = refl
 blocks_open_in start (Some operations) = blocks_open start operations
 
-le_to : (n m : ℕ) → n ≤ m → nat_le n m ≡ true
-le_to n m e = grind (arith, nat_tests)
-
 -- an N ends the block
 module _ (start stop : ℕ) (operation : Operation) where
   pub block_ends : (more : Option (List Operation)) → is_skip operation ≡ true → FitBehind stop (with_operation (Some operation) more)
@@ -119,10 +116,7 @@ is_skip_by operation e = grind (arith, nat_tests)
 -- an empty text has operations, none of them
 pub nothing_fits : (start : ℕ) → start ≤ 999999999999 → FitBehind start (operations_in [])
 unfolding operations_in
-nothing_fits start small = le_to (start + 0) 999999999999 (omega arith)
-
-second : (b : Bool) (x y : List Span) → b ≡ false → cond b x y ≡ y
-second b x y e = grind arith
+nothing_fits start small = grind (arith, nat_tests)
 
 -- operations without an N go on to their end
 open_unskipped : (start stop : ℕ) (operations : List Operation) → list_all (λ operation. not (is_skip operation)) operations ≡ true → open_blocks start stop operations ≡ with_bases start (stop + reference_length operations)
@@ -131,7 +125,7 @@ open_unskipped start stop (operation ∷ operations) all =
     let p = and_parts (not (is_skip operation)) (list_all (λ o. not (is_skip o)) operations) all in
     let goes : is_skip operation ≡ false = not-true (is_skip operation) p.0 in
     let sum : stop + covered_by operation + reference_length operations ≡ stop + reference_length (operation ∷ operations) = omega (arith, sum_by-cons covered_by operation operations) in
-    second (is_skip operation) (with_bases start stop ++ open_blocks (stop + operation.length) (stop + operation.length) operations) (open_blocks start (stop + covered_by operation) operations) goes
+    ap (λ b. cond b (with_bases start stop ++ open_blocks (stop + operation.length) (stop + operation.length) operations) (open_blocks start (stop + covered_by operation) operations)) goes
     ∙ open_unskipped start (stop + covered_by operation) operations p.1 ∙ ap (with_bases start) sum
 
 pub one_block : unskipped_are_one_block

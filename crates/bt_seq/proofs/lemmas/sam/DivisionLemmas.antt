@@ -80,19 +80,9 @@ lettered : (text : List ℕ) (parts : List Part) → parts_of text ≡ Some part
 lettered [] parts e = let is : [] ≡ parts = cc in ap letters (sym is)
 lettered (byte ∷ bytes) parts e = lettered_by byte bytes (is_letter byte) parts refl e (λ others h. lettered bytes others h)
 
--- if each has an operation, each begins with a number
-number_by : (b : Bool) (n : ℕ) → cond b (Some n) None ≡ None → b ≡ false
-number_by b n e = grind arith
-
 is_number_by : (b : Bool) (digits : List ℕ) → is_number digits ≡ b → (value_of digits ≡ None → ⊥) → b ≡ true
 unfolding value_of
 is_number_by b digits is h = grind arith
-
-all_by : (number letter rest : Bool) → number ≡ true → letter ≡ true → rest ≡ true → ((number && letter) && rest) ≡ true
-all_by number letter rest p q r = rw (p, q, r) refl
-
-split_letters : (part : Part) (parts : List Part) → letters (part ∷ parts) ≡ true → (is_letter part.letter ≡ true) × (letters parts ≡ true)
-split_letters part parts e = and_parts (is_letter part.letter) (letters parts) e
 
 value_there : (part : Part) (value : Option ℕ) (rest : Option (List Operation)) (operations : List Operation) → with_operation (option_map (λ length. record { length = length; letter = part.letter }) value) rest ≡ Some operations
     → value ≡ None → ⊥
@@ -104,10 +94,10 @@ rest_there first rest operations e = grind arith
 each_is : (parts : List Part) (operations : List Operation) → each_operation parts ≡ Some operations → letters parts ≡ true → list_all is_operation parts ≡ true
 each_is [] operations e h = refl
 each_is (part ∷ parts) operations e h =
-    let l = split_letters part parts h in
+    let l = and_parts (is_letter part.letter) (letters parts) h in
     let rest = rest_there (operation_of part) (each_operation parts) operations e in
     let number = is_number_by (is_number part.digits) part.digits refl (λ none. value_there part (value_of part.digits) (each_operation parts) operations e none) in
-    all_by (is_number part.digits) (is_letter part.letter) (list_all is_operation parts) number l.0 (each_is parts rest.0 rest.1 l.1)
+    rw (number, l.0, each_is parts rest.0 rest.1 l.1) refl
 
 divided_by : (text : List ℕ) (operations : List Operation) (found : Option (List Part)) → parts_of text ≡ found → operations_of_parts found ≡ Some operations
     → (parts : List Part) × (Divides text parts × (each_operation parts ≡ Some operations))

@@ -3,7 +3,7 @@ use Rattle.std.proofs.Common.{◌≡◌, ℕ, ◌+◌, ◌-◌, ◌≤◌, zero,
 use Rattle.std.specs.List.{list_any}
 use Rattle.std.proofs.lemmas.Bool.Decides.{nat_tests}
 use Rattle.std.proofs.lemmas.List.Folds.{list_any-append}
-use Rattle.bt_seq.specs.model.MaskHow.{is_upper_case, masked_byte}
+use Rattle.bt_seq.specs.model.MaskHow.{masked_byte}
 use Rattle.bt_seq.specs.inside.mask.MaskedBases.{has_position, masked_in}
 use Rattle.bt_seq.specs.declared.mask.mask_how.MaskHow.{MaskHow}
 use Rattle.bt_seq.specs.declared.sam.extent.Extent.{Extent}
@@ -12,13 +12,6 @@ use Rattle.bt_seq.specs.declared.sam.extent.Extent.{Extent}
 pub none_masked : (how : MaskHow) (position : ℕ) (bases : List ℕ) → bases ≡ masked_in how [] position bases
 none_masked how position [] = refl
 none_masked how position (base ∷ bases) = ap (λ bs. base ∷ bs) (none_masked how (suc position) bases)
-
-soft_twice : (base : ℕ) (t : Bool) → is_upper_case base ≡ t → cond (is_upper_case (cond t (base + 32) base)) (cond t (base + 32) base + 32) (cond t (base + 32) base) ≡ cond t (base + 32) base
-soft_twice base t e = grind arith
-
--- a base that was masked stays
-masked_twice : (how : MaskHow) (base : ℕ) → masked_byte how (masked_byte how base) ≡ masked_byte how base
-masked_twice how base = grind arith
 
 by_both : (how : MaskHow) (base : ℕ) (b c : Bool) → cond (b || c) (masked_byte how base) base ≡ cond c (masked_byte how (cond b (masked_byte how base) base)) (cond b (masked_byte how base) base)
 by_both how base b c = grind arith

@@ -2,16 +2,13 @@
 use Rattle.std.proofs.Common.{◌≡◌, ℕ, Bool, true, false, List, Option, Some, None, Result, Ok, Err, refl, cond, subst, arith}
 use Rattle.bt_lines.specs.model.Lines.{pieces}
 use Rattle.bt_lines.specs.declared.fault.Kind.{Kind}
-use Rattle.bt_lines.specs.declared.fault.Kind.TheVariants.{TooFewColumns, StopTooLarge}
+use Rattle.bt_lines.specs.declared.fault.Kind.TheVariants.{TooFewColumns}
 use Rattle.bt_seq.specs.model.Alignment.{Alignment, Fields, alignment_of, columns_say, fields_of, fields_say, is_skipped, value_up_to}
 use Rattle.bt_seq.specs.model.Cigar.{length_of}
 use Rattle.bt_seq.specs.model.SamKind.{is_sam_kind, sam_kinds_are_of_lines, wrong_have_sam_kinds}
 
 same_kind : {T : Type 0} (was : Result T Kind) (a kind : Kind) → was ≡ Err a → was ≡ Err kind → is_sam_kind a ≡ true → is_sam_kind kind ≡ true
 same_kind was a kind p q placed = let is : a ≡ kind = cc in subst (λ k. is_sam_kind k ≡ true) is placed
-
-of_tests : (b c : Bool) (a : Alignment) (kind : Kind) → cond b (Ok None) (cond c (Err StopTooLarge) (Ok (Some a))) ≡ Err kind → is_sam_kind kind ≡ true
-of_tests b c a kind e = grind arith
 
 of_columns : (f : Fields) (flag : Option ℕ) (chrom : List ℕ) (p q s : Option ℕ) (kind : Kind) → columns_say f flag chrom p q s ≡ Err kind → is_sam_kind kind ≡ true
 of_columns f flag chrom p q s kind e = grind arith

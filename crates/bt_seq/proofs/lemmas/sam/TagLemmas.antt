@@ -89,10 +89,6 @@ module _ {A : Type 0} (chrom : A → List ℕ) where
   pub tags_all : (left : Option (List (List ℕ))) (xs : List A) → tags left None xs ≡ spread (owned_from left (blocks xs))
   tags_all left xs = tags_on left None xs ∙ all_tags left (blocks xs)
 
-  one_more : (x : A) (bs : List (Block A)) (t : Bool) (b : Block A) → AllHaveOne (b ∷ bs)
-      → AllHaveOne (cond t (record { chrom = b.chrom; items = x ∷ b.items } ∷ bs) (record { chrom = chrom x; items = x ∷ [] } ∷ b ∷ bs))
-  one_more x bs t b h = grind arith
-
   with_one : (x : A) (bs : List (Block A)) → AllHaveOne bs → AllHaveOne (block_with (chrom x) x bs)
   with_one x bs h = grind arith
 

@@ -55,24 +55,14 @@ wrote_kept {A} r old kept new line out grown is writes =
     kept_by (Ok done) w = w
     kept_by (Err fault) w = (w.0, inl w.1)
 
-or_last : (a b c : Bool) → c ≡ true → (a || (b || c)) ≡ true
-or_last a b c e = grind arith
-
 or_middle : (a b c : Bool) → b ≡ false → (a || (not b || c)) ≡ true
 or_middle a b c e = grind arith
-
-written_now : {A : Type 0} (r : Result A Fault) (old new : Masking) (number : ℕ) (line : Waiting) (out grown : Output)
-    → is_stray old line.text ≡ false → writes_at_once (moved_to old line.text) line.text ≡ true
-    → WritesGiven (moved_to old line.text) line out r new grown → TakesLine old number line out r new grown
-written_now r old new number line out grown fine now w = grind arith
 
 -- a line was written as soon as it was given
 pub writes_line : {A : Type 0} (r : Result A Fault) (old moved new : Masking) (number : ℕ) (line : Waiting) (out grown : Output)
     → (moved ≡ moved_to old line.text) × (is_stray old line.text ≡ false) → writes_at_once moved line.text ≡ true
     → WritesGiven moved line out r new grown → TakesLine old number line out r new grown
-writes_line r old moved new number line out grown m now writes =
-    written_now r old new number line out grown m.1 (sym (ap (λ (s : Masking). writes_at_once s line.text) m.0) ∙ now)
-    (subst (λ (s : Masking). WritesGiven s line out r new grown) m.0 writes)
+writes_line r old moved new number line out grown m now writes = grind arith
 
 waits_now : {A : Type 0} (r : Result A Fault) (old new : Masking) (number : ℕ) (line : Waiting) (out : Output)
     → is_stray old line.text ≡ false → writes_at_once (moved_to old line.text) line.text ≡ false

@@ -1,13 +1,12 @@
 -- Lemmas on a masking engine that is given a record, or the end of the records.
 use Rattle.std.proofs.Common.{◌≡◌, ℕ, ◌≤◌, ◌<◌, min, Bool, true, false, cond, ◌&&◌, ◌||◌, nat_le, nat_lt, List, [], ◌∷◌, ◌++◌, map, filter, Option, Some, None, Result, Ok, Err, refl, sym, ap, ◌∙◌, subst, append-nil, inl, inr, ◌⊎◌, arith}
-use Rattle.std.specs.Prelude.{IsOk, OnErr, is_some, option_map, option_to_list}
+use Rattle.std.specs.Prelude.{is_some, option_map, option_to_list}
 use Rattle.std.proofs.lemmas.Bool.Decides.{nat_tests}
 use Rattle.std.proofs.lemmas.List.{map-append}
 use Rattle.std.proofs.lemmas.List.Elements.{filter-append}
 use Rattle.bt_bed.specs.model.feature.Feature.{Feature}
 use Rattle.bt_bed.specs.model.input.GoodBlocks.{AreInBlocks}
 use Rattle.bt_bed.specs.model.feature.LineKind.{fault_at_line}
-use Rattle.bt_lines.specs.model.Lines.{end_bytes}
 use Rattle.bt_lines.specs.calls.Names.{fault_value}
 use Rattle.bt_lines.specs.model.Number.{max_number}
 use Rattle.bt_lines.specs.calls.Output.{Output}
@@ -15,25 +14,25 @@ use Rattle.bt_lines.specs.calls.Putting.{FailsToAdd, Grown}
 use Rattle.bt_lines.specs.declared.fault.Fault.{Fault}
 use Rattle.bt_lines.specs.declared.fault.Input.TheVariants.{Second}
 use Rattle.bt_lines.specs.declared.fault.Kind.TheVariants.{NoSequence}
-use Rattle.bt_seq.proofs.lemmas.mask.steps.CountLemmas.{decides_alike, range_more, text_masked}
+use Rattle.bt_seq.proofs.lemmas.mask.steps.CountLemmas.{decides_alike, range_more, line_masked}
 use Rattle.bt_seq.proofs.lemmas.mask.bases.KnownLemmas.{MayTake, never, next_can_be, nobody_left, none_ahead, own_ahead, owner_next, take_next}
 use Rattle.bt_seq.proofs.lemmas.laws.MaskPrefixLemmas.{blocks_front, decided_stays, held_before, masked_before}
+use Rattle.bt_seq.proofs.lemmas.mask.steps.LineStepLemmas.{open_undecided}
 use Rattle.bt_seq.proofs.lemmas.mask.steps.NextLemmas.{decided_more, own_more}
 use Rattle.bt_seq.proofs.lemmas.mask.steps.StandLemmas.{last_waits, stands_at, wants_bed}
 use Rattle.bt_seq.specs.calls.HeldMasks.{extent_of}
-use Rattle.bt_seq.specs.calls.Matching.{owner_by, Matched, begins_own, is_it, matched_with, owner_of}
+use Rattle.bt_seq.specs.calls.Matching.{owner_by, Matched, matched_with, owner_of}
 use Rattle.bt_seq.specs.inside.mask.MaskInside.{Counts, IsDecided, KnowsLast, KnowsNone, decided_up_to}
 use Rattle.bt_seq.specs.calls.MaskStage.{IsNext, MaskStage, given, held_by, line_given_last, reached, want_of, with_bed_ended, with_decided, with_record}
 use Rattle.bt_seq.specs.calls.MaskStanding.{MaskMovesTo, StandsAfter, Waits, kept_line}
 use Rattle.bt_seq.specs.calls.MaskSteps.{EndsRecords, GivesBed, HasSequence, LacksSequence, WritesLine}
 use Rattle.bt_seq.specs.model.Masked.{decided, held_for, masked_line}
-use Rattle.bt_seq.specs.calls.MaskState.{Masking, TakesBed, Waiting, Writes, decides, decides_by, decides_up_to, has_owner, holding, holds, holds_by, line_bytes, with_owner, with_extent}
+use Rattle.bt_seq.specs.calls.MaskState.{Masking, TakesBed, Writes, decides, decides_by, decides_up_to, has_owner, holding, holds, holds_by, line_bytes, with_owner, with_extent}
 use Rattle.bt_seq.specs.model.Owners.{block_decides, items_if_last, left_after, own_records}
 use Rattle.bt_seq.specs.model.Sequences.{SequenceLine, bases_up_to}
-use Rattle.bt_seq.specs.inside.mask.MaskedBases.{masked_in}
 use Rattle.bt_seq.specs.inside.mask.Window.{Bounds, limit}
 use Rattle.bt_seq.specs.declared.mask.mask_how.MaskHow.{MaskHow}
-use Rattle.bt_seq.specs.declared.mask.mask_want.MaskWant.TheVariants.{Line, Bed, Nothing}
+use Rattle.bt_seq.specs.declared.mask.mask_want.MaskWant.TheVariants.{Line, Bed}
 use Rattle.bt_bed.specs.declared.record.taken.Taken.{Taken}
 use Rattle.bt_bed.specs.declared.record.taken.Taken.TheVariants.{Yes, No}
 use Rattle.bt_seq.specs.declared.mask.matching.Owner.TheVariants.{Nobody}
@@ -42,11 +41,8 @@ use Rattle.bt_seq.specs.declared.sam.extent.Extent.{Extent}
 extent_counts : (last : Option SequenceLine) (w : Bounds) (b : Bool) (start stop : ℕ) → Counts last w → Counts last (with_extent b w start stop)
 extent_counts last w b start stop c = grind arith
 
-name_by : (m : Matched) (it b : Bool) → (cond it m (cond b (record { name = m.name; last = m.name; own = true }) m)).name ≡ m.name
-name_by m it b = grind arith
-
 name_same : (m : Matched) (chrom : List ℕ) → (matched_with m chrom).name ≡ m.name
-name_same m chrom = name_by m (is_it m.last chrom) (begins_own m chrom)
+name_same m chrom = grind arith
 
 module _ (line : SequenceLine) (r : Feature) (range : r.stop ≤ max_number) where
   abbrev reaches : Feature → Bool
@@ -71,9 +67,6 @@ module _ (line : SequenceLine) (r : Feature) (range : r.stop ≤ max_number) whe
     extent_more None e = absurd (never (sym e))
     extent_more (Some []) e = extent_by (nat_lt w.before r.stop) (reaches r) (agrees e)
     extent_more (Some (n ∷ ns)) e = sym (append-nil w.held)
-
-    one_by : (h t : Bool) → h ≡ t → h ≡ true → cond t (r ∷ []) [] ≡ r ∷ []
-    one_by h t e d = grind arith
 
     hold_item : (left : Option (List (List ℕ))) → block_decides (bases_up_to line) left (r ∷ []) ≡ false → holds_by (owner_by left) w r ≡ true → filter reaches (items_if_last left (r ∷ [])) ≡ r ∷ []
     hold_item left e d = grind (arith, nat_tests)
@@ -104,19 +97,11 @@ module _ (how : MaskHow) (full : Bool) (stage : MaskStage) (line : SequenceLine)
   kept_is = stands.stands.waiting_is ∙ ap (λ (w : Option SequenceLine). option_map kept_line w) waits
 
   undecided_yet : decided line stage.taken ≡ false
-  undecided_yet = elim (at_last.is_open as_waits.lines) [
-    | inl none ↦ ap (λ (rs : List Feature). decided line rs) none ∙ ap (λ b. b || false) as_waits.named
-    | inr undecided ↦ undecided
-  ]
+  undecided_yet = open_undecided line stage.taken as_waits.named (at_last.is_open as_waits.lines)
 
   bytes_are : line_bytes old (kept_line line) ≡ masked_line how stage.taken line
   bytes_are =
-      ap (λ (t : List ℕ). t ++ end_bytes line.ending)
-      (ap (λ (h : MaskHow). masked_in h old.window.held old.window.before line.text) stands.how_is
-      ∙ ap (λ (l : List Extent). masked_in how l old.window.before line.text)
-      (at_last.holds (inl as_waits.lines))
-      ∙ ap (λ b. masked_in how (map extent_of (held_for line stage.taken)) b line.text) at_last.inside.counts.before
-      ∙ text_masked how line stage.taken at_last.inside.in_range as_waits.header)
+      line_masked how line stage.taken at_last.inside.in_range as_waits.header old stands.how_is (at_last.holds (inl as_waits.lines)) at_last.inside.counts.before
 
   given_last : line_given_last ((stage.written ++ option_to_list stage.waiting) ++ []) ≡ Some line
   given_last = ap line_given_last (append-nil (stage.written ++ option_to_list stage.waiting)) ∙ last_waits stage line waits
@@ -366,32 +351,3 @@ module _ (how : MaskHow) (full : Bool) (stage : MaskStage) (none : stage.waiting
       is = is;
       same_output = refl;
     }
-
--- after a fault nothing is wanted
-stops_at : (old new : Masking) (l : Waiting) (r : Feature) (out grown : Output) (answer : Result Taken Fault) → TakesBed old l r out answer new grown → OnErr answer (new.want ≡ Nothing)
-stops_at old new l r out grown answer t = grind arith
-
-pub stops_bed : (old new : Masking) (r : Feature) (out grown : Output) (answer : Result Taken Fault) (w : Option Waiting) → is_some w ≡ true
-    → ((l : Waiting) → w ≡ Some l → TakesBed old l r out answer new grown) → OnErr answer (new.want ≡ Nothing)
-stops_bed old new r out grown answer None e t = absurd (never e)
-stops_bed old new r out grown answer (Some l) e t = stops_at old new l r out grown answer (t l refl)
-
-leaves_at : (old new : Masking) (l : Waiting) (r : Feature) (out grown : Output) (answer : Result Taken Fault) → TakesBed old l r out answer new grown → answer ≡ Ok No → new.want ≡ Line
-leaves_at old new l r out grown answer t e = grind arith
-
--- a line is wanted after a record that was left
-pub leaves_bed : (old new : Masking) (r : Feature) (out grown : Output) (answer : Result Taken Fault) (w : Option Waiting) → is_some w ≡ true
-    → ((l : Waiting) → w ≡ Some l → TakesBed old l r out answer new grown) → answer ≡ Ok No → new.want ≡ Line
-leaves_bed old new r out grown answer None e t is = absurd (never e)
-leaves_bed old new r out grown answer (Some l) e t is = leaves_at old new l r out grown answer (t l refl) is
-
-stops_writing : {A : Type 0} (old new : Masking) (l : Waiting) (out grown : Output) (answer : Result A Fault) → Writes old l out answer new grown → OnErr answer (new.want ≡ Nothing)
-stops_writing old new l out grown answer t = grind arith
-
-never_stops : {A : Type 0} (new : Masking) (answer : Result A Fault) → IsOk answer → OnErr answer (new.want ≡ Nothing)
-never_stops new answer ok = grind arith
-
-pub stops_end : {A : Type 0} (old new : Masking) (out grown : Output) (answer : Result A Fault) (w : Option Waiting)
-    → ((l : Waiting) → w ≡ Some l → Writes old l out answer new grown) → (w ≡ None → IsOk answer) → OnErr answer (new.want ≡ Nothing)
-stops_end old new out grown answer None t ok = never_stops new answer (ok refl)
-stops_end old new out grown answer (Some l) t ok = stops_writing old new l out grown answer (t l refl)

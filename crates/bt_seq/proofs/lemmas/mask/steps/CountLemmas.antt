@@ -10,11 +10,13 @@ use Rattle.bt_seq.proofs.lemmas.laws.MaskPrefixLemmas.{chrom_of}
 use Rattle.bt_seq.proofs.lemmas.sam.ExtentLemmas.{none_masked}
 use Rattle.bt_seq.proofs.lemmas.sam.TagLemmas.{next_left, own_in, own_tagged, tag_decides, tags}
 use Rattle.bt_seq.specs.calls.HeldMasks.{extent_of}
+use Rattle.bt_lines.specs.model.Lines.{end_bytes}
+use Rattle.bt_seq.specs.calls.MaskStanding.{kept_line}
 use Rattle.bt_seq.specs.calls.Matching.{owner_by}
 use Rattle.bt_seq.specs.model.MaskHow.{masked_byte}
 use Rattle.bt_seq.specs.inside.mask.MaskInside.{AreInRange}
-use Rattle.bt_seq.specs.model.Masked.{held_for, masked_from, masked_text}
-use Rattle.bt_seq.specs.calls.MaskState.{decides_by}
+use Rattle.bt_seq.specs.model.Masked.{held_for, masked_from, masked_line, masked_text}
+use Rattle.bt_seq.specs.calls.MaskState.{Masking, decides_by, line_bytes}
 use Rattle.bt_seq.specs.model.Owners.{block_decides, items_if_last, own_records}
 use Rattle.bt_seq.specs.model.Sequences.{SequenceLine, bases_up_to, is_header}
 use Rattle.bt_seq.specs.inside.mask.MaskedBases.{has_position, masked_in}
@@ -44,9 +46,6 @@ abbrev pub IsLow : ℕ → Feature → Type 0
 IsLow low r = (r.start < low) × (r.stop ≤ max_number)
 
 module _ (low : ℕ) where
-  lt_false : (start : ℕ) → (nat_le low start || false) ≡ false → start < low
-  lt_false start e = grind (arith, nat_tests)
-
   item_low : (left : Option (List (List ℕ))) (r : Feature) → block_decides low left (r ∷ []) ≡ false → r.stop ≤ max_number → AllByRecursion (IsLow low) (items_if_last left (r ∷ []))
   item_low left r e h = grind (arith, nat_tests)
 
@@ -68,10 +67,6 @@ module _ (first low high : ℕ) (up : first ≤ low) (further : low ≤ high) wh
 
   abbrev goes_past : Extent → Bool
   goes_past s = nat_lt (min low limit) s.stop
-
-  held_at : (r : Feature) (old new : List Feature) (q w : Bool) → q ≡ w → filter goes_past (map extent_of old) ≡ map extent_of new
-      → cond q (extent_of r ∷ filter goes_past (map extent_of old)) (filter goes_past (map extent_of old)) ≡ map extent_of (cond w (r ∷ new) new)
-  held_at r old new q w e rest = grind arith
 
   held_if : (r : Feature) (old new : List Feature) (p w : Bool) → (p && nat_lt (min low limit) r.stop) ≡ w → filter goes_past (map extent_of old) ≡ map extent_of new
       → filter goes_past (map extent_of (cond p (r ∷ old) old)) ≡ map extent_of (cond w (r ∷ new) new)
@@ -144,6 +139,11 @@ module _ (how : MaskHow) (line : SequenceLine) (rs : List Feature) (range : AreI
   -- what is held masks the line as all records do
   pub text_masked : (is_header line.text ≡ true → line.before ≡ 0) → masked_in how (map extent_of (held_for line rs)) (min line.before limit) line.text ≡ masked_text how rs line
   text_masked header = text_by (is_header line.text) refl header
+
+  -- so what is written of it are its bytes
+  pub line_masked : (is_header line.text ≡ true → line.before ≡ 0) → (m : Masking) → m.how ≡ how → m.window.held ≡ map extent_of (held_for line rs) → m.window.before ≡ min line.before limit
+      → line_bytes m (kept_line line) ≡ masked_line how rs line
+  line_masked header m same_how held before = ap (λ t. t ++ end_bytes line.ending) (rw (same_how, held, before) (text_masked header))
 
 -- whether a record decides a line, by the bases as they are counted
 pub decides_alike : (bases : ℕ) (left : Option (List (List ℕ))) (r : Feature) → r.start < limit → decides_by (owner_by left) (min bases limit) r.start ≡ block_decides bases left (r ∷ [])

@@ -4,15 +4,15 @@ use Rattle.std.specs.List.{AllByRecursion, list_any}
 use Rattle.std.specs.Prelude.{is_none, is_some, option_map, option_to_list}
 use Rattle.std.proofs.lemmas.Bool.Decides.{nat_tests}
 use Rattle.std.proofs.lemmas.List.{length-map}
-use Rattle.std.proofs.lemmas.Bool.{not-true, not-false, or_parts}
+use Rattle.std.proofs.lemmas.Bool.{cases_Bool, not-true, not-false, or_parts}
 use Rattle.bt_bed.specs.model.feature.Feature.{Feature}
-use Rattle.bt_lines.specs.model.Lines.{TextLine, end_bytes}
+use Rattle.bt_lines.specs.model.Lines.{TextLine}
 use Rattle.bt_lines.specs.calls.Names.{fault_value}
 use Rattle.bt_lines.specs.calls.Output.{Output}
 use Rattle.bt_lines.specs.calls.Putting.{FailsToAdd, Grown}
 use Rattle.bt_lines.specs.declared.fault.Fault.{Fault}
 use Rattle.bt_lines.specs.declared.fault.Kind.TheVariants.{TextBeforeHeader}
-use Rattle.bt_seq.proofs.lemmas.mask.steps.CountLemmas.{IsLow, held_on, own_low, text_masked}
+use Rattle.bt_seq.proofs.lemmas.mask.steps.CountLemmas.{IsLow, held_on, own_low, line_masked}
 use Rattle.bt_seq.proofs.lemmas.mask.bases.KnownLemmas.{never, with_header, with_plain}
 use Rattle.bt_seq.proofs.lemmas.laws.MaskPrefixLemmas.{decided_by_tags, masked_before}
 use Rattle.bt_seq.proofs.lemmas.mask.steps.NextLemmas.{decided_more, left_grows, named_more, none_own, undecided_header, undecided_next}
@@ -28,7 +28,6 @@ use Rattle.bt_seq.specs.calls.MaskState.{Masking, TakesLine, Waiting, bytes_at_o
 use Rattle.bt_seq.specs.calls.Matching.{Matched, named}
 use Rattle.bt_seq.specs.model.Owners.{block_decides, left_after, own_records}
 use Rattle.bt_seq.specs.model.Sequences.{SequenceLine, bases_in, bases_up_to, header_behind, is_header, line_behind, line_says, may_stand, name_in}
-use Rattle.bt_seq.specs.inside.mask.MaskedBases.{masked_in}
 use Rattle.bt_seq.specs.inside.mask.Window.{Bounds, gone_on, limit, no_bases}
 use Rattle.bt_seq.specs.declared.mask.mask_how.MaskHow.{MaskHow}
 use Rattle.bt_seq.specs.declared.mask.mask_want.MaskWant.TheVariants.{Line, Bed, Nothing}
@@ -40,12 +39,6 @@ neither a b c e = grind arith
 -- a list that there is
 pub some_list : (o : Option (List (List ℕ))) → is_some o ≡ true → (l : List (List ℕ)) × (o ≡ Some l)
 some_list o e = grind arith
-
-nothing_masked : (held : List Feature) → held ≡ [] → [] ≡ map extent_of held
-nothing_masked held e = sym (ap (λ (l : List Feature). map extent_of l) e)
-
-no_own : (p : Feature → Bool) (own : List Feature) → own ≡ [] → filter p own ≡ []
-no_own p own e = ap (filter p) e
 
 -- what the next line of a sequence goes on to hold
 module _ (taken : List Feature) (range : AreInRange taken) (line : TextLine) (plain : is_header line.text ≡ false) where
@@ -86,9 +79,6 @@ module _ (taken : List Feature) (range : AreInRange taken) (line : TextLine) (pl
 or_third : (a b c d : Bool) → (a ≡ false → b ≡ false → c ≡ d) → (a || (b || c)) ≡ (a || (b || d))
 or_third a b c d e = grind arith
 
-no_and : (a b : Bool) → a ≡ true → (not a && b) ≡ false
-no_and a b e = grind arith
-
 -- the record ahead doesn't decide a header, and if it decides a line there is one
 header_ahead : (o : Option Feature) (taken : List Feature) (item : SequenceLine) → is_header item.text ≡ true
     → is_written_ahead o taken item ≡ false
@@ -97,9 +87,6 @@ header_ahead o taken item e = grind (arith, nat_tests)
 decided_some : (o : Option Feature) (taken : List Feature) (item : SequenceLine) → is_written_ahead o taken item ≡ true
     → is_some o ≡ true
 decided_some o taken item e = grind (arith, nat_tests)
-
-and_second : (a b : Bool) → (not a && b) ≡ true → b ≡ true
-and_second a b e = grind arith
 
 -- a line that is written at once while records may come is decided
 decided_at_once : (u : Bool) (o : Option Feature) (taken : List Feature) (item : SequenceLine)
@@ -119,18 +106,12 @@ ahead_decides bases left r low which = grind (arith, nat_tests)
 -- its block belongs to the last sequence, or to none
 ahead_left : (names : List (List ℕ)) (taken : List Feature) (r : Feature) (m : Matched) → KnowsNext false names taken (Some r) m
     → (left_after names (taken ++ r ∷ []) ≡ Some []) ⊎ (left_after names (taken ++ r ∷ []) ≡ None)
-ahead_left names taken r m known = elim known [
-  | inl last ↦ inl (last.1 refl)
-  | inr ahead ↦ inr (ahead.1 refl)
-]
+ahead_left names taken r m known = grind arith
 
 -- a line of a sequence that is open is undecided
-open_undecided : (item : SequenceLine) (taken : List Feature) → is_unnamed item.names ≡ false → IsOpen (Some item) taken
+pub open_undecided : (item : SequenceLine) (taken : List Feature) → is_unnamed item.names ≡ false → IsOpen (Some item) taken
     → decided item taken ≡ false
-open_undecided item taken is_named open_at = elim open_at [
-  | inl none ↦ ap (λ (rs : List Feature). decided item rs) none ∙ ap (λ b. b || false) is_named
-  | inr undecided ↦ undecided
-]
+open_undecided item taken is_named open_at = grind arith
 
 not_strayed : (names : List (List ℕ)) (text : List ℕ) → may_stand names text ≡ not (is_unnamed names && nat_lt 0 (length text))
 not_strayed names text = grind (arith, nat_tests)
@@ -189,9 +170,7 @@ module _ (how : MaskHow) (full : Bool) (stage : MaskStage) (old : Masking) (s : 
   header_later : (item : SequenceLine) → is_unnamed item.names ≡ false → is_header item.text ≡ true → stage.bed_ended ≡ false
       → is_written_at_once stage item ≡ true → ⊥
   header_later item is_named e going now =
-      never (sym (ap (λ b. b || (is_unnamed item.names || is_written_ahead stage.ahead stage.taken item)) going
-      ∙ ap (λ b. b || is_written_ahead stage.ahead stage.taken item) is_named
-      ∙ header_ahead stage.ahead stage.taken item e) ∙ now)
+      never (sym (rw (going, is_named, header_ahead stage.ahead stage.taken item e) refl) ∙ now)
 
   module _ (line : TextLine) where
     abbrev header_moved : Masking
@@ -211,14 +190,13 @@ module _ (how : MaskHow) (full : Bool) (stage : MaskStage) (old : Masking) (s : 
           bed_ended_is = s.stands.bed_ended_is;
           counts = record { before = omega arith; bases = omega arith };
           name_is = sym (last_name_more names n);
-          holds = nothing_masked (held_for header_item stage.taken) (no_own (λ (r : Feature). nat_lt r.start (bases_up_to header_item) && nat_lt header_item.before r.stop) (own_records header_item.names stage.taken) (none_own n names left.0 stage.taken left.1));
+          holds = sym (ap (λ (own : List Feature). map extent_of (filter (λ r. nat_lt r.start (bases_up_to header_item) && nat_lt header_item.before r.stop) own)) (none_own n names left.0 stage.taken left.1));
           is_open = inr (undecided_header n header_item names left.0 stage.taken refl left.1);
           owned = ap is_some (left_grows n names left.0 stage.taken left.1);
           header = λ e. refl;
           waits_known = λ going u. with_header names n stage.taken old.matched stage.ahead (first_header going) (going_known going);
           at_once = once_by header_item header_moved s.stands.bed_ended_is (sym (last_name_more names n)) (λ going u.
-              no_and (is_header line.text) (nat_le header_moved.window.bases header_moved.decided_to) e
-              ∙ sym (header_ahead stage.ahead stage.taken header_item e));
+              ap (λ b. not b && nat_le header_moved.window.bases header_moved.decided_to) e ∙ sym (header_ahead stage.ahead stage.taken header_item e));
           written_known = λ going now. absurd (header_later header_item (named_more n names) e going now);
           written_to = λ going now. absurd (header_later header_item (named_more n names) e going now);
         }
@@ -315,12 +293,11 @@ module _ (how : MaskHow) (full : Bool) (stage : MaskStage) (old : Masking) (s : 
       stray = stray_is e ∙ not-false (is_unnamed names && nat_lt 0 (length line.text)) (sym (not_strayed names line.text) ∙ may);
     })
 
-    goes_by : (h : Bool) → is_header line.text ≡ h → Goes ⊎ Strays
-    goes_by true e = inl (header_goes e)
-    goes_by false e = plain_goes e (may_stand names line.text) refl
-
     goes : Goes ⊎ Strays
-    goes = goes_by (is_header line.text) refl
+    goes = elim (cases_Bool (is_header line.text)) [
+      | inl e ↦ inl (header_goes e)
+      | inr e ↦ plain_goes e (may_stand names line.text) refl
+    ]
 
   module _ (item : SequenceLine) (moved : Masking) (m : Moved item moved) where
     -- whether it may need memory
@@ -336,11 +313,7 @@ module _ (how : MaskHow) (full : Bool) (stage : MaskStage) (old : Masking) (s : 
     -- its bytes
     bytes_are : line_bytes moved (kept_line item) ≡ masked_line how stage.taken item
     bytes_are =
-        ap (λ (t : List ℕ). t ++ end_bytes item.ending)
-        (ap (λ (h : MaskHow). masked_in h moved.window.held moved.window.before item.text) m.how_is
-        ∙ ap (λ (l : List Extent). masked_in how l moved.window.before item.text) m.holds
-        ∙ ap (λ b. masked_in how (map extent_of (held_for item stage.taken)) b item.text) m.counts.before
-        ∙ text_masked how item stage.taken s.stands.inside.in_range m.header)
+        line_masked how item stage.taken s.stands.inside.in_range m.header moved m.how_is m.holds m.counts.before
 
     waiting_stands : stage.bed_ended ≡ false → is_unnamed item.names ≡ false
         → MaskMovesTo how full (record stage { waiting = Some item }) (record moved { waiting = Some (kept_line item); want = Bed })
@@ -462,15 +435,12 @@ module _ (how : MaskHow) (full : Bool) (stage : MaskStage) (old : Masking) (s : 
       ],
     )
 
-    gives_by : {A : Type 0} (answer : Result A Fault) → Goes line ⊎ Strays line → TakesLine old line.number kept out answer new grown → GivesNextLine how full stage line out answer new grown
-    gives_by (Ok done) g t = elim g [
+    pub gives_line : {A : Type 0} (answer : Result A Fault) → TakesLine old line.number kept out answer new grown → GivesNextLine how full stage line out answer new grown
+    gives_line (Ok done) t = elim (goes line) [
       | inl goes ↦ takes done goes t
       | inr strays ↦ absurd (never (sym t.0 ∙ strays.stray))
     ]
-    gives_by {A} (Err fault) g t = elim g [
+    gives_line {A} (Err fault) t = elim (goes line) [
       | inl goes ↦ fails A fault goes t
       | inr strays ↦ refuses A fault strays t
     ]
-
-    pub gives_line : {A : Type 0} (answer : Result A Fault) → TakesLine old line.number kept out answer new grown → GivesNextLine how full stage line out answer new grown
-    gives_line answer t = gives_by answer (goes line) t

@@ -1,5 +1,5 @@
 -- Lemmas on one more record, and on the next line.
-use Rattle.std.proofs.Common.{◌≡◌, ℕ, ◌≤◌, Bool, true, false, cond, ◌||◌, List, [], ◌∷◌, ◌++◌, Option, Some, None, refl, sym, ap, ◌∙◌, bytes_eq, append-nil, arith}
+use Rattle.std.proofs.Common.{◌≡◌, ℕ, ◌≤◌, Bool, false, cond, ◌||◌, List, [], ◌∷◌, ◌++◌, Option, Some, None, refl, sym, ap, ◌∙◌, bytes_eq, append-nil, arith}
 use Rattle.std.specs.List.{list_any}
 use Rattle.std.proofs.lemmas.Bool.Decides.{nat_tests}
 use Rattle.std.proofs.lemmas.Grind.{flat_map-append}
@@ -50,8 +50,7 @@ module _ (n : List ℕ) where
   behind_grows name (m ∷ ms) k e = behind_by name m ms k (bytes_eq m name) e (behind_grows name ms k)
 
   next_grows : (name : List ℕ) (ns k : List (List ℕ)) (t : Bool) → cond t (Some ns) (names_behind name ns) ≡ Some k → cond t (Some (ns ++ n ∷ [])) (names_behind name (ns ++ n ∷ [])) ≡ Some (k ++ n ∷ [])
-  next_grows name ns k true e = let same : ns ≡ k = cc in ap (λ l. Some (l ++ n ∷ [])) same
-  next_grows name ns k false e = behind_grows name ns k e
+  next_grows name ns k t e = behind_by name name ns k t e (behind_grows name ns k)
 
   no_items : (k : List (List ℕ)) (xs : List Feature) → items_if_last (Some (k ++ n ∷ [])) xs ≡ []
   no_items [] xs = refl

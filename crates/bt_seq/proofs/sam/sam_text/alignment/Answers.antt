@@ -1,27 +1,7 @@
 use Rattle.std.proofs.Common.{rules, sym, ◌∙◌}
 use Rattle.bt_seq.specs.calls.Sam.{fields_lent}
-use Rattle.bt_seq.proofs.lemmas.sam.AlignmentLemmas.{bad_cigar, bad_flag, bad_position, bad_quality, empty_name, says_alignment, says_nothing, says_too_large}
+use Rattle.bt_seq.proofs.lemmas.sam.AlignmentLemmas.{says_alignment, says_nothing, says_too_large}
 use Rattle.bt_seq.proofs.sam.sam_text.alignment.Goals as goal
-
-pub returns-in_default : goal.returns-in_default
-returns-in_default c = bad_flag (fields_lent c.args.fields) (sym c.number_up_to.ensures ∙ c.in_default.is)
-
-pub returns-then-is_empty : goal.returns-then-is_empty
-returns-then-is_empty c = empty_name (fields_lent c.args.fields) c.in-Some.flag (sym c.number_up_to.ensures ∙ c.in-Some.is) (search rules)
-
-pub returns-in_default-position_in : goal.returns-in_default-position_in
-returns-in_default-position_in c =
-    bad_position (fields_lent c.args.fields) c.in-Some.flag (sym c.number_up_to.ensures ∙ c.in-Some.is) (search rules) (sym c.position_in.ensures ∙ c.in_default-position_in.is)
-
-pub returns-in_default-number_up_to : goal.returns-in_default-number_up_to
-returns-in_default-number_up_to c =
-    bad_quality (fields_lent c.args.fields) c.in-Some.flag c.in-Some-position_in.position (sym c.number_up_to.ensures ∙ c.in-Some.is) (search rules) (sym c.position_in.ensures ∙ c.in-Some-position_in.is)
-    (sym c.number_up_to-2.ensures ∙ c.in_default-number_up_to.is)
-
-pub returns-in_default-cigar_span : goal.returns-in_default-cigar_span
-returns-in_default-cigar_span c =
-    bad_cigar (fields_lent c.args.fields) c.in-Some.flag c.in-Some-position_in.position c.in-Some-number_up_to.quality (sym c.number_up_to.ensures ∙ c.in-Some.is) (search rules)
-    (sym c.position_in.ensures ∙ c.in-Some-position_in.is) (sym c.number_up_to-2.ensures ∙ c.in-Some-number_up_to.is) (sym c.in_default-cigar_span.is ∙ c.cigar_span.ensures)
 
 pub returns-then-gives_nothing : goal.returns-then-gives_nothing
 returns-then-gives_nothing c =

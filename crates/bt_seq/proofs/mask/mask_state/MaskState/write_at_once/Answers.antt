@@ -15,4 +15,4 @@ returns-then-is_empty g c =
 pub returns : goal.returns
 returns g c =
     let line : Waiting = record { text = c.args.text.now; ending = c.args.ending } in
-    wrote_kept c.write.result c.args.self.now c.keep.new.self c.write.new.self line c.args.out.now.output c.write.new.out.output c.in_ok-keep.ensures c.write.ensures
+    wrote_kept c.write.result c.args.self.now c.keep.new.self c.write.new.self line c.args.out.now.output c.write.new.out.output c.in_ok-keep.ensures c.write.ensures.writes
