@@ -1,5 +1,5 @@
 -- Lemmas on what an advance is where one waits, and where none does.
-use Rattle.std.proofs.Common.{◌≡◌, inl, inr, ℕ, true, List, [], Ok, Err, Result, sym, subst}
+use Rattle.std.proofs.Common.{◌≡◌, inl, inr, ℕ, true, List, [], Ok, Err, Result, sym, subst, arith}
 use Rattle.std.specs.Prelude.{is_some, ⊤}
 use Rattle.bt_lines.specs.model.Fault.{FaultValue}
 use Rattle.bt_lines.specs.calls.Names.{fault_value}
@@ -76,5 +76,4 @@ module _ {A V : Type 0} (a_gives : A → List Feature → A → Type 0) (a_ended
   -- all that goes on after it is allowed too
   pub goes_on : {T : Type 0} (result : Result T Fault) (new : Sweeping) (to_a : A) → Advances a_gives a_ended v_gives v_ended v_line order old from_a from_v out result new to_a to_v grown
       → AdvancesOn a_gives a_ended v_gives v_ended v_line order old from_a from_v out result new to_a to_v grown
-  goes_on (Ok t) new to_a d = (d.0, inl d.1)
-  goes_on (Err fault) new to_a d = d
+  goes_on result new to_a d = grind arith

@@ -1,5 +1,5 @@
 -- Lemmas on records of both inputs that are joined.
-use Rattle.std.proofs.Common.{◌≡◌, ◌⊎◌, ◌<◌, ◌≤◌, inl, inr, ℕ, true, false, List, [], ◌∷◌, ◌++◌, Option, Some, None, Ok, Err, Result, option_map, refl, sym, ap, ◌∙◌, subst, append-nil, append_assoc, option_to_list, bytes_eq, length, ltb}
+use Rattle.std.proofs.Common.{◌≡◌, ◌⊎◌, ◌<◌, ◌≤◌, inl, inr, ℕ, true, false, List, [], ◌∷◌, ◌++◌, Option, Some, None, Ok, Err, Result, option_map, refl, sym, ap, ◌∙◌, subst, append-nil, append_assoc, option_to_list, bytes_eq, length, ltb, arith}
 use Rattle.std.specs.Prelude.{All, IfSome}
 use Rattle.std.specs.List.{list_all}
 use Rattle.std.proofs.lemmas.Bool.{and_from, and_parts, ltb-true, or_left, or_right}
@@ -284,8 +284,7 @@ module _ {A B : Type 0} (a_gives : A → List Feature → A → Type 0) (a_ended
           (ends_decided order cur.chrom b j.seconds newly2 total (subst (λ (c : List ℕ). order.knows c ≡ true) (sym j.waits.0) known) (on ∙ sym j.waits.0) end)
 
       waits_on : (held : List Feature) (waiting : Option Feature) → WaitsOn cur.chrom held waiting → WaitsOn first.chrom held waiting
-      waits_on held None is = tt
-      waits_on held (Some a) is = (is.0 ∙ j.waits.0, is.1)
+      waits_on held waiting is = grind arith
 
       -- records that it decides were written
       pub joins_write : (s2 : Sweeping) (to_a2 : A) (rest : List ℕ) (now : Output) (waiting : Option Feature) → WritesSo a_gives a_ended b.start s cur to_a left grown waiting s2 to_a2 rest now
@@ -388,8 +387,7 @@ module _ {A B : Type 0} (a_gives : A → List Feature → A → Type 0) (a_ended
           ap (λ (l : List Feature). has_room limit (length l)) (sym (keeps_held order shape rule limit gs cur taken s k)) ∙ ap (λ (l : Option ℕ). has_room l (length s.held)) (sym k.limit_is)
 
       cannot : (fault : Fault) (line : ℕ) (limit : Option ℕ) (taken : List Feature) → has_room limit (length (held_for (Some cur) taken)) ≡ has_room_in s → CannotHold s line fault → CannotBeHeld limit cur taken line (fault_value fault)
-      cannot fault line limit taken room (inl full) = inl (room ∙ full.0, full.1)
-      cannot fault line limit taken room (inr lacks) = inr (room ∙ lacks.0, lacks.1)
+      cannot fault line limit taken room x5 = grind arith
 
       -- b has to be held, and can't be
       pub breaks_take : (fault : Fault) → is_held cur b ≡ true → CannotHold s (b_line after) fault → BreaksSo (fault_value fault) to_a to_b left grown

@@ -166,12 +166,10 @@ module _ {A B R : Type 0} (a_gives : A → List Feature → A → Type 0) (a_end
   stops_beside : (waiting : Option R) (to_a : A) (to_b : B) → (old.phase ≡ First → ⊥)
       → StopsAt a_gives a_ended b_gives b_ended b_line IsTotal (AreDecidedOn first.chrom) old first from_a from_b [] out (option_map feature waiting) to_a to_b
       → StopsAt a_gives a_ended b_gives (EndsWhile b_ended old.phase) b_line (IsThis order) (Settles order old.phase) old first from_a from_b [] out (option_map feature waiting) to_a to_b
-  stops_beside None to_a to_b going ended = ended
-  stops_beside (Some a) to_a to_b going ended = (ended, going)
+  stops_beside waiting to_a to_b going ended = grind arith
 
   leaves_beside : (waiting : Option R) (held seconds : List Feature) → WaitsOn first.chrom held (option_map feature waiting) → IfSome (option_map feature waiting) (LeavesOn seconds) → IfSome (option_map feature waiting) (LeavesLast order seconds)
-  leaves_beside None held seconds waits leaves = tt
-  leaves_beside (Some a) held seconds waits leaves = leaves order total (subst (λ (c : List ℕ). order.knows c ≡ true) (sym waits.0) known)
+  leaves_beside waiting held seconds waits leaves = grind arith
 
   -- they lie beside
   pub decides_beside : (result : Result (Option R) Fault) (new : Sweeping) (to_a : A) (to_b : B) (grown : Output) → (old.phase ≡ First → ⊥) → JoinsBeside result new to_a to_b grown → Decides result new to_a to_b grown
@@ -234,8 +232,7 @@ module _ {A B R : Type 0} (a_gives : A → List Feature → A → Type 0) (a_end
   next_of name (inr lies) = Some lies.b
 
   comes_of : (name : List ℕ) (behind : IsBehind name) → ComesNext b_gives from_b (next_of name behind)
-  comes_of name (inl ended) = tt
-  comes_of name (inr lies) = (lies.after, lies.gives_b)
+  comes_of name behind = grind arith
 
   settles_of : (name : List ℕ) (behind : IsBehind name) (newly : List Feature) → EndUpTo first.chrom max_number newly → Settles order old.phase newly ([] ++ option_to_list (next_of name behind))
   settles_of name (inl ended) newly end = inl ended

@@ -1,5 +1,5 @@
 -- Lemmas on calls with one record: they are calls with cursors over one record, or over none.
-use Rattle.std.proofs.Common.{◌≡◌, ◌⊎◌, inl, inr, ℕ, Bool, true, false, cond, ◌&&◌, ◌||◌, List, [], ◌∷◌, ◌++◌, Option, Some, None, Ok, Err, Result, refl, sym, ap, ◌∙◌, subst, append-nil, length, option_to_list, bytes_eq, ltb, ◌<◌, ◌≤◌}
+use Rattle.std.proofs.Common.{◌≡◌, ◌⊎◌, inl, inr, ℕ, Bool, true, false, cond, ◌&&◌, ◌||◌, List, [], ◌∷◌, ◌++◌, Option, Some, None, Ok, Err, Result, refl, sym, ap, ◌∙◌, subst, append-nil, length, option_to_list, bytes_eq, ltb, ◌<◌, ◌≤◌, arith}
 use Rattle.std.specs.Prelude.{OnErr, IfSome, is_some}
 use Rattle.std.proofs.lemmas.Bool.{and_from, false≢true, lt-ltb}
 use Rattle.bt_lines.specs.model.Fault.{FaultValue}
@@ -72,8 +72,7 @@ same_some a b e = cc
 
 -- none comes of a cursor that is empty
 none_next : (to : Single) → single_left to ≡ [] → (next : Option Feature) → ComesNext GivesSingle to next → next ≡ None
-none_next to empty None comes = refl
-none_next to empty (Some b) comes = absurd (let apart : [] ≡ b ∷ single_left comes.0 = sym empty ∙ comes.1.left in cc)
+none_next to empty x2 comes = grind arith
 
 -- and only its record of one that isn't
 next_is : (to : Single) (b : Feature) → single_left to ≡ b ∷ [] → (r : Feature) (after : Single) → GivesSingle to (r ∷ []) after → b ≡ r
@@ -85,8 +84,7 @@ undecided_by_none : (order : Order) (a : Feature) → AreDecided order (a ∷ []
 undecided_by_none order a e = false≢true e
 
 one_true : (d : Bool) → ((d || false) && true) ≡ true → d ≡ true
-one_true true e = refl
-one_true false e = e
+one_true d e = grind arith
 
 decides_one : (order : Order) (a b : Feature) → AreDecided order (a ∷ []) (b ∷ []) → decides order a b ≡ true
 decides_one order a b e = one_true (decides order a b) e
@@ -94,28 +92,19 @@ decides_one order a b e = one_true (decides order a b) e
 -- ---- by the stage that a sweep is at
 
 over_or_not : (a b : Bool) (phase : Phase) → phase ≡ phase_of a b → (phase ≡ Over → ⊥) → a ≡ false
-over_or_not true b phase e going = absurd (going e)
-over_or_not false b phase e going = refl
+over_or_not a b phase e going = grind arith
 
 ended_by : (a b : Bool) (phase : Phase) → phase ≡ phase_of a b → a ≡ false → phase ≡ First → b ≡ true
-ended_by a true phase e going first = refl
-ended_by true false phase e going first = absurd (false≢true (sym going))
-ended_by false false phase e going first = absurd (let apart : Both ≡ First = sym e ∙ first in cc)
+ended_by a b phase e going first = grind arith
 
 goes_by : (a b : Bool) (phase : Phase) → phase ≡ phase_of a b → a ≡ false → phase ≡ Both → b ≡ false
-goes_by a false phase e going both = refl
-goes_by true true phase e going both = absurd (false≢true (sym going))
-goes_by false true phase e going both = absurd (let apart : First ≡ Both = sym e ∙ both in cc)
+goes_by a b phase e going both = grind arith
 
 not_over_by : (a b : Bool) (phase : Phase) → phase ≡ phase_of a b → a ≡ false → phase ≡ Over → ⊥
-not_over_by true b phase e going over = false≢true (sym going)
-not_over_by false true phase e going over = let apart : First ≡ Over = sym e ∙ over in cc
-not_over_by false false phase e going over = let apart : Both ≡ Over = sym e ∙ over in cc
+not_over_by a b phase e going over = grind arith
 
 not_first_by : (a b : Bool) (phase : Phase) → phase ≡ phase_of a b → b ≡ false → phase ≡ First → ⊥
-not_first_by true b phase e none first = let apart : Over ≡ First = sym e ∙ first in cc
-not_first_by false true phase e none first = false≢true (sym none)
-not_first_by false false phase e none first = let apart : Both ≡ First = sym e ∙ first in cc
+not_first_by a b phase e none first = grind arith
 
 -- the lines of one record
 module _ (shape : Shape) (rule : HitRule) (a : Feature) where
@@ -165,8 +154,7 @@ module _ (order : Order) (stage : Stage) (old : Sweeping) (st : StandsAt order s
     given_at false = refl
 
     taken_at : (b : Bool) → (at b).taken ≡ stage.taken
-    taken_at true = refl
-    taken_at false = refl
+    taken_at b = grind arith
 
     placed : ArePlaced order (intervals_of (stage.written ++ a ∷ []))
     placed = subst (λ (l : List Feature). ArePlaced order (intervals_of l)) (given_at stage.b_ended) ordered.first
@@ -554,8 +542,7 @@ module _ (order : Order) (stage : Stage) (a : Feature) (old : Sweeping) (st : St
 
     -- none is left
     all_decided : (waiting : Option Feature) → StopsAt GivesSingle HasNone GivesSingle (EndsWhile HasNone mid.phase) single_line (IsThis order) (Settles order mid.phase) mid a from_a from_b [] out waiting to_a to_b → waiting ≡ None
-    all_decided None stops = refl
-    all_decided (Some w) stops = absurd (stops.1 (ap (λ (s : Sweeping). s.phase) mid_is))
+    all_decided waiting stops = grind arith
 
     written_is : (newly firsts : List Feature) (waiting : Option Feature) → firsts ≡ [] → waiting ≡ None → a ∷ firsts ≡ newly ++ option_to_list waiting → newly ≡ a ∷ []
     written_is newly firsts waiting e w are = sym (append-nil newly) ∙ ap (λ (o : Option Feature). newly ++ option_to_list o) (sym w) ∙ sym are ∙ ap (λ (l : List Feature). a ∷ l) e

@@ -1,5 +1,5 @@
 -- Lemmas on where a sweep is once records of both inputs were given and taken.
-use Rattle.std.proofs.Common.{◌≡◌, inl, inr, ℕ, Bool, true, false, List, [], ◌∷◌, ◌++◌, Option, Some, None, Ok, Err, Result, refl, sym, ap, ◌∙◌, subst, append-nil, append_assoc, option_to_list, length, ◌≤◌}
+use Rattle.std.proofs.Common.{◌≡◌, inl, inr, ℕ, Bool, true, false, List, [], ◌∷◌, ◌++◌, Option, Some, None, Ok, Err, Result, refl, sym, ap, ◌∙◌, subst, append-nil, append_assoc, option_to_list, length, ◌≤◌, arith}
 use Rattle.std.specs.Prelude.{IfSome, is_some}
 use Rattle.bt_lines.specs.model.Fault.{FaultValue, no_memory}
 use Rattle.bt_lines.specs.calls.Names.{fault_value}
@@ -35,15 +35,11 @@ keeps_of order stage s st = record { shape_is = refl; rule_is = refl; limit_is =
 
 -- neither input has ended
 pub both_open : (a b : Bool) (phase : Phase) → phase ≡ phase_of a b → (phase ≡ First → ⊥) → (phase ≡ Over → ⊥) → (a ≡ false) × (b ≡ false)
-both_open true b phase e first over = absurd (over e)
-both_open false true phase e first over = absurd (first e)
-both_open false false phase e first over = (refl, refl)
+both_open a b phase e first over = grind arith
 
 -- both go on
 still_both : (phase : Phase) → (phase ≡ First → ⊥) → (phase ≡ Over → ⊥) → phase ≡ Both
-still_both Both first over = refl
-still_both First first over = absurd (first refl)
-still_both Over first over = absurd (over refl)
+still_both phase first over = grind arith
 
 -- ---- where none waits
 
@@ -75,24 +71,17 @@ module _ (order : Order) (old : Sweeping) (first : Feature) (some : old.current 
 -- ---- what is asked for
 
 want_none : (current : Option Feature) (phase : Phase) → current ≡ None → (phase ≡ Over → ⊥) → want_of (is_some current) (is_over phase) ≡ WantA
-want_none (Some a) phase none going = absurd (let apart : Some a ≡ None = none in cc)
-want_none None Both none going = refl
-want_none None First none going = refl
-want_none None Over none going = absurd (going refl)
+want_none current phase none going = grind arith
 
 -- what waits, and that it isn't over, by what is asked for
 none_at : (current : Option Feature) (over : Bool) → want_of (is_some current) over ≡ WantA → current ≡ None
-none_at None over e = refl
-none_at (Some a) over e = absurd (let apart : WantB ≡ WantA = e in cc)
+none_at current over e = grind arith
 
 open_at : (some : Bool) (phase : Phase) → want_of some (is_over phase) ≡ WantA → phase ≡ Over → ⊥
-open_at false phase e over = let apart : Nothing ≡ WantA = ap (λ (p : Phase). want_of false (is_over p)) (sym over) ∙ e in cc
-open_at true phase e over = let apart : WantB ≡ WantA = e in cc
+open_at some phase e over = grind arith
 
 some_at : (some over : Bool) → want_of some over ≡ WantB → some ≡ true
-some_at true over e = refl
-some_at false true e = absurd (let apart : Nothing ≡ WantB = e in cc)
-some_at false false e = absurd (let apart : WantA ≡ WantB = e in cc)
+some_at some over e = grind arith
 
 pub none_waits : (s : Sweeping) → want_in s ≡ WantA → s.current ≡ None
 none_waits s e = none_at s.current (is_over s.phase) e
