@@ -14,16 +14,18 @@ use Rattle.bt_sweep.proofs.lemmas.sweep.StandLemmas.{stops_b}
 module _ {A V : Type 0} (a_gives : A → List Feature → A → Type 0) (a_ended : A → Type 0) (v_gives : V → List Feature → V → Type 0) (v_ended : V → Type 0) (v_line : V → ℕ) (order : Order) (old : Sweeping) (from_a : A) (from_v to_v : V) (out grown : Output) (a_none : a_gives from_a [] from_a) where
   lifts : (new : Sweeping) → AdvancesSo NoneGiven (λ u. ⊤) v_gives v_ended v_line order old tt from_v out new tt to_v grown → AdvancesSo a_gives a_ended v_gives v_ended v_line order old from_a from_v out new from_a to_v grown
   lifts new d = record {
-    firsts = d.firsts;
-    seconds = d.seconds;
-    newly = d.newly;
-    gives_firsts = subst (λ (fs : List Feature). a_gives from_a fs from_a) (sym d.gives_firsts) a_none;
-    gives_seconds = d.gives_seconds;
-    are = d.are;
-    next = d.next;
-    comes = d.comes;
-    settles = d.settles;
-    each = d.each;
+    proceeds = record {
+      firsts = d.proceeds.firsts;
+      seconds = d.proceeds.seconds;
+      newly = d.proceeds.newly;
+      gives_firsts = subst (λ (fs : List Feature). a_gives from_a fs from_a) (sym d.proceeds.gives_firsts) a_none;
+      gives_seconds = d.proceeds.gives_seconds;
+      are = d.proceeds.are;
+      next = d.proceeds.next;
+      comes = d.proceeds.comes;
+      settles = d.proceeds.settles;
+      each = d.proceeds.each;
+    };
     leaves = d.leaves;
     stands = d.stands;
     puts = d.puts;
@@ -31,29 +33,24 @@ module _ {A V : Type 0} (a_gives : A → List Feature → A → Type 0) (a_ended
 
   lifts_fault : (fault : FaultValue) → FailsAt NoneGiven (λ u. ⊤) v_gives v_ended v_line order old tt from_v out fault tt to_v grown → FailsAt a_gives a_ended v_gives v_ended v_line order old from_a from_v out fault from_a to_v grown
   lifts_fault fault b = record {
-    firsts = b.firsts;
-    seconds = b.seconds;
-    newly = b.newly;
+    proceeds = record {
+      firsts = b.proceeds.firsts;
+      seconds = b.proceeds.seconds;
+      newly = b.proceeds.newly;
+      gives_firsts = subst (λ (fs : List Feature). a_gives from_a fs from_a) (sym b.proceeds.gives_firsts) a_none;
+      gives_seconds = b.proceeds.gives_seconds;
+      are = b.proceeds.are;
+      next = b.proceeds.next;
+      comes = b.proceeds.comes;
+      settles = b.proceeds.settles;
+      each = b.proceeds.each;
+    };
     waiting = b.waiting;
-    gives_firsts = subst (λ (fs : List Feature). a_gives from_a fs from_a) (sym b.gives_firsts) a_none;
-    gives_seconds = b.gives_seconds;
-    are = b.are;
-    next = b.next;
-    comes = b.comes;
-    settles = b.settles;
-    each = b.each;
     cause = elim b.cause [
-      | inl cut ↦ inl (record { cuts = cut.cuts })
+      | inl cut ↦ inl (cut)
       | inr rest ↦ elim rest [
         | inl lack ↦ inr (inl (record {
-          last = lack.last;
-          waits = lack.waits;
-          b = lack.b;
-          after = lack.after;
-          gives = lack.gives;
-          chrom = lack.chrom;
-          starts = lack.starts;
-          ends = lack.ends;
+          shares = lack.shares;
           puts = lack.puts;
           lacks = lack.lacks;
         }))

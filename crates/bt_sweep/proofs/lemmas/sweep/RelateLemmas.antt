@@ -88,7 +88,7 @@ module _ {A B R : Type 0} (a_gives : A → List Feature → A → Type 0) (a_end
   pub decides_none : b_ended from_b × (old.phase ≡ First → ⊥) → Decides (Ok (Some r)) old from_a from_b out
   decides_none ended =
       let j = joins_first a_gives a_ended a_none a_more b_gives (EndsWhile b_ended old.phase) b_line b_none b_more old first from_a from_b [] out (IsThis order) (Settles order old.phase) (inr refl) hits in
-      (j.0, ended, leaves_none order j.0.seconds first j.2)
+      (j.0, ended, leaves_none order j.0.proceeds.seconds first j.2)
 
   keeps_one : (name : List ℕ) (b : Feature) (other : Order) (shape : Shape) (rule : HitRule) (limit : Option ℕ) (before taken : List Feature) → IsThis order other → order.compare name first.chrom ≡ Less → b.chrom ≡ name
       → Keeps other shape rule limit (before ++ first ∷ []) taken old → Keeps other shape rule limit (before ++ first ∷ []) (taken ++ b ∷ []) old
@@ -139,17 +139,19 @@ module _ {A B R : Type 0} (a_gives : A → List Feature → A → Type 0) (a_end
   pub decides_before : (name : List ℕ) (to_b : B) → Lies name Less → SkipsAll b_gives b_ended name from_b to_b → Decides (Ok (Some r)) old from_a to_b out
   decides_before name to_b lies skip = (
     record {
-      firsts = [];
-      seconds = skip.seconds;
-      newly = [];
-      gives_firsts = a_none from_a;
-      gives_seconds = skip.given;
-      are = refl;
+      proceeds = record {
+        firsts = [];
+        seconds = skip.seconds;
+        newly = [];
+        gives_firsts = a_none from_a;
+        gives_seconds = skip.given;
+        are = refl;
+        next = None;
+        comes = tt;
+        settles = inr refl;
+        each = λ other shape rule limit before taken this kept pg pt. each_before name skip.seconds other shape rule limit before taken this lies.compared skip.on kept;
+      };
       waits = (refl, hits);
-      next = None;
-      comes = tt;
-      settles = inr refl;
-      each = λ other shape rule limit before taken this kept pg pt. each_before name skip.seconds other shape rule limit before taken this lies.compared skip.on kept;
       goes = keeps_before name skip.seconds lies.compared skip.on;
       writes = λ other shape rule limit before taken this kept pg pt. with_none [] out;
     },
@@ -175,50 +177,45 @@ module _ {A B R : Type 0} (a_gives : A → List Feature → A → Type 0) (a_end
   pub decides_beside : (result : Result (Option R) Fault) (new : Sweeping) (to_a : A) (to_b : B) (grown : Output) → (old.phase ≡ First → ⊥) → JoinsBeside result new to_a to_b grown → Decides result new to_a to_b grown
   decides_beside (Ok waiting) new to_a to_b grown going (j, stops, leaves) = (
     record {
-      firsts = j.firsts;
-      seconds = j.seconds;
-      newly = j.newly;
-      gives_firsts = j.gives_firsts;
-      gives_seconds = j.gives_seconds;
-      are = j.are;
+      proceeds = record {
+        firsts = j.proceeds.firsts;
+        seconds = j.proceeds.seconds;
+        newly = j.proceeds.newly;
+        gives_firsts = j.proceeds.gives_firsts;
+        gives_seconds = j.proceeds.gives_seconds;
+        are = j.proceeds.are;
+        next = j.proceeds.next;
+        comes = j.proceeds.comes;
+        settles = inr (j.proceeds.settles order total known);
+        each = λ other shape rule limit before taken this kept pg pt. j.proceeds.each other shape rule limit before taken (subst IsTotal (sym this) total) kept pg pt;
+      };
       waits = j.waits;
-      next = j.next;
-      comes = j.comes;
-      settles = inr (j.settles order total known);
-      each = λ other shape rule limit before taken this kept pg pt. j.each other shape rule limit before taken (subst IsTotal (sym this) total) kept pg pt;
-      goes = to_this j.firsts j.seconds (λ order shape rule limit as_given taken. Keeps order shape rule limit as_given taken new) j.goes;
-      writes = to_this j.firsts j.seconds (λ order shape rule limit as_given taken. GrownWith [] out (intersect shape rule j.newly taken) [] grown) j.writes;
+      goes = to_this j.proceeds.firsts j.proceeds.seconds (λ order shape rule limit as_given taken. Keeps order shape rule limit as_given taken new) j.goes;
+      writes = to_this j.proceeds.firsts j.proceeds.seconds (λ order shape rule limit as_given taken. GrownWith [] out (intersect shape rule j.proceeds.newly taken) [] grown) j.writes;
     },
     stops_beside waiting to_a to_b going stops,
-    leaves_beside waiting new.held j.seconds j.waits leaves,
+    leaves_beside waiting new.held j.proceeds.seconds j.waits leaves,
   )
   decides_beside (Err fault) new to_a to_b grown going b = record {
-    firsts = b.firsts;
-    seconds = b.seconds;
-    newly = b.newly;
+    proceeds = record {
+      firsts = b.proceeds.firsts;
+      seconds = b.proceeds.seconds;
+      newly = b.proceeds.newly;
+      gives_firsts = b.proceeds.gives_firsts;
+      gives_seconds = b.proceeds.gives_seconds;
+      are = b.proceeds.are;
+      next = b.proceeds.next;
+      comes = b.proceeds.comes;
+      settles = inr (b.proceeds.settles order total known);
+      each = λ other shape rule limit before taken this kept pg pt. b.proceeds.each other shape rule limit before taken (subst IsTotal (sym this) total) kept pg pt;
+    };
     waiting = b.waiting;
-    gives_firsts = b.gives_firsts;
-    gives_seconds = b.gives_seconds;
-    are = b.are;
-    next = b.next;
-    comes = b.comes;
-    settles = inr (b.settles order total known);
-    each = λ other shape rule limit before taken this kept pg pt. b.each other shape rule limit before taken (subst IsTotal (sym this) total) kept pg pt;
     cause = elim b.cause [
-      | inl cut ↦ inl (record {
-        cuts = to_this b.firsts b.seconds (λ order shape rule limit as_given taken. FailsToAdd out ([] ++ intersect shape rule b.newly taken) (fault_value fault) grown) cut.cuts;
-      })
+      | inl cut ↦ inl (to_this b.proceeds.firsts b.proceeds.seconds (λ order shape rule limit as_given taken. FailsToAdd out ([] ++ intersect shape rule b.proceeds.newly taken) (fault_value fault) grown) cut)
       | inr lack ↦ inr (record {
-        last = lack.last;
-        waits = lack.waits;
-        b = lack.b;
-        after = lack.after;
-        gives = lack.gives;
-        chrom = lack.chrom;
-        starts = lack.starts;
-        ends = lack.ends;
-        writes = to_this b.firsts b.seconds (λ order shape rule limit as_given taken. GrownWith [] out (intersect shape rule b.newly taken) [] grown) lack.writes;
-        lacks = to_this b.firsts b.seconds (λ order shape rule limit as_given taken. CannotBeHeld limit lack.last taken (b_line lack.after) (fault_value fault)) lack.lacks;
+        shares = lack.shares;
+        writes = to_this b.proceeds.firsts b.proceeds.seconds (λ order shape rule limit as_given taken. GrownWith [] out (intersect shape rule b.proceeds.newly taken) [] grown) lack.writes;
+        lacks = to_this b.proceeds.firsts b.proceeds.seconds (λ order shape rule limit as_given taken. CannotBeHeld limit lack.shares.last taken (b_line lack.shares.after) (fault_value fault)) lack.lacks;
       })
     ];
   }
@@ -245,17 +242,19 @@ module _ {A B R : Type 0} (a_gives : A → List Feature → A → Type 0) (a_end
   decides_after name (Ok (Some a)) new to_a grown behind w = absurd (omega (arith, w.1.0, w.1.1))
   decides_after name (Ok None) new to_a grown behind (w, ended) = (
     record {
-      firsts = w.firsts;
-      seconds = [];
-      newly = w.newly;
-      gives_firsts = w.given;
-      gives_seconds = b_none from_b;
-      are = w.are;
+      proceeds = record {
+        firsts = w.firsts;
+        seconds = [];
+        newly = w.newly;
+        gives_firsts = w.given;
+        gives_seconds = b_none from_b;
+        are = w.are;
+        next = next_of name behind;
+        comes = comes_of name behind;
+        settles = settles_of name behind w.newly w.end;
+        each = λ other shape rule limit before taken this kept pg pt. tt;
+      };
       waits = tt;
-      next = next_of name behind;
-      comes = comes_of name behind;
-      settles = settles_of name behind w.newly w.end;
-      each = λ other shape rule limit before taken this kept pg pt. tt;
       goes = to_this w.firsts [] (λ order shape rule limit as_given taken. Keeps order shape rule limit as_given taken new) w.goes;
       writes = to_this w.firsts [] (λ order shape rule limit as_given taken. GrownWith [] out (intersect shape rule w.newly taken) [] grown) w.writes;
     },
@@ -263,16 +262,18 @@ module _ {A B R : Type 0} (a_gives : A → List Feature → A → Type 0) (a_end
     tt,
   )
   decides_after name (Err fault) new to_a grown behind cut = record {
-    firsts = cut.firsts;
-    seconds = [];
-    newly = cut.newly;
+    proceeds = record {
+      firsts = cut.firsts;
+      seconds = [];
+      newly = cut.newly;
+      gives_firsts = cut.given;
+      gives_seconds = b_none from_b;
+      are = cut.are;
+      next = next_of name behind;
+      comes = comes_of name behind;
+      settles = settles_of name behind cut.newly cut.end;
+      each = λ other shape rule limit before taken this kept pg pt. tt;
+    };
     waiting = cut.waiting;
-    gives_firsts = cut.given;
-    gives_seconds = b_none from_b;
-    are = cut.are;
-    next = next_of name behind;
-    comes = comes_of name behind;
-    each = λ other shape rule limit before taken this kept pg pt. tt;
-    settles = settles_of name behind cut.newly cut.end;
-    cause = inl (record { cuts = to_this cut.firsts [] (λ order shape rule limit as_given taken. FailsToAdd out ([] ++ intersect shape rule cut.newly taken) (fault_value fault) grown) cut.cuts });
+    cause = inl (to_this cut.firsts [] (λ order shape rule limit as_given taken. FailsToAdd out ([] ++ intersect shape rule cut.newly taken) (fault_value fault) grown) cut.cuts);
   }

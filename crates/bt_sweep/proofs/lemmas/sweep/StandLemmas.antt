@@ -165,80 +165,77 @@ module _ (order : Order) (old mid : Sweeping) (first : Feature) (pre : List Feat
   module _ {A B U : Type 0} (a_gives : A → List Feature → A → Type 0) (a_ended : A → Type 0) (b_gives : B → List Feature → B → Type 0) (b_ended b_ended' : B → Type 0) (b_line : B → ℕ)
       (u_gives : U → List Feature → U → Type 0) (u_ended : U → Type 0) (from_u to_u : U) (from_a to_a : A) (from_b to_b : B) (out grown : Output) (new : Sweeping) where
     pub advances_from : (waiting : Option Feature) (final : Sweeping) (j : JoinsSo a_gives a_ended b_gives b_ended' b_line (IsThis order) (Settles order mid.phase) mid first from_a from_b [] out waiting new to_a to_b [] grown)
-        → u_gives from_u (pre ++ j.firsts) to_u → new.phase ≡ old.phase → final ≡ record new { current = waiting } → IsOpen waiting → IfSome waiting (LeavesLast order j.seconds) → AdvancesSo u_gives u_ended b_gives b_ended b_line order old from_u from_b out final to_u to_b grown
+        → u_gives from_u (pre ++ j.proceeds.firsts) to_u → new.phase ≡ old.phase → final ≡ record new { current = waiting } → IsOpen waiting → IfSome waiting (LeavesLast order j.proceeds.seconds) → AdvancesSo u_gives u_ended b_gives b_ended b_line order old from_u from_b out final to_u to_b grown
     advances_from waiting final j gives same is goes_on leaves = record {
-      firsts = pre ++ j.firsts;
-      seconds = j.seconds;
-      newly = j.newly;
-      gives_firsts = gives;
-      gives_seconds = j.gives_seconds;
-      are = sym (append_assoc (option_to_list old.current) pre j.firsts) ∙ ap (λ (l : List Feature). l ++ j.firsts) pre_is ∙ j.are ∙ ap (λ (n : Sweeping). j.newly ++ option_to_list n.current) (sym is);
-      next = j.next;
-      comes = j.comes;
-      settles = subst (λ (p : Phase). Settles order p j.newly (j.seconds ++ option_to_list j.next)) phase j.settles;
-      each = each_from j.firsts j.seconds j.each;
-      leaves = subst (λ (n : Sweeping). IfSome n.current (LeavesLast order j.seconds)) (sym is) leaves;
+      proceeds = record {
+        firsts = pre ++ j.proceeds.firsts;
+        seconds = j.proceeds.seconds;
+        newly = j.proceeds.newly;
+        gives_firsts = gives;
+        gives_seconds = j.proceeds.gives_seconds;
+        are = sym (append_assoc (option_to_list old.current) pre j.proceeds.firsts) ∙ ap (λ (l : List Feature). l ++ j.proceeds.firsts) pre_is ∙ j.proceeds.are ∙ ap (λ (n : Sweeping). j.proceeds.newly ++ option_to_list n.current) (sym is);
+        next = j.proceeds.next;
+        comes = j.proceeds.comes;
+        settles = subst (λ (p : Phase). Settles order p j.proceeds.newly (j.proceeds.seconds ++ option_to_list j.proceeds.next)) phase j.proceeds.settles;
+        each = each_from j.proceeds.firsts j.proceeds.seconds j.proceeds.each;
+      };
+      leaves = subst (λ (n : Sweeping). IfSome n.current (LeavesLast order j.proceeds.seconds)) (sym is) leaves;
       stands = λ stage st pg pt.
-          stands_from stage j.firsts j.seconds j.newly waiting new final st
-          (at_each j.firsts j.seconds (λ order shape rule limit as_given taken. Keeps order shape rule limit as_given taken new) j.goes stage st pg pt) j.are same is goes_on;
-      puts = puts_each j.firsts j.seconds j.newly out grown j.writes;
+          stands_from stage j.proceeds.firsts j.proceeds.seconds j.proceeds.newly waiting new final st
+          (at_each j.proceeds.firsts j.proceeds.seconds (λ order shape rule limit as_given taken. Keeps order shape rule limit as_given taken new) j.goes stage st pg pt) j.proceeds.are same is goes_on;
+      puts = puts_each j.proceeds.firsts j.proceeds.seconds j.proceeds.newly out grown j.writes;
     }
 
     -- it failed at one of them
     pub fails_from : (fault : FaultValue) (b : Breaks a_gives a_ended b_gives b_ended' b_line (IsThis order) (Settles order mid.phase) mid first from_a from_b [] out fault to_a to_b [] grown)
-        → u_gives from_u (pre ++ b.firsts) to_u → FailsAt u_gives u_ended b_gives b_ended b_line order old from_u from_b out fault to_u to_b grown
+        → u_gives from_u (pre ++ b.proceeds.firsts) to_u → FailsAt u_gives u_ended b_gives b_ended b_line order old from_u from_b out fault to_u to_b grown
     fails_from fault b gives = record {
-      firsts = pre ++ b.firsts;
-      seconds = b.seconds;
-      newly = b.newly;
+      proceeds = record {
+        firsts = pre ++ b.proceeds.firsts;
+        seconds = b.proceeds.seconds;
+        newly = b.proceeds.newly;
+        gives_firsts = gives;
+        gives_seconds = b.proceeds.gives_seconds;
+        are = sym (append_assoc (option_to_list old.current) pre b.proceeds.firsts) ∙ ap (λ (l : List Feature). l ++ b.proceeds.firsts) pre_is ∙ b.proceeds.are;
+        next = b.proceeds.next;
+        comes = b.proceeds.comes;
+        settles = subst (λ (p : Phase). Settles order p b.proceeds.newly (b.proceeds.seconds ++ option_to_list b.proceeds.next)) phase b.proceeds.settles;
+        each = each_from b.proceeds.firsts b.proceeds.seconds b.proceeds.each;
+      };
       waiting = b.waiting;
-      gives_firsts = gives;
-      gives_seconds = b.gives_seconds;
-      are = sym (append_assoc (option_to_list old.current) pre b.firsts) ∙ ap (λ (l : List Feature). l ++ b.firsts) pre_is ∙ b.are;
-      next = b.next;
-      comes = b.comes;
-      settles = subst (λ (p : Phase). Settles order p b.newly (b.seconds ++ option_to_list b.next)) phase b.settles;
-      each = each_from b.firsts b.seconds b.each;
       cause = elim b.cause [
-        | inl cut ↦ inl (record {
-          cuts = at_each b.firsts b.seconds (λ order shape rule limit as_given taken. FailsToAdd out (intersect shape rule b.newly taken) fault grown) cut.cuts;
-        })
+        | inl cut ↦ inl (at_each b.proceeds.firsts b.proceeds.seconds (λ order shape rule limit as_given taken. FailsToAdd out (intersect shape rule b.proceeds.newly taken) fault grown) cut)
         | inr lack ↦ inr (inl (record {
-          last = lack.last;
-          waits = lack.waits;
-          b = lack.b;
-          after = lack.after;
-          gives = lack.gives;
-          chrom = lack.chrom;
-          starts = lack.starts;
-          ends = lack.ends;
-          puts = puts_each b.firsts b.seconds b.newly out grown lack.writes;
-          lacks = at_each b.firsts b.seconds (λ order shape rule limit as_given taken. CannotBeHeld limit lack.last taken (b_line lack.after) fault) lack.lacks;
+          shares = lack.shares;
+          puts = puts_each b.proceeds.firsts b.proceeds.seconds b.proceeds.newly out grown lack.writes;
+          lacks = at_each b.proceeds.firsts b.proceeds.seconds (λ order shape rule limit as_given taken. CannotBeHeld limit lack.shares.last taken (b_line lack.shares.after) fault) lack.lacks;
         }))
       ];
     }
 
     -- the one that waits can't be kept
     pub lacks_from : (a : Feature) (fault : FaultValue) (j : JoinsSo a_gives a_ended b_gives b_ended' b_line (IsThis order) (Settles order mid.phase) mid first from_a from_b [] out (Some a) new to_a to_b [] grown)
-        → u_gives from_u (pre ++ j.firsts) to_u → old.current ≡ None → old.phase ≡ Both → b_ended to_b → fault ≡ no_memory → FailsAt u_gives u_ended b_gives b_ended b_line order old from_u from_b out fault to_u to_b grown
+        → u_gives from_u (pre ++ j.proceeds.firsts) to_u → old.current ≡ None → old.phase ≡ Both → b_ended to_b → fault ≡ no_memory → FailsAt u_gives u_ended b_gives b_ended b_line order old from_u from_b out fault to_u to_b grown
     lacks_from a fault j gives none both ended is = record {
-      firsts = pre ++ j.firsts;
-      seconds = j.seconds;
-      newly = j.newly;
+      proceeds = record {
+        firsts = pre ++ j.proceeds.firsts;
+        seconds = j.proceeds.seconds;
+        newly = j.proceeds.newly;
+        gives_firsts = gives;
+        gives_seconds = j.proceeds.gives_seconds;
+        are = sym (append_assoc (option_to_list old.current) pre j.proceeds.firsts) ∙ ap (λ (l : List Feature). l ++ j.proceeds.firsts) pre_is ∙ j.proceeds.are;
+        next = j.proceeds.next;
+        comes = j.proceeds.comes;
+        settles = subst (λ (p : Phase). Settles order p j.proceeds.newly (j.proceeds.seconds ++ option_to_list j.proceeds.next)) phase j.proceeds.settles;
+        each = each_from j.proceeds.firsts j.proceeds.seconds j.proceeds.each;
+      };
       waiting = Some a;
-      gives_firsts = gives;
-      gives_seconds = j.gives_seconds;
-      are = sym (append_assoc (option_to_list old.current) pre j.firsts) ∙ ap (λ (l : List Feature). l ++ j.firsts) pre_is ∙ j.are;
-      next = j.next;
-      comes = j.comes;
-      settles = subst (λ (p : Phase). Settles order p j.newly (j.seconds ++ option_to_list j.next)) phase j.settles;
-      each = each_from j.firsts j.seconds j.each;
-      cause = inr (inr (record { last = a; waits = refl; is = is; none = none; both = both; ended = ended; puts = puts_each j.firsts j.seconds j.newly out grown j.writes }));
+      cause = inr (inr (record { last = a; waits = refl; is = is; none = none; both = both; ended = ended; puts = puts_each j.proceeds.firsts j.proceeds.seconds j.proceeds.newly out grown j.writes }));
     }
 
     -- it is kept, or can't be
     pub kept_or_not : {T : Type 0} (a : Feature) (j : JoinsSo a_gives a_ended b_gives b_ended' b_line (IsThis order) (Settles order mid.phase) mid first from_a from_b [] out (Some a) new to_a to_b [] grown) → old.current ≡ None → b_ended to_b → (mid.phase ≡ First → ⊥)
-        → u_gives from_u (pre ++ j.firsts) to_u → new.phase ≡ old.phase → (old.phase ≡ Over → ⊥) → LeavesLast order j.seconds a → (result : Result T Fault) (final : Sweeping) → KeepsOne new a result final
+        → u_gives from_u (pre ++ j.proceeds.firsts) to_u → new.phase ≡ old.phase → (old.phase ≡ Over → ⊥) → LeavesLast order j.proceeds.seconds a → (result : Result T Fault) (final : Sweeping) → KeepsOne new a result final
         → Advances u_gives u_ended b_gives b_ended b_line order old from_u from_b out result final to_u to_b grown
     kept_or_not a j none ended not_first gives same not_over leaves (Ok t) final is = (
       advances_from (Some a) final j gives same is (λ w stage st. both_open stage.a_ended stage.b_ended old.phase st.phase_is (λ e. not_first (phase ∙ e)) not_over) leaves,
@@ -269,16 +266,18 @@ module _ {U V : Type 0} (u_gives : U → List Feature → U → Type 0) (u_ended
 
   pub advances_none : AdvancesSo u_gives u_ended v_gives v_ended v_line order old from_u from_v out old from_u from_v out
   advances_none = record {
-    firsts = [];
-    seconds = [];
-    newly = [];
-    gives_firsts = u_none;
-    gives_seconds = v_none;
-    are = append-nil (option_to_list old.current);
-    next = None;
-    comes = tt;
-    settles = inr refl;
-    each = λ stage st pg pt. tt;
+    proceeds = record {
+      firsts = [];
+      seconds = [];
+      newly = [];
+      gives_firsts = u_none;
+      gives_seconds = v_none;
+      are = append-nil (option_to_list old.current);
+      next = None;
+      comes = tt;
+      settles = inr refl;
+      each = λ stage st pg pt. tt;
+    };
     leaves = leaves_nothing old.current;
     stands = λ stage st pg pt. same_stands stage st;
     puts = λ stage st pg pt. grown_none out;
