@@ -76,6 +76,37 @@ PutsEach order old firsts seconds newly out grown =
     AtEach order old firsts seconds
     (λ stage. Grown out (intersect old.shape old.rule newly (stage.taken ++ seconds)) grown)
 
+-- why it failed, after records of which `newly` are settled and one may wait
+module _ {V : Type 0} (b_gives : V → List Feature → V → Type 0) (b_ended : V → Type 0) (b_line : V → ℕ)
+    (order : Order) (old : Sweeping) (out : Output) (firsts seconds newly : List Feature)
+    (waiting : Option Feature) (to_b : V) (fault : FaultValue) (grown : Output) where
+  -- the lines couldn't all be written
+  abbrev pub FailsToWrite : Type 0
+  FailsToWrite = AtEach order old firsts seconds
+      (λ stage. FailsToAdd out (intersect old.shape old.rule newly (stage.taken ++ seconds)) fault grown)
+
+  -- they were written; the next record of the second input shares a base with the one that waits, and
+  -- can't be held
+  pub record FailsToTake : Type 0 where
+    pub shares : SharesBase b_gives waiting to_b
+    pub puts : PutsEach order old firsts seconds newly out grown
+    pub lacks : AtEach order old firsts seconds
+        (λ stage. CannotBeHeld old.limit shares.last (stage.taken ++ seconds) (b_line shares.after) fault)
+
+  -- they were written; neither input has ended, none waited before, all records of the second input that
+  -- there are were taken, and the one of the first that waits can't be kept
+  pub record FailsToKeep : Type 0 where
+    pub last : Feature
+    pub waits : waiting ≡ Some last
+    pub is : fault ≡ no_memory
+    pub none : old.current ≡ None
+    pub both : old.phase ≡ Both
+    pub ended : b_ended to_b
+    pub puts : PutsEach order old firsts seconds newly out grown
+
+  abbrev pub Fails : Type 0
+  Fails = FailsToWrite ⊎ (FailsToTake ⊎ FailsToKeep)
+
 module _ {U V : Type 0} (a_gives : U → List Feature → U → Type 0) (a_ended : U → Type 0)
     (b_gives : V → List Feature → V → Type 0) (b_ended : V → Type 0) (b_line : V → ℕ) (order : Order)
     (old : Sweeping) (from_a : U) (from_b : V) (out : Output) where
@@ -103,39 +134,12 @@ module _ {U V : Type 0} (a_gives : U → List Feature → U → Type 0) (a_ended
   StopsFor B to_a to_b = b_ended to_b
   StopsFor Nothing to_a to_b = ⊤
 
-  module _ (firsts seconds newly : List Feature) (waiting : Option Feature) (to_b : V) (fault : FaultValue)
-      (grown : Output) where
-    -- the lines couldn't all be written
-    abbrev pub FailsToWrite : Type 0
-    FailsToWrite = AtEach order old firsts seconds
-        (λ stage. FailsToAdd out (intersect old.shape old.rule newly (stage.taken ++ seconds)) fault grown)
-
-    -- they were written; the next record of the second input shares a base with the one that waits, and
-    -- can't be held
-    pub record FailsToTake : Type 0 where
-      pub shares : SharesBase b_gives waiting to_b
-      pub puts : PutsEach order old firsts seconds newly out grown
-      pub lacks : AtEach order old firsts seconds
-          (λ stage. CannotBeHeld old.limit shares.last (stage.taken ++ seconds) (b_line shares.after) fault)
-
-    -- they were written; neither input has ended, none waited before, all records of the second input that
-    -- there are were taken, and the one of the first that waits can't be kept
-    pub record FailsToKeep : Type 0 where
-      pub last : Feature
-      pub waits : waiting ≡ Some last
-      pub is : fault ≡ no_memory
-      pub none : old.current ≡ None
-      pub both : old.phase ≡ Both
-      pub ended : b_ended to_b
-      pub puts : PutsEach order old firsts seconds newly out grown
-
   -- it failed once the lines of these records of the first input were settled
   pub record FailsAt (fault : FaultValue) (to_a : U) (to_b : V) (grown : Output) : Type 0 where
     pub waiting : Option Feature
     pub proceeds : Proceeded waiting to_a to_b
-    pub cause : FailsToWrite proceeds.firsts proceeds.seconds proceeds.newly waiting to_b fault grown
-        ⊎ (FailsToTake proceeds.firsts proceeds.seconds proceeds.newly waiting to_b fault grown
-        ⊎ FailsToKeep proceeds.firsts proceeds.seconds proceeds.newly waiting to_b fault grown)
+    pub cause : Fails b_gives b_ended b_line order old out proceeds.firsts proceeds.seconds proceeds.newly waiting to_b
+        fault grown
 
   -- what the answer says
   abbrev pub Advances : {T : Type 0} → Result T Fault → Sweeping → U → V → Output → Type 0

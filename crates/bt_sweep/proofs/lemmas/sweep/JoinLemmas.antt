@@ -1,5 +1,5 @@
 -- Lemmas on records of both inputs that are joined.
-use Rattle.std.proofs.Common.{◌≡◌, ◌⊎◌, ◌<◌, ◌≤◌, inl, inr, ℕ, true, false, List, [], ◌∷◌, ◌++◌, Option, Some, None, Ok, Err, Result, option_map, refl, sym, ap, ◌∙◌, subst, append-nil, append_assoc, option_to_list, bytes_eq, length, ltb, arith}
+use Rattle.std.proofs.Common.{◌≡◌, ◌<◌, ◌≤◌, inl, inr, ℕ, true, false, List, [], ◌∷◌, ◌++◌, Option, Some, None, Ok, Err, Result, option_map, refl, sym, ap, ◌∙◌, subst, append-nil, append_assoc, option_to_list, bytes_eq, length, ltb, arith}
 use Rattle.std.specs.Prelude.{All, IfSome}
 use Rattle.std.specs.List.{list_all}
 use Rattle.std.proofs.lemmas.Bool.{and_from, and_parts, ltb-true, or_left, or_right}
@@ -16,7 +16,7 @@ use Rattle.bt_sweep.specs.model.Deciding.{decided, decides}
 use Rattle.bt_sweep.specs.calls.Held.{CanHit}
 use Rattle.bt_sweep.specs.model.IntersectLines.{intersect}
 use Rattle.bt_sweep.specs.calls.Taking.{AreDecided, CannotBeHeld, GivesKnown, LeavesLast, TakenEach, TakenFor}
-use Rattle.bt_sweep.specs.inside.Joining.{AreDecidedOn, Behind, Breaks, Cuts, CutsLines, CutsOff, EndUpTo, GoesTo, GrownWith, Joins, JoinsSo, Keeps, LacksRoom, LeavesOn, LieOn, WaitsOn, Writes, WritesSo}
+use Rattle.bt_sweep.specs.inside.Joining.{AreDecidedOn, Behind, Breaks, Cuts, CutsOff, EndUpTo, GoesTo, GrownWith, Joins, JoinsSo, Keeps, LeavesOn, LieOn, Proceeded, WaitsOn, Writes, WritesSo}
 use Rattle.bt_sweep.specs.calls.Standing.{held_for, is_held, last_given}
 use Rattle.bt_sweep.specs.inside.StateSteps.{CannotHold, has_room_in, holding}
 use Rattle.bt_sweep.specs.calls.Steps.{has_room}
@@ -167,44 +167,40 @@ module _ {A B : Type 0} (a_gives : A → List Feature → A → Type 0) (a_ended
   abbrev BreaksSo : FaultValue → A → B → List ℕ → Output → Type 0
   BreaksSo = Breaks a_gives a_ended b_gives b_ended b_line IsTotal Decided old first from_a from_b pending out
 
-  -- of the same records, for another cause
-  breaks_by : (fault failed : FaultValue) (to_a : A) (to_b : B) (left rest : List ℕ) (grown now : Output) (b : BreaksSo fault to_a to_b left grown)
-      → (CutsLines a_gives a_ended b_gives b_ended b_line IsTotal Decided old first from_a from_b pending out b.proceeds.firsts b.proceeds.seconds b.proceeds.newly b.waiting to_b failed rest now
-      ⊎ LacksRoom a_gives a_ended b_gives b_ended b_line IsTotal Decided old first from_a from_b pending out b.proceeds.firsts b.proceeds.seconds b.proceeds.newly b.waiting to_b failed rest now) → BreaksSo failed to_a to_b rest now
-  breaks_by fault failed to_a to_b left rest grown now b cause = record {
-    proceeds = b.proceeds;
-    waiting = b.waiting;
-    cause = cause;
-  }
-
   -- ---- the lines that are left pending are put at last
 
   module _ (to_a : A) (to_b : B) (left : List ℕ) (grown now : Output) where
     -- it had failed before
     breaks_rest : (fault : FaultValue) → BreaksSo fault to_a to_b left grown → Grown grown left now → BreaksSo fault to_a to_b [] now
-    breaks_rest fault b puts =
-        breaks_by fault fault to_a to_b left [] grown now b (elim b.cause [
-          | inl cut ↦ inl (λ order shape rule limit before taken total kept pg pt.
-              fails_again {T = Unit {0}} grown now (pending ++ intersect shape rule b.proceeds.newly (taken ++ b.proceeds.seconds)) left fault out (Ok tt) (cut order shape rule limit before taken total kept pg pt) puts)
-          | inr lack ↦ inr (record {
-            shares = lack.shares;
-            writes = λ order shape rule limit before taken total kept pg pt.
-                with_rest pending (intersect shape rule b.proceeds.newly (taken ++ b.proceeds.seconds)) left out grown (lack.writes order shape rule limit before taken total kept pg pt) now puts;
-            lacks = lack.lacks;
-          })
-        ])
+    breaks_rest fault b puts = record {
+      proceeds = b.proceeds;
+      waiting = b.waiting;
+      cause = elim b.cause [
+        | inl cut ↦ inl (λ order shape rule limit before taken total kept pg pt.
+            fails_again {T = Unit {0}} grown now (pending ++ intersect shape rule b.proceeds.newly (taken ++ b.proceeds.seconds)) left fault out (Ok tt) (cut order shape rule limit before taken total kept pg pt) puts)
+        | inr lack ↦ inr (record {
+          shares = lack.shares;
+          writes = λ order shape rule limit before taken total kept pg pt.
+              with_rest pending (intersect shape rule b.proceeds.newly (taken ++ b.proceeds.seconds)) left out grown (lack.writes order shape rule limit before taken total kept pg pt) now puts;
+          lacks = lack.lacks;
+        })
+      ];
+    }
 
     breaks_cut : (fault : FaultValue) (failed : Fault) → BreaksSo fault to_a to_b left grown → FailsToAdd grown left (fault_value failed) now → BreaksSo (fault_value failed) to_a to_b [] now
-    breaks_cut fault failed b fails =
-        breaks_by fault (fault_value failed) to_a to_b left [] grown now b (inl (λ order shape rule limit before taken total kept pg pt.
-        elim b.cause [
-          | inl cut ↦
-              let here = cut order shape rule limit before taken total kept pg pt in
-              let again = fails_again {T = Unit {0}} grown now (pending ++ intersect shape rule b.proceeds.newly (taken ++ b.proceeds.seconds)) left fault out (Err failed) here fails in
-              subst (λ (f : FaultValue). FailsToAdd out (pending ++ intersect shape rule b.proceeds.newly (taken ++ b.proceeds.seconds)) f now) (again.puts.is ∙ sym fails.puts.is) again
-          | inr lack ↦
-              with_rest_cut pending (intersect shape rule b.proceeds.newly (taken ++ b.proceeds.seconds)) left out grown (lack.writes order shape rule limit before taken total kept pg pt) (fault_value failed) now fails
-        ]))
+    breaks_cut fault failed b fails = record {
+      proceeds = b.proceeds;
+      waiting = b.waiting;
+      cause = inl (λ order shape rule limit before taken total kept pg pt.
+          elim b.cause [
+            | inl cut ↦
+                let here = cut order shape rule limit before taken total kept pg pt in
+                let again = fails_again {T = Unit {0}} grown now (pending ++ intersect shape rule b.proceeds.newly (taken ++ b.proceeds.seconds)) left fault out (Err failed) here fails in
+                subst (λ (f : FaultValue). FailsToAdd out (pending ++ intersect shape rule b.proceeds.newly (taken ++ b.proceeds.seconds)) f now) (again.puts.is ∙ sym fails.puts.is) again
+            | inr lack ↦
+                with_rest_cut pending (intersect shape rule b.proceeds.newly (taken ++ b.proceeds.seconds)) left out grown (lack.writes order shape rule limit before taken total kept pg pt) (fault_value failed) now fails
+          ]);
+    }
 
     -- it hadn't
     stops_cut : (waiting : Option Feature) (s : Sweeping) (fault : FaultValue) → So waiting s to_a to_b left grown → FailsToAdd grown left fault now → BreaksSo fault to_a to_b [] now
@@ -248,23 +244,27 @@ module _ {A B : Type 0} (a_gives : A → List Feature → A → Type 0) (a_ended
       waits_on : (held : List Feature) (waiting : Option Feature) → WaitsOn cur.chrom held waiting → WaitsOn first.chrom held waiting
       waits_on held waiting is = grind arith
 
+      abbrev proceeds_on : (firsts2 newly2 : List Feature) (waiting : Option Feature) (to_a2 : A) → a_gives to_a firsts2 to_a2 → cur ∷ firsts2 ≡ newly2 ++ option_to_list waiting → EndUpTo cur.chrom b.start newly2
+          → Proceeded a_gives a_ended b_gives b_ended b_line IsTotal Decided old first from_a from_b pending out waiting to_a2 to_b
+      proceeds_on firsts2 newly2 waiting to_a2 given are end = record {
+        firsts = j.proceeds.firsts ++ firsts2;
+        seconds = j.proceeds.seconds;
+        newly = j.proceeds.newly ++ newly2;
+        gives_firsts = a_more from_a to_a to_a2 j.proceeds.firsts firsts2 j.proceeds.gives_firsts given;
+        gives_seconds = j.proceeds.gives_seconds;
+        are = are_both first j.proceeds.firsts j.proceeds.newly cur firsts2 newly2 (option_to_list waiting) j.proceeds.are are;
+        next = Some b;
+        comes = (after, gives_b);
+        settles = both_settled newly2 end;
+        each = λ order shape rule limit before taken total kept pg pt. each_wider order limit (first ∷ j.proceeds.firsts) firsts2 taken j.proceeds.seconds (j.proceeds.each order shape rule limit before taken total kept (front_of order before first j.proceeds.firsts firsts2 pg) pt);
+      }
+
       -- records that it decides were written
       pub joins_write : (s2 : Sweeping) (to_a2 : A) (rest : List ℕ) (now : Output) (waiting : Option Feature) → WritesSo a_gives a_ended b.start s cur to_a left grown waiting s2 to_a2 rest now
           → (k : So waiting s2 to_a2 to_b rest now) × (k.proceeds.next ≡ Some b)
       joins_write s2 to_a2 rest now waiting w = (
         record {
-          proceeds = record {
-            firsts = j.proceeds.firsts ++ w.firsts;
-            seconds = j.proceeds.seconds;
-            newly = j.proceeds.newly ++ w.newly;
-            gives_firsts = a_more from_a to_a to_a2 j.proceeds.firsts w.firsts j.proceeds.gives_firsts w.given;
-            gives_seconds = j.proceeds.gives_seconds;
-            are = are_both first j.proceeds.firsts j.proceeds.newly cur w.firsts w.newly (option_to_list waiting) j.proceeds.are w.are;
-            next = Some b;
-            comes = (after, gives_b);
-            settles = both_settled w.newly w.end;
-            each = λ order shape rule limit before taken total kept pg pt. each_wider order limit (first ∷ j.proceeds.firsts) w.firsts taken j.proceeds.seconds (j.proceeds.each order shape rule limit before taken total kept (front_of order before first j.proceeds.firsts w.firsts pg) pt);
-          };
+          proceeds = proceeds_on w.firsts w.newly waiting to_a2 w.given w.are w.end;
           waits = waits_on s2.held waiting w.waits;
           goes = behind_same first j.proceeds.firsts j.proceeds.seconds j.proceeds.newly cur j.proceeds.are old s j.goes w.firsts (λ order shape rule limit as_given taken. Keeps order shape rule limit as_given taken s2) w.goes;
           writes = writes_both first j.proceeds.firsts j.proceeds.seconds j.proceeds.newly cur j.proceeds.are old s j.goes pending left out grown j.writes w.firsts w.newly rest now w.writes;
@@ -275,18 +275,7 @@ module _ {A B : Type 0} (a_gives : A → List Feature → A → Type 0) (a_ended
       -- they couldn't all be
       pub breaks_write : (to_a2 : A) (rest : List ℕ) (now : Output) (fault : FaultValue) → CutsOff a_gives a_ended b.start s cur to_a left grown fault to_a2 now → BreaksSo fault to_a2 to_b rest now
       breaks_write to_a2 rest now fault cut = record {
-        proceeds = record {
-          firsts = j.proceeds.firsts ++ cut.firsts;
-          seconds = j.proceeds.seconds;
-          newly = j.proceeds.newly ++ cut.newly;
-          gives_firsts = a_more from_a to_a to_a2 j.proceeds.firsts cut.firsts j.proceeds.gives_firsts cut.given;
-          gives_seconds = j.proceeds.gives_seconds;
-          are = are_both first j.proceeds.firsts j.proceeds.newly cur cut.firsts cut.newly (option_to_list cut.waiting) j.proceeds.are cut.are;
-          next = Some b;
-          comes = (after, gives_b);
-          settles = both_settled cut.newly cut.end;
-          each = λ order shape rule limit before taken total kept pg pt. each_wider order limit (first ∷ j.proceeds.firsts) cut.firsts taken j.proceeds.seconds (j.proceeds.each order shape rule limit before taken total kept (front_of order before first j.proceeds.firsts cut.firsts pg) pt);
-        };
+        proceeds = proceeds_on cut.firsts cut.newly cut.waiting to_a2 cut.given cut.are cut.end;
         waiting = cut.waiting;
         cause = inl (cuts_both first j.proceeds.firsts j.proceeds.seconds j.proceeds.newly cur j.proceeds.are old s j.goes pending left out grown j.writes cut.firsts cut.newly fault now cut.cuts);
       }

@@ -19,7 +19,7 @@ use Rattle.bt_sweep.specs.model.Deciding.{decided, decides}
 use Rattle.bt_sweep.specs.calls.Held.{CanHit}
 use Rattle.bt_sweep.specs.model.IntersectLines.{intersect}
 use Rattle.bt_sweep.specs.calls.Taking.{AreDecided, CannotBeHeld, ComesNext, LeavesLast, TakenEach}
-use Rattle.bt_sweep.specs.inside.Joining.{AreDecidedOn, Behind, BehindFor, GoesToFor, GrownWith, StopsAt, EndUpTo, Joins, Keeps, LeavesOn, LieOn, WaitsOn, SkipsAll, WritesUpTo}
+use Rattle.bt_sweep.specs.inside.Joining.{AreDecidedOn, Behind, BehindFor, GrownWith, StopsAt, EndUpTo, Joins, Keeps, LeavesOn, LieOn, Proceeded, WaitsOn, SkipsAll, WritesUpTo}
 use Rattle.bt_sweep.specs.inside.Relating.{Compares, EndsWhile, Relates}
 use Rattle.bt_sweep.specs.calls.Standing.{HoldsFor, is_held}
 use Rattle.bt_sweep.specs.calls.SweepState.{Sweeping}
@@ -90,22 +90,9 @@ module _ {A B R : Type 0} (a_gives : A → List Feature → A → Type 0) (a_end
       let j = joins_first a_gives a_ended a_none a_more b_gives (EndsWhile b_ended old.phase) b_line b_none b_more old first from_a from_b [] out (IsThis order) (Settles order old.phase) (inr refl) hits in
       (j.0, ended, leaves_none order j.0.proceeds.seconds first j.2)
 
-  keeps_one : (name : List ℕ) (b : Feature) (other : Order) (shape : Shape) (rule : HitRule) (limit : Option ℕ) (before taken : List Feature) → IsThis order other → order.compare name first.chrom ≡ Less → b.chrom ≡ name
-      → Keeps other shape rule limit (before ++ first ∷ []) taken old → Keeps other shape rule limit (before ++ first ∷ []) (taken ++ b ∷ []) old
-  keeps_one name b other shape rule limit before taken this compared on kept =
-      subst (λ (o : Order). Keeps o shape rule limit (before ++ first ∷ []) (taken ++ b ∷ []) old) (sym this)
-      (let k = subst (λ (o : Order). Keeps o shape rule limit (before ++ first ∷ []) taken old) this kept in
-      let all : Keeps order shape rule limit (before ++ first ∷ []) (taken ++ b ∷ []) old = record {
-        shape_is = k.shape_is;
-        rule_is = k.rule_is;
-        limit_is = k.limit_is;
-        holds = holds_before order total first known name compared before taken old.held (b ∷ []) (on, tt) k.holds;
-        within = k.within;
-      } in
-      all)
-
-  keeps_before : (name : List ℕ) (seconds : List Feature) → order.compare name first.chrom ≡ Less → LieOn name seconds → GoesToFor (IsThis order) first [] seconds old old
-  keeps_before name seconds compared on other shape rule limit before taken this kept pg pt =
+  keeps_all : (name : List ℕ) (seconds : List Feature) (other : Order) (shape : Shape) (rule : HitRule) (limit : Option ℕ) (before taken : List Feature) → IsThis order other → order.compare name first.chrom ≡ Less → LieOn name seconds
+      → Keeps other shape rule limit (before ++ first ∷ []) taken old → Keeps other shape rule limit (before ++ first ∷ []) (taken ++ seconds) old
+  keeps_all name seconds other shape rule limit before taken this compared on kept =
       subst (λ (o : Order). Keeps o shape rule limit (before ++ first ∷ []) (taken ++ seconds) old) (sym this)
       (let k = subst (λ (o : Order). Keeps o shape rule limit (before ++ first ∷ []) taken old) this kept in
       let all : Keeps order shape rule limit (before ++ first ∷ []) (taken ++ seconds) old = record {
@@ -122,7 +109,7 @@ module _ {A B R : Type 0} (a_gives : A → List Feature → A → Type 0) (a_end
       → Keeps other shape rule limit (before ++ first ∷ []) taken old → TakenEach other limit (first ∷ []) taken seconds
   each_before name [] other shape rule limit before taken this compared on kept = tt
   each_before name (b ∷ seconds) other shape rule limit before taken this compared on kept =
-      let next = keeps_one name b other shape rule limit before taken this compared on.0 kept in (
+      let next = keeps_all name (b ∷ []) other shape rule limit before taken this compared (on.0, tt) kept in (
         record {
           before = [];
           a = first;
@@ -152,7 +139,7 @@ module _ {A B R : Type 0} (a_gives : A → List Feature → A → Type 0) (a_end
         each = λ other shape rule limit before taken this kept pg pt. each_before name skip.seconds other shape rule limit before taken this lies.compared skip.on kept;
       };
       waits = (refl, hits);
-      goes = keeps_before name skip.seconds lies.compared skip.on;
+      goes = λ other shape rule limit before taken this kept pg pt. keeps_all name skip.seconds other shape rule limit before taken this lies.compared skip.on kept;
       writes = λ other shape rule limit before taken this kept pg pt. with_none [] out;
     },
     (skip.ended, lies.going),
@@ -173,22 +160,26 @@ module _ {A B R : Type 0} (a_gives : A → List Feature → A → Type 0) (a_end
   leaves_beside : (waiting : Option R) (held seconds : List Feature) → WaitsOn first.chrom held (option_map feature waiting) → IfSome (option_map feature waiting) (LeavesOn seconds) → IfSome (option_map feature waiting) (LeavesLast order seconds)
   leaves_beside waiting held seconds waits leaves = grind arith
 
+  abbrev proceeds_beside : (waiting : Option Feature) (to_a : A) (to_b : B) → Proceeded a_gives a_ended b_gives b_ended b_line IsTotal (AreDecidedOn first.chrom) old first from_a from_b [] out waiting to_a to_b
+      → Proceeded a_gives a_ended b_gives (EndsWhile b_ended old.phase) b_line (IsThis order) (Settles order old.phase) old first from_a from_b [] out waiting to_a to_b
+  proceeds_beside waiting to_a to_b p = record {
+    firsts = p.firsts;
+    seconds = p.seconds;
+    newly = p.newly;
+    gives_firsts = p.gives_firsts;
+    gives_seconds = p.gives_seconds;
+    are = p.are;
+    next = p.next;
+    comes = p.comes;
+    settles = inr (p.settles order total known);
+    each = λ other shape rule limit before taken this kept pg pt. p.each other shape rule limit before taken (subst IsTotal (sym this) total) kept pg pt;
+  }
+
   -- they lie beside
   pub decides_beside : (result : Result (Option R) Fault) (new : Sweeping) (to_a : A) (to_b : B) (grown : Output) → (old.phase ≡ First → ⊥) → JoinsBeside result new to_a to_b grown → Decides result new to_a to_b grown
   decides_beside (Ok waiting) new to_a to_b grown going (j, stops, leaves) = (
     record {
-      proceeds = record {
-        firsts = j.proceeds.firsts;
-        seconds = j.proceeds.seconds;
-        newly = j.proceeds.newly;
-        gives_firsts = j.proceeds.gives_firsts;
-        gives_seconds = j.proceeds.gives_seconds;
-        are = j.proceeds.are;
-        next = j.proceeds.next;
-        comes = j.proceeds.comes;
-        settles = inr (j.proceeds.settles order total known);
-        each = λ other shape rule limit before taken this kept pg pt. j.proceeds.each other shape rule limit before taken (subst IsTotal (sym this) total) kept pg pt;
-      };
+      proceeds = proceeds_beside (option_map feature waiting) to_a to_b j.proceeds;
       waits = j.waits;
       goes = to_this j.proceeds.firsts j.proceeds.seconds (λ order shape rule limit as_given taken. Keeps order shape rule limit as_given taken new) j.goes;
       writes = to_this j.proceeds.firsts j.proceeds.seconds (λ order shape rule limit as_given taken. GrownWith [] out (intersect shape rule j.proceeds.newly taken) [] grown) j.writes;
@@ -197,18 +188,7 @@ module _ {A B R : Type 0} (a_gives : A → List Feature → A → Type 0) (a_end
     leaves_beside waiting new.held j.proceeds.seconds j.waits leaves,
   )
   decides_beside (Err fault) new to_a to_b grown going b = record {
-    proceeds = record {
-      firsts = b.proceeds.firsts;
-      seconds = b.proceeds.seconds;
-      newly = b.proceeds.newly;
-      gives_firsts = b.proceeds.gives_firsts;
-      gives_seconds = b.proceeds.gives_seconds;
-      are = b.proceeds.are;
-      next = b.proceeds.next;
-      comes = b.proceeds.comes;
-      settles = inr (b.proceeds.settles order total known);
-      each = λ other shape rule limit before taken this kept pg pt. b.proceeds.each other shape rule limit before taken (subst IsTotal (sym this) total) kept pg pt;
-    };
+    proceeds = proceeds_beside b.waiting to_a to_b b.proceeds;
     waiting = b.waiting;
     cause = elim b.cause [
       | inl cut ↦ inl (to_this b.proceeds.firsts b.proceeds.seconds (λ order shape rule limit as_given taken. FailsToAdd out ([] ++ intersect shape rule b.proceeds.newly taken) (fault_value fault) grown) cut)
@@ -236,24 +216,28 @@ module _ {A B R : Type 0} (a_gives : A → List Feature → A → Type 0) (a_end
   settles_of name (inr lies) newly end =
       inr (after_decided order lies.b first.chrom newly max_number total known (ap (λ (c : List ℕ). order.compare c first.chrom) lies.on ∙ lies.compares.compared) end)
 
+  abbrev proceeds_after : (name : List ℕ) (firsts newly : List Feature) (waiting : Option Feature) (to_a : A) → IsBehind name → a_gives from_a firsts to_a → first ∷ firsts ≡ newly ++ option_to_list waiting → EndUpTo first.chrom max_number newly
+      → Proceeded a_gives a_ended b_gives (EndsWhile b_ended old.phase) b_line (IsThis order) (Settles order old.phase) old first from_a from_b [] out waiting to_a from_b
+  proceeds_after name firsts newly waiting to_a behind given are end = record {
+    firsts = firsts;
+    seconds = [];
+    newly = newly;
+    gives_firsts = given;
+    gives_seconds = b_none from_b;
+    are = are;
+    next = next_of name behind;
+    comes = comes_of name behind;
+    settles = settles_of name behind newly end;
+    each = λ other shape rule limit before taken this kept pg pt. tt;
+  }
+
   -- each is written
   pub decides_after : (name : List ℕ) (result : Result (Option R) Fault) (new : Sweeping) (to_a : A) (grown : Output) → IsBehind name → WritesUpTo a_gives a_ended feature max_number old first from_a [] out result new to_a [] grown
       → Decides result new to_a from_b grown
   decides_after name (Ok (Some a)) new to_a grown behind w = absurd (omega (arith, w.1.0, w.1.1))
   decides_after name (Ok None) new to_a grown behind (w, ended) = (
     record {
-      proceeds = record {
-        firsts = w.firsts;
-        seconds = [];
-        newly = w.newly;
-        gives_firsts = w.given;
-        gives_seconds = b_none from_b;
-        are = w.are;
-        next = next_of name behind;
-        comes = comes_of name behind;
-        settles = settles_of name behind w.newly w.end;
-        each = λ other shape rule limit before taken this kept pg pt. tt;
-      };
+      proceeds = proceeds_after name w.firsts w.newly None to_a behind w.given w.are w.end;
       waits = tt;
       goes = to_this w.firsts [] (λ order shape rule limit as_given taken. Keeps order shape rule limit as_given taken new) w.goes;
       writes = to_this w.firsts [] (λ order shape rule limit as_given taken. GrownWith [] out (intersect shape rule w.newly taken) [] grown) w.writes;
@@ -262,18 +246,7 @@ module _ {A B R : Type 0} (a_gives : A → List Feature → A → Type 0) (a_end
     tt,
   )
   decides_after name (Err fault) new to_a grown behind cut = record {
-    proceeds = record {
-      firsts = cut.firsts;
-      seconds = [];
-      newly = cut.newly;
-      gives_firsts = cut.given;
-      gives_seconds = b_none from_b;
-      are = cut.are;
-      next = next_of name behind;
-      comes = comes_of name behind;
-      settles = settles_of name behind cut.newly cut.end;
-      each = λ other shape rule limit before taken this kept pg pt. tt;
-    };
+    proceeds = proceeds_after name cut.firsts cut.newly cut.waiting to_a behind cut.given cut.are cut.end;
     waiting = cut.waiting;
     cause = inl (to_this cut.firsts [] (λ order shape rule limit as_given taken. FailsToAdd out ([] ++ intersect shape rule cut.newly taken) (fault_value fault) grown) cut.cuts);
   }

@@ -459,7 +459,7 @@ module _ (order : Order) (stage : Stage) (old : Sweeping) (st : StandsAt order s
               ]
         ]
 
-        lack_b : FailsToTake GivesSingle HasNone GivesSingle HasNone single_line order old from_a from_b out f.proceeds.firsts f.proceeds.seconds f.proceeds.newly f.waiting to_b fault grown → FailsB
+        lack_b : FailsToTake GivesSingle HasNone single_line order old out f.proceeds.firsts f.proceeds.seconds f.proceeds.newly f.waiting to_b fault grown → FailsB
         lack_b lack = elim parts [
           | inr written ↦ absurd (let apart : None ≡ Some lack.shares.last = sym written.1 ∙ lack.shares.waits in cc)
           | inl still ↦ elim (seconds_are to_b f.proceeds.seconds f.proceeds.gives_seconds) [

@@ -12,10 +12,10 @@ use Rattle.bt_bed.specs.model.order.Locus.{ArePlaced}
 use Rattle.bt_bed.specs.model.order.Order.{Order, IsTotal}
 use Rattle.bt_bed.specs.calls.Single.{GivesSingle, single_left}
 use Rattle.bt_bed.specs.declared.read.cursor.Single.{Single}
-use Rattle.bt_sweep.specs.calls.Advancing.{Advances, AdvancesSo, AtEach, FailsAt, IsThis, PutsEach, Settles, StopsFor, stage_after}
+use Rattle.bt_sweep.specs.calls.Advancing.{Advances, AdvancesSo, AtEach, FailsAt, IsThis, Proceeded, PutsEach, Settles, StopsFor, stage_after}
 use Rattle.bt_sweep.specs.model.IntersectLines.{intersect}
 use Rattle.bt_sweep.specs.calls.Taking.{CannotBeHeld, LeavesLast, TakenEach}
-use Rattle.bt_sweep.specs.inside.Joining.{BehindFor, Breaks, JoinsSo, Keeps, TakesEachFor, WritesFor}
+use Rattle.bt_sweep.specs.inside.Joining.{BehindFor, Breaks, JoinsSo, Keeps, Proceeded as Joined, TakesEachFor, WritesFor}
 use Rattle.bt_sweep.specs.calls.Standing.{HoldsFor, MovesTo, Stage, StandsAt, given, phase_of}
 use Rattle.bt_sweep.specs.inside.StateSteps.{KeepsOne, held_with}
 use Rattle.bt_sweep.specs.calls.SweepState.{Sweeping, is_over, want_in, want_of}
@@ -164,21 +164,25 @@ module _ (order : Order) (old mid : Sweeping) (first : Feature) (pre : List Feat
 
   module _ {A B U : Type 0} (a_gives : A → List Feature → A → Type 0) (a_ended : A → Type 0) (b_gives : B → List Feature → B → Type 0) (b_ended b_ended' : B → Type 0) (b_line : B → ℕ)
       (u_gives : U → List Feature → U → Type 0) (u_ended : U → Type 0) (from_u to_u : U) (from_a to_a : A) (from_b to_b : B) (out grown : Output) (new : Sweeping) where
+    abbrev proceeds_from : (waiting now : Option Feature) (p : Joined a_gives a_ended b_gives b_ended' b_line (IsThis order) (Settles order mid.phase) mid first from_a from_b [] out waiting to_a to_b)
+        → u_gives from_u (pre ++ p.firsts) to_u → waiting ≡ now → Proceeded u_gives u_ended b_gives b_ended b_line order old from_u from_b out now to_u to_b
+    proceeds_from waiting now p gives w = record {
+      firsts = pre ++ p.firsts;
+      seconds = p.seconds;
+      newly = p.newly;
+      gives_firsts = gives;
+      gives_seconds = p.gives_seconds;
+      are = sym (append_assoc (option_to_list old.current) pre p.firsts) ∙ ap (λ (l : List Feature). l ++ p.firsts) pre_is ∙ p.are ∙ ap (λ (o : Option Feature). p.newly ++ option_to_list o) w;
+      next = p.next;
+      comes = p.comes;
+      settles = subst (λ (phase : Phase). Settles order phase p.newly (p.seconds ++ option_to_list p.next)) phase p.settles;
+      each = each_from p.firsts p.seconds p.each;
+    }
+
     pub advances_from : (waiting : Option Feature) (final : Sweeping) (j : JoinsSo a_gives a_ended b_gives b_ended' b_line (IsThis order) (Settles order mid.phase) mid first from_a from_b [] out waiting new to_a to_b [] grown)
         → u_gives from_u (pre ++ j.proceeds.firsts) to_u → new.phase ≡ old.phase → final ≡ record new { current = waiting } → IsOpen waiting → IfSome waiting (LeavesLast order j.proceeds.seconds) → AdvancesSo u_gives u_ended b_gives b_ended b_line order old from_u from_b out final to_u to_b grown
     advances_from waiting final j gives same is goes_on leaves = record {
-      proceeds = record {
-        firsts = pre ++ j.proceeds.firsts;
-        seconds = j.proceeds.seconds;
-        newly = j.proceeds.newly;
-        gives_firsts = gives;
-        gives_seconds = j.proceeds.gives_seconds;
-        are = sym (append_assoc (option_to_list old.current) pre j.proceeds.firsts) ∙ ap (λ (l : List Feature). l ++ j.proceeds.firsts) pre_is ∙ j.proceeds.are ∙ ap (λ (n : Sweeping). j.proceeds.newly ++ option_to_list n.current) (sym is);
-        next = j.proceeds.next;
-        comes = j.proceeds.comes;
-        settles = subst (λ (p : Phase). Settles order p j.proceeds.newly (j.proceeds.seconds ++ option_to_list j.proceeds.next)) phase j.proceeds.settles;
-        each = each_from j.proceeds.firsts j.proceeds.seconds j.proceeds.each;
-      };
+      proceeds = proceeds_from waiting final.current j.proceeds gives (ap (λ (n : Sweeping). n.current) (sym is));
       leaves = subst (λ (n : Sweeping). IfSome n.current (LeavesLast order j.proceeds.seconds)) (sym is) leaves;
       stands = λ stage st pg pt.
           stands_from stage j.proceeds.firsts j.proceeds.seconds j.proceeds.newly waiting new final st
@@ -190,18 +194,7 @@ module _ (order : Order) (old mid : Sweeping) (first : Feature) (pre : List Feat
     pub fails_from : (fault : FaultValue) (b : Breaks a_gives a_ended b_gives b_ended' b_line (IsThis order) (Settles order mid.phase) mid first from_a from_b [] out fault to_a to_b [] grown)
         → u_gives from_u (pre ++ b.proceeds.firsts) to_u → FailsAt u_gives u_ended b_gives b_ended b_line order old from_u from_b out fault to_u to_b grown
     fails_from fault b gives = record {
-      proceeds = record {
-        firsts = pre ++ b.proceeds.firsts;
-        seconds = b.proceeds.seconds;
-        newly = b.proceeds.newly;
-        gives_firsts = gives;
-        gives_seconds = b.proceeds.gives_seconds;
-        are = sym (append_assoc (option_to_list old.current) pre b.proceeds.firsts) ∙ ap (λ (l : List Feature). l ++ b.proceeds.firsts) pre_is ∙ b.proceeds.are;
-        next = b.proceeds.next;
-        comes = b.proceeds.comes;
-        settles = subst (λ (p : Phase). Settles order p b.proceeds.newly (b.proceeds.seconds ++ option_to_list b.proceeds.next)) phase b.proceeds.settles;
-        each = each_from b.proceeds.firsts b.proceeds.seconds b.proceeds.each;
-      };
+      proceeds = proceeds_from b.waiting b.waiting b.proceeds gives refl;
       waiting = b.waiting;
       cause = elim b.cause [
         | inl cut ↦ inl (at_each b.proceeds.firsts b.proceeds.seconds (λ order shape rule limit as_given taken. FailsToAdd out (intersect shape rule b.proceeds.newly taken) fault grown) cut)
@@ -217,18 +210,7 @@ module _ (order : Order) (old mid : Sweeping) (first : Feature) (pre : List Feat
     pub lacks_from : (a : Feature) (fault : FaultValue) (j : JoinsSo a_gives a_ended b_gives b_ended' b_line (IsThis order) (Settles order mid.phase) mid first from_a from_b [] out (Some a) new to_a to_b [] grown)
         → u_gives from_u (pre ++ j.proceeds.firsts) to_u → old.current ≡ None → old.phase ≡ Both → b_ended to_b → fault ≡ no_memory → FailsAt u_gives u_ended b_gives b_ended b_line order old from_u from_b out fault to_u to_b grown
     lacks_from a fault j gives none both ended is = record {
-      proceeds = record {
-        firsts = pre ++ j.proceeds.firsts;
-        seconds = j.proceeds.seconds;
-        newly = j.proceeds.newly;
-        gives_firsts = gives;
-        gives_seconds = j.proceeds.gives_seconds;
-        are = sym (append_assoc (option_to_list old.current) pre j.proceeds.firsts) ∙ ap (λ (l : List Feature). l ++ j.proceeds.firsts) pre_is ∙ j.proceeds.are;
-        next = j.proceeds.next;
-        comes = j.proceeds.comes;
-        settles = subst (λ (p : Phase). Settles order p j.proceeds.newly (j.proceeds.seconds ++ option_to_list j.proceeds.next)) phase j.proceeds.settles;
-        each = each_from j.proceeds.firsts j.proceeds.seconds j.proceeds.each;
-      };
+      proceeds = proceeds_from (Some a) (Some a) j.proceeds gives refl;
       waiting = Some a;
       cause = inr (inr (record { last = a; waits = refl; is = is; none = none; both = both; ended = ended; puts = puts_each j.proceeds.firsts j.proceeds.seconds j.proceeds.newly out grown j.writes }));
     }

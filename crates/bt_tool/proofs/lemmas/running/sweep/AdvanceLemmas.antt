@@ -196,7 +196,7 @@ module _ {A B O : Type 0} {g : Ghosts O} (source_a : Source A) (source_b : Sourc
     settles = seen_then fails.proceeds.seconds fails.proceeds.newly fails.proceeds.next fails.proceeds.gives_seconds fails.proceeds.comes fails.proceeds.settles;
     each = fails.proceeds.each;
     cause = elim fails.cause [
-      | inl write ↦ inl (record { cuts = write.cuts })
+      | inl write ↦ inl (record { cuts = write })
       | inr others ↦ elim others [
         | inl lack ↦ inr (inl (record {
           last = lack.shares.last;
