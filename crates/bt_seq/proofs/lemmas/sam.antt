@@ -1,10 +1,8 @@
 -- Lemmas on sam.
-pub mod AlignmentLemmas
 pub mod BetweenLemmas
 pub mod BlockLemmas
 pub mod CigarLemmas
 pub mod DivisionLemmas
 pub mod ExtentLemmas
 pub mod SamKindLemmas
-pub mod ShortNumbers
 pub mod TagLemmas
