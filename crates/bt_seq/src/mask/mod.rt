@@ -83,6 +83,7 @@ impl Mask {
     /// decides it. Else it waits. It fails with `TextBeforeHeader` if it has text before the first
     /// header, and with `WriteFailed` if it can't be written. It fails with `NoMemory` if a header can't
     /// be named, or a line that waits or is to be masked can't be kept.
+    #[tactic(auto, using(crate::proofs::lemmas::mask::steps::LineStepLemmas::gives_line, crate::proofs::lemmas::mask::steps::StandLemmas::stays_at))]
     pub fn give_line<K: Sink>(&mut self, line: &Line<'_>, out: &mut Out<K>) -> Result<(), Fault>
         requires { self.old.want ≡ MaskWant.Line }
         ensures gives { (stage : MaskStage) → MaskStandsAt stage self.old
@@ -95,6 +96,7 @@ impl Mask {
     /// Takes lines and records, one after another, as long as the next one that it wants is available. It fails as
     /// [`Mask::give_line`] and [`Mask::give_bed`] do. Lines that nothing masks are written together. An engine that wants
     /// nothing takes nothing.
+    #[tactic(auto, using(std::proofs::lemmas::Result::err_from_is_err_and, crate::proofs::lemmas::mask::steps::AdvanceLemmas::both_fail, crate::proofs::lemmas::mask::steps::AdvanceLemmas::both_more, crate::proofs::lemmas::mask::steps::AdvanceLemmas::gave_none))]
     pub fn advance<C: Cursor, K: Sink>(
         &mut self,
         lines: &mut BufferedLines<'_>,
@@ -112,6 +114,7 @@ impl Mask {
     }
 
     // Takes what it wants next, and returns true if that is available.
+    #[tactic(auto, using(crate::proofs::lemmas::mask::steps::AdvanceLemmas::gave_none, crate::proofs::lemmas::mask::steps::AdvanceLemmas::line_shrinks, crate::proofs::lemmas::mask::steps::AdvanceLemmas::lines_both, crate::proofs::lemmas::mask::steps::AdvanceLemmas::record_shrinks))]
     #[inline(always)]
     fn gives_next<C: Cursor, K: Sink>(
         &mut self,
@@ -135,6 +138,7 @@ impl Mask {
     }
 
     // Takes the next record, if there is one, unless it decides the line that waits.
+    #[tactic(auto, using(std::proofs::lemmas::Result::err_from_is_err_and, crate::proofs::lemmas::mask::steps::AdvanceLemmas::failed_record, crate::proofs::lemmas::mask::steps::AdvanceLemmas::gave_left, crate::proofs::lemmas::mask::steps::AdvanceLemmas::gave_none, crate::proofs::lemmas::mask::steps::AdvanceLemmas::gave_taken))]
     #[inline(always)]
     fn give_record<C: Cursor, K: Sink>(
         &mut self,
@@ -176,6 +180,7 @@ impl Mask {
     /// can't be written, and with `NoMemory` if the record has to be held and can't be. After the
     /// last line it fails with `NoSequence` if its block belongs to no sequence. For a record that neither
     /// decides nor has to be held it doesn't allocate.
+    #[tactic(auto, using(std::proofs::lemmas::Result::err_from_is_err_and, crate::proofs::lemmas::mask::steps::BedStepLemmas::checks_bed, crate::proofs::lemmas::mask::steps::BedStepLemmas::gives_bed, crate::proofs::lemmas::mask::steps::BedStepLemmas::kept_is, crate::proofs::lemmas::mask::steps::BedStepLemmas::lacks_sequence, crate::proofs::lemmas::mask::steps::StandLemmas::stays_at))]
     pub fn give_bed<K: Sink>(
         &mut self,
         bed: &BedRef<'_>,
@@ -203,6 +208,7 @@ impl Mask {
 
     /// Takes the end of the records, and writes the line that waits. It fails with `WriteFailed` if
     /// that can't be written.
+    #[tactic(auto, using(crate::proofs::lemmas::mask::steps::BedStepLemmas::ends_bed, crate::proofs::lemmas::mask::steps::BedStepLemmas::kept_is, crate::proofs::lemmas::mask::steps::StandLemmas::stays_at))]
     pub fn end_bed<K: Sink>(&mut self, out: &mut Out<K>) -> Result<(), Fault>
         requires { self.old.want ≡ MaskWant.Bed }
         ensures waits { (stage : MaskStage) (waiting : SequenceLine)
