@@ -92,7 +92,7 @@ fn put_lines<K: Sink>(
 }
 
 // Puts the line of each block of an alignment that is cut at each N.
-#[tactic(auto, using(std::proofs::Common::map, std::proofs::lemmas::Result::err_from_is_err_and, crate::proofs::lemmas::bamtobed::LineLemmas::cut_line, crate::proofs::lemmas::bamtobed::LineLemmas::grown_block, crate::proofs::lemmas::bamtobed::LineLemmas::left_more))]
+#[tactic(auto, using(std::proofs::lemmas::Result::err_from_is_err_and, crate::proofs::lemmas::bamtobed::LineLemmas::cut_line))]
 #[inline(never)]
 fn put_blocks<K: Sink>(sam: &SamRef<'_>, with_cigar: bool, out: &mut Out<K>) -> Result<(), Fault>
     ensures { Adds out.old.output (bed_lines true with_cigar (alignment_lent sam.now)) result out.new.output }

@@ -26,7 +26,6 @@ impl<'a> CopyThrough<'a> {
 
     // Consumes the lines that are no headers and have their bases up to this one, up to the first that isn't such a line.
     // It is out of line, so that the loop stays small.
-    #[tactic(auto, using(crate::proofs::lemmas::mask::steps::CopyLemmas::copied_behind))]
     #[inline(never)]
     pub(crate) fn consume_up_to(self, to: u64) -> CopyThrough<'a>
         requires { self.lines.is_open ≡ false }
@@ -38,7 +37,6 @@ impl<'a> CopyThrough<'a> {
     }
 
     // Consumes the next line and returns true, if it is such a line.
-    #[tactic(auto, using(crate::proofs::lemmas::mask::steps::CopyLemmas::copied_line))]
     #[inline(always)]
     fn consume_next(&mut self, to: u64) -> bool
         requires { self.old.lines.is_open ≡ false }

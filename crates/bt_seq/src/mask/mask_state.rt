@@ -139,7 +139,7 @@ impl MaskState {
     }
 
     // Takes the lines that nothing masks, and the one after them, and returns true if there is one.
-    #[tactic(auto, using(std::proofs::lemmas::Result::err_from_is_err_and, crate::proofs::lemmas::mask::steps::AdvanceLemmas::failed_copy, crate::proofs::lemmas::mask::steps::AdvanceLemmas::failed_line, crate::proofs::lemmas::mask::steps::AdvanceLemmas::gave_copied, crate::proofs::lemmas::mask::steps::AdvanceLemmas::gave_line, crate::proofs::lemmas::mask::steps::AdvanceLemmas::wants_more))]
+    #[tactic(auto, using(crate::proofs::lemmas::mask::steps::AdvanceLemmas::gave_copied, crate::proofs::lemmas::mask::steps::AdvanceLemmas::wants_more))]
     #[inline(always)]
     pub(crate) fn give_lines<K: Sink>(
         &mut self,
@@ -227,7 +227,7 @@ impl MaskState {
     }
 
     // Copies those of the next lines through that are known beforehand to be written unchanged.
-    #[tactic(auto, using(std::proofs::Common::is_some, crate::proofs::lemmas::mask::steps::CopyLemmas::bounds_are, crate::proofs::lemmas::mask::steps::CopyLemmas::bytes_between, crate::proofs::lemmas::mask::steps::CopyLemmas::copied_through, crate::proofs::lemmas::mask::steps::CopyLemmas::copies_within, crate::proofs::lemmas::mask::steps::CopyLemmas::some_bytes, crate::proofs::lemmas::mask::bases::MaskingLemmas::none_held))]
+    #[tactic(auto, using(crate::proofs::lemmas::mask::steps::CopyLemmas::bytes_between, crate::proofs::lemmas::mask::steps::CopyLemmas::copies_within))]
     #[inline(always)]
     pub(crate) fn copy_through<K: Sink>(
         &mut self,

@@ -96,7 +96,7 @@ impl Mask {
     /// Takes lines and records, one after another, as long as the next one that it wants is available. It fails as
     /// [`Mask::give_line`] and [`Mask::give_bed`] do. Lines that nothing masks are written together. An engine that wants
     /// nothing takes nothing.
-    #[tactic(auto, using(std::proofs::lemmas::Result::err_from_is_err_and, crate::proofs::lemmas::mask::steps::AdvanceLemmas::both_fail, crate::proofs::lemmas::mask::steps::AdvanceLemmas::both_more, crate::proofs::lemmas::mask::steps::AdvanceLemmas::gave_none))]
+    #[tactic(auto, using(crate::proofs::lemmas::mask::steps::AdvanceLemmas::gave_none))]
     pub fn advance<C: Cursor, K: Sink>(
         &mut self,
         lines: &mut BufferedLines<'_>,
@@ -114,7 +114,7 @@ impl Mask {
     }
 
     // Takes what it wants next, and returns true if that is available.
-    #[tactic(auto, using(crate::proofs::lemmas::mask::steps::AdvanceLemmas::gave_none, crate::proofs::lemmas::mask::steps::AdvanceLemmas::line_shrinks, crate::proofs::lemmas::mask::steps::AdvanceLemmas::lines_both, crate::proofs::lemmas::mask::steps::AdvanceLemmas::record_shrinks))]
+    #[tactic(auto, using(crate::proofs::lemmas::mask::steps::AdvanceLemmas::line_shrinks, crate::proofs::lemmas::mask::steps::AdvanceLemmas::lines_both, crate::proofs::lemmas::mask::steps::AdvanceLemmas::record_shrinks))]
     #[inline(always)]
     fn gives_next<C: Cursor, K: Sink>(
         &mut self,
@@ -138,7 +138,7 @@ impl Mask {
     }
 
     // Takes the next record, if there is one, unless it decides the line that waits.
-    #[tactic(auto, using(std::proofs::lemmas::Result::err_from_is_err_and, crate::proofs::lemmas::mask::steps::AdvanceLemmas::failed_record, crate::proofs::lemmas::mask::steps::AdvanceLemmas::gave_left, crate::proofs::lemmas::mask::steps::AdvanceLemmas::gave_none, crate::proofs::lemmas::mask::steps::AdvanceLemmas::gave_taken))]
+    #[tactic(auto, using(crate::proofs::lemmas::mask::steps::AdvanceLemmas::gave_none))]
     #[inline(always)]
     fn give_record<C: Cursor, K: Sink>(
         &mut self,
@@ -180,7 +180,7 @@ impl Mask {
     /// can't be written, and with `NoMemory` if the record has to be held and can't be. After the
     /// last line it fails with `NoSequence` if its block belongs to no sequence. For a record that neither
     /// decides nor has to be held it doesn't allocate.
-    #[tactic(auto, using(std::proofs::lemmas::Result::err_from_is_err_and, crate::proofs::lemmas::mask::steps::BedStepLemmas::checks_bed, crate::proofs::lemmas::mask::steps::BedStepLemmas::gives_bed, crate::proofs::lemmas::mask::steps::BedStepLemmas::kept_is, crate::proofs::lemmas::mask::steps::BedStepLemmas::lacks_sequence, crate::proofs::lemmas::mask::steps::StandLemmas::stays_at))]
+    #[tactic(auto, using(crate::proofs::lemmas::mask::steps::BedStepLemmas::gives_bed, crate::proofs::lemmas::mask::steps::BedStepLemmas::kept_is))]
     pub fn give_bed<K: Sink>(
         &mut self,
         bed: &BedRef<'_>,

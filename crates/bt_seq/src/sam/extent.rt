@@ -13,7 +13,7 @@ pub(crate) struct Extent {
 }
 
 // Masks those bases that an extent covers. The first base has this position.
-#[tactic(auto, using(std::proofs::lemmas::List::take_more, crate::proofs::lemmas::sam::ExtentLemmas::none_masked, crate::proofs::lemmas::sam::ExtentLemmas::one_behind))]
+#[tactic(auto, using(crate::proofs::lemmas::sam::ExtentLemmas::none_masked))]
 pub(crate) fn mask_extents(bases: &mut [u8], position: u64, extents: &[Extent], how: MaskHow)
     ensures { bases.new ≡ masked_in how extents.now position bases.old }
 {
