@@ -62,18 +62,16 @@ module _ (how : MaskHow) (full : Bool) where
       FailsToWriteLine how full stage waiting r out fault grown
       ⊎ FailsToHoldRecord how full stage waiting r out fault grown
 
-  -- Lines were given, the last of which failed.
-  pub record FailsBehindLines (old : MaskStage) (lines : List TextLine) (out : Output) (fault : FaultValue)
-      (grown : Output) : Type 0 where
+  -- what was given last failed, after the lines before it
+  pub record FailsAfter (old : MaskStage) (lines : List TextLine) (taken : List Feature) (out : Output)
+      (Fails : MaskStage → List TextLine → Output → Type 0) : Type 0 where
     pub before : List TextLine
     pub failing : List TextLine
     pub parts : lines ≡ before ++ failing
     pub mask : Masking
     pub through : Output
-    pub comes : HasCome old before [] out mask through
-    pub ahead_is : comes.stage.ahead ≡ old.ahead
-    pub asks : want_at comes.stage ≡ Line
-    pub fails : FailsAtLines comes.stage failing through fault grown
+    pub comes : HasCome old before taken out mask through
+    pub fails : Fails comes.stage failing through
 
   -- what giving lines does
   abbrev pub LinesCome : {A : Type 0} → MaskStage → List TextLine → Output → Result A Fault
@@ -81,7 +79,10 @@ module _ (how : MaskHow) (full : Bool) where
   LinesCome stage lines out (Ok done) new grown =
       (comes : HasCome stage lines [] out new grown) × (comes.stage.ahead ≡ stage.ahead)
   LinesCome stage lines out (Err fault) new grown =
-      (new.want ≡ Nothing) × FailsBehindLines stage lines out (fault_value fault) grown
+      (new.want ≡ Nothing)
+      × FailsAfter stage lines [] out
+      (λ at failing through. (at.ahead ≡ stage.ahead) × (want_at at ≡ Line)
+      × FailsAtLines at failing through (fault_value fault) grown)
 
 -- lines of those that are buffered were given
 pub record GivesLines {A : Type 0} (old : Masking) (lines : BufferedLines) (out : Output)
@@ -112,21 +113,13 @@ module _ {C : Type 0} (gives : C → List Feature → C → Type 0) (line_at : C
   module _ (how : MaskHow) (full : Bool) (old : MaskStage) (lines : List TextLine)
       (taken : List Feature) (out : Output) (from : C) where
     -- what was given last failed: lines, or the record that comes next
-    pub record FailsBehind (fault : FaultValue) (records : C) (grown : Output) : Type 0 where
-      pub before : List TextLine
-      pub failing : List TextLine
-      pub parts : lines ≡ before ++ failing
-      pub mask : Masking
-      pub through : Output
-      pub comes : HasCome how full old before taken out mask through
-      pub ahead : ComesNext comes.stage.ahead records
-      pub ahead_is : ComesAfter old.ahead from taken comes.stage.ahead
-      pub fails : ((want_at comes.stage ≡ Line)
-          × FailsAtLines how full comes.stage failing through fault grown)
-          ⊎ ((r : Feature) × (later : C) × (failing ≡ []) × (want_at comes.stage ≡ Bed)
-          × gives records (r ∷ []) later
-          × FailsAtRecord how full comes.stage.waiting comes.stage r (line_at later) through fault
-          grown)
+    abbrev pub FailsBehind : FaultValue → C → Output → Type 0
+    FailsBehind fault records grown =
+        FailsAfter how full old lines taken out
+        (λ at failing through. ComesNext at.ahead records × ComesAfter old.ahead from taken at.ahead
+        × (((want_at at ≡ Line) × FailsAtLines how full at failing through fault grown)
+        ⊎ ((r : Feature) × (later : C) × (failing ≡ []) × (want_at at ≡ Bed) × gives records (r ∷ []) later
+        × FailsAtRecord how full at.waiting at r (line_at later) through fault grown)))
 
     -- what the result says
     abbrev pub BothCome : {A : Type 0} → Result A Fault → Masking → C → Output → Type 0
@@ -147,15 +140,6 @@ module _ {C : Type 0} (gives : C → List Feature → C → Type 0) (line_at : C
     pub comes : (stage : MaskStage) → MaskStandsAt stage old
         → ComesNext stage.ahead records
         → BothCome old.how old.full stage texts taken out records answer new records_left grown
-
-  -- the next record was given, or none is there
-  pub record GivesRecord {A : Type 0} (old : Masking) (records : C) (out : Output)
-      (answer : Result A Fault) (new : Masking) (left : C) (grown : Output) : Type 0 where
-    pub taken : List Feature
-    pub given : gives records taken left
-    pub comes : (stage : MaskStage) → MaskStandsAt stage old
-        → ComesNext stage.ahead records
-        → BothCome old.how old.full stage [] taken out records answer new left grown
 
 -- nothing is taken and nothing is written
 abbrev pub Stays : {C : Type 0} → Masking → BufferedLines → C → Output → Masking → BufferedLines → C

@@ -5,7 +5,7 @@ use Rattle.bt_bed.specs.model.feature.Feature.{Feature}
 use Rattle.bt_bed.specs.model.input.GoodBlocks.{AreInBlocks}
 use Rattle.bt_seq.specs.calls.HeldMasks.{extent_of}
 use Rattle.bt_seq.specs.inside.mask.MaskInside.{KnowsStage}
-use Rattle.bt_seq.specs.calls.MaskStage.{MaskStage, given, held_by, line_given_last, reached, want_at}
+use Rattle.bt_seq.specs.calls.MaskStage.{MaskStage, given, held_by, line_given_last, reached_by, want_at}
 use Rattle.bt_seq.specs.model.Masked.{decided, is_unnamed}
 use Rattle.bt_seq.specs.calls.MaskState.{Masking, Waiting}
 use Rattle.bt_seq.specs.model.Owners.{left_after}
@@ -30,21 +30,25 @@ pub record Waits (stage : MaskStage) (line : SequenceLine) : Type 0 where
   -- a header has no bases before it
   pub header : is_header line.text ≡ true → line.before ≡ 0
 
--- The engine is at the stage: what waits, what is wanted and what is held are those of the stage.
-pub record MaskStandsAt (stage : MaskStage) (m : Masking) : Type 0 where
+-- The engine is at the stage, if this line was given last: what waits, what is wanted and what is held are
+-- those of the stage.
+pub record StandsAfter (stage : MaskStage) (last : Option SequenceLine) (m : Masking) : Type 0 where
   pub waiting_is : m.waiting ≡ option_map kept_line stage.waiting
   pub want_is : m.want ≡ want_at stage
   pub bed_ended_is : m.bed_ended ≡ stage.bed_ended
   pub waits : (line : SequenceLine) → stage.waiting ≡ Some line → Waits stage line
-  -- what is held is what the line given last needs: after the last line too,
+  -- what is held is what the last line needs: after the end of the lines too,
   -- if the records of each block rise
   pub holds : (stage.lines_ended ≡ false) ⊎ AreInBlocks stage.taken
-      → m.window.held ≡ map extent_of (held_by (line_given_last (given stage)) stage.taken)
+      → m.window.held ≡ map extent_of (held_by last stage.taken)
   -- no record was taken but those that left the last line undecided
-  pub is_open : stage.lines_ended ≡ false → IsOpen (line_given_last (given stage)) stage.taken
+  pub is_open : stage.lines_ended ≡ false → IsOpen last stage.taken
   -- each block taken belongs to a sequence
-  pub owned : is_some (left_after (reached stage).names stage.taken) ≡ true
-  pub inside : KnowsStage stage m
+  pub owned : is_some (left_after (reached_by last).names stage.taken) ≡ true
+  pub inside : KnowsStage stage last m
+
+abbrev pub MaskStandsAt : MaskStage → Masking → Type 0
+MaskStandsAt stage m = StandsAfter stage (line_given_last (given stage)) m
 
 -- it is at the stage, and masks and names sequences like this
 pub record MaskMovesTo (how : MaskHow) (full : Bool) (stage : MaskStage)

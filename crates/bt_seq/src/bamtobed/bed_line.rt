@@ -91,6 +91,7 @@ fn is_short(sam: &SamRef<'_>, with_cigar: bool) -> bool
 }
 
 // Writes what follows the chromosome of a line so that it ends where the text does, and returns where it begins.
+#[tactic(auto, using(std::proofs::Common::append_assoc))]
 #[inline(always)]
 fn write_behind(
     sam: &SamRef<'_>,
@@ -142,6 +143,7 @@ fn write_piece(piece: &[u8], text: &mut [u8], end: usize) -> usize
 }
 
 // Puts the chromosome and the bounds of a block, with a tab between and after them.
+#[tactic(auto, using(std::proofs::lemmas::List::drop_all, std::proofs::lemmas::List::take_all))]
 fn put_place<K: Sink>(chrom: &[u8], start: u64, stop: u64, out: &mut Out<K>) -> Result<(), Fault>
     ensures { Puts out.old.output (chrom.now ++ bounds_text start stop) result out.new.output }
 {

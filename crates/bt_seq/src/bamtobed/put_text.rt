@@ -18,6 +18,7 @@ pub(crate) fn put_text<K: Sink>(text: &[u8], ending: LineEnd, out: &mut Out<K>) 
 }
 
 // The same for any line end.
+#[tactic(auto, using(crate::proofs::lemmas::bamtobed::TextLemmas::some_put))]
 #[cold]
 #[inline(never)]
 fn put_ended<K: Sink>(text: &[u8], ending: LineEnd, out: &mut Out<K>) -> Result<(), Fault>

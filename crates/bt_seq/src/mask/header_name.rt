@@ -26,6 +26,7 @@ pub(crate) fn name_in(full: bool, text: &[u8]) -> &[u8]
 }
 
 // How many bytes there are before the first space or tab, or in all.
+#[tactic(auto, using(crate::proofs::lemmas::mask::bases::NameLemmas::name_within))]
 fn name_length(text: &[u8]) -> usize
     ensures within { result ≤ length text.now }
     ensures name { take result text.now ≡ take_while (λ byte. not (ends_name byte)) text.now }

@@ -1,6 +1,6 @@
 //! What a masking engine keeps, and its steps.
 
-ghost use Rattle.std.specs.Prelude.{◌≡◌, ◌<◌, ◌&&◌, None, Some, [], OnOk, IfErr, IsErr, IsOk, cond, false, not, true, is_some, length, nat_eq, nat_le, nat_lt, if◌then◌else◌};
+ghost use Rattle.std.specs.Prelude.{◌≡◌, ◌<◌, ◌&&◌, None, Some, [], OnErr, OnOk, IfErr, IsErr, IsOk, cond, false, not, true, is_some, length, nat_eq, nat_le, nat_lt, if◌then◌else◌};
 ghost use Rattle.bt_lines.specs.model.Fault.{no_memory};
 ghost use Rattle.bt_lines.specs.calls.Names.{fault_value};
 ghost use Rattle.bt_bed.specs.calls.Bed.{feature_lent};
@@ -119,6 +119,7 @@ impl MaskState {
     }
 
     // Takes the next line, which is written at once or kept until it is decided.
+    #[tactic(auto, using(crate::proofs::lemmas::mask::bases::MaskingLemmas::keeps_line, crate::proofs::lemmas::mask::bases::MaskingLemmas::writes_line))]
     pub(crate) fn take_line<K: Sink>(
         &mut self,
         line: &Line<'_>,
@@ -138,6 +139,7 @@ impl MaskState {
     }
 
     // Takes the lines that nothing masks, and the one after them, and returns true if there is one.
+    #[tactic(auto, using(crate::proofs::lemmas::mask::steps::AdvanceLemmas::gave_copied, crate::proofs::lemmas::mask::steps::AdvanceLemmas::wants_more))]
     #[inline(always)]
     pub(crate) fn give_lines<K: Sink>(
         &mut self,
@@ -163,8 +165,10 @@ impl MaskState {
         bed: &BedRef<'_>,
         out: &mut Out<K>,
     ) -> Result<Taken, Fault>
-        ensures { (line : Waiting) → self.old.waiting ≡ Some line
+        ensures takes { (line : Waiting) → self.old.waiting ≡ Some line
             → TakesBed self.old line (feature_lent bed.now) out.old.output result self.new out.new.output }
+        ensures stops { OnErr result (self.new.want ≡ MaskWant.Nothing) }
+        ensures leaves { result ≡ Ok Taken.No → self.new.want ≡ MaskWant.Line }
     {
         let owner = self.matching.owner(bed.chrom);
         if self.is_decided(owner, bed.start) {
@@ -212,6 +216,7 @@ impl MaskState {
         ensures none_waits { self.old.waiting ≡ None → IsOk result
             × (self.new ≡ record self.old { bed_ended = true; want = MaskWant.Nothing })
             × (out.new.output ≡ out.old.output) }
+        ensures stops { OnErr result (self.new.want ≡ MaskWant.Nothing) }
     {
         self.bed_ended = true;
         if self.phase.waits() {
@@ -222,6 +227,7 @@ impl MaskState {
     }
 
     // Copies those of the next lines through that are known beforehand to be written unchanged.
+    #[tactic(auto, using(crate::proofs::lemmas::mask::steps::CopyLemmas::bytes_between, crate::proofs::lemmas::mask::steps::CopyLemmas::copies_within))]
     #[inline(always)]
     pub(crate) fn copy_through<K: Sink>(
         &mut self,
@@ -354,6 +360,7 @@ impl MaskState {
     }
 
     // Writes a line as it was given, unless something that is held masks it: then it is kept first.
+    #[tactic(auto, using(crate::proofs::lemmas::mask::bases::MaskingLemmas::none_held, crate::proofs::lemmas::mask::bases::MaskingLemmas::wrote_given, crate::proofs::lemmas::mask::bases::MaskingLemmas::wrote_kept))]
     fn write_at_once<K: Sink>(
         &mut self,
         text: &[u8],
@@ -372,8 +379,10 @@ impl MaskState {
 
     // Writes the line that waits.
     fn write<K: Sink>(&mut self, out: &mut Out<K>) -> Result<(), Fault>
-        ensures { (line : Waiting) → self.old.waiting ≡ Some line
+        ensures writes { (line : Waiting) → self.old.waiting ≡ Some line
             → Writes self.old line out.old.output result self.new out.new.output }
+        ensures stops { OnErr result (self.new.want ≡ MaskWant.Nothing) }
+        ensures goes_on { OnOk result (self.new.want ≡ MaskWant.Line) }
     {
         self.window.mask(self.text.as_mut_slice(), self.how);
         let written = put_text(self.text.as_slice(), self.ending, out);

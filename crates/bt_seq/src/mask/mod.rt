@@ -13,9 +13,10 @@ ghost use Rattle.std.specs.Prelude.{◌≡◌, ◌<◌, ◌⊎◌, [], Bool, Non
 ghost use Rattle.bt_bed.specs.calls.Bed.{feature_lent};
 ghost use Rattle.bt_bed.specs.model.input.GoodBlocks.{AreInBlocks};
 ghost use Rattle.bt_lines.specs.calls.LentLine.{line_seen};
+ghost use Rattle.bt_lines.specs.declared.reader.buffered_lines.BufferedLines.{BufferedLines};
 ghost use Rattle.bt_seq.specs.calls.MaskStage.{IsNext, MaskStage, first_stage, given, held_by, line_given_last, want_at, with_lines_ended};
 ghost use Rattle.bt_seq.specs.calls.MaskStanding.{MaskMovesTo, MaskStandsAt};
-ghost use Rattle.bt_seq.specs.calls.MaskAdvance.{GivesBoth, GivesRecord, Stays, StopsAt, left_to_give};
+ghost use Rattle.bt_seq.specs.calls.MaskAdvance.{GivesBoth, Stays, StopsAt, left_to_give};
 ghost use Rattle.bt_seq.specs.calls.MaskSteps.{ChecksRecord, EndsCheck, EndsRecords, GivesNextLine, GivesBed};
 ghost use Rattle.bt_seq.specs.model.Sequences.{SequenceLine};
 
@@ -82,6 +83,7 @@ impl Mask {
     /// decides it. Else it waits. It fails with `TextBeforeHeader` if it has text before the first
     /// header, and with `WriteFailed` if it can't be written. It fails with `NoMemory` if a header can't
     /// be named, or a line that waits or is to be masked can't be kept.
+    #[tactic(auto, using(crate::proofs::lemmas::mask::steps::LineStepLemmas::gives_line, crate::proofs::lemmas::mask::steps::StandLemmas::stays_at))]
     pub fn give_line<K: Sink>(&mut self, line: &Line<'_>, out: &mut Out<K>) -> Result<(), Fault>
         requires { self.old.want ≡ MaskWant.Line }
         ensures gives { (stage : MaskStage) → MaskStandsAt stage self.old
@@ -94,6 +96,7 @@ impl Mask {
     /// Takes lines and records, one after another, as long as the next one that it wants is available. It fails as
     /// [`Mask::give_line`] and [`Mask::give_bed`] do. Lines that nothing masks are written together. An engine that wants
     /// nothing takes nothing.
+    #[tactic(auto, using(crate::proofs::lemmas::mask::steps::AdvanceLemmas::gave_none))]
     pub fn advance<C: Cursor, K: Sink>(
         &mut self,
         lines: &mut BufferedLines<'_>,
@@ -111,6 +114,7 @@ impl Mask {
     }
 
     // Takes what it wants next, and returns true if that is available.
+    #[tactic(auto, using(crate::proofs::lemmas::mask::steps::AdvanceLemmas::line_shrinks, crate::proofs::lemmas::mask::steps::AdvanceLemmas::lines_both, crate::proofs::lemmas::mask::steps::AdvanceLemmas::record_shrinks))]
     #[inline(always)]
     fn gives_next<C: Cursor, K: Sink>(
         &mut self,
@@ -134,6 +138,7 @@ impl Mask {
     }
 
     // Takes the next record, if there is one, unless it decides the line that waits.
+    #[tactic(auto, using(crate::proofs::lemmas::mask::steps::AdvanceLemmas::gave_none))]
     #[inline(always)]
     fn give_record<C: Cursor, K: Sink>(
         &mut self,
@@ -141,7 +146,8 @@ impl Mask {
         out: &mut Out<K>,
     ) -> Result<bool, Fault>
         requires { self.old.want ≡ MaskWant.Bed }
-        ensures gives { GivesRecord C.gives C.line C.has_ended self.old records.old out.old.output result self.new records.new out.new.output }
+        ensures gives { (lines : BufferedLines) → GivesBoth C.gives C.line C.has_ended self.old lines records.old out.old.output result
+            self.new lines records.new out.new.output }
         ensures stops { result ≡ Ok false → C.has_ended records.new × (self.new.want ≡ MaskWant.Bed) }
         ensures shrinks { result ≡ Ok true → (C.room records.new < C.room records.old)
             ⊎ ((records.new ≡ records.old) × (self.new.want ≡ MaskWant.Line)) }
@@ -174,6 +180,7 @@ impl Mask {
     /// can't be written, and with `NoMemory` if the record has to be held and can't be. After the
     /// last line it fails with `NoSequence` if its block belongs to no sequence. For a record that neither
     /// decides nor has to be held it doesn't allocate.
+    #[tactic(auto, using(crate::proofs::lemmas::mask::steps::BedStepLemmas::gives_bed, crate::proofs::lemmas::mask::steps::BedStepLemmas::kept_is))]
     pub fn give_bed<K: Sink>(
         &mut self,
         bed: &BedRef<'_>,
@@ -201,6 +208,7 @@ impl Mask {
 
     /// Takes the end of the records, and writes the line that waits. It fails with `WriteFailed` if
     /// that can't be written.
+    #[tactic(auto, using(crate::proofs::lemmas::mask::steps::BedStepLemmas::ends_bed, crate::proofs::lemmas::mask::steps::BedStepLemmas::kept_is, crate::proofs::lemmas::mask::steps::StandLemmas::stays_at))]
     pub fn end_bed<K: Sink>(&mut self, out: &mut Out<K>) -> Result<(), Fault>
         requires { self.old.want ≡ MaskWant.Bed }
         ensures waits { (stage : MaskStage) (waiting : SequenceLine)

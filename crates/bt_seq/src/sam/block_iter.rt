@@ -24,6 +24,7 @@ impl<'a> SamBlocks<'a> {
     ghost use Rattle.bt_seq.specs.calls.Sam.{alignment_lent, blocks_left};
 
     // The blocks of an alignment.
+    #[tactic(auto, using(crate::proofs::lemmas::sam::BlockLemmas::no_blocks, crate::proofs::lemmas::sam::BlockLemmas::nothing_fits))]
     pub(crate) fn new(sam: &SamRef<'a>, split: bool) -> SamBlocks<'a>
         ensures { blocks_left result ≡ alignment_blocks split (alignment_lent sam.now) }
     {
@@ -52,6 +53,7 @@ impl<'a> Iterator for SamBlocks<'a> {
 
     ghost remaining = { item_count blocks_left };
 
+    #[tactic(auto, using(crate::proofs::lemmas::sam::BlockLemmas::no_blocks))]
     fn next(&mut self) -> Option<(u64, u64)> {
         if let Some(block) = self.whole {
             self.whole = None;

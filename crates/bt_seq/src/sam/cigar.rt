@@ -58,6 +58,7 @@ fn single_span(text: &[u8]) -> Option<u64>
 }
 
 // The same, one operation after another.
+#[tactic(auto, using(crate::proofs::lemmas::sam::CigarLemmas::covered_within, crate::proofs::lemmas::sam::CigarLemmas::span_end))]
 #[inline(always)]
 fn operations_span(text: &[u8]) -> Option<u64>
     ensures { result ≡ span_with 0 (operations_in text.now) }
@@ -74,6 +75,7 @@ fn operations_span(text: &[u8]) -> Option<u64>
 
 // The first operation of a text, and what follows it. There is none if the text is empty or
 // doesn't begin with an operation.
+#[tactic(auto, using(bt_lines::proofs::lemmas::numbers::NumberLemmas::digits_more, bt_lines::proofs::lemmas::numbers::NumberLemmas::value_more, crate::proofs::lemmas::sam::CigarLemmas::digits_alone, crate::proofs::lemmas::sam::CigarLemmas::no_operation_at_all, crate::proofs::lemmas::sam::CigarLemmas::other_byte))]
 pub(crate) fn first_operation(text: &[u8]) -> Option<(Operation, &[u8])>
     ensures first { IsFirst text.now result }
     ensures within { IsWithin text.now result }

@@ -20,6 +20,7 @@ pub(crate) struct FirstBlock<'a> {
 }
 
 // The first block of a text of operations that lie from `start` on, with a base or without one.
+#[tactic(auto, using(crate::proofs::lemmas::sam::BlockLemmas::blocks_open_in, crate::proofs::lemmas::sam::BlockLemmas::is_skip_by, crate::proofs::lemmas::sam::BlockLemmas::open_in, crate::proofs::lemmas::sam::BlockLemmas::block_ends, crate::proofs::lemmas::sam::BlockLemmas::block_is_last))]
 pub(crate) fn first_block(text: &[u8], start: u64) -> FirstBlock<'_>
     requires { FitBehind start (operations_in text.now) }
     ensures blocks { blocks_in start (operations_in text.now)

@@ -34,6 +34,7 @@ const LAST: u64 = 128;
 /// position above 2,147,483,647 or no number; a mapping quality above 255 or no number; a malformed
 /// CIGAR; and of an alignment that isn't left out, an end above 999,999,999,999. Leading zeros are
 /// allowed. It doesn't allocate, and the alignment borrows from the text.
+#[tactic(auto, unfolding(crate::specs::model::Alignment::alignment_of, crate::specs::model::Alignment::fields_say))]
 #[inline(always)]
 pub fn sam_line(text: &[u8]) -> Result<Option<SamRef<'_>>, Kind>
     ensures { alignment_seen result ≡ alignment_of text.now }
@@ -55,6 +56,7 @@ fn is_skipped(text: &[u8]) -> bool
 }
 
 // What the columns say.
+#[tactic(auto, unfolding(crate::specs::model::Alignment::fields_say))]
 #[inline(always)]
 fn alignment(fields: Fields<'_>) -> Result<Option<SamRef<'_>>, Kind>
     ensures { alignment_seen result ≡ fields_say (Some (fields_lent fields.entry)) }
@@ -109,6 +111,7 @@ pub(crate) fn number_in(text: &[u8]) -> Option<u64>
 }
 
 // The number that a digit denotes.
+#[tactic(auto, unfolding(bt_lines::specs::model::Number::value_of))]
 fn one_digit(ones: u8) -> Option<u64>
     ensures { result ≡ value_of (ones ∷ []) }
 {
@@ -119,6 +122,7 @@ fn one_digit(ones: u8) -> Option<u64>
 }
 
 // The number that two digits denote.
+#[tactic(auto, unfolding(bt_lines::specs::model::Number::value_of))]
 fn two_digits(tens: u8, ones: u8) -> Option<u64>
     ensures { result ≡ value_of (tens ∷ ones ∷ []) }
 {
@@ -132,6 +136,7 @@ fn two_digits(tens: u8, ones: u8) -> Option<u64>
 }
 
 // The number that three digits denote.
+#[tactic(auto, unfolding(bt_lines::specs::model::Number::value_of))]
 fn three_digits(hundreds: u8, tens: u8, ones: u8) -> Option<u64>
     ensures { result ≡ value_of (hundreds ∷ tens ∷ ones ∷ []) }
 {

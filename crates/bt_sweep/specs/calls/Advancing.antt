@@ -28,6 +28,35 @@ stage_after stage newly waiting seconds =
 abbrev pub Settles : Order → Phase → List Feature → List Feature → Type 0
 Settles order phase as_given bs = (phase ≡ First) ⊎ AreDecided order as_given bs
 
+-- Records of both inputs were consumed, after `before` of the first: those that are settled are `newly`, and one
+-- may wait.
+pub record Proceeds {U V : Type 0} (a_gives : U → List Feature → U → Type 0)
+    (b_gives : V → List Feature → V → Type 0) (Settled Each : List Feature → List Feature → Type 0)
+    (before : List Feature) (waiting : Option Feature) (from_a to_a : U) (from_b to_b : V) : Type 0 where
+  pub firsts : List Feature
+  pub seconds : List Feature
+  pub newly : List Feature
+  pub gives_firsts : a_gives from_a firsts to_a
+  pub gives_seconds : b_gives from_b seconds to_b
+  pub are : before ++ firsts ≡ newly ++ option_to_list waiting
+  pub next : Option Feature
+  pub comes : ComesNext b_gives to_b next
+  pub settles : Settled newly (seconds ++ option_to_list next)
+  -- each of the second was taken for one that those taken leave undecided, within the limit
+  pub each : Each firsts seconds
+
+-- the next record of the second input shares a base with the one that waits
+pub record SharesBase {V : Type 0} (b_gives : V → List Feature → V → Type 0) (waiting : Option Feature)
+    (to_b : V) : Type 0 where
+  pub last : Feature
+  pub waits : waiting ≡ Some last
+  pub b : Feature
+  pub after : V
+  pub gives : b_gives to_b (b ∷ []) after
+  pub chrom : b.chrom ≡ last.chrom
+  pub starts : b.start < last.stop
+  pub ends : last.start < b.stop
+
 -- the order is this one
 abbrev pub IsThis : Order → Order → Type 0
 IsThis order other = other ≡ order
@@ -47,31 +76,57 @@ PutsEach order old firsts seconds newly out grown =
     AtEach order old firsts seconds
     (λ stage. Grown out (intersect old.shape old.rule newly (stage.taken ++ seconds)) grown)
 
+-- why it failed, after records of which `newly` are settled and one may wait
+module _ {V : Type 0} (b_gives : V → List Feature → V → Type 0) (b_ended : V → Type 0) (b_line : V → ℕ)
+    (order : Order) (old : Sweeping) (out : Output) (firsts seconds newly : List Feature)
+    (waiting : Option Feature) (to_b : V) (fault : FaultValue) (grown : Output) where
+  -- the lines couldn't all be written
+  abbrev pub FailsToWrite : Type 0
+  FailsToWrite = AtEach order old firsts seconds
+      (λ stage. FailsToAdd out (intersect old.shape old.rule newly (stage.taken ++ seconds)) fault grown)
+
+  -- they were written; the next record of the second input shares a base with the one that waits, and
+  -- can't be held
+  pub record FailsToTake : Type 0 where
+    pub shares : SharesBase b_gives waiting to_b
+    pub puts : PutsEach order old firsts seconds newly out grown
+    pub lacks : AtEach order old firsts seconds
+        (λ stage. CannotBeHeld old.limit shares.last (stage.taken ++ seconds) (b_line shares.after) fault)
+
+  -- they were written; neither input has ended, none waited before, all records of the second input that
+  -- there are were taken, and the one of the first that waits can't be kept
+  pub record FailsToKeep : Type 0 where
+    pub last : Feature
+    pub waits : waiting ≡ Some last
+    pub is : fault ≡ no_memory
+    pub none : old.current ≡ None
+    pub both : old.phase ≡ Both
+    pub ended : b_ended to_b
+    pub puts : PutsEach order old firsts seconds newly out grown
+
+  abbrev pub Fails : Type 0
+  Fails = FailsToWrite ⊎ (FailsToTake ⊎ FailsToKeep)
+
 module _ {U V : Type 0} (a_gives : U → List Feature → U → Type 0) (a_ended : U → Type 0)
     (b_gives : V → List Feature → V → Type 0) (b_ended : V → Type 0) (b_line : V → ℕ) (order : Order)
     (old : Sweeping) (from_a : U) (from_b : V) (out : Output) where
-  -- records of both inputs were given and taken, the lines of those that are decided are written, and
-  -- one of the first may wait
+  -- it goes on from what it holds
+  abbrev pub Proceeded : Option Feature → U → V → Type 0
+  Proceeded waiting to_a to_b =
+      Proceeds a_gives b_gives (Settles order old.phase)
+      (λ firsts seconds. AtEach order old firsts seconds
+      (λ stage. TakenEach order old.limit (option_to_list old.current ++ firsts) stage.taken seconds))
+      (option_to_list old.current) waiting from_a to_a from_b to_b
+
+  -- the lines of those that are settled are written
   pub record AdvancesSo (new : Sweeping) (to_a : U) (to_b : V) (grown : Output) : Type 0 where
-    pub firsts : List Feature
-    pub seconds : List Feature
-    pub newly : List Feature
-    pub gives_firsts : a_gives from_a firsts to_a
-    pub gives_seconds : b_gives from_b seconds to_b
-    pub are : option_to_list old.current ++ firsts ≡ newly ++ option_to_list new.current
-    pub next : Option Feature
-    pub comes : ComesNext b_gives to_b next
-    pub settles : Settles order old.phase newly (seconds ++ option_to_list next)
-    -- each was taken for one that those taken leave undecided, within the limit
-    pub each : AtEach order old firsts seconds
-        (λ stage. TakenEach order old.limit (option_to_list old.current ++ firsts)
-        stage.taken seconds)
+    pub proceeds : Proceeded new.current to_a to_b
     -- the record of the second input that was taken last leaves the one that waits undecided
-    pub leaves : IfSome new.current (LeavesLast order seconds)
-    pub stands : AtEach order old firsts seconds
+    pub leaves : IfSome new.current (LeavesLast order proceeds.seconds)
+    pub stands : AtEach order old proceeds.firsts proceeds.seconds
         (λ stage. MovesTo order old
-        (stage_after stage newly new.current seconds) new)
-    pub puts : PutsEach order old firsts seconds newly out grown
+        (stage_after stage proceeds.newly new.current proceeds.seconds) new)
+    pub puts : PutsEach order old proceeds.firsts proceeds.seconds proceeds.newly out grown
 
   -- the input that is asked for then gives no more
   abbrev pub StopsFor : Want → U → V → Type 0
@@ -79,59 +134,12 @@ module _ {U V : Type 0} (a_gives : U → List Feature → U → Type 0) (a_ended
   StopsFor B to_a to_b = b_ended to_b
   StopsFor Nothing to_a to_b = ⊤
 
-  module _ (firsts seconds newly : List Feature) (waiting : Option Feature) (to_b : V) (fault : FaultValue)
-      (grown : Output) where
-    -- the lines couldn't all be written
-    pub record FailsToWrite : Type 0 where
-      pub cuts : AtEach order old firsts seconds
-          (λ stage. FailsToAdd out
-          (intersect old.shape old.rule newly (stage.taken ++ seconds)) fault grown)
-
-    -- they were written; the next record of the second input shares a base with the one that waits, and
-    -- can't be held
-    pub record FailsToTake : Type 0 where
-      pub last : Feature
-      pub waits : waiting ≡ Some last
-      pub b : Feature
-      pub after : V
-      pub gives : b_gives to_b (b ∷ []) after
-      pub chrom : b.chrom ≡ last.chrom
-      pub starts : b.start < last.stop
-      pub ends : last.start < b.stop
-      pub puts : PutsEach order old firsts seconds newly out grown
-      pub lacks : AtEach order old firsts seconds
-          (λ stage. CannotBeHeld old.limit last (stage.taken ++ seconds) (b_line after) fault)
-
-    -- they were written; neither input has ended, none waited before, all records of the second input that
-    -- there are were taken, and the one of the first that waits can't be kept
-    pub record FailsToKeep : Type 0 where
-      pub last : Feature
-      pub waits : waiting ≡ Some last
-      pub is : fault ≡ no_memory
-      pub none : old.current ≡ None
-      pub both : old.phase ≡ Both
-      pub ended : b_ended to_b
-      pub puts : PutsEach order old firsts seconds newly out grown
-
   -- it failed once the lines of these records of the first input were settled
   pub record FailsAt (fault : FaultValue) (to_a : U) (to_b : V) (grown : Output) : Type 0 where
-    pub firsts : List Feature
-    pub seconds : List Feature
-    pub newly : List Feature
     pub waiting : Option Feature
-    pub gives_firsts : a_gives from_a firsts to_a
-    pub gives_seconds : b_gives from_b seconds to_b
-    pub are : option_to_list old.current ++ firsts ≡ newly ++ option_to_list waiting
-    pub next : Option Feature
-    pub comes : ComesNext b_gives to_b next
-    pub settles : Settles order old.phase newly (seconds ++ option_to_list next)
-    -- each was taken for one that those taken leave undecided, within the limit
-    pub each : AtEach order old firsts seconds
-        (λ stage. TakenEach order old.limit (option_to_list old.current ++ firsts)
-        stage.taken seconds)
-    pub cause : FailsToWrite firsts seconds newly waiting to_b fault grown
-        ⊎ (FailsToTake firsts seconds newly waiting to_b fault grown
-        ⊎ FailsToKeep firsts seconds newly waiting to_b fault grown)
+    pub proceeds : Proceeded waiting to_a to_b
+    pub cause : Fails b_gives b_ended b_line order old out proceeds.firsts proceeds.seconds proceeds.newly waiting to_b
+        fault grown
 
   -- what the answer says
   abbrev pub Advances : {T : Type 0} → Result T Fault → Sweeping → U → V → Output → Type 0

@@ -10,8 +10,9 @@ use Rattle.bt_lines.specs.declared.fault.Fault.{Fault}
 use Rattle.bt_bed.specs.model.feature.Feature.{Feature, intervals_of}
 use Rattle.bt_bed.specs.model.order.Locus.{ArePlaced}
 use Rattle.bt_bed.specs.model.order.Order.{Order, IsTotal}
+use Rattle.bt_sweep.specs.calls.Advancing.{Proceeds, SharesBase}
 use Rattle.bt_sweep.specs.calls.Held.{CanHit}
-use Rattle.bt_sweep.specs.calls.Taking.{AreDecided, CannotBeHeld, ComesNext, LeavesLast, TakenEach}
+use Rattle.bt_sweep.specs.calls.Taking.{AreDecided, CannotBeHeld, LeavesLast, TakenEach}
 use Rattle.bt_sweep.specs.model.IntersectLines.{intersect}
 use Rattle.bt_sweep.specs.calls.Standing.{HoldsFor}
 use Rattle.bt_sweep.specs.calls.SweepState.{Sweeping}
@@ -161,22 +162,18 @@ module _ {A B : Type 0} (a_gives : A → List Feature → A → Type 0) (a_ended
     (b_gives : B → List Feature → B → Type 0) (b_ended : B → Type 0) (b_line : B → ℕ)
     (For : Order → Type 0) (Settles : List Feature → List Feature → Type 0)
     (old : Sweeping) (first : Feature) (from_a : A) (from_b : B) (pending : List ℕ) (out : Output) where
+  abbrev pub Proceeded : Option Feature → A → B → Type 0
+  Proceeded waiting to_a to_b =
+      Proceeds a_gives b_gives Settles (λ firsts seconds. TakesEachFor For first firsts seconds old) (first ∷ [])
+      waiting from_a to_a from_b to_b
+
   -- the lines of those of the first were written or are left pending, except the last one, if that waits
   pub record JoinsSo (waiting : Option Feature) (new : Sweeping) (to_a : A) (to_b : B) (left : List ℕ)
       (grown : Output) : Type 0 where
-    pub firsts : List Feature
-    pub seconds : List Feature
-    pub newly : List Feature
-    pub gives_firsts : a_gives from_a firsts to_a
-    pub gives_seconds : b_gives from_b seconds to_b
-    pub are : first ∷ firsts ≡ newly ++ option_to_list waiting
+    pub proceeds : Proceeded waiting to_a to_b
     pub waits : WaitsOn first.chrom new.held waiting
-    pub next : Option Feature
-    pub comes : ComesNext b_gives to_b next
-    pub settles : Settles newly (seconds ++ option_to_list next)
-    pub each : TakesEachFor For first firsts seconds old
-    pub goes : GoesToFor For first firsts seconds old new
-    pub writes : WritesFor For first firsts seconds old newly pending out left grown
+    pub goes : GoesToFor For first proceeds.firsts proceeds.seconds old new
+    pub writes : WritesFor For first proceeds.firsts proceeds.seconds old proceeds.newly pending out left grown
 
   -- one waits and there is none of the second input, or there is none of the first
   abbrev pub StopsAt : Option Feature → A → B → Type 0
@@ -186,38 +183,22 @@ module _ {A B : Type 0} (a_gives : A → List Feature → A → Type 0) (a_ended
   module _ (firsts seconds newly : List Feature) (waiting : Option Feature) (to_b : B) (fault : FaultValue)
       (left : List ℕ) (grown : Output) where
     -- the lines couldn't all be written
-    pub record CutsLines : Type 0 where
-      pub cuts : CutsFor For first firsts seconds old newly pending out fault grown
+    abbrev pub CutsLines : Type 0
+    CutsLines = CutsFor For first firsts seconds old newly pending out fault grown
 
     -- the next record of the second input shares a base with the one that waits, and can't be held
     pub record LacksRoom : Type 0 where
-      pub last : Feature
-      pub waits : waiting ≡ Some last
-      pub b : Feature
-      pub after : B
-      pub gives : b_gives to_b (b ∷ []) after
-      pub chrom : b.chrom ≡ last.chrom
-      pub starts : b.start < last.stop
-      pub ends : last.start < b.stop
+      pub shares : SharesBase b_gives waiting to_b
       pub writes : WritesFor For first firsts seconds old newly pending out left grown
       pub lacks : BehindFor For first firsts seconds old
-          (λ order shape rule limit as_given taken. CannotBeHeld limit last taken (b_line after) fault)
+          (λ order shape rule limit as_given taken. CannotBeHeld limit shares.last taken (b_line shares.after) fault)
 
   -- it failed once these lines of the first were settled
   pub record Breaks (fault : FaultValue) (to_a : A) (to_b : B) (left : List ℕ) (grown : Output) : Type 0 where
-    pub firsts : List Feature
-    pub seconds : List Feature
-    pub newly : List Feature
     pub waiting : Option Feature
-    pub gives_firsts : a_gives from_a firsts to_a
-    pub gives_seconds : b_gives from_b seconds to_b
-    pub are : first ∷ firsts ≡ newly ++ option_to_list waiting
-    pub next : Option Feature
-    pub comes : ComesNext b_gives to_b next
-    pub settles : Settles newly (seconds ++ option_to_list next)
-    pub each : TakesEachFor For first firsts seconds old
-    pub cause : CutsLines firsts seconds newly waiting to_b fault left grown
-        ⊎ LacksRoom firsts seconds newly waiting to_b fault left grown
+    pub proceeds : Proceeded waiting to_a to_b
+    pub cause : CutsLines proceeds.firsts proceeds.seconds proceeds.newly waiting to_b fault left grown
+        ⊎ LacksRoom proceeds.firsts proceeds.seconds proceeds.newly waiting to_b fault left grown
 
 abbrev pub Joins : {A B R : Type 0} → (A → List Feature → A → Type 0) → (A → Type 0)
     → (B → List Feature → B → Type 0) → (B → Type 0) → (B → ℕ) → (Order → Type 0)
@@ -231,7 +212,7 @@ Joins a_gives a_ended b_gives b_ended b_line For Settles Leaves feature old firs
     (option_map feature waiting) new to_a to_b left grown)
     × StopsAt a_gives a_ended b_gives b_ended b_line For Settles old first from_a from_b pending out
     (option_map feature waiting) to_a to_b
-    × IfSome (option_map feature waiting) (Leaves j.seconds)
+    × IfSome (option_map feature waiting) (Leaves j.proceeds.seconds)
 Joins a_gives a_ended b_gives b_ended b_line For Settles Leaves feature old first from_a from_b pending out
     (Err fault) new to_a to_b left grown =
     Breaks a_gives a_ended b_gives b_ended b_line For Settles old first from_a from_b pending out (fault_value fault)

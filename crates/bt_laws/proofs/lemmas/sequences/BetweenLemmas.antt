@@ -1,6 +1,6 @@
 -- The blocks of an alignment ascend, and lie within it.
-use Rattle.std.proofs.Common.{◌≡◌, ℕ, ◌+◌, ◌<◌, ◌≤◌, Bool, true, false, List, [], ◌∷◌, ◌++◌, Option, Some, None, refl, sym, subst, arith, cond}
-use Rattle.std.specs.Prelude.{nat_lt, option_map}
+use Rattle.std.proofs.Common.{◌≡◌, ℕ, ◌+◌, ◌≤◌, Bool, true, false, List, [], ◌∷◌, ◌++◌, Option, Some, None, refl, sym, subst, arith, cond}
+use Rattle.std.specs.Prelude.{option_map}
 use Rattle.std.proofs.lemmas.Bool.Decides.{nat_tests}
 use Rattle.std.proofs.lemmas.List.Sums.{sum_by-cons}
 use Rattle.bt_bed.specs.model.feature.Interval.{Span}
@@ -15,21 +15,9 @@ later : (less more stop : ℕ) (blocks : List Span) → less ≤ more → AreBet
 later less more stop [] h b = omega (arith, b)
 later less more stop (block ∷ blocks) h b = (omega (arith, b.0), b.1, b.2)
 
-is_below : (n m : ℕ) → nat_lt n m ≡ true → n < m
-is_below n m e = grind (arith, nat_tests)
-
-first_by : (b : Bool) (start stop last : ℕ) (rest : List Span) → nat_lt start stop ≡ b → start ≤ stop → AreBetween stop last rest
-    → AreBetween start last (cond b (record { start = start; stop = stop } ∷ []) [] ++ rest)
-first_by true start stop last rest e h r = (omega arith, is_below start stop e, r)
-first_by false start stop last rest e h r = later start stop last rest h r
-
 -- a block before others, if it has a base
 first_between : (start stop last : ℕ) (rest : List Span) → start ≤ stop → AreBetween stop last rest → AreBetween start last (with_bases start stop ++ rest)
-first_between start stop last rest h r = first_by (nat_lt start stop) start stop last rest refl h r
-
-alone_by : (b : Bool) (start stop : ℕ) → nat_lt start stop ≡ b → start ≤ stop → AreBetween start stop (cond b (record { start = start; stop = stop } ∷ []) [])
-alone_by true start stop e h = (omega arith, is_below start stop e, omega arith)
-alone_by false start stop e h = h
+first_between start stop last rest h r = grind (arith, nat_tests)
 
 between_by : (k : Bool) (operation : Operation) (operations : List Operation) (start stop last : ℕ) → is_skip operation ≡ k → start ≤ stop
     → (is_skip operation ≡ true → AreBetween (stop + operation.length) last (open_blocks (stop + operation.length) (stop + operation.length) operations))
@@ -42,7 +30,7 @@ between_by false operation operations start stop last e h skipped more = more e
 
 open_between : (start stop : ℕ) (operations : List Operation) → start ≤ stop → AreBetween start (stop + reference_length operations) (open_blocks start stop operations)
 open_between start stop [] h =
-    subst (λ last. AreBetween start last (with_bases start stop)) (let e : stop ≡ stop + 0 = omega arith in e) (alone_by (nat_lt start stop) start stop refl h)
+    let alone : AreBetween start (stop + 0) (with_bases start stop) = grind (arith, nat_tests) in alone
 open_between start stop (operation ∷ operations) h =
     let last = stop + reference_length (operation ∷ operations) in
     let size = sum_by-cons covered_by operation operations in

@@ -12,7 +12,7 @@ use Rattle.bt_seq.specs.model.Cigar.{covered_by, operations_in, reference_length
 use Rattle.bt_seq.specs.inside.sam.CigarSteps.{none_left}
 use Rattle.bt_seq.specs.inside.sam.Room.{FitBehind, fit_behind}
 use Rattle.bt_seq.specs.declared.sam.operation.Operation.{Operation}
-use Rattle.bt_seq.proofs.lemmas.sam.BlockLemmas.{blocks_open, open_blocks, second}
+use Rattle.bt_seq.proofs.lemmas.sam.BlockLemmas.{blocks_open, open_blocks}
 
 -- operations without an N go on to their end
 open_unskipped : (start stop : ℕ) (operations : List Operation) → list_all (λ operation. not (is_skip operation)) operations ≡ true → open_blocks start stop operations ≡ with_bases start (stop + reference_length operations)
@@ -21,7 +21,7 @@ open_unskipped start stop (operation ∷ operations) all =
     let p = and_parts (not (is_skip operation)) (list_all (λ o. not (is_skip o)) operations) all in
     let goes : is_skip operation ≡ false = not-true (is_skip operation) p.0 in
     let sum : stop + covered_by operation + reference_length operations ≡ stop + reference_length (operation ∷ operations) = omega (arith, sum_by-cons covered_by operation operations) in
-    second (is_skip operation) (with_bases start stop ++ open_blocks (stop + operation.length) (stop + operation.length) operations) (open_blocks start (stop + covered_by operation) operations) goes
+    ap (λ b. cond b (with_bases start stop ++ open_blocks (stop + operation.length) (stop + operation.length) operations) (open_blocks start (stop + covered_by operation) operations)) goes
     ∙ open_unskipped start (stop + covered_by operation) operations p.1 ∙ ap (with_bases start) sum
 
 pub one_block : unskipped_are_one_block

@@ -1,10 +1,10 @@
 -- A CIGAR's division into numbers and letters: there is one at most, and it is the one that is found.
-use Rattle.std.proofs.Common.{◌≡◌, ℕ, Bool, true, false, ◌&&◌, List, [], ◌∷◌, length, Option, Some, None, refl, sym, ap, ◌∙◌, cond, option_map, append_assoc}
+use Rattle.std.proofs.Common.{◌≡◌, ℕ, Bool, true, false, ◌&&◌, List, [], ◌∷◌, length, Option, Some, None, refl, sym, ap, ◌∙◌, cond, option_map, append_assoc, arith}
 use Rattle.std.specs.Prelude.{flat_map, nat_lt, nat_le}
 use Rattle.std.specs.Char.{is_ascii_digit}
 use Rattle.std.specs.List.{list_all}
 use Rattle.std.specs.Str.Parse.{digits_value}
-use Rattle.std.proofs.lemmas.Bool.{false≢true, and_parts}
+use Rattle.std.proofs.lemmas.Bool.{and_parts}
 use Rattle.bt_lines.specs.model.Number.{is_number, value_of}
 use Rattle.bt_laws.specs.sequences.Cigars.{Divides, division_is_found, division_is_one, is_operation, operations_are_divided, spelled}
 use Rattle.bt_seq.specs.model.Cigar.{Part, each_operation, is_letter, onto_part, operation_of, operations_in, operations_of_parts, parts_of, with_operation, with_part}
@@ -12,9 +12,7 @@ use Rattle.bt_seq.specs.declared.sam.operation.Operation.{Operation}
 use Rattle.bt_seq.proofs.lemmas.sam.CigarLemmas.{digits_no_letters, parts_cut}
 
 number_digits : (a b c : Bool) → ((a && b) && c) ≡ true → b ≡ true
-number_digits true true c e = refl
-number_digits true false c e = absurd (false≢true e)
-number_digits false b c e = absurd (false≢true e)
+number_digits a b c e = grind arith
 
 -- the parts of a division are those that are found
 found : (parts : List Part) → list_all is_operation parts ≡ true → parts_of (flat_map spelled parts) ≡ Some parts
@@ -39,10 +37,7 @@ division_found text parts p = ap operations_of_parts (parts_found text parts p)
 -- the parts that are found are all bytes of the text
 letter_whole : (byte : ℕ) (bytes : List ℕ) (found : Option (List Part)) (parts : List Part) → with_part (record { digits = []; letter = byte }) found ≡ Some parts
     → ((others : List Part) → found ≡ Some others → flat_map spelled others ≡ bytes) → flat_map spelled parts ≡ byte ∷ bytes
-letter_whole byte bytes None parts e h = cc
-letter_whole byte bytes (Some others) parts e h =
-    let is : record { digits = []; letter = byte } ∷ others ≡ parts = cc in
-    ap (flat_map spelled) (sym is) ∙ ap (λ l. byte ∷ l) (h others refl)
+letter_whole byte bytes found parts e h = grind arith
 
 byte_whole : (byte : ℕ) (bytes : List ℕ) (found : Option (List Part)) (parts : List Part) → onto_part byte found ≡ Some parts
     → ((others : List Part) → found ≡ Some others → flat_map spelled others ≡ bytes) → flat_map spelled parts ≡ byte ∷ bytes
@@ -67,10 +62,7 @@ letters parts = list_all (λ part. is_letter part.letter) parts
 
 letter_lettered : (byte : ℕ) (found : Option (List Part)) (parts : List Part) → is_letter byte ≡ true → with_part (record { digits = []; letter = byte }) found ≡ Some parts
     → ((others : List Part) → found ≡ Some others → letters others ≡ true) → letters parts ≡ true
-letter_lettered byte None parts is e h = cc
-letter_lettered byte (Some others) parts is e h =
-    let same : record { digits = []; letter = byte } ∷ others ≡ parts = cc in
-    ap letters (sym same) ∙ rw (is, h others refl) refl
+letter_lettered byte found parts is e h = grind arith
 
 byte_lettered : (byte : ℕ) (found : Option (List Part)) (parts : List Part) → onto_part byte found ≡ Some parts
     → ((others : List Part) → found ≡ Some others → letters others ≡ true) → letters parts ≡ true
@@ -89,39 +81,24 @@ lettered : (text : List ℕ) (parts : List Part) → parts_of text ≡ Some part
 lettered [] parts e = let is : [] ≡ parts = cc in ap letters (sym is)
 lettered (byte ∷ bytes) parts e = lettered_by byte bytes (is_letter byte) parts refl e (λ others h. lettered bytes others h)
 
--- if each has an operation, each begins with a number
-number_by : (b : Bool) (n : ℕ) → cond b (Some n) None ≡ None → b ≡ false
-number_by true n e = cc
-number_by false n e = refl
-
 is_number_by : (b : Bool) (digits : List ℕ) → is_number digits ≡ b → (value_of digits ≡ None → ⊥) → b ≡ true
 unfolding value_of
-is_number_by true digits is h = refl
-is_number_by false digits is h = absurd (h (rw is refl))
-
-all_by : (number letter rest : Bool) → number ≡ true → letter ≡ true → rest ≡ true → ((number && letter) && rest) ≡ true
-all_by number letter rest p q r = rw (p, q, r) refl
-
-split_letters : (part : Part) (parts : List Part) → letters (part ∷ parts) ≡ true → (is_letter part.letter ≡ true) × (letters parts ≡ true)
-split_letters part parts e = and_parts (is_letter part.letter) (letters parts) e
+is_number_by b digits is h = grind arith
 
 value_there : (part : Part) (value : Option ℕ) (rest : Option (List Operation)) (operations : List Operation) → with_operation (option_map (λ length. record { length = length; letter = part.letter }) value) rest ≡ Some operations
     → value ≡ None → ⊥
-value_there part None rest operations e none = cc
-value_there part (Some n) rest operations e none = cc
+value_there part value rest operations e none = grind arith
 
 rest_there : (first : Option Operation) (rest : Option (List Operation)) (operations : List Operation) → with_operation first rest ≡ Some operations → (others : List Operation) × (rest ≡ Some others)
-rest_there None rest operations e = absurd cc
-rest_there (Some operation) None operations e = absurd cc
-rest_there (Some operation) (Some others) operations e = (others, refl)
+rest_there first rest operations e = grind arith
 
 each_is : (parts : List Part) (operations : List Operation) → each_operation parts ≡ Some operations → letters parts ≡ true → list_all is_operation parts ≡ true
 each_is [] operations e h = refl
 each_is (part ∷ parts) operations e h =
-    let l = split_letters part parts h in
+    let l = and_parts (is_letter part.letter) (letters parts) h in
     let rest = rest_there (operation_of part) (each_operation parts) operations e in
     let number = is_number_by (is_number part.digits) part.digits refl (λ none. value_there part (value_of part.digits) (each_operation parts) operations e none) in
-    all_by (is_number part.digits) (is_letter part.letter) (list_all is_operation parts) number l.0 (each_is parts rest.0 rest.1 l.1)
+    rw (number, l.0, each_is parts rest.0 rest.1 l.1) refl
 
 divided_by : (text : List ℕ) (operations : List Operation) (found : Option (List Part)) → parts_of text ≡ found → operations_of_parts found ≡ Some operations
     → (parts : List Part) × (Divides text parts × (each_operation parts ≡ Some operations))

@@ -1,6 +1,6 @@
 -- The blocks of an alignment, as they are found in one pass over its operations.
-use Rattle.std.proofs.Common.{◌≡◌, ℕ, ◌+◌, ◌≤◌, Bool, true, false, List, [], ◌∷◌, ◌++◌, length, Option, Some, None, refl, sym, ap, ◌∙◌, arith, cond, append-nil, add_assoc, add-zero, append_assoc}
-use Rattle.std.specs.Prelude.{flat_map, nat_le, nat_lt, not}
+use Rattle.std.proofs.Common.{◌≡◌, ℕ, ◌+◌, ◌≤◌, Bool, true, false, List, [], ◌∷◌, ◌++◌, length, Option, Some, None, refl, sym, ap, ◌∙◌, arith, cond, append-nil, add-zero, append_assoc}
+use Rattle.std.specs.Prelude.{flat_map, nat_lt, not}
 use Rattle.std.specs.List.{list_all}
 use Rattle.std.proofs.lemmas.Bool.{false≢true, not-true, and_parts}
 use Rattle.std.proofs.lemmas.Bool.Decides.{nat_tests}
@@ -53,8 +53,7 @@ still_open b start at operations = cond b [] (with_bases start (at + reference_l
 -- the block that is open, or the one that begins here
 one_open : (b : Bool) (s start at : ℕ) (before operations : List Operation) → at ≡ s + reference_length before → begins_block before ≡ b → (b ≡ true → start ≡ at)
     → still_open b start at operations ++ block_at s (record { before = before; behind = operations }) ≡ with_bases start (at + reference_length (up_to_skip operations))
-one_open true s start at before operations e begins same = rw (begins, ← e, ← (same refl)) refl
-one_open false s start at before operations e begins same = rw (begins, append-nil (with_bases start (at + reference_length (up_to_skip operations)))) refl
+one_open b s start at before operations e begins same = grind arith
 
 -- one more operation
 open_more : (operation : Operation) (operations : List Operation) (start at : ℕ) (found : List Span) (k : Bool) → is_skip operation ≡ k
@@ -62,10 +61,7 @@ open_more : (operation : Operation) (operations : List Operation) (start at : �
     → (is_skip operation ≡ false → with_bases start (at + covered_by operation + reference_length (up_to_skip operations)) ++ found ≡ open_blocks start (at + covered_by operation) operations)
     → with_bases start (at + cond k 0 (covered_by operation + reference_length (up_to_skip operations))) ++ found
     ≡ cond k (with_bases start at ++ open_blocks (at + operation.length) (at + operation.length) operations) (open_blocks start (at + covered_by operation) operations)
-open_more operation operations start at found true e skipped more =
-    ap (λ n. with_bases start n ++ found) (add-zero at) ∙ ap (λ l. with_bases start at ++ l) (skipped e)
-open_more operation operations start at found false e skipped more =
-    ap (λ n. with_bases start n ++ found) (sym (add_assoc at (covered_by operation) (reference_length (up_to_skip operations)))) ∙ more e
+open_more operation operations start at found k e skipped more = grind (arith, nat_tests)
 
 module _ (s : ℕ) where
   found_open : (operations before : List Operation) (b : Bool) (start at : ℕ) → at ≡ s + reference_length before → begins_block before ≡ b → (b ≡ true → start ≡ at)
@@ -94,9 +90,6 @@ pub blocks_open_in : (start : ℕ) (operations : Option (List Operation)) → bl
 blocks_open_in start None = refl
 blocks_open_in start (Some operations) = blocks_open start operations
 
-le_to : (n m : ℕ) → n ≤ m → nat_le n m ≡ true
-le_to n m e = grind (arith, nat_tests)
-
 -- an N ends the block
 module _ (start stop : ℕ) (operation : Operation) where
   pub block_ends : (more : Option (List Operation)) → is_skip operation ≡ true → FitBehind stop (with_operation (Some operation) more)
@@ -123,8 +116,4 @@ is_skip_by operation e = grind (arith, nat_tests)
 -- an empty text has operations, none of them
 pub nothing_fits : (start : ℕ) → start ≤ 999999999999 → FitBehind start (operations_in [])
 unfolding operations_in
-nothing_fits start small = le_to (start + 0) 999999999999 (omega arith)
-
-pub second : (b : Bool) (x y : List Span) → b ≡ false → cond b x y ≡ y
-second true x y e = absurd (false≢true (sym e))
-second false x y e = refl
+nothing_fits start small = grind (arith, nat_tests)

@@ -6,7 +6,7 @@ use Rattle.std.specs.List.{list_all}
 use Rattle.std.proofs.lemmas.List.Folds.{list_all_more}
 use Rattle.std.specs.Str.Parse.{digits_value}
 use Rattle.std.proofs.lemmas.Bool.Decides.{nat_tests}
-use Rattle.std.proofs.lemmas.Bool.{false≢true, and_parts}
+use Rattle.std.proofs.lemmas.Bool.{and_parts}
 use Rattle.std.proofs.lemmas.List.{take-append-drop, take_more, drop_more, take-append-le, get_or_append_left, take_all}
 use Rattle.bt_lines.proofs.lemmas.numbers.NumberLemmas.{digits_below, digits_denoting, value_of_digits, value_of_empty, value_of_large, value_of_other, value_short}
 use Rattle.bt_lines.specs.model.Number.{value_of}
@@ -28,8 +28,7 @@ abbrev pub no_letters : List ℕ → Bool
 no_letters bytes = list_all (λ byte. cond (is_letter byte) false true) bytes
 
 flipped : (b : Bool) → cond b false true ≡ true → b ≡ false
-flipped true e = absurd (false≢true e)
-flipped false e = refl
+flipped b e = grind arith
 
 parts_behind : (front rest : List ℕ) → no_letters front ≡ true → parts_of (front ++ rest) ≡ onto_front front (parts_of rest)
 parts_behind [] rest e = refl
@@ -82,8 +81,7 @@ first_operation_is digits letter rest e is =
     ap operations_of_parts (parts_behind digits (letter ∷ rest) e ∙ ap (onto_front digits) (rw is refl)) ∙ operation_by digits letter (parts_of rest)
 
 none_left_some : (text : List ℕ) → 0 < length text → none_left text ≡ None
-none_left_some [] some = absurd (omega arith)
-none_left_some (byte ∷ bytes) some = refl
+none_left_some text some = grind arith
 
 -- digits aren't letters
 pub digits_no_letters : (bytes : List ℕ) → list_all is_ascii_digit bytes ≡ true → no_letters bytes ≡ true

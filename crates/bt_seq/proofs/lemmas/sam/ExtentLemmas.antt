@@ -3,10 +3,9 @@ use Rattle.std.proofs.Common.{◌≡◌, ℕ, ◌+◌, ◌-◌, ◌≤◌, zero,
 use Rattle.std.specs.List.{list_any}
 use Rattle.std.proofs.lemmas.Bool.Decides.{nat_tests}
 use Rattle.std.proofs.lemmas.List.Folds.{list_any-append}
-use Rattle.bt_seq.specs.model.MaskHow.{is_upper_case, masked_byte}
+use Rattle.bt_seq.specs.model.MaskHow.{masked_byte}
 use Rattle.bt_seq.specs.inside.mask.MaskedBases.{has_position, masked_in}
 use Rattle.bt_seq.specs.declared.mask.mask_how.MaskHow.{MaskHow}
-use Rattle.bt_seq.specs.declared.mask.mask_how.MaskHow.TheVariants.{Soft, Hard}
 use Rattle.bt_seq.specs.declared.sam.extent.Extent.{Extent}
 
 -- without an extent nothing changes
@@ -14,20 +13,8 @@ pub none_masked : (how : MaskHow) (position : ℕ) (bases : List ℕ) → bases 
 none_masked how position [] = refl
 none_masked how position (base ∷ bases) = ap (λ bs. base ∷ bs) (none_masked how (suc position) bases)
 
-soft_twice : (base : ℕ) (t : Bool) → is_upper_case base ≡ t → cond (is_upper_case (cond t (base + 32) base)) (cond t (base + 32) base + 32) (cond t (base + 32) base) ≡ cond t (base + 32) base
-soft_twice base true e = let lower : is_upper_case (base + 32) ≡ false = grind (arith, nat_tests) in rw lower refl
-soft_twice base false e = rw e refl
-
--- a base that was masked stays
-masked_twice : (how : MaskHow) (base : ℕ) → masked_byte how (masked_byte how base) ≡ masked_byte how base
-masked_twice Soft base = soft_twice base (is_upper_case base) refl
-masked_twice (Hard mask) base = refl
-
 by_both : (how : MaskHow) (base : ℕ) (b c : Bool) → cond (b || c) (masked_byte how base) base ≡ cond c (masked_byte how (cond b (masked_byte how base) base)) (cond b (masked_byte how base) base)
-by_both how base true true = sym (masked_twice how base)
-by_both how base true false = refl
-by_both how base false true = refl
-by_both how base false false = refl
+by_both how base b c = grind arith
 
 -- extents mask one after another
 pub one_behind : (how : MaskHow) (extents : List Extent) (s : Extent) (position : ℕ) (bases : List ℕ) → masked_in how (extents ++ s ∷ []) position bases ≡ masked_in how (s ∷ []) position (masked_in how extents position bases)

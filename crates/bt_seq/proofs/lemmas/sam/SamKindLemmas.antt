@@ -1,29 +1,17 @@
 -- What is wrong with a line of a SAM file.
-use Rattle.std.proofs.Common.{◌≡◌, ℕ, ◌+◌, ◌-◌, Bool, true, false, List, [], ◌∷◌, Option, Some, None, Result, Ok, Err, refl, cond, subst}
-use Rattle.std.specs.Prelude.{nat_lt}
+use Rattle.std.proofs.Common.{◌≡◌, ℕ, Bool, true, false, List, Option, Some, None, Result, Ok, Err, refl, cond, subst, arith}
 use Rattle.bt_lines.specs.model.Lines.{pieces}
 use Rattle.bt_lines.specs.declared.fault.Kind.{Kind}
-use Rattle.bt_lines.specs.declared.fault.Kind.TheVariants.{TooFewColumns, EmptyName, BadFlag, BadPosition, BadQuality, BadCigar, StopTooLarge, ReadFailed, WriteFailed, NoMemory}
-use Rattle.bt_seq.specs.model.Alignment.{Alignment, Fields, alignment_at, alignment_of, columns_say, fields_of, fields_say, gives_nothing, is_skipped, value_up_to}
+use Rattle.bt_lines.specs.declared.fault.Kind.TheVariants.{TooFewColumns}
+use Rattle.bt_seq.specs.model.Alignment.{Alignment, Fields, alignment_of, columns_say, fields_of, fields_say, is_skipped, value_up_to}
 use Rattle.bt_seq.specs.model.Cigar.{length_of}
 use Rattle.bt_seq.specs.model.SamKind.{is_sam_kind, sam_kinds_are_of_lines, wrong_have_sam_kinds}
 
 same_kind : {T : Type 0} (was : Result T Kind) (a kind : Kind) → was ≡ Err a → was ≡ Err kind → is_sam_kind a ≡ true → is_sam_kind kind ≡ true
 same_kind was a kind p q placed = let is : a ≡ kind = cc in subst (λ k. is_sam_kind k ≡ true) is placed
 
-of_tests : (b c : Bool) (a : Alignment) (kind : Kind) → cond b (Ok None) (cond c (Err StopTooLarge) (Ok (Some a))) ≡ Err kind → is_sam_kind kind ≡ true
-of_tests true c a kind e = cc
-of_tests false true a kind e = same_kind {T = Option Alignment} (Err StopTooLarge) StopTooLarge kind refl e refl
-of_tests false false a kind e = cc
-
 of_columns : (f : Fields) (flag : Option ℕ) (chrom : List ℕ) (p q s : Option ℕ) (kind : Kind) → columns_say f flag chrom p q s ≡ Err kind → is_sam_kind kind ≡ true
-of_columns f None chrom p q s kind e = same_kind {T = Option Alignment} (Err BadFlag) BadFlag kind refl e refl
-of_columns f (Some flag) [] p q s kind e = same_kind {T = Option Alignment} (Err EmptyName) EmptyName kind refl e refl
-of_columns f (Some flag) (byte ∷ bytes) None q s kind e = same_kind {T = Option Alignment} (Err BadPosition) BadPosition kind refl e refl
-of_columns f (Some flag) (byte ∷ bytes) (Some p) None s kind e = same_kind {T = Option Alignment} (Err BadQuality) BadQuality kind refl e refl
-of_columns f (Some flag) (byte ∷ bytes) (Some p) (Some q) None kind e = same_kind {T = Option Alignment} (Err BadCigar) BadCigar kind refl e refl
-of_columns f (Some flag) (byte ∷ bytes) (Some p) (Some q) (Some s) kind e =
-    of_tests (gives_nothing flag f.chrom p s) (nat_lt 999999999999 (p - 1 + s)) (alignment_at f flag p q s) kind e
+of_columns f flag chrom p q s kind e = grind arith
 
 of_fields : (fields : Option Fields) (kind : Kind) → fields_say fields ≡ Err kind → is_sam_kind kind ≡ true
 unfolding fields_say
@@ -40,7 +28,4 @@ unfolding alignment_of
 wrong_kinds text kind e = of_line (is_skipped text) (fields_of (pieces 9 text)) kind e
 
 pub kinds_of_lines : sam_kinds_are_of_lines
-kinds_of_lines ReadFailed e = e
-kinds_of_lines WriteFailed e = e
-kinds_of_lines NoMemory e = e
-kinds_of_lines _ e = refl
+kinds_of_lines x0 e = grind arith

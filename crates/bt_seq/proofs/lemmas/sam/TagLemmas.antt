@@ -1,5 +1,5 @@
 -- Lemmas on blocks, record by record: each with the names that its block leaves.
-use Rattle.std.proofs.Common.{◌≡◌, ℕ, Bool, true, false, cond, ◌||◌, nat_le, List, [], ◌∷◌, ◌++◌, Option, Some, None, map, flat_map, refl, sym, ap, ◌∙◌, bytes_eq}
+use Rattle.std.proofs.Common.{◌≡◌, ℕ, Bool, true, false, cond, ◌||◌, nat_le, List, [], ◌∷◌, ◌++◌, Option, Some, None, map, flat_map, refl, sym, ap, ◌∙◌, bytes_eq, arith}
 use Rattle.std.specs.Cmp.Lexicographic.{bytes_decides}
 use Rattle.std.specs.List.{list_any}
 use Rattle.std.specs.Prelude.{⊤}
@@ -42,76 +42,55 @@ module _ {A : Type 0} (chrom : A → List ℕ) where
   abbrev blocks : List A → List (Block A)
   blocks xs = blocks_by chrom xs
 
-  abbrev blocks_tags : Option (List (List ℕ)) → List ℕ → List (Block A) → List (Tagged A)
+  -- the tags of blocks, of which the first goes on with the last chromosome if that is its own
+  abbrev blocks_tags : Option (List (List ℕ)) → Option (List ℕ) → List (Block A) → List (Tagged A)
   blocks_tags left last [] = []
-  blocks_tags left last (b ∷ bs) = cond (bytes_eq last b.chrom) (tag_items left b.items ++ spread (owned_from left bs)) (spread (owned_from left (b ∷ bs)))
+  blocks_tags left last (b ∷ bs) = cond (is_last last b.chrom) (tag_items left b.items ++ spread (owned_from left bs)) (spread (owned_from left (b ∷ bs)))
 
-  abbrev tag_at : Option (List (List ℕ)) → List ℕ → A → Bool → Tagged A
-  tag_at left last x s = record { item = x; left = cond s left (left_by left (chrom x)) }
+  abbrev tag_at : Option (List (List ℕ)) → A → Bool → Tagged A
+  tag_at left x s = record { item = x; left = cond s left (left_by left (chrom x)) }
 
-  alone : (left : Option (List (List ℕ))) (last : List ℕ) (x : A) (s : Bool) → bytes_eq last (chrom x) ≡ s
-      → tag_at left last x s ∷ [] ≡ blocks_tags left last (block_with (chrom x) x [])
-  alone left last x true e = rw e refl
-  alone left last x false e = rw e refl
+  alone : (left : Option (List (List ℕ))) (last : Option (List ℕ)) (x : A) (s : Bool) → is_last last (chrom x) ≡ s
+      → tag_at left x s ∷ [] ≡ blocks_tags left last (block_with (chrom x) x [])
+  alone left last x s e = grind arith
 
-  joined : (left : Option (List (List ℕ))) (last : List ℕ) (x : A) (b : Block A) (bs : List (Block A)) (s : Bool) → bytes_eq last b.chrom ≡ s → chrom x ≡ b.chrom
-      → tag_at left last x s ∷ (tag_items (cond s left (left_by left (chrom x))) b.items ++ spread (owned_from (cond s left (left_by left (chrom x))) bs))
+  joined : (left : Option (List (List ℕ))) (last : Option (List ℕ)) (x : A) (b : Block A) (bs : List (Block A)) (s : Bool) → is_last last b.chrom ≡ s → chrom x ≡ b.chrom
+      → tag_at left x s ∷ (tag_items (cond s left (left_by left (chrom x))) b.items ++ spread (owned_from (cond s left (left_by left (chrom x))) bs))
       ≡ blocks_tags left last (record { chrom = b.chrom; items = x ∷ b.items } ∷ bs)
-  joined left last x b bs true e same = rw e refl
-  joined left last x b bs false e same = rw (e, same) refl
+  joined left last x b bs s e same = grind arith
 
-  apart : (left : Option (List (List ℕ))) (last : List ℕ) (x : A) (b : Block A) (bs : List (Block A)) (s : Bool) → bytes_eq last (chrom x) ≡ s
-      → tag_at left last x s ∷ spread (owned_from (cond s left (left_by left (chrom x))) (b ∷ bs)) ≡ blocks_tags left last (record { chrom = chrom x; items = x ∷ [] } ∷ b ∷ bs)
-  apart left last x b bs true e = rw e refl
-  apart left last x b bs false e = rw e refl
+  apart : (left : Option (List (List ℕ))) (last : Option (List ℕ)) (x : A) (b : Block A) (bs : List (Block A)) (s : Bool) → is_last last (chrom x) ≡ s
+      → tag_at left x s ∷ spread (owned_from (cond s left (left_by left (chrom x))) (b ∷ bs)) ≡ blocks_tags left last (record { chrom = chrom x; items = x ∷ [] } ∷ b ∷ bs)
+  apart left last x b bs s e = grind arith
 
-  with_first : (left : Option (List (List ℕ))) (last : List ℕ) (x : A) (b : Block A) (bs : List (Block A)) (t : Bool) → bytes_eq (chrom x) b.chrom ≡ t
-      → record { item = x; left = next_left left (Some last) x } ∷ cond t (tag_items (next_left left (Some last) x) b.items ++ spread (owned_from (next_left left (Some last) x) bs)) (spread (owned_from (next_left left (Some last) x) (b ∷ bs)))
+  with_first : (left : Option (List (List ℕ))) (last : Option (List ℕ)) (x : A) (b : Block A) (bs : List (Block A)) (t : Bool) → bytes_eq (chrom x) b.chrom ≡ t
+      → record { item = x; left = next_left left last x } ∷ cond t (tag_items (next_left left last x) b.items ++ spread (owned_from (next_left left last x) bs)) (spread (owned_from (next_left left last x) (b ∷ bs)))
       ≡ blocks_tags left last (cond t (record { chrom = b.chrom; items = x ∷ b.items } ∷ bs) (record { chrom = chrom x; items = x ∷ [] } ∷ b ∷ bs))
   with_first left last x b bs true e =
       let same : chrom x ≡ b.chrom = (bytes_decides (chrom x) b.chrom).0 e in
-      joined left last x b bs (bytes_eq last (chrom x)) (ap (bytes_eq last) (sym same)) same
-  with_first left last x b bs false e = apart left last x b bs (bytes_eq last (chrom x)) refl
+      joined left last x b bs (is_last last (chrom x)) (ap (is_last last) (sym same)) same
+  with_first left last x b bs false e = apart left last x b bs (is_last last (chrom x)) refl
 
-  with_any : (left : Option (List (List ℕ))) (last : List ℕ) (x : A) (bs : List (Block A))
-      → record { item = x; left = next_left left (Some last) x } ∷ blocks_tags (next_left left (Some last) x) (chrom x) bs ≡ blocks_tags left last (block_with (chrom x) x bs)
-  with_any left last x [] = alone left last x (bytes_eq last (chrom x)) refl
+  with_any : (left : Option (List (List ℕ))) (last : Option (List ℕ)) (x : A) (bs : List (Block A))
+      → record { item = x; left = next_left left last x } ∷ blocks_tags (next_left left last x) (Some (chrom x)) bs ≡ blocks_tags left last (block_with (chrom x) x bs)
+  with_any left last x [] = alone left last x (is_last last (chrom x)) refl
   with_any left last x (b ∷ bs) = with_first left last x b bs (bytes_eq (chrom x) b.chrom) refl
 
-  tags_on : (left : Option (List (List ℕ))) (last : List ℕ) (xs : List A) → tags left (Some last) xs ≡ blocks_tags left last (blocks xs)
+  tags_on : (left : Option (List (List ℕ))) (last : Option (List ℕ)) (xs : List A) → tags left last xs ≡ blocks_tags left last (blocks xs)
   tags_on left last [] = refl
   tags_on left last (x ∷ xs) =
-      ap (λ (ts : List (Tagged A)). record { item = x; left = next_left left (Some last) x } ∷ ts) (tags_on (next_left left (Some last) x) (chrom x) xs)
+      ap (λ (ts : List (Tagged A)). record { item = x; left = next_left left last x } ∷ ts) (tags_on (next_left left last x) (Some (chrom x)) xs)
       ∙ with_any left last x (blocks xs)
 
-  first_joined : (left : Option (List (List ℕ))) (x : A) (b : Block A) (bs : List (Block A)) (t : Bool) → bytes_eq (chrom x) b.chrom ≡ t
-      → record { item = x; left = left_by left (chrom x) } ∷ cond t (tag_items (left_by left (chrom x)) b.items ++ spread (owned_from (left_by left (chrom x)) bs)) (spread (owned_from (left_by left (chrom x)) (b ∷ bs)))
-      ≡ spread (owned_from left (cond t (record { chrom = b.chrom; items = x ∷ b.items } ∷ bs) (record { chrom = chrom x; items = x ∷ [] } ∷ b ∷ bs)))
-  first_joined left x b bs true e =
-      let same : chrom x ≡ b.chrom = (bytes_decides (chrom x) b.chrom).0 e in
-      ap (λ (name : List ℕ). record { item = x; left = left_by left name } ∷ (tag_items (left_by left name) b.items ++ spread (owned_from (left_by left name) bs))) same
-  first_joined left x b bs false e = refl
-
-  first_any : (left : Option (List (List ℕ))) (x : A) (bs : List (Block A))
-      → record { item = x; left = left_by left (chrom x) } ∷ blocks_tags (left_by left (chrom x)) (chrom x) bs ≡ spread (owned_from left (block_with (chrom x) x bs))
-  first_any left x [] = refl
-  first_any left x (b ∷ bs) = first_joined left x b bs (bytes_eq (chrom x) b.chrom) refl
+  all_tags : (left : Option (List (List ℕ))) (bs : List (Block A)) → blocks_tags left None bs ≡ spread (owned_from left bs)
+  all_tags left bs = grind arith
 
   -- the tags of all
   pub tags_all : (left : Option (List (List ℕ))) (xs : List A) → tags left None xs ≡ spread (owned_from left (blocks xs))
-  tags_all left [] = refl
-  tags_all left (x ∷ xs) =
-      ap (λ (ts : List (Tagged A)). record { item = x; left = left_by left (chrom x) } ∷ ts) (tags_on (left_by left (chrom x)) (chrom x) xs)
-      ∙ first_any left x (blocks xs)
-
-  one_more : (x : A) (bs : List (Block A)) (t : Bool) (b : Block A) → AllHaveOne (b ∷ bs)
-      → AllHaveOne (cond t (record { chrom = b.chrom; items = x ∷ b.items } ∷ bs) (record { chrom = chrom x; items = x ∷ [] } ∷ b ∷ bs))
-  one_more x bs true b h = (tt, h.1)
-  one_more x bs false b h = (tt, h)
+  tags_all left xs = tags_on left None xs ∙ all_tags left (blocks xs)
 
   with_one : (x : A) (bs : List (Block A)) → AllHaveOne bs → AllHaveOne (block_with (chrom x) x bs)
-  with_one x [] h = (tt, tt)
-  with_one x (b ∷ bs) h = one_more x bs (bytes_eq (chrom x) b.chrom) b h
+  with_one x bs h = grind arith
 
   -- each block has a record
   pub blocks_have_one : (xs : List A) → AllHaveOne (blocks xs)
@@ -149,12 +128,10 @@ own_tagged names records = own_spread (owned names records) ∙ sym (ap own_in (
 
 module _ (bases : ℕ) where
   none_decides : (rs : List Feature) → HasOne rs → list_any (tag_decides bases) (tag_items None rs) ≡ true
-  none_decides [] h = absurd h
-  none_decides (r ∷ rs) h = refl
+  none_decides rs h = grind arith
 
   or_first : (a b : Bool) → ((a || false) || b) ≡ (a || b)
-  or_first true b = refl
-  or_first false b = refl
+  or_first a b = grind arith
 
   own_decides : (rs : List Feature) → list_any (λ (r : Feature). nat_le bases r.start) rs ≡ list_any (tag_decides bases) (tag_items (Some []) rs)
   own_decides [] = refl

@@ -6,7 +6,7 @@ use Rattle.std.specs.List.{AllByRecursion}
 use Rattle.bt_bed.specs.model.feature.Feature.{Feature}
 use Rattle.bt_lines.specs.model.Number.{max_number}
 use Rattle.bt_seq.specs.calls.Matching.{Knows, KnowsEarlier, Matched}
-use Rattle.bt_seq.specs.calls.MaskStage.{MaskStage, given, line_given_last, reached, reached_by, want_at}
+use Rattle.bt_seq.specs.calls.MaskStage.{MaskStage, reached_by, want_at}
 use Rattle.bt_seq.specs.model.Masked.{decided, is_unnamed}
 use Rattle.bt_seq.specs.calls.MaskState.{Masking}
 use Rattle.bt_seq.specs.model.Owners.{goes_on, left_after, names_behind}
@@ -65,11 +65,6 @@ KnowsNext waits names taken (Some r) m =
     × (waits ≡ false → left_after names (taken ++ r ∷ []) ≡ Some []))
     ⊎ (KnowsAhead names taken r m × (waits ≡ false → left_after names (taken ++ r ∷ []) ≡ None))
 
--- while lines are wanted after the first header, and records may come, one is ahead
-abbrev pub HasAhead : MaskStage → Type 0
-HasAhead stage = want_at stage ≡ Line → stage.bed_ended ≡ false
-    → is_unnamed (reached stage).names ≡ false → is_some stage.ahead ≡ true
-
 -- Up to which base of the last sequence a record decides lines, if these names are left after
 -- the sequence of its block: up to its start, or all if its block belongs to none. It is used
 -- if that sequence is the last.
@@ -81,19 +76,21 @@ decided_up_to (Some names) r = r.start
 abbrev pub AreInRange : List Feature → Type 0
 AreInRange records = AllByRecursion (λ r. r.stop ≤ max_number) records
 
--- what the state inside says of the stage; callers of the engine don't look at it
-pub record KnowsStage (stage : MaskStage) (m : Masking) : Type 0 where
-  pub counts : Counts (line_given_last (given stage)) m.window
-  pub name_is : m.matched.name ≡ last_name (reached stage).names
+-- what the state inside says of the stage, if this line was given last; callers of the engine don't look at it
+pub record KnowsStage (stage : MaskStage) (last : Option SequenceLine) (m : Masking) : Type 0 where
+  pub counts : Counts last m.window
+  pub name_is : m.matched.name ≡ last_name (reached_by last).names
   -- if no line waits and records may come, those taken and the one ahead decide the last line
   pub is_decided : stage.waiting ≡ None → stage.bed_ended ≡ false
-      → IsDecided (line_given_last (given stage)) (stage.taken ++ option_to_list stage.ahead)
+      → IsDecided last (stage.taken ++ option_to_list stage.ahead)
   pub in_range : AreInRange stage.taken
   pub knows : stage.bed_ended ≡ false
-      → KnowsNext (is_some stage.waiting) (reached stage).names stage.taken stage.ahead m.matched
-  pub has_ahead : HasAhead stage
+      → KnowsNext (is_some stage.waiting) (reached_by last).names stage.taken stage.ahead m.matched
+  -- while lines are wanted after the first header, and records may come, one is ahead
+  pub has_ahead : want_at stage ≡ Line → stage.bed_ended ≡ false
+      → is_unnamed (reached_by last).names ≡ false → is_some stage.ahead ≡ true
   pub ahead_in_range : (r : Feature) → stage.ahead ≡ Some r → r.start < limit
   -- if no line waits, it is known how far the record ahead decides lines
   pub decided_to_is : stage.waiting ≡ None → stage.bed_ended ≡ false → (r : Feature)
       → stage.ahead ≡ Some r
-      → m.decided_to ≡ decided_up_to (left_after (reached stage).names (stage.taken ++ r ∷ [])) r
+      → m.decided_to ≡ decided_up_to (left_after (reached_by last).names (stage.taken ++ r ∷ [])) r

@@ -19,17 +19,14 @@ some_of : (n : ℕ) → 0 < n → IsSome (if_some n)
 some_of n h = subst (λ (b : Bool). IsSome (cond b (Some n) None)) (sym (lt-ltb 0 n h)) (search rules)
 
 never_both : (c d : Bool) → (c ≡ true → d ≡ true → ⊥) → false ≡ (c && d)
-never_both true true h = absurd (h refl refl)
-never_both true false h = refl
-never_both false d h = refl
+never_both c d h = grind arith
 
 none_pass : (xs : List Feature) → filter (λ r. false) xs ≡ []
 none_pass [] = refl
 none_pass (x ∷ xs) = none_pass xs
 
 one_more : (x : Feature) (xs : List Feature) (c : Bool) → 0 < length xs → 0 < length (cond c (x ∷ xs) xs)
-one_more x xs true h = omega arith
-one_more x xs false h = h
+one_more x xs c h = grind arith
 
 module _ (place : ℕ) where
   abbrev stays : Feature → Bool

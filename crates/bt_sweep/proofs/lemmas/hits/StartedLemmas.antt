@@ -1,14 +1,13 @@
 -- Lemmas on records that come by their starts, and where those begin that start at a place or after it.
-use Rattle.std.proofs.Common.{◌≡◌, ℕ, ◌+◌, ◌<◌, ◌≤◌, Bool, true, false, ◌||◌, List, [], ◌∷◌, zero, suc, refl, add-one, arith, drop, length, nat_le, leb-true, option_to_list, take}
+use Rattle.std.proofs.Common.{◌≡◌, ℕ, ◌+◌, ◌<◌, ◌≤◌, Bool, true, false, ◌||◌, List, [], ◌∷◌, zero, suc, add-one, arith, drop, length, nat_le, leb-true, option_to_list, take}
 use Rattle.std.specs.List.{AllByRecursion, list_any, slice_get}
-use Rattle.std.proofs.lemmas.Bool.{false≢true, leb-false, or_parts}
+use Rattle.std.proofs.lemmas.Bool.{leb-false, or_parts}
 use Rattle.std.proofs.lemmas.List.Elements.{All-from_recursion}
 use Rattle.bt_bed.specs.model.feature.Feature.{Feature}
 use Rattle.bt_sweep.specs.calls.Held.{AreRising, AreRisingFrom, StartBefore, StartFrom}
 
 pub only_one : (c : Bool) → (c || false) ≡ true → c ≡ true
-only_one true e = refl
-only_one false e = absurd (false≢true e)
+only_one c e = grind arith
 
 took_from : (low : ℕ) (bs : List Feature) (n : ℕ) → AreRisingFrom low bs → AreRisingFrom low (take n bs)
 took_from low bs zero rises = tt

@@ -1,7 +1,7 @@
 -- Lemmas on a walk through what is held.
-use Rattle.std.proofs.Common.{◌≡◌, ℕ, ◌+◌, ◌<◌, ◌≤◌, Bool, true, false, ◌||◌, cond, List, [], ◌∷◌, ◌++◌, Option, Some, None, Err, refl, sym, ap, ◌∙◌, subst, append_assoc, add-one, arith, filter, flat_map, take, drop, length, option_to_list, length-append, zero, suc}
+use Rattle.std.proofs.Common.{◌≡◌, ℕ, ◌+◌, ◌<◌, ◌≤◌, Bool, true, false, ◌||◌, cond, List, [], ◌∷◌, ◌++◌, Option, Err, refl, sym, ap, ◌∙◌, subst, append_assoc, add-one, arith, filter, flat_map, take, drop, length, option_to_list, length-append, zero, suc}
 use Rattle.std.specs.List.{list_any, slice_get}
-use Rattle.std.proofs.lemmas.Bool.{false≢true, or_left, or_right, or_from}
+use Rattle.std.proofs.lemmas.Bool.{or_left, or_right, or_from}
 use Rattle.std.proofs.lemmas.List.{take-append-drop}
 use Rattle.std.proofs.lemmas.List.Elements.{filter-append}
 use Rattle.std.proofs.lemmas.List.Folds.{list_any-append}
@@ -54,15 +54,10 @@ module _ {X : Type 0} where
     none_next xs i e f = ap (list_any p) (take_next xs i) ∙ list_any-append p (take i xs) (option_to_list (slice_get xs i)) ∙ or_from (list_any p (take i xs)) (list_any p (option_to_list (slice_get xs i))) e f
 
     one_at : (x : X) (c b : Bool) → p x ≡ c → (c || false) ≡ b → length (cond c (x ∷ []) []) ≡ cond b 1 0
-    one_at x true true h e = refl
-    one_at x true false h e = absurd (false≢true (sym e))
-    one_at x false true h e = absurd (false≢true e)
-    one_at x false false h e = refl
+    one_at x c b h e = grind arith
 
     one_counts : (o : Option X) (b : Bool) → list_any p (option_to_list o) ≡ b → length (filter p (option_to_list o)) ≡ cond b 1 0
-    one_counts None true e = absurd (false≢true e)
-    one_counts None false e = refl
-    one_counts (Some x) b e = one_at x (p x) b refl e
+    one_counts o b e = grind arith
 
     -- how many pass so far
     pub count_next : (xs : List X) (i n : ℕ) (b : Bool) → n ≡ length (filter p (take i xs)) → list_any p (option_to_list (slice_get xs i)) ≡ b → n + cond b 1 0 ≡ length (filter p (take (i + 1) xs))

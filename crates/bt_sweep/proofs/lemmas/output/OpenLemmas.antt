@@ -2,7 +2,7 @@
 use Rattle.std.proofs.Common.{◌≡◌, ℕ, ◌-◌, ◌<◌, ◌≤◌, Bool, true, false, not, ◌&&◌, ◌||◌, cond, List, [], ◌∷◌, refl, sym, ap, ◌∙◌, ltb, arith, filter, length, min, max, take}
 use Rattle.std.specs.Prelude.{All}
 use Rattle.std.specs.List.{AllByRecursion}
-use Rattle.std.proofs.lemmas.Bool.{and_from, lt-ltb, ltb-true}
+use Rattle.std.proofs.lemmas.Bool.{and_from, lt-ltb}
 use Rattle.std.proofs.lemmas.List.{length-take-le}
 use Rattle.std.proofs.lemmas.List.Elements.{All-from_recursion, All-take, recursion_from_All}
 use Rattle.bt_bed.specs.model.feature.Feature.{Feature}
@@ -27,8 +27,7 @@ module _ (last a : Feature) (same : last.chrom ≡ a.chrom) where
   stays b = ltb a.start b.stop
 
   kept_at : (b : Feature) (bs : List Feature) (c : Bool) → stays b ≡ c → CanHit last b → AllByRecursion (CanHit a) (filter stays bs) → AllByRecursion (CanHit a) (cond c (b ∷ filter stays bs) (filter stays bs))
-  kept_at b bs true e one rest = ((one.0 ∙ same, ltb-true a.start b.stop e, one.2), rest)
-  kept_at b bs false e one rest = rest
+  kept_at b bs c e one rest = grind arith
 
   kept_rec : (bs : List Feature) → AllByRecursion (CanHit last) bs → AllByRecursion (CanHit a) (filter stays bs)
   kept_rec [] all = tt

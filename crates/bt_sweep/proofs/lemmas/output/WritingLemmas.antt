@@ -1,5 +1,5 @@
 -- Lemmas on the lines of a record.
-use Rattle.std.proofs.Common.{◌≡◌, ◌⊎◌, inl, inr, ℕ, ◌<◌, arith, ◌-◌, Bool, true, false, cond, List, [], ◌∷◌, ◌++◌, Result, refl, sym, ap, ◌∙◌, subst, max, min, bytes_eq, decimal, filter, flat_map, length, not, ◌||◌}
+use Rattle.std.proofs.Common.{◌≡◌, ◌⊎◌, inl, inr, ℕ, ◌<◌, arith, ◌-◌, Bool, cond, List, [], ◌∷◌, ◌++◌, Result, refl, sym, ap, ◌∙◌, subst, max, min, bytes_eq, decimal, filter, flat_map, length, not, ◌||◌}
 use Rattle.std.specs.List.{list_any}
 use Rattle.bt_lines.specs.calls.Output.{Output}
 use Rattle.bt_lines.specs.calls.Putting.{Adds, Puts}
@@ -34,8 +34,7 @@ pub line_adds : {A : Type 0} (texts : List (List ℕ)) (out grown : Output) (r :
 line_adds texts out grown r puts = adds_some out grown (line_with texts) r (line_some texts) puts
 
 shared_where : (c : Bool) (n : ℕ) → 0 < cond c n 0 → n ≡ cond c n 0
-shared_where true n e = refl
-shared_where false n e = absurd (omega (arith, e))
+shared_where c n e = grind arith
 
 -- the bases that two records share, if they share one
 pub hit_shares : (a b : Feature) → 0 < shared_bases a b → min a.stop b.stop - max a.start b.start ≡ shared_bases a b
@@ -43,8 +42,7 @@ hit_shares a b e = shared_where (bytes_eq a.chrom b.chrom) (min a.stop b.stop - 
 
 once_at : (a : Feature) (p : Feature → Bool) (b : Feature) (bs : List Feature) (c : Bool) → p b ≡ c → lines_of Once a (filter p bs) ≡ cond (list_any p bs) (line_with (bed_text a ∷ [])) []
     → lines_of Once a (cond c (b ∷ filter p bs) (filter p bs)) ≡ cond (c || list_any p bs) (line_with (bed_text a ∷ [])) []
-once_at a p b bs true e rest = refl
-once_at a p b bs false e rest = rest
+once_at a p b bs c e rest = grind arith
 
 once_of : (a : Feature) (p : Feature → Bool) (bs : List Feature) → lines_of Once a (filter p bs) ≡ cond (list_any p bs) (line_with (bed_text a ∷ [])) []
 once_of a p [] = refl
@@ -52,16 +50,14 @@ once_of a p (b ∷ bs) = once_at a p b bs (p b) refl (once_of a p bs)
 
 missing_at : (a : Feature) (p : Feature → Bool) (b : Feature) (bs : List Feature) (c : Bool) → p b ≡ c → lines_of Missing a (filter p bs) ≡ cond (not (list_any p bs)) (line_with (bed_text a ∷ [])) []
     → lines_of Missing a (cond c (b ∷ filter p bs) (filter p bs)) ≡ cond (not (c || list_any p bs)) (line_with (bed_text a ∷ [])) []
-missing_at a p b bs true e rest = refl
-missing_at a p b bs false e rest = rest
+missing_at a p b bs c e rest = grind arith
 
 missing_of : (a : Feature) (p : Feature → Bool) (bs : List Feature) → lines_of Missing a (filter p bs) ≡ cond (not (list_any p bs)) (line_with (bed_text a ∷ [])) []
 missing_of a p [] = refl
 missing_of a p (b ∷ bs) = missing_at a p b bs (p b) refl (missing_of a p bs)
 
 whole_of : (a : Feature) (found : List Feature) → lines_of Whole a found ≡ lines_of Missing a found
-whole_of a [] = refl
-whole_of a (b ∷ found) = refl
+whole_of a found = grind arith
 
 module _ {A : Type 0} (a : Feature) (bs : List Feature) (out grown : Output) (r : Result A Fault) (shape : Shape) (rule : HitRule) where
   -- a record that is put if something hits it

@@ -14,28 +14,22 @@ pub tabbed : (old x y first second new : List ℕ) → first ≡ old ++ x → se
 tabbed old x y first second new e f g = g ∙ ap (λ l. l ++ y) (f ∙ ap (λ l. l ++ 9 ∷ []) e) ∙ simp append_assoc
 
 once_of : (a : Feature) (found : List Feature) → length found ≡ 0 → lines_of Once a found ≡ []
-once_of a [] e = refl
-once_of a (b ∷ found) e = absurd (omega arith)
+once_of a found e = grind arith
 
 once_by : (a : Feature) (found : List Feature) → (length found ≡ 0 → ⊥) → lines_of Once a found ≡ line_with (bed_text a ∷ [])
-once_by a [] e = absurd (e refl)
-once_by a (b ∷ found) e = refl
+once_by a found e = grind arith
 
 missing_of : (a : Feature) (found : List Feature) → length found ≡ 0 → lines_of Missing a found ≡ line_with (bed_text a ∷ [])
-missing_of a [] e = refl
-missing_of a (b ∷ found) e = absurd (omega arith)
+missing_of a found e = grind arith
 
 missing_by : (a : Feature) (found : List Feature) → (length found ≡ 0 → ⊥) → lines_of Missing a found ≡ []
-missing_by a [] e = absurd (e refl)
-missing_by a (b ∷ found) e = refl
+missing_by a found e = grind arith
 
 whole_of : (a : Feature) (found : List Feature) → length found ≡ 0 → lines_of Whole a found ≡ line_with (bed_text a ∷ [])
-whole_of a [] e = refl
-whole_of a (b ∷ found) e = absurd (omega arith)
+whole_of a found e = grind arith
 
 whole_by : (a : Feature) (found : List Feature) → (length found ≡ 0 → ⊥) → lines_of Whole a found ≡ []
-whole_by a [] e = absurd (e refl)
-whole_by a (b ∷ found) e = refl
+whole_by a found e = grind arith
 
 module _ (a : Feature) (bs : List Feature) (shape : Shape) (rule : HitRule) where
   at_shape : (s : Shape) (l : List ℕ) → shape ≡ s → lines_for s rule a bs ≡ l → lines_for shape rule a bs ≡ l

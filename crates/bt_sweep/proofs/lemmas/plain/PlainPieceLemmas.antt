@@ -1,5 +1,5 @@
 -- The scan of a record's positions, from the last one on, against the definition of its pieces.
-use Rattle.std.proofs.Common.{◌≡◌, ℕ, ◌+◌, ◌-◌, ◌<◌, ◌≤◌, le-leb, suc, Bool, true, false, not, ◌&&◌, ◌||◌, cond, List, [], ◌∷◌, ◌++◌, refl, sym, ap, ap₂, ◌∙◌, add-one, arith, map, ◌==◌}
+use Rattle.std.proofs.Common.{◌≡◌, ℕ, ◌+◌, ◌-◌, ◌<◌, ◌≤◌, le-leb, suc, Bool, not, ◌&&◌, ◌||◌, cond, List, [], ◌∷◌, ◌++◌, refl, sym, ap, ap₂, ◌∙◌, add-one, arith, map, ◌==◌}
 use Rattle.std.specs.List.{list_any}
 use Rattle.std.proofs.lemmas.Bool.{ne_eqb, eq-eqb, cond-true, cond-false}
 use Rattle.std.proofs.lemmas.List.{reverse-append}
@@ -70,8 +70,7 @@ scan_all a others passed found all so_far =
 
 any_at : (rule : HitRule) (a : Feature) (p : ℕ) (b : Feature) (bs : List Feature) (c : Bool) → hits rule a b ≡ c
     → ((c && has_position p b) || list_any (has_position p) (hits_among rule a bs)) ≡ list_any (has_position p) (cond c (b ∷ hits_among rule a bs) (hits_among rule a bs))
-any_at rule a p b bs true e = refl
-any_at rule a p b bs false e = refl
+any_at rule a p b bs c e = grind arith
 
 -- some of those that hit a has the position
 pub any_hit_has : (rule : HitRule) (a : Feature) (p : ℕ) (bs : List Feature) → list_any (λ b. hits rule a b && has_position p b) bs ≡ list_any (has_position p) (hits_among rule a bs)

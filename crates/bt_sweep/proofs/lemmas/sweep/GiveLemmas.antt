@@ -1,80 +1,41 @@
 -- Lemmas on what an advance is where one waits, and where none does.
-use Rattle.std.proofs.Common.{◌≡◌, inl, inr, ℕ, true, List, [], Ok, Err, Result, sym, subst}
+use Rattle.std.proofs.Common.{◌≡◌, inl, inr, ℕ, true, Option, List, [], Ok, Err, Result, sym, subst, arith}
 use Rattle.std.specs.Prelude.{is_some, ⊤}
-use Rattle.bt_lines.specs.model.Fault.{FaultValue}
-use Rattle.bt_lines.specs.calls.Names.{fault_value}
 use Rattle.bt_lines.specs.calls.Output.{Output}
 use Rattle.bt_lines.specs.declared.fault.Fault.{Fault}
 use Rattle.bt_bed.specs.model.feature.Feature.{Feature}
 use Rattle.bt_bed.specs.model.order.Order.{Order}
-use Rattle.bt_sweep.specs.calls.Advancing.{Advances, AdvancesOn, AdvancesSo, DecidesCurrent, FailsAt, NoneGiven}
+use Rattle.bt_sweep.specs.calls.Advancing.{Advances, AdvancesOn, DecidesCurrent, NoneGiven, Proceeded}
 use Rattle.bt_sweep.specs.calls.SweepState.{Sweeping}
 use Rattle.bt_sweep.proofs.lemmas.sweep.StandLemmas.{stops_b}
 
 module _ {A V : Type 0} (a_gives : A → List Feature → A → Type 0) (a_ended : A → Type 0) (v_gives : V → List Feature → V → Type 0) (v_ended : V → Type 0) (v_line : V → ℕ) (order : Order) (old : Sweeping) (from_a : A) (from_v to_v : V) (out grown : Output) (a_none : a_gives from_a [] from_a) where
-  lifts : (new : Sweeping) → AdvancesSo NoneGiven (λ u. ⊤) v_gives v_ended v_line order old tt from_v out new tt to_v grown → AdvancesSo a_gives a_ended v_gives v_ended v_line order old from_a from_v out new from_a to_v grown
-  lifts new d = record {
-    firsts = d.firsts;
-    seconds = d.seconds;
-    newly = d.newly;
-    gives_firsts = subst (λ (fs : List Feature). a_gives from_a fs from_a) (sym d.gives_firsts) a_none;
-    gives_seconds = d.gives_seconds;
-    are = d.are;
-    next = d.next;
-    comes = d.comes;
-    settles = d.settles;
-    each = d.each;
-    leaves = d.leaves;
-    stands = d.stands;
-    puts = d.puts;
-  }
-
-  lifts_fault : (fault : FaultValue) → FailsAt NoneGiven (λ u. ⊤) v_gives v_ended v_line order old tt from_v out fault tt to_v grown → FailsAt a_gives a_ended v_gives v_ended v_line order old from_a from_v out fault from_a to_v grown
-  lifts_fault fault b = record {
-    firsts = b.firsts;
-    seconds = b.seconds;
-    newly = b.newly;
-    waiting = b.waiting;
-    gives_firsts = subst (λ (fs : List Feature). a_gives from_a fs from_a) (sym b.gives_firsts) a_none;
-    gives_seconds = b.gives_seconds;
-    are = b.are;
-    next = b.next;
-    comes = b.comes;
-    settles = b.settles;
-    each = b.each;
-    cause = elim b.cause [
-      | inl cut ↦ inl (record { cuts = cut.cuts })
-      | inr rest ↦ elim rest [
-        | inl lack ↦ inr (inl (record {
-          last = lack.last;
-          waits = lack.waits;
-          b = lack.b;
-          after = lack.after;
-          gives = lack.gives;
-          chrom = lack.chrom;
-          starts = lack.starts;
-          ends = lack.ends;
-          puts = lack.puts;
-          lacks = lack.lacks;
-        }))
-        | inr lost ↦ inr (inr (record { last = lost.last; waits = lost.waits; is = lost.is; none = lost.none; both = lost.both; ended = lost.ended; puts = lost.puts }))
-      ]
-    ];
+  abbrev lifts_so : (waiting : Option Feature) → Proceeded NoneGiven (λ u. ⊤) v_gives v_ended v_line order old tt from_v out waiting tt to_v → Proceeded a_gives a_ended v_gives v_ended v_line order old from_a from_v out waiting from_a to_v
+  lifts_so waiting p = record {
+    firsts = p.firsts;
+    seconds = p.seconds;
+    newly = p.newly;
+    gives_firsts = subst (λ (fs : List Feature). a_gives from_a fs from_a) (sym p.gives_firsts) a_none;
+    gives_seconds = p.gives_seconds;
+    are = p.are;
+    next = p.next;
+    comes = p.comes;
+    settles = p.settles;
+    each = p.each;
   }
 
   pub lifts_current : {T : Type 0} (result : Result T Fault) (new : Sweeping) → is_some old.current ≡ true → DecidesCurrent v_gives v_ended v_line order old from_v out result new to_v grown
       → AdvancesOn a_gives a_ended v_gives v_ended v_line order old from_a from_v out result new from_a to_v grown
   lifts_current (Ok t) new some d = (
-    lifts new d.0,
+    record { proceeds = lifts_so new.current d.0.proceeds; leaves = d.0.leaves; stands = d.0.stands; puts = d.0.puts },
     elim d.1 [
       | inl left ↦ inl (stops_b a_gives a_ended v_gives v_ended v_line order old from_a from_a from_v to_v out new left.0 left.1)
       | inr none ↦ inr (some, none)
     ],
   )
-  lifts_current (Err fault) new some d = lifts_fault (fault_value fault) d
+  lifts_current (Err fault) new some b = record { proceeds = lifts_so b.waiting b.proceeds; waiting = b.waiting; cause = b.cause }
 
   -- all that goes on after it is allowed too
   pub goes_on : {T : Type 0} (result : Result T Fault) (new : Sweeping) (to_a : A) → Advances a_gives a_ended v_gives v_ended v_line order old from_a from_v out result new to_a to_v grown
       → AdvancesOn a_gives a_ended v_gives v_ended v_line order old from_a from_v out result new to_a to_v grown
-  goes_on (Ok t) new to_a d = (d.0, inl d.1)
-  goes_on (Err fault) new to_a d = d
+  goes_on result new to_a d = grind arith

@@ -1,13 +1,13 @@
 -- Lemmas on what is held.
-use Rattle.std.proofs.Common.{◌≡◌, ℕ, ◌≤◌, ◌<◌, inl, inr, Bool, true, false, not, ◌&&◌, ◌||◌, cond, List, [], ◌∷◌, ◌++◌, Option, None, Some, refl, sym, ap, ◌∙◌, subst, ltb, arith, filter, bytes_eq}
+use Rattle.std.proofs.Common.{◌≡◌, ℕ, ◌≤◌, inl, inr, Bool, true, false, not, ◌&&◌, ◌||◌, cond, List, [], ◌∷◌, ◌++◌, Option, None, Some, refl, sym, ap, ◌∙◌, subst, ltb, arith, filter, bytes_eq}
 use Rattle.std.specs.Prelude.{IsTrue}
 use Rattle.std.specs.List.{list_all}
 use Rattle.std.specs.Ordering.{ordering_reverse}
-use Rattle.std.proofs.lemmas.Bool.{false≢true, ltb-true, lt-ltb, and_from, and_parts, and_right, or_parts, or_left, or_right, cases_Bool}
+use Rattle.std.proofs.lemmas.Bool.{false≢true, and_from, and_parts, or_parts, or_left, or_right, cases_Bool}
 use Rattle.std.proofs.lemmas.List.Elements.{filter-append}
 use Rattle.std.proofs.lemmas.List.Folds.{list_any-append, list_all-append}
 use Rattle.std.specs.declared.cmp.Ordering.{Ordering}
-use Rattle.std.specs.declared.cmp.Ordering.TheVariants.{Less, Equal, Greater}
+use Rattle.std.specs.declared.cmp.Ordering.TheVariants.{Less, Greater}
 use Rattle.bt_bed.specs.model.feature.Feature.{Feature, intervals_of}
 use Rattle.bt_bed.specs.model.order.Order.{Order, IsTotal}
 use Rattle.bt_bed.specs.model.input.GoodBed.{locus_at}
@@ -48,9 +48,7 @@ up_to_last order x [] y total placed = placed.1
 up_to_last order x (h ∷ hs) y total placed = up_trans order x h y total placed.0 placed.2.0 (last_known order hs y placed.2.2) placed.1 (up_to_last order h hs y total placed.2)
 
 below_not_greater : (c : Ordering) (start stop : ℕ) → not (not (is_below_at c start stop)) ≡ true → c ≡ Greater → ⊥
-below_not_greater Less start stop e f = cc
-below_not_greater Equal start stop e f = cc
-below_not_greater Greater start stop e f = false≢true e
+below_not_greater c start stop e f = grind arith
 
 -- a record on a chromosome that comes anew decides all that was given before
 left_at : (order : Order) (a b g : Feature) → IsTotal order → IsTrue (order.knows a.chrom) → IsTrue (order.knows g.chrom) → a.chrom ≡ b.chrom → (a.chrom ≡ g.chrom → ⊥) → IsUpTo order (locus_at g) (locus_at a) → not (decides order g b) ≡ true → ⊥
@@ -82,12 +80,7 @@ none_new order a gs (b ∷ taken) total placed none reached =
     skips_at a b taken (name_ne a.chrom b.chrom (λ e. leaves_none order a b gs total placed none e parts.0)) (none_new order a gs taken total placed none parts.1)
 
 narrow_at : (c : Bool) (l a : ℕ) (stop : ℕ) → l ≤ a → (c && ltb a stop) ≡ ((c && ltb l stop) && ltb a stop)
-narrow_at false l a stop h = refl
-narrow_at true l a stop h =
-    elim (cases_Bool (ltb a stop)) [
-      | inl t ↦ t ∙ sym (and_from (ltb l stop) (ltb a stop) (lt-ltb l stop (let less : a < stop = ltb-true a stop t in omega arith)) t)
-      | inr f ↦ f ∙ sym (and_right (ltb l stop) (ltb a stop) f)
-    ]
+narrow_at c l a stop h = grind arith
 
 -- on the same chromosome what is held becomes less
 same_held : (l a : Feature) (taken : List Feature) → a.chrom ≡ l.chrom → l.start ≤ a.start → filter (λ b. ltb a.start b.stop) (filter (is_held l) taken) ≡ filter (is_held a) taken
@@ -157,8 +150,7 @@ first_on l [] b more e = absurd (let apart : [] ≡ b ∷ more = e in cc)
 first_on l (x ∷ xs) b more e = first_at l x b xs more (is_held l x) refl (first_on l xs b more) e
 
 none_either : (c : Bool) → cond {A = List Feature} c [] [] ≡ []
-none_either true = refl
-none_either false = refl
+none_either c = grind arith
 
 pub held_is_behind : (order : Order) (gs taken held : List Feature) (a : Feature) → HoldsFor order gs taken held → held_with held a ≡ held_behind (last_given gs) held a
 held_is_behind order [] taken [] a holds = refl

@@ -1,5 +1,5 @@
 -- Lemmas on records of both inputs that are joined.
-use Rattle.std.proofs.Common.{◌≡◌, ◌⊎◌, ◌<◌, ◌≤◌, inl, inr, ℕ, true, false, List, [], ◌∷◌, ◌++◌, Option, Some, None, Ok, Err, Result, option_map, refl, sym, ap, ◌∙◌, subst, append-nil, append_assoc, option_to_list, bytes_eq, length, ltb}
+use Rattle.std.proofs.Common.{◌≡◌, ◌<◌, ◌≤◌, inl, inr, ℕ, true, false, List, [], ◌∷◌, ◌++◌, Option, Some, None, Ok, Err, Result, option_map, refl, sym, ap, ◌∙◌, subst, append-nil, append_assoc, option_to_list, bytes_eq, length, ltb, arith}
 use Rattle.std.specs.Prelude.{All, IfSome}
 use Rattle.std.specs.List.{list_all}
 use Rattle.std.proofs.lemmas.Bool.{and_from, and_parts, ltb-true, or_left, or_right}
@@ -16,7 +16,7 @@ use Rattle.bt_sweep.specs.model.Deciding.{decided, decides}
 use Rattle.bt_sweep.specs.calls.Held.{CanHit}
 use Rattle.bt_sweep.specs.model.IntersectLines.{intersect}
 use Rattle.bt_sweep.specs.calls.Taking.{AreDecided, CannotBeHeld, GivesKnown, LeavesLast, TakenEach, TakenFor}
-use Rattle.bt_sweep.specs.inside.Joining.{AreDecidedOn, Behind, Breaks, Cuts, CutsLines, CutsOff, EndUpTo, GoesTo, GrownWith, Joins, JoinsSo, Keeps, LacksRoom, LeavesOn, LieOn, WaitsOn, Writes, WritesSo}
+use Rattle.bt_sweep.specs.inside.Joining.{AreDecidedOn, Behind, Breaks, Cuts, CutsOff, EndUpTo, GoesTo, GrownWith, Joins, JoinsSo, Keeps, LeavesOn, LieOn, Proceeded, WaitsOn, Writes, WritesSo}
 use Rattle.bt_sweep.specs.calls.Standing.{held_for, is_held, last_given}
 use Rattle.bt_sweep.specs.inside.StateSteps.{CannotHold, has_room_in, holding}
 use Rattle.bt_sweep.specs.calls.Steps.{has_room}
@@ -135,20 +135,22 @@ module _ {A B : Type 0} (a_gives : A → List Feature → A → Type 0) (a_ended
     (b_gives : B → List Feature → B → Type 0) (b_ended : B → Type 0) (b_line : B → ℕ) (b_none : (x : B) → b_gives x [] x)
     (b_more : (old mid new : B) (xs ys : List Feature) → b_gives old xs mid → b_gives mid ys new → b_gives old (xs ++ ys) new)
     (old : Sweeping) (first : Feature) (from_a : A) (from_b : B) (pending : List ℕ) (out : Output) where
-  pub joins_first : (For : Order → Type 0) (Settles : List Feature → List Feature → Type 0) → Settles [] [] → All (CanHit first) old.held → (j : JoinsSo a_gives a_ended b_gives b_ended b_line For Settles old first from_a from_b pending out (Some first) old from_a from_b pending out) × (j.next ≡ None) × (j.seconds ≡ [])
+  pub joins_first : (For : Order → Type 0) (Settles : List Feature → List Feature → Type 0) → Settles [] [] → All (CanHit first) old.held → (j : JoinsSo a_gives a_ended b_gives b_ended b_line For Settles old first from_a from_b pending out (Some first) old from_a from_b pending out) × (j.proceeds.next ≡ None) × (j.proceeds.seconds ≡ [])
   joins_first For Settles settles hits = (
     record {
-      firsts = [];
-      seconds = [];
-      newly = [];
-      gives_firsts = a_none from_a;
-      gives_seconds = b_none from_b;
-      are = refl;
+      proceeds = record {
+        firsts = [];
+        seconds = [];
+        newly = [];
+        gives_firsts = a_none from_a;
+        gives_seconds = b_none from_b;
+        are = refl;
+        next = None;
+        comes = tt;
+        settles = settles;
+        each = λ order shape rule limit before taken total kept pg pt. tt;
+      };
       waits = (refl, hits);
-      next = None;
-      comes = tt;
-      settles = settles;
-      each = λ order shape rule limit before taken total kept pg pt. tt;
       goes = λ order shape rule limit before taken total kept pg pt. subst (λ (t : List Feature). Keeps order shape rule limit (before ++ first ∷ []) t old) (sym (append-nil taken)) kept;
       writes = λ order shape rule limit before taken total kept pg pt. with_none pending out;
     },
@@ -165,82 +167,47 @@ module _ {A B : Type 0} (a_gives : A → List Feature → A → Type 0) (a_ended
   abbrev BreaksSo : FaultValue → A → B → List ℕ → Output → Type 0
   BreaksSo = Breaks a_gives a_ended b_gives b_ended b_line IsTotal Decided old first from_a from_b pending out
 
-  -- of the same records, for another cause
-  breaks_by : (fault failed : FaultValue) (to_a : A) (to_b : B) (left rest : List ℕ) (grown now : Output) (b : BreaksSo fault to_a to_b left grown)
-      → (CutsLines a_gives a_ended b_gives b_ended b_line IsTotal Decided old first from_a from_b pending out b.firsts b.seconds b.newly b.waiting to_b failed rest now
-      ⊎ LacksRoom a_gives a_ended b_gives b_ended b_line IsTotal Decided old first from_a from_b pending out b.firsts b.seconds b.newly b.waiting to_b failed rest now) → BreaksSo failed to_a to_b rest now
-  breaks_by fault failed to_a to_b left rest grown now b cause = record {
-    firsts = b.firsts;
-    seconds = b.seconds;
-    newly = b.newly;
-    waiting = b.waiting;
-    gives_firsts = b.gives_firsts;
-    gives_seconds = b.gives_seconds;
-    are = b.are;
-    next = b.next;
-    comes = b.comes;
-    settles = b.settles;
-    each = b.each;
-    cause = cause;
-  }
-
   -- ---- the lines that are left pending are put at last
 
   module _ (to_a : A) (to_b : B) (left : List ℕ) (grown now : Output) where
     -- it had failed before
     breaks_rest : (fault : FaultValue) → BreaksSo fault to_a to_b left grown → Grown grown left now → BreaksSo fault to_a to_b [] now
-    breaks_rest fault b puts =
-        breaks_by fault fault to_a to_b left [] grown now b (elim b.cause [
-          | inl cut ↦ inl (record {
-            cuts = λ order shape rule limit before taken total kept pg pt.
-                fails_again {T = Unit {0}} grown now (pending ++ intersect shape rule b.newly (taken ++ b.seconds)) left fault out (Ok tt) (cut.cuts order shape rule limit before taken total kept pg pt) puts;
-          })
-          | inr lack ↦ inr (record {
-            last = lack.last;
-            waits = lack.waits;
-            b = lack.b;
-            after = lack.after;
-            gives = lack.gives;
-            chrom = lack.chrom;
-            starts = lack.starts;
-            ends = lack.ends;
-            writes = λ order shape rule limit before taken total kept pg pt.
-                with_rest pending (intersect shape rule b.newly (taken ++ b.seconds)) left out grown (lack.writes order shape rule limit before taken total kept pg pt) now puts;
-            lacks = lack.lacks;
-          })
-        ])
+    breaks_rest fault b puts = record {
+      proceeds = b.proceeds;
+      waiting = b.waiting;
+      cause = elim b.cause [
+        | inl cut ↦ inl (λ order shape rule limit before taken total kept pg pt.
+            fails_again {T = Unit {0}} grown now (pending ++ intersect shape rule b.proceeds.newly (taken ++ b.proceeds.seconds)) left fault out (Ok tt) (cut order shape rule limit before taken total kept pg pt) puts)
+        | inr lack ↦ inr (record {
+          shares = lack.shares;
+          writes = λ order shape rule limit before taken total kept pg pt.
+              with_rest pending (intersect shape rule b.proceeds.newly (taken ++ b.proceeds.seconds)) left out grown (lack.writes order shape rule limit before taken total kept pg pt) now puts;
+          lacks = lack.lacks;
+        })
+      ];
+    }
 
     breaks_cut : (fault : FaultValue) (failed : Fault) → BreaksSo fault to_a to_b left grown → FailsToAdd grown left (fault_value failed) now → BreaksSo (fault_value failed) to_a to_b [] now
-    breaks_cut fault failed b fails =
-        breaks_by fault (fault_value failed) to_a to_b left [] grown now b (inl (record {
-          cuts = λ order shape rule limit before taken total kept pg pt.
-              elim b.cause [
-                | inl cut ↦
-                    let here = cut.cuts order shape rule limit before taken total kept pg pt in
-                    let again = fails_again {T = Unit {0}} grown now (pending ++ intersect shape rule b.newly (taken ++ b.seconds)) left fault out (Err failed) here fails in
-                    subst (λ (f : FaultValue). FailsToAdd out (pending ++ intersect shape rule b.newly (taken ++ b.seconds)) f now) (again.puts.is ∙ sym fails.puts.is) again
-                | inr lack ↦
-                    with_rest_cut pending (intersect shape rule b.newly (taken ++ b.seconds)) left out grown (lack.writes order shape rule limit before taken total kept pg pt) (fault_value failed) now fails
-              ];
-        }))
+    breaks_cut fault failed b fails = record {
+      proceeds = b.proceeds;
+      waiting = b.waiting;
+      cause = inl (λ order shape rule limit before taken total kept pg pt.
+          elim b.cause [
+            | inl cut ↦
+                let here = cut order shape rule limit before taken total kept pg pt in
+                let again = fails_again {T = Unit {0}} grown now (pending ++ intersect shape rule b.proceeds.newly (taken ++ b.proceeds.seconds)) left fault out (Err failed) here fails in
+                subst (λ (f : FaultValue). FailsToAdd out (pending ++ intersect shape rule b.proceeds.newly (taken ++ b.proceeds.seconds)) f now) (again.puts.is ∙ sym fails.puts.is) again
+            | inr lack ↦
+                with_rest_cut pending (intersect shape rule b.proceeds.newly (taken ++ b.proceeds.seconds)) left out grown (lack.writes order shape rule limit before taken total kept pg pt) (fault_value failed) now fails
+          ]);
+    }
 
     -- it hadn't
     stops_cut : (waiting : Option Feature) (s : Sweeping) (fault : FaultValue) → So waiting s to_a to_b left grown → FailsToAdd grown left fault now → BreaksSo fault to_a to_b [] now
     stops_cut waiting s fault j fails = record {
-      firsts = j.firsts;
-      seconds = j.seconds;
-      newly = j.newly;
+      proceeds = j.proceeds;
       waiting = waiting;
-      gives_firsts = j.gives_firsts;
-      gives_seconds = j.gives_seconds;
-      are = j.are;
-      next = j.next;
-      comes = j.comes;
-      settles = j.settles;
-      each = j.each;
-      cause = inl (record {
-        cuts = λ order shape rule limit before taken total kept pg pt. with_rest_cut pending (intersect shape rule j.newly (taken ++ j.seconds)) left out grown (j.writes order shape rule limit before taken total kept pg pt) fault now fails;
-      });
+      cause = inl (λ order shape rule limit before taken total kept pg pt. with_rest_cut pending (intersect shape rule j.proceeds.newly (taken ++ j.proceeds.seconds)) left out grown (j.writes order shape rule limit before taken total kept pg pt) fault now fails);
     }
 
     module _ {R : Type 0} (feature : R → Feature) (s : Sweeping) where
@@ -250,19 +217,10 @@ module _ {A B : Type 0} (a_gives : A → List Feature → A → Type 0) (a_ended
       pub joins_rest : (result : Result (Option R) Fault) → Answers result left grown → Grown grown left now → Answers result [] now
       joins_rest (Ok waiting) (j, stops, leaves) puts = (
         record {
-          firsts = j.firsts;
-          seconds = j.seconds;
-          newly = j.newly;
-          gives_firsts = j.gives_firsts;
-          gives_seconds = j.gives_seconds;
-          are = j.are;
+          proceeds = j.proceeds;
           waits = j.waits;
-          next = j.next;
-          comes = j.comes;
-          settles = j.settles;
-          each = j.each;
           goes = j.goes;
-          writes = λ order shape rule limit before taken total kept pg pt. with_rest pending (intersect shape rule j.newly (taken ++ j.seconds)) left out grown (j.writes order shape rule limit before taken total kept pg pt) now puts;
+          writes = λ order shape rule limit before taken total kept pg pt. with_rest pending (intersect shape rule j.proceeds.newly (taken ++ j.proceeds.seconds)) left out grown (j.writes order shape rule limit before taken total kept pg pt) now puts;
         },
         stops,
         leaves,
@@ -274,37 +232,42 @@ module _ {A B : Type 0} (a_gives : A → List Feature → A → Type 0) (a_ended
       joins_cut (Err fault) failed b fails = breaks_cut (fault_value fault) failed b fails
 
   module _ (cur : Feature) (s : Sweeping) (to_a : A) (to_b : B) (left : List ℕ) (grown : Output) (j : So (Some cur) s to_a to_b left grown) (b : Feature) (after : B) (gives_b : b_gives to_b (b ∷ []) after) (on : b.chrom ≡ first.chrom) where
-    module _ (front : j.next ≡ None) where
-      settled : Decided j.newly j.seconds
-      settled = subst (λ (l : List Feature). Decided j.newly l) (ap (λ (n : Option Feature). j.seconds ++ option_to_list n) front ∙ append-nil j.seconds) j.settles
+    module _ (front : j.proceeds.next ≡ None) where
+      settled : Decided j.proceeds.newly j.proceeds.seconds
+      settled = subst (λ (l : List Feature). Decided j.proceeds.newly l) (ap (λ (n : Option Feature). j.proceeds.seconds ++ option_to_list n) front ∙ append-nil j.proceeds.seconds) j.proceeds.settles
 
-      both_settled : (newly2 : List Feature) → EndUpTo cur.chrom b.start newly2 → Decided (j.newly ++ newly2) (j.seconds ++ b ∷ [])
+      both_settled : (newly2 : List Feature) → EndUpTo cur.chrom b.start newly2 → Decided (j.proceeds.newly ++ newly2) (j.proceeds.seconds ++ b ∷ [])
       both_settled newly2 end order total known =
-          decided_both order j.newly newly2 (j.seconds ++ b ∷ []) (decided_before order j.newly j.seconds (b ∷ []) (settled order total known))
-          (ends_decided order cur.chrom b j.seconds newly2 total (subst (λ (c : List ℕ). order.knows c ≡ true) (sym j.waits.0) known) (on ∙ sym j.waits.0) end)
+          decided_both order j.proceeds.newly newly2 (j.proceeds.seconds ++ b ∷ []) (decided_before order j.proceeds.newly j.proceeds.seconds (b ∷ []) (settled order total known))
+          (ends_decided order cur.chrom b j.proceeds.seconds newly2 total (subst (λ (c : List ℕ). order.knows c ≡ true) (sym j.waits.0) known) (on ∙ sym j.waits.0) end)
 
       waits_on : (held : List Feature) (waiting : Option Feature) → WaitsOn cur.chrom held waiting → WaitsOn first.chrom held waiting
-      waits_on held None is = tt
-      waits_on held (Some a) is = (is.0 ∙ j.waits.0, is.1)
+      waits_on held waiting is = grind arith
+
+      abbrev proceeds_on : (firsts2 newly2 : List Feature) (waiting : Option Feature) (to_a2 : A) → a_gives to_a firsts2 to_a2 → cur ∷ firsts2 ≡ newly2 ++ option_to_list waiting → EndUpTo cur.chrom b.start newly2
+          → Proceeded a_gives a_ended b_gives b_ended b_line IsTotal Decided old first from_a from_b pending out waiting to_a2 to_b
+      proceeds_on firsts2 newly2 waiting to_a2 given are end = record {
+        firsts = j.proceeds.firsts ++ firsts2;
+        seconds = j.proceeds.seconds;
+        newly = j.proceeds.newly ++ newly2;
+        gives_firsts = a_more from_a to_a to_a2 j.proceeds.firsts firsts2 j.proceeds.gives_firsts given;
+        gives_seconds = j.proceeds.gives_seconds;
+        are = are_both first j.proceeds.firsts j.proceeds.newly cur firsts2 newly2 (option_to_list waiting) j.proceeds.are are;
+        next = Some b;
+        comes = (after, gives_b);
+        settles = both_settled newly2 end;
+        each = λ order shape rule limit before taken total kept pg pt. each_wider order limit (first ∷ j.proceeds.firsts) firsts2 taken j.proceeds.seconds (j.proceeds.each order shape rule limit before taken total kept (front_of order before first j.proceeds.firsts firsts2 pg) pt);
+      }
 
       -- records that it decides were written
       pub joins_write : (s2 : Sweeping) (to_a2 : A) (rest : List ℕ) (now : Output) (waiting : Option Feature) → WritesSo a_gives a_ended b.start s cur to_a left grown waiting s2 to_a2 rest now
-          → (k : So waiting s2 to_a2 to_b rest now) × (k.next ≡ Some b)
+          → (k : So waiting s2 to_a2 to_b rest now) × (k.proceeds.next ≡ Some b)
       joins_write s2 to_a2 rest now waiting w = (
         record {
-          firsts = j.firsts ++ w.firsts;
-          seconds = j.seconds;
-          newly = j.newly ++ w.newly;
-          gives_firsts = a_more from_a to_a to_a2 j.firsts w.firsts j.gives_firsts w.given;
-          gives_seconds = j.gives_seconds;
-          are = are_both first j.firsts j.newly cur w.firsts w.newly (option_to_list waiting) j.are w.are;
+          proceeds = proceeds_on w.firsts w.newly waiting to_a2 w.given w.are w.end;
           waits = waits_on s2.held waiting w.waits;
-          next = Some b;
-          comes = (after, gives_b);
-          settles = both_settled w.newly w.end;
-          each = λ order shape rule limit before taken total kept pg pt. each_wider order limit (first ∷ j.firsts) w.firsts taken j.seconds (j.each order shape rule limit before taken total kept (front_of order before first j.firsts w.firsts pg) pt);
-          goes = behind_same first j.firsts j.seconds j.newly cur j.are old s j.goes w.firsts (λ order shape rule limit as_given taken. Keeps order shape rule limit as_given taken s2) w.goes;
-          writes = writes_both first j.firsts j.seconds j.newly cur j.are old s j.goes pending left out grown j.writes w.firsts w.newly rest now w.writes;
+          goes = behind_same first j.proceeds.firsts j.proceeds.seconds j.proceeds.newly cur j.proceeds.are old s j.goes w.firsts (λ order shape rule limit as_given taken. Keeps order shape rule limit as_given taken s2) w.goes;
+          writes = writes_both first j.proceeds.firsts j.proceeds.seconds j.proceeds.newly cur j.proceeds.are old s j.goes pending left out grown j.writes w.firsts w.newly rest now w.writes;
         },
         refl,
       )
@@ -312,75 +275,68 @@ module _ {A B : Type 0} (a_gives : A → List Feature → A → Type 0) (a_ended
       -- they couldn't all be
       pub breaks_write : (to_a2 : A) (rest : List ℕ) (now : Output) (fault : FaultValue) → CutsOff a_gives a_ended b.start s cur to_a left grown fault to_a2 now → BreaksSo fault to_a2 to_b rest now
       breaks_write to_a2 rest now fault cut = record {
-        firsts = j.firsts ++ cut.firsts;
-        seconds = j.seconds;
-        newly = j.newly ++ cut.newly;
+        proceeds = proceeds_on cut.firsts cut.newly cut.waiting to_a2 cut.given cut.are cut.end;
         waiting = cut.waiting;
-        gives_firsts = a_more from_a to_a to_a2 j.firsts cut.firsts j.gives_firsts cut.given;
-        gives_seconds = j.gives_seconds;
-        are = are_both first j.firsts j.newly cur cut.firsts cut.newly (option_to_list cut.waiting) j.are cut.are;
-        next = Some b;
-        comes = (after, gives_b);
-        each = λ order shape rule limit before taken total kept pg pt. each_wider order limit (first ∷ j.firsts) cut.firsts taken j.seconds (j.each order shape rule limit before taken total kept (front_of order before first j.firsts cut.firsts pg) pt);
-        settles = both_settled cut.newly cut.end;
-        cause = inl (record { cuts = cuts_both first j.firsts j.seconds j.newly cur j.are old s j.goes pending left out grown j.writes cut.firsts cut.newly fault now cut.cuts });
+        cause = inl (cuts_both first j.proceeds.firsts j.proceeds.seconds j.proceeds.newly cur j.proceeds.are old s j.goes pending left out grown j.writes cut.firsts cut.newly fault now cut.cuts);
       }
 
-    module _ (next : j.next ≡ Some b) (before_end : b.start < cur.stop) where
-      settled_by : Decided j.newly (j.seconds ++ b ∷ [])
-      settled_by = subst (λ (l : List Feature). Decided j.newly l) (ap (λ (n : Option Feature). j.seconds ++ option_to_list n) next) j.settles
+    module _ (next : j.proceeds.next ≡ Some b) (before_end : b.start < cur.stop) where
+      settled_by : Decided j.proceeds.newly (j.proceeds.seconds ++ b ∷ [])
+      settled_by = subst (λ (l : List Feature). Decided j.proceeds.newly l) (ap (λ (n : Option Feature). j.proceeds.seconds ++ option_to_list n) next) j.proceeds.settles
 
       -- b was taken
-      pub joins_take : (new : Sweeping) → new ≡ holding s cur b → (is_held cur b ≡ true → has_room_in s ≡ true) → All (CanHit cur) new.held → (k : So (Some cur) new to_a after left grown) × (k.next ≡ None) × LeavesOn k.seconds cur
+      pub joins_take : (new : Sweeping) → new ≡ holding s cur b → (is_held cur b ≡ true → has_room_in s ≡ true) → All (CanHit cur) new.held → (k : So (Some cur) new to_a after left grown) × (k.proceeds.next ≡ None) × LeavesOn k.proceeds.seconds cur
       joins_take new is room hits = (
         record {
-          firsts = j.firsts;
-          seconds = j.seconds ++ b ∷ [];
-          newly = j.newly;
-          gives_firsts = j.gives_firsts;
-          gives_seconds = b_more from_b to_b after j.seconds (b ∷ []) j.gives_seconds gives_b;
-          are = j.are;
+          proceeds = record {
+            firsts = j.proceeds.firsts;
+            seconds = j.proceeds.seconds ++ b ∷ [];
+            newly = j.proceeds.newly;
+            gives_firsts = j.proceeds.gives_firsts;
+            gives_seconds = b_more from_b to_b after j.proceeds.seconds (b ∷ []) j.proceeds.gives_seconds gives_b;
+            are = j.proceeds.are;
+            next = None;
+            comes = tt;
+            settles = subst (λ (l : List Feature). Decided j.proceeds.newly l) (sym (append-nil (j.proceeds.seconds ++ b ∷ []))) settled_by;
+            each = λ order shape rule limit before taken total kept pg pt.
+                let both : taken ++ (j.proceeds.seconds ++ b ∷ []) ≡ (taken ++ j.proceeds.seconds) ++ b ∷ [] = sym (append_assoc taken j.proceeds.seconds (b ∷ [])) in
+                let front = front_placed order (taken ++ j.proceeds.seconds) (b ∷ []) (subst (λ (l : List Feature). ArePlaced order (intervals_of l)) both pt) in
+                let k = subst (λ (g : List Feature). Keeps order shape rule limit g (taken ++ j.proceeds.seconds) s) (split_last before first j.proceeds.firsts j.proceeds.newly cur j.proceeds.are) (j.goes order shape rule limit before taken total kept pg front) in
+                let known_first = (placed_back order before (first ∷ j.proceeds.firsts) pg).0 in
+                let undecided = undecided_beside order total cur b (subst (λ (c : List ℕ). order.knows c ≡ true) (sym j.waits.0) known_first) (on ∙ sym j.waits.0) before_end in
+                let next = keeps_taken order shape rule limit (before ++ j.proceeds.newly) cur (taken ++ j.proceeds.seconds) s k b undecided room in
+                each_push order limit (first ∷ j.proceeds.firsts) b taken j.proceeds.seconds (j.proceeds.each order shape rule limit before taken total kept pg front) (record {
+                  before = j.proceeds.newly;
+                  a = cur;
+                  after = [];
+                  parts = j.proceeds.are;
+                  settled = subst (λ (l : List Feature). AreDecided order j.proceeds.newly l) both (decided_behind order j.proceeds.newly taken (j.proceeds.seconds ++ b ∷ []) (settled_by order total known_first));
+                  undecided = undecided;
+                  within = subst (λ (l : List Feature). IfSome limit (λ most. length l ≤ most)) (keeps_held order shape rule limit (before ++ j.proceeds.newly) cur ((taken ++ j.proceeds.seconds) ++ b ∷ []) (holding s cur b) next) next.within;
+                });
+          };
           waits = (j.waits.0, hits);
-          next = None;
-          comes = tt;
-          settles = subst (λ (l : List Feature). Decided j.newly l) (sym (append-nil (j.seconds ++ b ∷ []))) settled_by;
-          each = λ order shape rule limit before taken total kept pg pt.
-              let both : taken ++ (j.seconds ++ b ∷ []) ≡ (taken ++ j.seconds) ++ b ∷ [] = sym (append_assoc taken j.seconds (b ∷ [])) in
-              let front = front_placed order (taken ++ j.seconds) (b ∷ []) (subst (λ (l : List Feature). ArePlaced order (intervals_of l)) both pt) in
-              let k = subst (λ (g : List Feature). Keeps order shape rule limit g (taken ++ j.seconds) s) (split_last before first j.firsts j.newly cur j.are) (j.goes order shape rule limit before taken total kept pg front) in
-              let known_first = (placed_back order before (first ∷ j.firsts) pg).0 in
-              let undecided = undecided_beside order total cur b (subst (λ (c : List ℕ). order.knows c ≡ true) (sym j.waits.0) known_first) (on ∙ sym j.waits.0) before_end in
-              let next = keeps_taken order shape rule limit (before ++ j.newly) cur (taken ++ j.seconds) s k b undecided room in
-              each_push order limit (first ∷ j.firsts) b taken j.seconds (j.each order shape rule limit before taken total kept pg front) (record {
-                before = j.newly;
-                a = cur;
-                after = [];
-                parts = j.are;
-                settled = subst (λ (l : List Feature). AreDecided order j.newly l) both (decided_behind order j.newly taken (j.seconds ++ b ∷ []) (settled_by order total known_first));
-                undecided = undecided;
-                within = subst (λ (l : List Feature). IfSome limit (λ most. length l ≤ most)) (keeps_held order shape rule limit (before ++ j.newly) cur ((taken ++ j.seconds) ++ b ∷ []) (holding s cur b) next) next.within;
-              });
           goes = λ order shape rule limit before taken total kept pg pt.
-              let both : taken ++ (j.seconds ++ b ∷ []) ≡ (taken ++ j.seconds) ++ b ∷ [] = sym (append_assoc taken j.seconds (b ∷ [])) in
-              let front = front_placed order (taken ++ j.seconds) (b ∷ []) (subst (λ (l : List Feature). ArePlaced order (intervals_of l)) both pt) in
-              let split = split_last before first j.firsts j.newly cur j.are in
-              let k = subst (λ (g : List Feature). Keeps order shape rule limit g (taken ++ j.seconds) s) split (j.goes order shape rule limit before taken total kept pg front) in
-              let known = subst (λ (c : List ℕ). order.knows c ≡ true) (sym j.waits.0) (placed_back order before (first ∷ j.firsts) pg).0 in
-              let next = keeps_taken order shape rule limit (before ++ j.newly) cur (taken ++ j.seconds) s k b (undecided_beside order total cur b known (on ∙ sym j.waits.0) before_end) room in
-              subst (λ (n : Sweeping). Keeps order shape rule limit (before ++ first ∷ j.firsts) (taken ++ (j.seconds ++ b ∷ [])) n) (sym is)
-              (subst (λ (g : List Feature). Keeps order shape rule limit g (taken ++ (j.seconds ++ b ∷ [])) (holding s cur b)) (sym split)
-              (subst (λ (t : List Feature). Keeps order shape rule limit ((before ++ j.newly) ++ cur ∷ []) t (holding s cur b)) (sym both) next));
+              let both : taken ++ (j.proceeds.seconds ++ b ∷ []) ≡ (taken ++ j.proceeds.seconds) ++ b ∷ [] = sym (append_assoc taken j.proceeds.seconds (b ∷ [])) in
+              let front = front_placed order (taken ++ j.proceeds.seconds) (b ∷ []) (subst (λ (l : List Feature). ArePlaced order (intervals_of l)) both pt) in
+              let split = split_last before first j.proceeds.firsts j.proceeds.newly cur j.proceeds.are in
+              let k = subst (λ (g : List Feature). Keeps order shape rule limit g (taken ++ j.proceeds.seconds) s) split (j.goes order shape rule limit before taken total kept pg front) in
+              let known = subst (λ (c : List ℕ). order.knows c ≡ true) (sym j.waits.0) (placed_back order before (first ∷ j.proceeds.firsts) pg).0 in
+              let next = keeps_taken order shape rule limit (before ++ j.proceeds.newly) cur (taken ++ j.proceeds.seconds) s k b (undecided_beside order total cur b known (on ∙ sym j.waits.0) before_end) room in
+              subst (λ (n : Sweeping). Keeps order shape rule limit (before ++ first ∷ j.proceeds.firsts) (taken ++ (j.proceeds.seconds ++ b ∷ [])) n) (sym is)
+              (subst (λ (g : List Feature). Keeps order shape rule limit g (taken ++ (j.proceeds.seconds ++ b ∷ [])) (holding s cur b)) (sym split)
+              (subst (λ (t : List Feature). Keeps order shape rule limit ((before ++ j.proceeds.newly) ++ cur ∷ []) t (holding s cur b)) (sym both) next));
           writes = λ order shape rule limit before taken total kept pg pt.
-              let both : taken ++ (j.seconds ++ b ∷ []) ≡ (taken ++ j.seconds) ++ b ∷ [] = sym (append_assoc taken j.seconds (b ∷ [])) in
+              let both : taken ++ (j.proceeds.seconds ++ b ∷ []) ≡ (taken ++ j.proceeds.seconds) ++ b ∷ [] = sym (append_assoc taken j.proceeds.seconds (b ∷ [])) in
               let pt' = subst (λ (l : List Feature). ArePlaced order (intervals_of l)) both pt in
-              let known = (placed_back order before (first ∷ j.firsts) pg).0 in
-              let all = placed_back order before j.newly (front_placed order (before ++ j.newly) (cur ∷ []) (subst (λ (l : List Feature). ArePlaced order (intervals_of l)) (split_last before first j.firsts j.newly cur j.are) pg)) in
-              let told_so = subst (λ (l : List Feature). AreDecided order j.newly l) both (decided_behind order j.newly taken (j.seconds ++ b ∷ []) (settled_by order total known)) in
-              let same = ap (intersect shape rule j.newly) both ∙ lines_stay_so order total shape rule (taken ++ j.seconds) b [] pt' j.newly all told_so in
-              subst (λ (l : List ℕ). GrownWith pending out l left grown) (sym same) (j.writes order shape rule limit before taken total kept pg (front_placed order (taken ++ j.seconds) (b ∷ []) pt'));
+              let known = (placed_back order before (first ∷ j.proceeds.firsts) pg).0 in
+              let all = placed_back order before j.proceeds.newly (front_placed order (before ++ j.proceeds.newly) (cur ∷ []) (subst (λ (l : List Feature). ArePlaced order (intervals_of l)) (split_last before first j.proceeds.firsts j.proceeds.newly cur j.proceeds.are) pg)) in
+              let told_so = subst (λ (l : List Feature). AreDecided order j.proceeds.newly l) both (decided_behind order j.proceeds.newly taken (j.proceeds.seconds ++ b ∷ []) (settled_by order total known)) in
+              let same = ap (intersect shape rule j.proceeds.newly) both ∙ lines_stay_so order total shape rule (taken ++ j.proceeds.seconds) b [] pt' j.proceeds.newly all told_so in
+              subst (λ (l : List ℕ). GrownWith pending out l left grown) (sym same) (j.writes order shape rule limit before taken total kept pg (front_placed order (taken ++ j.proceeds.seconds) (b ∷ []) pt'));
         },
         refl,
-        leaves_push j.seconds b cur (on ∙ sym j.waits.0) before_end,
+        leaves_push j.proceeds.seconds b cur (on ∙ sym j.waits.0) before_end,
       )
 
       room_is : (order : Order) (shape : Shape) (rule : HitRule) (limit : Option ℕ) (gs taken : List Feature) → Keeps order shape rule limit (gs ++ cur ∷ []) taken s → has_room limit (length (held_for (Some cur) taken)) ≡ has_room_in s
@@ -388,35 +344,27 @@ module _ {A B : Type 0} (a_gives : A → List Feature → A → Type 0) (a_ended
           ap (λ (l : List Feature). has_room limit (length l)) (sym (keeps_held order shape rule limit gs cur taken s k)) ∙ ap (λ (l : Option ℕ). has_room l (length s.held)) (sym k.limit_is)
 
       cannot : (fault : Fault) (line : ℕ) (limit : Option ℕ) (taken : List Feature) → has_room limit (length (held_for (Some cur) taken)) ≡ has_room_in s → CannotHold s line fault → CannotBeHeld limit cur taken line (fault_value fault)
-      cannot fault line limit taken room (inl full) = inl (room ∙ full.0, full.1)
-      cannot fault line limit taken room (inr lacks) = inr (room ∙ lacks.0, lacks.1)
+      cannot fault line limit taken room x5 = grind arith
 
       -- b has to be held, and can't be
       pub breaks_take : (fault : Fault) → is_held cur b ≡ true → CannotHold s (b_line after) fault → BreaksSo (fault_value fault) to_a to_b left grown
       breaks_take fault held lacks = record {
-        firsts = j.firsts;
-        seconds = j.seconds;
-        newly = j.newly;
+        proceeds = j.proceeds;
         waiting = Some cur;
-        gives_firsts = j.gives_firsts;
-        gives_seconds = j.gives_seconds;
-        are = j.are;
-        next = j.next;
-        comes = j.comes;
-        settles = j.settles;
-        each = j.each;
         cause = inr (record {
-          last = cur;
-          waits = refl;
-          b = b;
-          after = after;
-          gives = gives_b;
-          chrom = on ∙ sym j.waits.0;
-          starts = before_end;
-          ends = ltb-true cur.start b.stop (and_parts (bytes_eq cur.chrom b.chrom) (ltb cur.start b.stop) held).1;
+          shares = record {
+            last = cur;
+            waits = refl;
+            b = b;
+            after = after;
+            gives = gives_b;
+            chrom = on ∙ sym j.waits.0;
+            starts = before_end;
+            ends = ltb-true cur.start b.stop (and_parts (bytes_eq cur.chrom b.chrom) (ltb cur.start b.stop) held).1;
+          };
           writes = j.writes;
           lacks = λ order shape rule limit before taken total kept pg pt.
-              let k = subst (λ (g : List Feature). Keeps order shape rule limit g (taken ++ j.seconds) s) (split_last before first j.firsts j.newly cur j.are) (j.goes order shape rule limit before taken total kept pg pt) in
-              cannot fault (b_line after) limit (taken ++ j.seconds) (room_is order shape rule limit (before ++ j.newly) (taken ++ j.seconds) k) lacks;
+              let k = subst (λ (g : List Feature). Keeps order shape rule limit g (taken ++ j.proceeds.seconds) s) (split_last before first j.proceeds.firsts j.proceeds.newly cur j.proceeds.are) (j.goes order shape rule limit before taken total kept pg pt) in
+              cannot fault (b_line after) limit (taken ++ j.proceeds.seconds) (room_is order shape rule limit (before ++ j.proceeds.newly) (taken ++ j.proceeds.seconds) k) lacks;
         });
       }

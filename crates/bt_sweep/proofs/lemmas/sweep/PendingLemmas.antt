@@ -87,15 +87,13 @@ module _ (pending xs left : List ℕ) (out mid : Output) (first : GrownWith pend
 
 -- an output that failed stays as it is, whatever is put then
 pub fails_again : {T : Type 0} (mid now : Output) (lines left : List ℕ) (fault : FaultValue) (out : Output) (r : Result T Fault) → FailsToAdd out lines fault mid → Adds mid left r now → FailsToAdd out lines fault now
-fails_again mid now lines left fault out (Ok t) fails adds = subst (λ (o : Output). FailsToAdd out lines fault o) (sym (adds.again fails.puts.failed)) fails
-fails_again mid now lines left fault out (Err f) fails adds = subst (λ (o : Output). FailsToAdd out lines fault o) (sym (adds.puts.again fails.puts.failed)) fails
+fails_again mid now lines left fault out r fails adds = grind arith
 
 -- ---- lines and then those of a record
 
 module _ {T : Type 0} (out half : Output) (xs : List ℕ) (r : Result T Fault) (adds : Adds out xs r half) where
   could_put : (r : Result T Fault) → is_ok r ≡ true → Adds out xs r half → Grown out xs half
-  could_put (Ok t) e adds = adds
-  could_put (Err f) e adds = absurd (false≢true e)
+  could_put r e adds = grind arith
 
   not_put : (ys : List ℕ) (r : Result T Fault) → is_ok r ≡ false → Adds out xs r half → FailsToAdd out (xs ++ ys) write_failed half
   not_put ys (Ok t) e adds = absurd (false≢true (sym e))
@@ -112,8 +110,7 @@ module _ {T : Type 0} (out half : Output) (xs : List ℕ) (r : Result T Fault) (
   puts_then ys now p b could is second = subst (λ (c : Bool). PutsOr c out (xs ++ ys) now) (sym is) (puts_second ys now p (could_put r could adds) second)
 
 pub same_if_put : {T : Type 0} {P : Type 0} (r : Result T Fault) → is_ok r ≡ true → OnOk r P → P
-same_if_put (Ok t) e h = h
-same_if_put (Err f) e h = absurd (false≢true e)
+same_if_put r e h = grind arith
 
 -- ---- a record whose lines are put or left pending
 

@@ -19,7 +19,7 @@ use Rattle.bt_sweep.specs.model.Deciding.{decided, decides}
 use Rattle.bt_sweep.specs.calls.Held.{CanHit}
 use Rattle.bt_sweep.specs.model.IntersectLines.{intersect}
 use Rattle.bt_sweep.specs.calls.Taking.{AreDecided, CannotBeHeld, ComesNext, LeavesLast, TakenEach}
-use Rattle.bt_sweep.specs.inside.Joining.{AreDecidedOn, Behind, BehindFor, GoesToFor, GrownWith, StopsAt, EndUpTo, Joins, Keeps, LeavesOn, LieOn, WaitsOn, SkipsAll, WritesUpTo}
+use Rattle.bt_sweep.specs.inside.Joining.{AreDecidedOn, Behind, BehindFor, GrownWith, StopsAt, EndUpTo, Joins, Keeps, LeavesOn, LieOn, Proceeded, WaitsOn, SkipsAll, WritesUpTo}
 use Rattle.bt_sweep.specs.inside.Relating.{Compares, EndsWhile, Relates}
 use Rattle.bt_sweep.specs.calls.Standing.{HoldsFor, is_held}
 use Rattle.bt_sweep.specs.calls.SweepState.{Sweeping}
@@ -88,24 +88,11 @@ module _ {A B R : Type 0} (a_gives : A → List Feature → A → Type 0) (a_end
   pub decides_none : b_ended from_b × (old.phase ≡ First → ⊥) → Decides (Ok (Some r)) old from_a from_b out
   decides_none ended =
       let j = joins_first a_gives a_ended a_none a_more b_gives (EndsWhile b_ended old.phase) b_line b_none b_more old first from_a from_b [] out (IsThis order) (Settles order old.phase) (inr refl) hits in
-      (j.0, ended, leaves_none order j.0.seconds first j.2)
+      (j.0, ended, leaves_none order j.0.proceeds.seconds first j.2)
 
-  keeps_one : (name : List ℕ) (b : Feature) (other : Order) (shape : Shape) (rule : HitRule) (limit : Option ℕ) (before taken : List Feature) → IsThis order other → order.compare name first.chrom ≡ Less → b.chrom ≡ name
-      → Keeps other shape rule limit (before ++ first ∷ []) taken old → Keeps other shape rule limit (before ++ first ∷ []) (taken ++ b ∷ []) old
-  keeps_one name b other shape rule limit before taken this compared on kept =
-      subst (λ (o : Order). Keeps o shape rule limit (before ++ first ∷ []) (taken ++ b ∷ []) old) (sym this)
-      (let k = subst (λ (o : Order). Keeps o shape rule limit (before ++ first ∷ []) taken old) this kept in
-      let all : Keeps order shape rule limit (before ++ first ∷ []) (taken ++ b ∷ []) old = record {
-        shape_is = k.shape_is;
-        rule_is = k.rule_is;
-        limit_is = k.limit_is;
-        holds = holds_before order total first known name compared before taken old.held (b ∷ []) (on, tt) k.holds;
-        within = k.within;
-      } in
-      all)
-
-  keeps_before : (name : List ℕ) (seconds : List Feature) → order.compare name first.chrom ≡ Less → LieOn name seconds → GoesToFor (IsThis order) first [] seconds old old
-  keeps_before name seconds compared on other shape rule limit before taken this kept pg pt =
+  keeps_all : (name : List ℕ) (seconds : List Feature) (other : Order) (shape : Shape) (rule : HitRule) (limit : Option ℕ) (before taken : List Feature) → IsThis order other → order.compare name first.chrom ≡ Less → LieOn name seconds
+      → Keeps other shape rule limit (before ++ first ∷ []) taken old → Keeps other shape rule limit (before ++ first ∷ []) (taken ++ seconds) old
+  keeps_all name seconds other shape rule limit before taken this compared on kept =
       subst (λ (o : Order). Keeps o shape rule limit (before ++ first ∷ []) (taken ++ seconds) old) (sym this)
       (let k = subst (λ (o : Order). Keeps o shape rule limit (before ++ first ∷ []) taken old) this kept in
       let all : Keeps order shape rule limit (before ++ first ∷ []) (taken ++ seconds) old = record {
@@ -122,7 +109,7 @@ module _ {A B R : Type 0} (a_gives : A → List Feature → A → Type 0) (a_end
       → Keeps other shape rule limit (before ++ first ∷ []) taken old → TakenEach other limit (first ∷ []) taken seconds
   each_before name [] other shape rule limit before taken this compared on kept = tt
   each_before name (b ∷ seconds) other shape rule limit before taken this compared on kept =
-      let next = keeps_one name b other shape rule limit before taken this compared on.0 kept in (
+      let next = keeps_all name (b ∷ []) other shape rule limit before taken this compared (on.0, tt) kept in (
         record {
           before = [];
           a = first;
@@ -139,18 +126,20 @@ module _ {A B R : Type 0} (a_gives : A → List Feature → A → Type 0) (a_end
   pub decides_before : (name : List ℕ) (to_b : B) → Lies name Less → SkipsAll b_gives b_ended name from_b to_b → Decides (Ok (Some r)) old from_a to_b out
   decides_before name to_b lies skip = (
     record {
-      firsts = [];
-      seconds = skip.seconds;
-      newly = [];
-      gives_firsts = a_none from_a;
-      gives_seconds = skip.given;
-      are = refl;
+      proceeds = record {
+        firsts = [];
+        seconds = skip.seconds;
+        newly = [];
+        gives_firsts = a_none from_a;
+        gives_seconds = skip.given;
+        are = refl;
+        next = None;
+        comes = tt;
+        settles = inr refl;
+        each = λ other shape rule limit before taken this kept pg pt. each_before name skip.seconds other shape rule limit before taken this lies.compared skip.on kept;
+      };
       waits = (refl, hits);
-      next = None;
-      comes = tt;
-      settles = inr refl;
-      each = λ other shape rule limit before taken this kept pg pt. each_before name skip.seconds other shape rule limit before taken this lies.compared skip.on kept;
-      goes = keeps_before name skip.seconds lies.compared skip.on;
+      goes = λ other shape rule limit before taken this kept pg pt. keeps_all name skip.seconds other shape rule limit before taken this lies.compared skip.on kept;
       writes = λ other shape rule limit before taken this kept pg pt. with_none [] out;
     },
     (skip.ended, lies.going),
@@ -166,61 +155,47 @@ module _ {A B R : Type 0} (a_gives : A → List Feature → A → Type 0) (a_end
   stops_beside : (waiting : Option R) (to_a : A) (to_b : B) → (old.phase ≡ First → ⊥)
       → StopsAt a_gives a_ended b_gives b_ended b_line IsTotal (AreDecidedOn first.chrom) old first from_a from_b [] out (option_map feature waiting) to_a to_b
       → StopsAt a_gives a_ended b_gives (EndsWhile b_ended old.phase) b_line (IsThis order) (Settles order old.phase) old first from_a from_b [] out (option_map feature waiting) to_a to_b
-  stops_beside None to_a to_b going ended = ended
-  stops_beside (Some a) to_a to_b going ended = (ended, going)
+  stops_beside waiting to_a to_b going ended = grind arith
 
   leaves_beside : (waiting : Option R) (held seconds : List Feature) → WaitsOn first.chrom held (option_map feature waiting) → IfSome (option_map feature waiting) (LeavesOn seconds) → IfSome (option_map feature waiting) (LeavesLast order seconds)
-  leaves_beside None held seconds waits leaves = tt
-  leaves_beside (Some a) held seconds waits leaves = leaves order total (subst (λ (c : List ℕ). order.knows c ≡ true) (sym waits.0) known)
+  leaves_beside waiting held seconds waits leaves = grind arith
+
+  abbrev proceeds_beside : (waiting : Option Feature) (to_a : A) (to_b : B) → Proceeded a_gives a_ended b_gives b_ended b_line IsTotal (AreDecidedOn first.chrom) old first from_a from_b [] out waiting to_a to_b
+      → Proceeded a_gives a_ended b_gives (EndsWhile b_ended old.phase) b_line (IsThis order) (Settles order old.phase) old first from_a from_b [] out waiting to_a to_b
+  proceeds_beside waiting to_a to_b p = record {
+    firsts = p.firsts;
+    seconds = p.seconds;
+    newly = p.newly;
+    gives_firsts = p.gives_firsts;
+    gives_seconds = p.gives_seconds;
+    are = p.are;
+    next = p.next;
+    comes = p.comes;
+    settles = inr (p.settles order total known);
+    each = λ other shape rule limit before taken this kept pg pt. p.each other shape rule limit before taken (subst IsTotal (sym this) total) kept pg pt;
+  }
 
   -- they lie beside
   pub decides_beside : (result : Result (Option R) Fault) (new : Sweeping) (to_a : A) (to_b : B) (grown : Output) → (old.phase ≡ First → ⊥) → JoinsBeside result new to_a to_b grown → Decides result new to_a to_b grown
   decides_beside (Ok waiting) new to_a to_b grown going (j, stops, leaves) = (
     record {
-      firsts = j.firsts;
-      seconds = j.seconds;
-      newly = j.newly;
-      gives_firsts = j.gives_firsts;
-      gives_seconds = j.gives_seconds;
-      are = j.are;
+      proceeds = proceeds_beside (option_map feature waiting) to_a to_b j.proceeds;
       waits = j.waits;
-      next = j.next;
-      comes = j.comes;
-      settles = inr (j.settles order total known);
-      each = λ other shape rule limit before taken this kept pg pt. j.each other shape rule limit before taken (subst IsTotal (sym this) total) kept pg pt;
-      goes = to_this j.firsts j.seconds (λ order shape rule limit as_given taken. Keeps order shape rule limit as_given taken new) j.goes;
-      writes = to_this j.firsts j.seconds (λ order shape rule limit as_given taken. GrownWith [] out (intersect shape rule j.newly taken) [] grown) j.writes;
+      goes = to_this j.proceeds.firsts j.proceeds.seconds (λ order shape rule limit as_given taken. Keeps order shape rule limit as_given taken new) j.goes;
+      writes = to_this j.proceeds.firsts j.proceeds.seconds (λ order shape rule limit as_given taken. GrownWith [] out (intersect shape rule j.proceeds.newly taken) [] grown) j.writes;
     },
     stops_beside waiting to_a to_b going stops,
-    leaves_beside waiting new.held j.seconds j.waits leaves,
+    leaves_beside waiting new.held j.proceeds.seconds j.waits leaves,
   )
   decides_beside (Err fault) new to_a to_b grown going b = record {
-    firsts = b.firsts;
-    seconds = b.seconds;
-    newly = b.newly;
+    proceeds = proceeds_beside b.waiting to_a to_b b.proceeds;
     waiting = b.waiting;
-    gives_firsts = b.gives_firsts;
-    gives_seconds = b.gives_seconds;
-    are = b.are;
-    next = b.next;
-    comes = b.comes;
-    settles = inr (b.settles order total known);
-    each = λ other shape rule limit before taken this kept pg pt. b.each other shape rule limit before taken (subst IsTotal (sym this) total) kept pg pt;
     cause = elim b.cause [
-      | inl cut ↦ inl (record {
-        cuts = to_this b.firsts b.seconds (λ order shape rule limit as_given taken. FailsToAdd out ([] ++ intersect shape rule b.newly taken) (fault_value fault) grown) cut.cuts;
-      })
+      | inl cut ↦ inl (to_this b.proceeds.firsts b.proceeds.seconds (λ order shape rule limit as_given taken. FailsToAdd out ([] ++ intersect shape rule b.proceeds.newly taken) (fault_value fault) grown) cut)
       | inr lack ↦ inr (record {
-        last = lack.last;
-        waits = lack.waits;
-        b = lack.b;
-        after = lack.after;
-        gives = lack.gives;
-        chrom = lack.chrom;
-        starts = lack.starts;
-        ends = lack.ends;
-        writes = to_this b.firsts b.seconds (λ order shape rule limit as_given taken. GrownWith [] out (intersect shape rule b.newly taken) [] grown) lack.writes;
-        lacks = to_this b.firsts b.seconds (λ order shape rule limit as_given taken. CannotBeHeld limit lack.last taken (b_line lack.after) (fault_value fault)) lack.lacks;
+        shares = lack.shares;
+        writes = to_this b.proceeds.firsts b.proceeds.seconds (λ order shape rule limit as_given taken. GrownWith [] out (intersect shape rule b.proceeds.newly taken) [] grown) lack.writes;
+        lacks = to_this b.proceeds.firsts b.proceeds.seconds (λ order shape rule limit as_given taken. CannotBeHeld limit lack.shares.last taken (b_line lack.shares.after) (fault_value fault)) lack.lacks;
       })
     ];
   }
@@ -234,13 +209,27 @@ module _ {A B R : Type 0} (a_gives : A → List Feature → A → Type 0) (a_end
   next_of name (inr lies) = Some lies.b
 
   comes_of : (name : List ℕ) (behind : IsBehind name) → ComesNext b_gives from_b (next_of name behind)
-  comes_of name (inl ended) = tt
-  comes_of name (inr lies) = (lies.after, lies.gives_b)
+  comes_of name behind = grind arith
 
   settles_of : (name : List ℕ) (behind : IsBehind name) (newly : List Feature) → EndUpTo first.chrom max_number newly → Settles order old.phase newly ([] ++ option_to_list (next_of name behind))
   settles_of name (inl ended) newly end = inl ended
   settles_of name (inr lies) newly end =
       inr (after_decided order lies.b first.chrom newly max_number total known (ap (λ (c : List ℕ). order.compare c first.chrom) lies.on ∙ lies.compares.compared) end)
+
+  abbrev proceeds_after : (name : List ℕ) (firsts newly : List Feature) (waiting : Option Feature) (to_a : A) → IsBehind name → a_gives from_a firsts to_a → first ∷ firsts ≡ newly ++ option_to_list waiting → EndUpTo first.chrom max_number newly
+      → Proceeded a_gives a_ended b_gives (EndsWhile b_ended old.phase) b_line (IsThis order) (Settles order old.phase) old first from_a from_b [] out waiting to_a from_b
+  proceeds_after name firsts newly waiting to_a behind given are end = record {
+    firsts = firsts;
+    seconds = [];
+    newly = newly;
+    gives_firsts = given;
+    gives_seconds = b_none from_b;
+    are = are;
+    next = next_of name behind;
+    comes = comes_of name behind;
+    settles = settles_of name behind newly end;
+    each = λ other shape rule limit before taken this kept pg pt. tt;
+  }
 
   -- each is written
   pub decides_after : (name : List ℕ) (result : Result (Option R) Fault) (new : Sweeping) (to_a : A) (grown : Output) → IsBehind name → WritesUpTo a_gives a_ended feature max_number old first from_a [] out result new to_a [] grown
@@ -248,17 +237,8 @@ module _ {A B R : Type 0} (a_gives : A → List Feature → A → Type 0) (a_end
   decides_after name (Ok (Some a)) new to_a grown behind w = absurd (omega (arith, w.1.0, w.1.1))
   decides_after name (Ok None) new to_a grown behind (w, ended) = (
     record {
-      firsts = w.firsts;
-      seconds = [];
-      newly = w.newly;
-      gives_firsts = w.given;
-      gives_seconds = b_none from_b;
-      are = w.are;
+      proceeds = proceeds_after name w.firsts w.newly None to_a behind w.given w.are w.end;
       waits = tt;
-      next = next_of name behind;
-      comes = comes_of name behind;
-      settles = settles_of name behind w.newly w.end;
-      each = λ other shape rule limit before taken this kept pg pt. tt;
       goes = to_this w.firsts [] (λ order shape rule limit as_given taken. Keeps order shape rule limit as_given taken new) w.goes;
       writes = to_this w.firsts [] (λ order shape rule limit as_given taken. GrownWith [] out (intersect shape rule w.newly taken) [] grown) w.writes;
     },
@@ -266,16 +246,7 @@ module _ {A B R : Type 0} (a_gives : A → List Feature → A → Type 0) (a_end
     tt,
   )
   decides_after name (Err fault) new to_a grown behind cut = record {
-    firsts = cut.firsts;
-    seconds = [];
-    newly = cut.newly;
+    proceeds = proceeds_after name cut.firsts cut.newly cut.waiting to_a behind cut.given cut.are cut.end;
     waiting = cut.waiting;
-    gives_firsts = cut.given;
-    gives_seconds = b_none from_b;
-    are = cut.are;
-    next = next_of name behind;
-    comes = comes_of name behind;
-    each = λ other shape rule limit before taken this kept pg pt. tt;
-    settles = settles_of name behind cut.newly cut.end;
-    cause = inl (record { cuts = to_this cut.firsts [] (λ order shape rule limit as_given taken. FailsToAdd out ([] ++ intersect shape rule cut.newly taken) (fault_value fault) grown) cut.cuts });
+    cause = inl (to_this cut.firsts [] (λ order shape rule limit as_given taken. FailsToAdd out ([] ++ intersect shape rule cut.newly taken) (fault_value fault) grown) cut.cuts);
   }

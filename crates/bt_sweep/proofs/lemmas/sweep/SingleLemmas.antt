@@ -1,5 +1,5 @@
 -- Lemmas on calls with one record: they are calls with cursors over one record, or over none.
-use Rattle.std.proofs.Common.{◌≡◌, ◌⊎◌, inl, inr, ℕ, Bool, true, false, cond, ◌&&◌, ◌||◌, List, [], ◌∷◌, ◌++◌, Option, Some, None, Ok, Err, Result, refl, sym, ap, ◌∙◌, subst, append-nil, length, option_to_list, bytes_eq, ltb, ◌<◌, ◌≤◌}
+use Rattle.std.proofs.Common.{◌≡◌, ◌⊎◌, inl, inr, ℕ, Bool, true, false, cond, ◌&&◌, ◌||◌, List, [], ◌∷◌, ◌++◌, Option, Some, None, Ok, Err, Result, refl, sym, ap, ◌∙◌, subst, append-nil, length, option_to_list, bytes_eq, ltb, ◌<◌, ◌≤◌, arith}
 use Rattle.std.specs.Prelude.{OnErr, IfSome, is_some}
 use Rattle.std.proofs.lemmas.Bool.{and_from, false≢true, lt-ltb}
 use Rattle.bt_lines.specs.model.Fault.{FaultValue}
@@ -72,8 +72,7 @@ same_some a b e = cc
 
 -- none comes of a cursor that is empty
 none_next : (to : Single) → single_left to ≡ [] → (next : Option Feature) → ComesNext GivesSingle to next → next ≡ None
-none_next to empty None comes = refl
-none_next to empty (Some b) comes = absurd (let apart : [] ≡ b ∷ single_left comes.0 = sym empty ∙ comes.1.left in cc)
+none_next to empty x2 comes = grind arith
 
 -- and only its record of one that isn't
 next_is : (to : Single) (b : Feature) → single_left to ≡ b ∷ [] → (r : Feature) (after : Single) → GivesSingle to (r ∷ []) after → b ≡ r
@@ -85,8 +84,7 @@ undecided_by_none : (order : Order) (a : Feature) → AreDecided order (a ∷ []
 undecided_by_none order a e = false≢true e
 
 one_true : (d : Bool) → ((d || false) && true) ≡ true → d ≡ true
-one_true true e = refl
-one_true false e = e
+one_true d e = grind arith
 
 decides_one : (order : Order) (a b : Feature) → AreDecided order (a ∷ []) (b ∷ []) → decides order a b ≡ true
 decides_one order a b e = one_true (decides order a b) e
@@ -94,28 +92,19 @@ decides_one order a b e = one_true (decides order a b) e
 -- ---- by the stage that a sweep is at
 
 over_or_not : (a b : Bool) (phase : Phase) → phase ≡ phase_of a b → (phase ≡ Over → ⊥) → a ≡ false
-over_or_not true b phase e going = absurd (going e)
-over_or_not false b phase e going = refl
+over_or_not a b phase e going = grind arith
 
 ended_by : (a b : Bool) (phase : Phase) → phase ≡ phase_of a b → a ≡ false → phase ≡ First → b ≡ true
-ended_by a true phase e going first = refl
-ended_by true false phase e going first = absurd (false≢true (sym going))
-ended_by false false phase e going first = absurd (let apart : Both ≡ First = sym e ∙ first in cc)
+ended_by a b phase e going first = grind arith
 
 goes_by : (a b : Bool) (phase : Phase) → phase ≡ phase_of a b → a ≡ false → phase ≡ Both → b ≡ false
-goes_by a false phase e going both = refl
-goes_by true true phase e going both = absurd (false≢true (sym going))
-goes_by false true phase e going both = absurd (let apart : First ≡ Both = sym e ∙ both in cc)
+goes_by a b phase e going both = grind arith
 
 not_over_by : (a b : Bool) (phase : Phase) → phase ≡ phase_of a b → a ≡ false → phase ≡ Over → ⊥
-not_over_by true b phase e going over = false≢true (sym going)
-not_over_by false true phase e going over = let apart : First ≡ Over = sym e ∙ over in cc
-not_over_by false false phase e going over = let apart : Both ≡ Over = sym e ∙ over in cc
+not_over_by a b phase e going over = grind arith
 
 not_first_by : (a b : Bool) (phase : Phase) → phase ≡ phase_of a b → b ≡ false → phase ≡ First → ⊥
-not_first_by true b phase e none first = let apart : Over ≡ First = sym e ∙ first in cc
-not_first_by false true phase e none first = false≢true (sym none)
-not_first_by false false phase e none first = let apart : Both ≡ First = sym e ∙ first in cc
+not_first_by a b phase e none first = grind arith
 
 -- the lines of one record
 module _ (shape : Shape) (rule : HitRule) (a : Feature) where
@@ -165,8 +154,7 @@ module _ (order : Order) (stage : Stage) (old : Sweeping) (st : StandsAt order s
     given_at false = refl
 
     taken_at : (b : Bool) → (at b).taken ≡ stage.taken
-    taken_at true = refl
-    taken_at false = refl
+    taken_at b = grind arith
 
     placed : ArePlaced order (intervals_of (stage.written ++ a ∷ []))
     placed = subst (λ (l : List Feature). ArePlaced order (intervals_of l)) (given_at stage.b_ended) ordered.first
@@ -211,29 +199,29 @@ module _ (order : Order) (stage : Stage) (old : Sweeping) (st : StandsAt order s
 
     module _ (new : Sweeping) (to_a to_b : Single) (grown : Output) where
       module _ (d : Done new to_a to_b grown) where
-        no_seconds : d.seconds ≡ []
-        no_seconds = (seconds_none to_b d.seconds d.gives_seconds).0
+        no_seconds : d.proceeds.seconds ≡ []
+        no_seconds = (seconds_none to_b d.proceeds.seconds d.proceeds.gives_seconds).0
 
-        stands_now : MovesTo order old (stage_after stage d.newly new.current d.seconds) new
-        stands_now = d.stands stage st (given_placed d.firsts (either to_a d.firsts d.gives_firsts)) (taken_placed d.seconds no_seconds)
+        stands_now : MovesTo order old (stage_after stage d.proceeds.newly new.current d.proceeds.seconds) new
+        stands_now = d.stands stage st (given_placed d.proceeds.firsts (either to_a d.proceeds.firsts d.proceeds.gives_firsts)) (taken_placed d.proceeds.seconds no_seconds)
 
-        puts_now : Grown out (intersect old.shape old.rule d.newly (stage.taken ++ d.seconds)) grown
-        puts_now = d.puts stage st (given_placed d.firsts (either to_a d.firsts d.gives_firsts)) (taken_placed d.seconds no_seconds)
+        puts_now : Grown out (intersect old.shape old.rule d.proceeds.newly (stage.taken ++ d.proceeds.seconds)) grown
+        puts_now = d.puts stage st (given_placed d.proceeds.firsts (either to_a d.proceeds.firsts d.proceeds.gives_firsts)) (taken_placed d.proceeds.seconds no_seconds)
 
-        all_are : d.firsts ≡ d.newly ++ option_to_list new.current
-        all_are = ap (λ (o : Option Feature). option_to_list o ++ d.firsts) (sym none) ∙ d.are
+        all_are : d.proceeds.firsts ≡ d.proceeds.newly ++ option_to_list new.current
+        all_are = ap (λ (o : Option Feature). option_to_list o ++ d.proceeds.firsts) (sym none) ∙ d.proceeds.are
 
-        same_taken : stage.taken ++ d.seconds ≡ stage.taken
+        same_taken : stage.taken ++ d.proceeds.seconds ≡ stage.taken
         same_taken = ap (λ (l : List Feature). stage.taken ++ l) no_seconds ∙ append-nil stage.taken
 
         -- it was given
-        was_given : Stops new to_a to_b ⊎ Writes new → d.firsts ≡ a ∷ []
-        was_given stops = elim (firsts_are to_a d.firsts d.gives_firsts) [
+        was_given : Stops new to_a to_b ⊎ Writes new → d.proceeds.firsts ≡ a ∷ []
+        was_given stops = elim (firsts_are to_a d.proceeds.firsts d.proceeds.gives_firsts) [
           | inr came ↦ came.0
           | inl kept ↦ absurd (elim stops [
             | inr wrote ↦ false≢true (ap is_some (sym none) ∙ wrote.0)
             | inl stop ↦
-                let gone = none_of d.newly new.current (sym kept.0 ∙ all_are) in
+                let gone = none_of d.proceeds.newly new.current (sym kept.0 ∙ all_are) in
                 let wants_a = want_a new gone.1 (not_over_by stage.a_ended stage.b_ended new.phase stands_now.stands.phase_is goes) in
                 let spent : HasNone to_a = stops_for new to_a to_b WantA wants_a stop in
                 let apart : [] ≡ a ∷ [] = sym spent.none ∙ kept.1 in cc
@@ -243,73 +231,73 @@ module _ (order : Order) (stage : Stage) (old : Sweeping) (st : StandsAt order s
         abbrev Given : Type 0
         Given = MovesTo order old (with_a stage a) new × Grown out (cond stage.b_ended (lines_for old.shape old.rule a stage.taken) []) grown
 
-        gives_written : d.newly ≡ a ∷ [] → new.current ≡ None → Given
+        gives_written : d.proceeds.newly ≡ a ∷ [] → new.current ≡ None → Given
         gives_written n w =
-            let e = ended (first_by to_b d.newly d.seconds d.next n d.gives_seconds d.comes d.settles) in
-            let is : stage_after stage d.newly new.current d.seconds ≡ with_a stage a =
-            ap (λ (l : List Feature). stage_after stage l new.current d.seconds) n ∙ ap (λ (o : Option Feature). stage_after stage (a ∷ []) o d.seconds) (w ∙ sym not_waiting)
+            let e = ended (first_by to_b d.proceeds.newly d.proceeds.seconds d.proceeds.next n d.proceeds.gives_seconds d.proceeds.comes d.proceeds.settles) in
+            let is : stage_after stage d.proceeds.newly new.current d.proceeds.seconds ≡ with_a stage a =
+            ap (λ (l : List Feature). stage_after stage l new.current d.proceeds.seconds) n ∙ ap (λ (o : Option Feature). stage_after stage (a ∷ []) o d.proceeds.seconds) (w ∙ sym not_waiting)
             ∙ ap (λ (l : List Feature). record stage { written = stage.written ++ a ∷ []; taken = l }) same_taken ∙ ap at (sym e) in (
               subst (λ (s : Stage). MovesTo order old s new) is stands_now,
-              subst (λ (l : List ℕ). Grown out l grown) (one_line old.shape old.rule a d.newly stage.taken (stage.taken ++ d.seconds) n same_taken ∙ ap (λ (c : Bool). cond c (lines_for old.shape old.rule a stage.taken) []) (sym e)) puts_now,
+              subst (λ (l : List ℕ). Grown out l grown) (one_line old.shape old.rule a d.proceeds.newly stage.taken (stage.taken ++ d.proceeds.seconds) n same_taken ∙ ap (λ (c : Bool). cond c (lines_for old.shape old.rule a stage.taken) []) (sym e)) puts_now,
             )
 
-        gives_waiting : d.newly ≡ [] → new.current ≡ Some a → Given
+        gives_waiting : d.proceeds.newly ≡ [] → new.current ≡ Some a → Given
         gives_waiting n w =
             let e = (stands_now.stands.unended (ap is_some w)).1 in
-            let is : stage_after stage d.newly new.current d.seconds ≡ with_a stage a =
-            ap (λ (l : List Feature). stage_after stage l new.current d.seconds) n ∙ ap (λ (o : Option Feature). stage_after stage [] o d.seconds) w
-            ∙ ap (λ (l : List Feature). record stage { written = l; waiting = Some a; taken = stage.taken ++ d.seconds }) (append-nil stage.written)
+            let is : stage_after stage d.proceeds.newly new.current d.proceeds.seconds ≡ with_a stage a =
+            ap (λ (l : List Feature). stage_after stage l new.current d.proceeds.seconds) n ∙ ap (λ (o : Option Feature). stage_after stage [] o d.proceeds.seconds) w
+            ∙ ap (λ (l : List Feature). record stage { written = l; waiting = Some a; taken = stage.taken ++ d.proceeds.seconds }) (append-nil stage.written)
             ∙ ap (λ (l : List Feature). record stage { waiting = Some a; taken = l }) same_taken ∙ ap at (sym e) in (
               subst (λ (s : Stage). MovesTo order old s new) is stands_now,
-              subst (λ (l : List ℕ). Grown out l grown) (no_lines old.shape old.rule d.newly (stage.taken ++ d.seconds) n ∙ ap (λ (c : Bool). cond c (lines_for old.shape old.rule a stage.taken) []) (sym e)) puts_now,
+              subst (λ (l : List ℕ). Grown out l grown) (no_lines old.shape old.rule d.proceeds.newly (stage.taken ++ d.proceeds.seconds) n ∙ ap (λ (c : Bool). cond c (lines_for old.shape old.rule a stage.taken) []) (sym e)) puts_now,
             )
 
       done_a : (d : Done new to_a to_b grown) → Stops new to_a to_b ⊎ Writes new → Given d
-      done_a d stops = elim (one_written d.newly new.current a (sym (was_given d stops) ∙ all_are d)) [
+      done_a d stops = elim (one_written d.proceeds.newly new.current a (sym (was_given d stops) ∙ all_are d)) [
         | inl waits ↦ gives_waiting d waits.0 waits.1
         | inr gone ↦ gives_written d gone.0 gone.1
       ]
 
       module _ (fault : FaultValue) (b : Failed fault to_a to_b grown) where
-        none_taken : b.seconds ≡ []
-        none_taken = (seconds_none to_b b.seconds b.gives_seconds).0
+        none_taken : b.proceeds.seconds ≡ []
+        none_taken = (seconds_none to_b b.proceeds.seconds b.proceeds.gives_seconds).0
 
-        taken_same : stage.taken ++ b.seconds ≡ stage.taken
+        taken_same : stage.taken ++ b.proceeds.seconds ≡ stage.taken
         taken_same = ap (λ (l : List Feature). stage.taken ++ l) none_taken ∙ append-nil stage.taken
 
-        are_all : b.firsts ≡ b.newly ++ option_to_list b.waiting
-        are_all = ap (λ (o : Option Feature). option_to_list o ++ b.firsts) (sym none) ∙ b.are
+        are_all : b.proceeds.firsts ≡ b.proceeds.newly ++ option_to_list b.waiting
+        are_all = ap (λ (o : Option Feature). option_to_list o ++ b.proceeds.firsts) (sym none) ∙ b.proceeds.are
 
-        newly_are : (b.newly ≡ []) ⊎ (b.newly ≡ a ∷ [])
-        newly_are = elim (firsts_are to_a b.firsts b.gives_firsts) [
-          | inl kept ↦ inl (none_of b.newly b.waiting (sym kept.0 ∙ are_all)).0
-          | inr came ↦ elim (one_written b.newly b.waiting a (sym came.0 ∙ are_all)) [
+        newly_are : (b.proceeds.newly ≡ []) ⊎ (b.proceeds.newly ≡ a ∷ [])
+        newly_are = elim (firsts_are to_a b.proceeds.firsts b.proceeds.gives_firsts) [
+          | inl kept ↦ inl (none_of b.proceeds.newly b.waiting (sym kept.0 ∙ are_all)).0
+          | inr came ↦ elim (one_written b.proceeds.newly b.waiting a (sym came.0 ∙ are_all)) [
             | inl waits ↦ inl waits.0
             | inr gone ↦ inr gone.0
           ]
         ]
 
-        cuts_lines : FailsToAdd out (intersect old.shape old.rule b.newly (stage.taken ++ b.seconds)) fault grown → FailsToAdd out (cond stage.b_ended (lines_for old.shape old.rule a stage.taken) []) fault grown
+        cuts_lines : FailsToAdd out (intersect old.shape old.rule b.proceeds.newly (stage.taken ++ b.proceeds.seconds)) fault grown → FailsToAdd out (cond stage.b_ended (lines_for old.shape old.rule a stage.taken) []) fault grown
         cuts_lines cut = elim newly_are [
-          | inl kept ↦ absurd (cut.some (no_lines old.shape old.rule b.newly (stage.taken ++ b.seconds) kept))
+          | inl kept ↦ absurd (cut.some (no_lines old.shape old.rule b.proceeds.newly (stage.taken ++ b.proceeds.seconds) kept))
           | inr n ↦
-              let e = ended (first_by to_b b.newly b.seconds b.next n b.gives_seconds b.comes b.settles) in
-              subst (λ (l : List ℕ). FailsToAdd out l fault grown) (one_line old.shape old.rule a b.newly stage.taken (stage.taken ++ b.seconds) n taken_same ∙ ap (λ (c : Bool). cond c (lines_for old.shape old.rule a stage.taken) []) (sym e)) cut
+              let e = ended (first_by to_b b.proceeds.newly b.proceeds.seconds b.proceeds.next n b.proceeds.gives_seconds b.proceeds.comes b.proceeds.settles) in
+              subst (λ (l : List ℕ). FailsToAdd out l fault grown) (one_line old.shape old.rule a b.proceeds.newly stage.taken (stage.taken ++ b.proceeds.seconds) n taken_same ∙ ap (λ (c : Bool). cond c (lines_for old.shape old.rule a stage.taken) []) (sym e)) cut
         ]
 
         fails_a : FailsToAdd out (cond stage.b_ended (lines_for old.shape old.rule a stage.taken) []) fault grown ⊎ FailsToKeepA stage fault out grown
         fails_a = elim b.cause [
-          | inl cut ↦ inl (cuts_lines (cut.cuts stage st (given_placed b.firsts (either to_a b.firsts b.gives_firsts)) (taken_placed b.seconds none_taken)))
+          | inl cut ↦ inl (cuts_lines (cut stage st (given_placed b.proceeds.firsts (either to_a b.proceeds.firsts b.proceeds.gives_firsts)) (taken_placed b.proceeds.seconds none_taken)))
           | inr rest ↦ elim rest [
-            | inl lack ↦ absurd (let apart : [] ≡ lack.b ∷ single_left lack.after = sym (seconds_none to_b b.seconds b.gives_seconds).1 ∙ lack.gives.left in cc)
+            | inl lack ↦ absurd (let apart : [] ≡ lack.shares.b ∷ single_left lack.shares.after = sym (seconds_none to_b b.proceeds.seconds b.proceeds.gives_seconds).1 ∙ lack.shares.gives.left in cc)
             | inr lost ↦ inr (record {
               goes_on = goes_by stage.a_ended stage.b_ended old.phase st.phase_is goes lost.both;
               is = lost.is;
               same_output = elim newly_are [
-                | inl kept ↦ same_output old.shape old.rule b.newly (stage.taken ++ b.seconds) out grown kept (lost.puts stage st (given_placed b.firsts (either to_a b.firsts b.gives_firsts)) (taken_placed b.seconds none_taken))
-                | inr n ↦ absurd (elim (firsts_are to_a b.firsts b.gives_firsts) [
-                  | inl kept ↦ (let apart : [] ≡ a ∷ [] = sym (none_of b.newly b.waiting (sym kept.0 ∙ are_all)).0 ∙ n in cc)
-                  | inr came ↦ elim (one_written b.newly b.waiting a (sym came.0 ∙ are_all)) [
+                | inl kept ↦ same_output old.shape old.rule b.proceeds.newly (stage.taken ++ b.proceeds.seconds) out grown kept (lost.puts stage st (given_placed b.proceeds.firsts (either to_a b.proceeds.firsts b.proceeds.gives_firsts)) (taken_placed b.proceeds.seconds none_taken))
+                | inr n ↦ absurd (elim (firsts_are to_a b.proceeds.firsts b.proceeds.gives_firsts) [
+                  | inl kept ↦ (let apart : [] ≡ a ∷ [] = sym (none_of b.proceeds.newly b.waiting (sym kept.0 ∙ are_all)).0 ∙ n in cc)
+                  | inr came ↦ elim (one_written b.proceeds.newly b.waiting a (sym came.0 ∙ are_all)) [
                     | inl waits ↦ (let apart : [] ≡ a ∷ [] = sym waits.0 ∙ n in cc)
                     | inr gone ↦ (let apart : None ≡ Some lost.last = sym gone.1 ∙ lost.waits in cc)
                   ]
@@ -384,36 +372,36 @@ module _ (order : Order) (stage : Stage) (old : Sweeping) (st : StandsAt order s
 
     module _ (new : Sweeping) (to_a to_b : Single) (grown : Output) where
       module _ (d : Done new to_a to_b grown) where
-        no_more : d.firsts ≡ []
-        no_more = no_firsts to_a d.firsts d.gives_firsts
+        no_more : d.proceeds.firsts ≡ []
+        no_more = no_firsts to_a d.proceeds.firsts d.proceeds.gives_firsts
 
-        stands_then : MovesTo order old (stage_after stage d.newly new.current d.seconds) new
-        stands_then = d.stands stage st (given_placed_b d.firsts no_more) (taken_placed_b to_b d.seconds d.gives_seconds)
+        stands_then : MovesTo order old (stage_after stage d.proceeds.newly new.current d.proceeds.seconds) new
+        stands_then = d.stands stage st (given_placed_b d.proceeds.firsts no_more) (taken_placed_b to_b d.proceeds.seconds d.proceeds.gives_seconds)
 
-        puts_then : Grown out (intersect old.shape old.rule d.newly (stage.taken ++ d.seconds)) grown
-        puts_then = d.puts stage st (given_placed_b d.firsts no_more) (taken_placed_b to_b d.seconds d.gives_seconds)
+        puts_then : Grown out (intersect old.shape old.rule d.proceeds.newly (stage.taken ++ d.proceeds.seconds)) grown
+        puts_then = d.puts stage st (given_placed_b d.proceeds.firsts no_more) (taken_placed_b to_b d.proceeds.seconds d.proceeds.gives_seconds)
 
-        split : ((d.newly ≡ []) × (new.current ≡ Some a)) ⊎ ((d.newly ≡ a ∷ []) × (new.current ≡ None))
-        split = given_all d.firsts d.newly new.current no_more d.are
+        split : ((d.proceeds.newly ≡ []) × (new.current ≡ Some a)) ⊎ ((d.proceeds.newly ≡ a ∷ []) × (new.current ≡ None))
+        split = given_all d.proceeds.firsts d.proceeds.newly new.current no_more d.proceeds.are
 
-        each_then : TakenEach order old.limit (option_to_list old.current ++ d.firsts) stage.taken d.seconds
-        each_then = d.each stage st (given_placed_b d.firsts no_more) (taken_placed_b to_b d.seconds d.gives_seconds)
+        each_then : TakenEach order old.limit (option_to_list old.current ++ d.proceeds.firsts) stage.taken d.proceeds.seconds
+        each_then = d.proceeds.each stage st (given_placed_b d.proceeds.firsts no_more) (taken_placed_b to_b d.proceeds.seconds d.proceeds.gives_seconds)
 
       taken_now : (d : Done new to_a to_b grown) → single_left to_b ≡ [] → GivesB order stage a b line old out (Ok Yes) new grown
-      taken_now d gone = elim (seconds_are to_b d.seconds d.gives_seconds) [
+      taken_now d gone = elim (seconds_are to_b d.proceeds.seconds d.proceeds.gives_seconds) [
         | inl kept ↦ absurd (let apart : [] ≡ b ∷ [] = sym gone ∙ kept.1 in cc)
         | inr came ↦
-            let undecided = undecided_by d.firsts d.seconds (no_more d) came.0 (each_then d) in
+            let undecided = undecided_by d.proceeds.firsts d.proceeds.seconds (no_more d) came.0 (each_then d) in
             elim (split d) [
-              | inr written ↦ not_both (decided_by to_b d.newly d.seconds d.next written.0 d.gives_seconds d.comes d.settles) undecided
+              | inr written ↦ not_both (decided_by to_b d.proceeds.newly d.proceeds.seconds d.proceeds.next written.0 d.proceeds.gives_seconds d.proceeds.comes d.proceeds.settles) undecided
               | inl still ↦
-                  let is : stage_after stage d.newly new.current d.seconds ≡ with_b stage b =
-                  ap (λ (l : List Feature). stage_after stage l new.current d.seconds) still.0 ∙ ap (λ (o : Option Feature). stage_after stage [] o d.seconds) (still.1 ∙ sym waits)
-                  ∙ ap (λ (l : List Feature). record stage { written = l; taken = stage.taken ++ d.seconds }) (append-nil stage.written) ∙ ap (λ (l : List Feature). record stage { taken = stage.taken ++ l }) came.0 in
+                  let is : stage_after stage d.proceeds.newly new.current d.proceeds.seconds ≡ with_b stage b =
+                  ap (λ (l : List Feature). stage_after stage l new.current d.proceeds.seconds) still.0 ∙ ap (λ (o : Option Feature). stage_after stage [] o d.proceeds.seconds) (still.1 ∙ sym waits)
+                  ∙ ap (λ (l : List Feature). record stage { written = l; taken = stage.taken ++ d.proceeds.seconds }) (append-nil stage.written) ∙ ap (λ (l : List Feature). record stage { taken = stage.taken ++ l }) came.0 in
                   record {
                     undecided = undecided;
                     stands = subst (λ (s : Stage). MovesTo order old s new) is (stands_then d);
-                    same_output = same_output old.shape old.rule d.newly (stage.taken ++ d.seconds) out grown still.0 (puts_then d);
+                    same_output = same_output old.shape old.rule d.proceeds.newly (stage.taken ++ d.proceeds.seconds) out grown still.0 (puts_then d);
                   }
             ]
       ]
@@ -427,69 +415,69 @@ module _ (order : Order) (stage : Stage) (old : Sweeping) (st : StandsAt order s
               (let apart : [] ≡ r ∷ [] = sym spent.none ∙ still in cc)
           | inr wrote ↦ (let apart : None ≡ Some a = sym wrote.1 ∙ left.1 in cc)
         ])
-        | inr written ↦ elim (seconds_are to_b d.seconds d.gives_seconds) [
+        | inr written ↦ elim (seconds_are to_b d.proceeds.seconds d.proceeds.gives_seconds) [
           | inr came ↦ absurd (let apart : [] ≡ r ∷ [] = sym came.1 ∙ still in cc)
           | inl kept ↦
-              let told = decided_by to_b d.newly d.seconds d.next written.0 d.gives_seconds d.comes d.settles in
-              let same : stage.taken ++ d.seconds ≡ stage.taken = ap (λ (l : List Feature). stage.taken ++ l) kept.0 ∙ append-nil stage.taken in
-              let is : stage_after stage d.newly new.current d.seconds ≡ with_lines stage =
-              ap (λ (l : List Feature). stage_after stage l new.current d.seconds) written.0 ∙ ap (λ (o : Option Feature). stage_after stage (a ∷ []) o d.seconds) written.1
+              let told = decided_by to_b d.proceeds.newly d.proceeds.seconds d.proceeds.next written.0 d.proceeds.gives_seconds d.proceeds.comes d.proceeds.settles in
+              let same : stage.taken ++ d.proceeds.seconds ≡ stage.taken = ap (λ (l : List Feature). stage.taken ++ l) kept.0 ∙ append-nil stage.taken in
+              let is : stage_after stage d.proceeds.newly new.current d.proceeds.seconds ≡ with_lines stage =
+              ap (λ (l : List Feature). stage_after stage l new.current d.proceeds.seconds) written.0 ∙ ap (λ (o : Option Feature). stage_after stage (a ∷ []) o d.proceeds.seconds) written.1
               ∙ ap (λ (l : List Feature). record stage { written = stage.written ++ a ∷ []; waiting = None; taken = l }) same
               ∙ ap (λ (o : Option Feature). record stage { written = stage.written ++ option_to_list o; waiting = None }) (sym waits) in
               record {
                 decides = told;
                 stands = subst (λ (s : Stage). MovesTo order old s new) is (stands_then d);
-                puts = subst (λ (l : List ℕ). Grown out l grown) (one_line old.shape old.rule a d.newly stage.taken (stage.taken ++ d.seconds) written.0 same) (puts_then d);
+                puts = subst (λ (l : List ℕ). Grown out l grown) (one_line old.shape old.rule a d.proceeds.newly stage.taken (stage.taken ++ d.proceeds.seconds) written.0 same) (puts_then d);
                 settled = before_lines order old.shape old.rule a b stage.taken total known told;
               }
         ]
       ]
 
       module _ (fault : FaultValue) (f : Failed fault to_a to_b grown) where
-        none_more : f.firsts ≡ []
-        none_more = no_firsts to_a f.firsts f.gives_firsts
+        none_more : f.proceeds.firsts ≡ []
+        none_more = no_firsts to_a f.proceeds.firsts f.proceeds.gives_firsts
 
-        parts : ((f.newly ≡ []) × (f.waiting ≡ Some a)) ⊎ ((f.newly ≡ a ∷ []) × (f.waiting ≡ None))
-        parts = given_all f.firsts f.newly f.waiting none_more f.are
+        parts : ((f.proceeds.newly ≡ []) × (f.waiting ≡ Some a)) ⊎ ((f.proceeds.newly ≡ a ∷ []) × (f.waiting ≡ None))
+        parts = given_all f.proceeds.firsts f.proceeds.newly f.waiting none_more f.proceeds.are
 
-        each_f : TakenEach order old.limit (option_to_list old.current ++ f.firsts) stage.taken f.seconds
-        each_f = f.each stage st (given_placed_b f.firsts none_more) (taken_placed_b to_b f.seconds f.gives_seconds)
+        each_f : TakenEach order old.limit (option_to_list old.current ++ f.proceeds.firsts) stage.taken f.proceeds.seconds
+        each_f = f.proceeds.each stage st (given_placed_b f.proceeds.firsts none_more) (taken_placed_b to_b f.proceeds.seconds f.proceeds.gives_seconds)
 
         abbrev FailsB : Type 0
         FailsB = FailsToWriteA order stage a b line old out fault grown ⊎ (PassesLimit order stage a b line old out fault grown ⊎ FailsToHold order stage a b line old out fault grown)
 
-        cut_b : FailsToAdd out (intersect old.shape old.rule f.newly (stage.taken ++ f.seconds)) fault grown → FailsB
+        cut_b : FailsToAdd out (intersect old.shape old.rule f.proceeds.newly (stage.taken ++ f.proceeds.seconds)) fault grown → FailsB
         cut_b cut = elim parts [
-          | inl still ↦ absurd (cut.some (no_lines old.shape old.rule f.newly (stage.taken ++ f.seconds) still.0))
+          | inl still ↦ absurd (cut.some (no_lines old.shape old.rule f.proceeds.newly (stage.taken ++ f.proceeds.seconds) still.0))
           | inr written ↦
-              let told = decided_by to_b f.newly f.seconds f.next written.0 f.gives_seconds f.comes f.settles in
-              elim (seconds_are to_b f.seconds f.gives_seconds) [
-                | inr came ↦ not_both told (undecided_by f.firsts f.seconds none_more came.0 each_f)
+              let told = decided_by to_b f.proceeds.newly f.proceeds.seconds f.proceeds.next written.0 f.proceeds.gives_seconds f.proceeds.comes f.proceeds.settles in
+              elim (seconds_are to_b f.proceeds.seconds f.proceeds.gives_seconds) [
+                | inr came ↦ not_both told (undecided_by f.proceeds.firsts f.proceeds.seconds none_more came.0 each_f)
                 | inl kept ↦
-                    let same : stage.taken ++ f.seconds ≡ stage.taken = ap (λ (l : List Feature). stage.taken ++ l) kept.0 ∙ append-nil stage.taken in
-                    inl (record { decides = told; fails = subst (λ (l : List ℕ). FailsToAdd out l fault grown) (one_line old.shape old.rule a f.newly stage.taken (stage.taken ++ f.seconds) written.0 same) cut })
+                    let same : stage.taken ++ f.proceeds.seconds ≡ stage.taken = ap (λ (l : List Feature). stage.taken ++ l) kept.0 ∙ append-nil stage.taken in
+                    inl (record { decides = told; fails = subst (λ (l : List ℕ). FailsToAdd out l fault grown) (one_line old.shape old.rule a f.proceeds.newly stage.taken (stage.taken ++ f.proceeds.seconds) written.0 same) cut })
               ]
         ]
 
-        lack_b : FailsToTake GivesSingle HasNone GivesSingle HasNone single_line order old from_a from_b out f.firsts f.seconds f.newly f.waiting to_b fault grown → FailsB
+        lack_b : FailsToTake GivesSingle HasNone single_line order old out f.proceeds.firsts f.proceeds.seconds f.proceeds.newly f.waiting to_b fault grown → FailsB
         lack_b lack = elim parts [
-          | inr written ↦ absurd (let apart : None ≡ Some lack.last = sym written.1 ∙ lack.waits in cc)
-          | inl still ↦ elim (seconds_are to_b f.seconds f.gives_seconds) [
-            | inr came ↦ absurd (let apart : [] ≡ lack.b ∷ single_left lack.after = sym came.1 ∙ lack.gives.left in cc)
+          | inr written ↦ absurd (let apart : None ≡ Some lack.shares.last = sym written.1 ∙ lack.shares.waits in cc)
+          | inl still ↦ elim (seconds_are to_b f.proceeds.seconds f.proceeds.gives_seconds) [
+            | inr came ↦ absurd (let apart : [] ≡ lack.shares.b ∷ single_left lack.shares.after = sym came.1 ∙ lack.shares.gives.left in cc)
             | inl kept ↦
-                let is_a : lack.last ≡ a = same_some lack.last a (sym lack.waits ∙ still.1) in
-                let is_b : b ≡ lack.b = next_is to_b b kept.1 lack.b lack.after lack.gives in
-                let chrom : b.chrom ≡ a.chrom = ap (λ (x : Feature). x.chrom) is_b ∙ lack.chrom ∙ ap (λ (x : Feature). x.chrom) is_a in
-                let starts : b.start < a.stop = subst (λ (x : Feature). b.start < x.stop) is_a (subst (λ (x : Feature). x.start < lack.last.stop) (sym is_b) lack.starts) in
-                let ends : a.start < b.stop = subst (λ (x : Feature). x.start < b.stop) is_a (subst (λ (x : Feature). lack.last.start < x.stop) (sym is_b) lack.ends) in
+                let is_a : lack.shares.last ≡ a = same_some lack.shares.last a (sym lack.shares.waits ∙ still.1) in
+                let is_b : b ≡ lack.shares.b = next_is to_b b kept.1 lack.shares.b lack.shares.after lack.shares.gives in
+                let chrom : b.chrom ≡ a.chrom = ap (λ (x : Feature). x.chrom) is_b ∙ lack.shares.chrom ∙ ap (λ (x : Feature). x.chrom) is_a in
+                let starts : b.start < a.stop = subst (λ (x : Feature). b.start < x.stop) is_a (subst (λ (x : Feature). x.start < lack.shares.last.stop) (sym is_b) lack.shares.starts) in
+                let ends : a.start < b.stop = subst (λ (x : Feature). x.start < b.stop) is_a (subst (λ (x : Feature). lack.shares.last.start < x.stop) (sym is_b) lack.shares.ends) in
                 let undecided = undecided_beside order total a b known chrom starts in
                 let held : is_held a b ≡ true = and_from (bytes_eq a.chrom b.chrom) (ltb a.start b.stop) (name_eq a.chrom b.chrom (sym chrom)) (lt-ltb a.start b.stop ends) in
-                let same : stage.taken ++ f.seconds ≡ stage.taken = ap (λ (l : List Feature). stage.taken ++ l) kept.0 ∙ append-nil stage.taken in
-                let room_is : has_room old.limit (length (held_for (Some lack.last) (stage.taken ++ f.seconds))) ≡ has_room old.limit (length (held_for (Some a) stage.taken)) =
-                ap (λ (l : List Feature). has_room old.limit (length (held_for (Some lack.last) l))) same ∙ ap (λ (x : Feature). has_room old.limit (length (held_for (Some x) stage.taken))) is_a in
-                let output = same_output old.shape old.rule f.newly (stage.taken ++ f.seconds) out grown still.0 (lack.puts stage st (given_placed_b f.firsts none_more) (taken_placed_b to_b f.seconds f.gives_seconds)) in
-                let on_line : single_line lack.after ≡ line = lack.gives.line ∙ f.gives_seconds.line ∙ at_line in
-                elim (lack.lacks stage st (given_placed_b f.firsts none_more) (taken_placed_b to_b f.seconds f.gives_seconds)) [
+                let same : stage.taken ++ f.proceeds.seconds ≡ stage.taken = ap (λ (l : List Feature). stage.taken ++ l) kept.0 ∙ append-nil stage.taken in
+                let room_is : has_room old.limit (length (held_for (Some lack.shares.last) (stage.taken ++ f.proceeds.seconds))) ≡ has_room old.limit (length (held_for (Some a) stage.taken)) =
+                ap (λ (l : List Feature). has_room old.limit (length (held_for (Some lack.shares.last) l))) same ∙ ap (λ (x : Feature). has_room old.limit (length (held_for (Some x) stage.taken))) is_a in
+                let output = same_output old.shape old.rule f.proceeds.newly (stage.taken ++ f.proceeds.seconds) out grown still.0 (lack.puts stage st (given_placed_b f.proceeds.firsts none_more) (taken_placed_b to_b f.proceeds.seconds f.proceeds.gives_seconds)) in
+                let on_line : single_line lack.shares.after ≡ line = lack.shares.gives.line ∙ f.proceeds.gives_seconds.line ∙ at_line in
+                elim (lack.lacks stage st (given_placed_b f.proceeds.firsts none_more) (taken_placed_b to_b f.proceeds.seconds f.proceeds.gives_seconds)) [
                   | inl full ↦ inr (inl (record {
                     undecided = undecided;
                     to_hold = held;
@@ -504,7 +492,7 @@ module _ (order : Order) (stage : Stage) (old : Sweeping) (st : StandsAt order s
 
         fails_b : FailsB
         fails_b = elim f.cause [
-          | inl cut ↦ cut_b (cut.cuts stage st (given_placed_b f.firsts none_more) (taken_placed_b to_b f.seconds f.gives_seconds))
+          | inl cut ↦ cut_b (cut stage st (given_placed_b f.proceeds.firsts none_more) (taken_placed_b to_b f.proceeds.seconds f.proceeds.gives_seconds))
           | inr rest ↦ elim rest [
             | inl lack ↦ lack_b lack
             | inr lost ↦ absurd (let apart : None ≡ Some a = sym lost.none ∙ some in cc)
@@ -554,8 +542,7 @@ module _ (order : Order) (stage : Stage) (a : Feature) (old : Sweeping) (st : St
 
     -- none is left
     all_decided : (waiting : Option Feature) → StopsAt GivesSingle HasNone GivesSingle (EndsWhile HasNone mid.phase) single_line (IsThis order) (Settles order mid.phase) mid a from_a from_b [] out waiting to_a to_b → waiting ≡ None
-    all_decided None stops = refl
-    all_decided (Some w) stops = absurd (stops.1 (ap (λ (s : Sweeping). s.phase) mid_is))
+    all_decided waiting stops = grind arith
 
     written_is : (newly firsts : List Feature) (waiting : Option Feature) → firsts ≡ [] → waiting ≡ None → a ∷ firsts ≡ newly ++ option_to_list waiting → newly ≡ a ∷ []
     written_is newly firsts waiting e w are = sym (append-nil newly) ∙ ap (λ (o : Option Feature). newly ++ option_to_list o) (sym w) ∙ sym are ∙ ap (λ (l : List Feature). a ∷ l) e
@@ -563,33 +550,33 @@ module _ (order : Order) (stage : Stage) (a : Feature) (old : Sweeping) (st : St
     pub ends_b : (waiting : Option Feature) (j : Joined waiting) → StopsAt GivesSingle HasNone GivesSingle (EndsWhile HasNone mid.phase) single_line (IsThis order) (Settles order mid.phase) mid a from_a from_b [] out waiting to_a to_b
         → final.current ≡ None → final.phase ≡ mid.phase → EndsB {A = Unit {0}} order stage a old out (Ok tt) final grown
     ends_b waiting j stops gone phase =
-        let no_firsts = single_none from_a to_a j.firsts empty_a j.gives_firsts in
-        let no_seconds = single_none from_b to_b j.seconds empty_b j.gives_seconds in
-        let newly = written_is j.newly j.firsts waiting no_firsts (all_decided waiting stops) j.are in
-        let k = j.goes order old.shape old.rule old.limit stage.written stage.taken refl keeps_last (last_placed j.firsts no_firsts) (all_placed j.seconds no_seconds) in
-        let puts = with_no_pending out grown (intersect old.shape old.rule j.newly (stage.taken ++ j.seconds)) (j.writes order old.shape old.rule old.limit stage.written stage.taken refl keeps_last (last_placed j.firsts no_firsts) (all_placed j.seconds no_seconds)) in
-        let same_given : stage.written ++ a ∷ j.firsts ≡ given stage ++ [] = ap (λ (l : List Feature). stage.written ++ a ∷ l) no_firsts ∙ sym given_last ∙ sym (append-nil (given stage)) in
+        let no_firsts = single_none from_a to_a j.proceeds.firsts empty_a j.proceeds.gives_firsts in
+        let no_seconds = single_none from_b to_b j.proceeds.seconds empty_b j.proceeds.gives_seconds in
+        let newly = written_is j.proceeds.newly j.proceeds.firsts waiting no_firsts (all_decided waiting stops) j.proceeds.are in
+        let k = j.goes order old.shape old.rule old.limit stage.written stage.taken refl keeps_last (last_placed j.proceeds.firsts no_firsts) (all_placed j.proceeds.seconds no_seconds) in
+        let puts = with_no_pending out grown (intersect old.shape old.rule j.proceeds.newly (stage.taken ++ j.proceeds.seconds)) (j.writes order old.shape old.rule old.limit stage.written stage.taken refl keeps_last (last_placed j.proceeds.firsts no_firsts) (all_placed j.proceeds.seconds no_seconds)) in
+        let same_given : stage.written ++ a ∷ j.proceeds.firsts ≡ given stage ++ [] = ap (λ (l : List Feature). stage.written ++ a ∷ l) no_firsts ∙ sym given_last ∙ sym (append-nil (given stage)) in
         let stands : StandsAt order (with_b_ended stage) final = record {
           current_is = gone;
           phase_is = phase ∙ ap (λ (s : Sweeping). s.phase) mid_is ∙ ap (λ (e : Bool). phase_of e true) (sym (st.unended (ap is_some waits)).0);
-          holds = subst (λ (g : List Feature). HoldsFor order g stage.taken final.held) same_given (subst (λ (t : List Feature). HoldsFor order (stage.written ++ a ∷ j.firsts) t final.held) (same_seconds j.seconds no_seconds) k.holds);
+          holds = subst (λ (g : List Feature). HoldsFor order g stage.taken final.held) same_given (subst (λ (t : List Feature). HoldsFor order (stage.written ++ a ∷ j.proceeds.firsts) t final.held) (same_seconds j.proceeds.seconds no_seconds) k.holds);
           within = subst (λ (l : Option ℕ). IfSome l (λ most. length final.held ≤ most)) (sym k.limit_is) k.within;
           unended = λ some. absurd (false≢true some);
         } in
-        (record { stands = stands; same = record { shape_is = k.shape_is; rule_is = k.rule_is; limit_is = k.limit_is } }, subst (λ (l : List ℕ). Grown out l grown) (one_line old.shape old.rule a j.newly stage.taken (stage.taken ++ j.seconds) newly (same_seconds j.seconds no_seconds)) puts)
+        (record { stands = stands; same = record { shape_is = k.shape_is; rule_is = k.rule_is; limit_is = k.limit_is } }, subst (λ (l : List ℕ). Grown out l grown) (one_line old.shape old.rule a j.proceeds.newly stage.taken (stage.taken ++ j.proceeds.seconds) newly (same_seconds j.proceeds.seconds no_seconds)) puts)
 
     pub stops_end : (fault : Fault) → Broken (fault_value fault) → want_in final ≡ Nothing → EndsB {A = Unit {0}} order stage a old out (Err fault) final grown
     stops_end fault b stops =
-        let no_firsts = single_none from_a to_a b.firsts empty_a b.gives_firsts in
-        let none_taken = nothing_left b.seconds (single_left to_b) (sym empty_b ∙ b.gives_seconds.left) in (
+        let no_firsts = single_none from_a to_a b.proceeds.firsts empty_a b.proceeds.gives_firsts in
+        let none_taken = nothing_left b.proceeds.seconds (single_left to_b) (sym empty_b ∙ b.proceeds.gives_seconds.left) in (
           stops,
           elim b.cause [
-            | inr lack ↦ absurd (let apart : [] ≡ lack.b ∷ single_left lack.after = sym none_taken.1 ∙ lack.gives.left in cc)
+            | inr lack ↦ absurd (let apart : [] ≡ lack.shares.b ∷ single_left lack.shares.after = sym none_taken.1 ∙ lack.shares.gives.left in cc)
             | inl cut ↦
-                let lines = cut.cuts order old.shape old.rule old.limit stage.written stage.taken refl keeps_last (last_placed b.firsts no_firsts) (all_placed b.seconds none_taken.0) in
-                elim (one_written b.newly b.waiting a (ap (λ (l : List Feature). a ∷ l) (sym no_firsts) ∙ b.are)) [
-                  | inl still ↦ absurd (lines.some (no_lines old.shape old.rule b.newly (stage.taken ++ b.seconds) still.0))
-                  | inr written ↦ subst (λ (l : List ℕ). FailsToAdd out l (fault_value fault) grown) (one_line old.shape old.rule a b.newly stage.taken (stage.taken ++ b.seconds) written.0 (same_seconds b.seconds none_taken.0)) lines
+                let lines = cut order old.shape old.rule old.limit stage.written stage.taken refl keeps_last (last_placed b.proceeds.firsts no_firsts) (all_placed b.proceeds.seconds none_taken.0) in
+                elim (one_written b.proceeds.newly b.waiting a (ap (λ (l : List Feature). a ∷ l) (sym no_firsts) ∙ b.proceeds.are)) [
+                  | inl still ↦ absurd (lines.some (no_lines old.shape old.rule b.proceeds.newly (stage.taken ++ b.proceeds.seconds) still.0))
+                  | inr written ↦ subst (λ (l : List ℕ). FailsToAdd out l (fault_value fault) grown) (one_line old.shape old.rule a b.proceeds.newly stage.taken (stage.taken ++ b.proceeds.seconds) written.0 (same_seconds b.proceeds.seconds none_taken.0)) lines
                 ]
           ],
         )

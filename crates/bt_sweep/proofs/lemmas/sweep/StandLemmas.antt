@@ -1,5 +1,5 @@
 -- Lemmas on where a sweep is once records of both inputs were given and taken.
-use Rattle.std.proofs.Common.{◌≡◌, inl, inr, ℕ, Bool, true, false, List, [], ◌∷◌, ◌++◌, Option, Some, None, Ok, Err, Result, refl, sym, ap, ◌∙◌, subst, append-nil, append_assoc, option_to_list, length, ◌≤◌}
+use Rattle.std.proofs.Common.{◌≡◌, inl, inr, ℕ, Bool, true, false, List, [], ◌∷◌, ◌++◌, Option, Some, None, Ok, Err, Result, refl, sym, ap, ◌∙◌, subst, append-nil, append_assoc, option_to_list, length, ◌≤◌, arith}
 use Rattle.std.specs.Prelude.{IfSome, is_some}
 use Rattle.bt_lines.specs.model.Fault.{FaultValue, no_memory}
 use Rattle.bt_lines.specs.calls.Names.{fault_value}
@@ -12,10 +12,10 @@ use Rattle.bt_bed.specs.model.order.Locus.{ArePlaced}
 use Rattle.bt_bed.specs.model.order.Order.{Order, IsTotal}
 use Rattle.bt_bed.specs.calls.Single.{GivesSingle, single_left}
 use Rattle.bt_bed.specs.declared.read.cursor.Single.{Single}
-use Rattle.bt_sweep.specs.calls.Advancing.{Advances, AdvancesSo, AtEach, FailsAt, IsThis, PutsEach, Settles, StopsFor, stage_after}
+use Rattle.bt_sweep.specs.calls.Advancing.{Advances, AdvancesSo, AtEach, FailsAt, IsThis, Proceeded, PutsEach, Settles, StopsFor, stage_after}
 use Rattle.bt_sweep.specs.model.IntersectLines.{intersect}
 use Rattle.bt_sweep.specs.calls.Taking.{CannotBeHeld, LeavesLast, TakenEach}
-use Rattle.bt_sweep.specs.inside.Joining.{BehindFor, Breaks, JoinsSo, Keeps, TakesEachFor, WritesFor}
+use Rattle.bt_sweep.specs.inside.Joining.{BehindFor, Breaks, JoinsSo, Keeps, Proceeded as Joined, TakesEachFor, WritesFor}
 use Rattle.bt_sweep.specs.calls.Standing.{HoldsFor, MovesTo, Stage, StandsAt, given, phase_of}
 use Rattle.bt_sweep.specs.inside.StateSteps.{KeepsOne, held_with}
 use Rattle.bt_sweep.specs.calls.SweepState.{Sweeping, is_over, want_in, want_of}
@@ -35,15 +35,11 @@ keeps_of order stage s st = record { shape_is = refl; rule_is = refl; limit_is =
 
 -- neither input has ended
 pub both_open : (a b : Bool) (phase : Phase) → phase ≡ phase_of a b → (phase ≡ First → ⊥) → (phase ≡ Over → ⊥) → (a ≡ false) × (b ≡ false)
-both_open true b phase e first over = absurd (over e)
-both_open false true phase e first over = absurd (first e)
-both_open false false phase e first over = (refl, refl)
+both_open a b phase e first over = grind arith
 
 -- both go on
 still_both : (phase : Phase) → (phase ≡ First → ⊥) → (phase ≡ Over → ⊥) → phase ≡ Both
-still_both Both first over = refl
-still_both First first over = absurd (first refl)
-still_both Over first over = absurd (over refl)
+still_both phase first over = grind arith
 
 -- ---- where none waits
 
@@ -75,24 +71,17 @@ module _ (order : Order) (old : Sweeping) (first : Feature) (some : old.current 
 -- ---- what is asked for
 
 want_none : (current : Option Feature) (phase : Phase) → current ≡ None → (phase ≡ Over → ⊥) → want_of (is_some current) (is_over phase) ≡ WantA
-want_none (Some a) phase none going = absurd (let apart : Some a ≡ None = none in cc)
-want_none None Both none going = refl
-want_none None First none going = refl
-want_none None Over none going = absurd (going refl)
+want_none current phase none going = grind arith
 
 -- what waits, and that it isn't over, by what is asked for
 none_at : (current : Option Feature) (over : Bool) → want_of (is_some current) over ≡ WantA → current ≡ None
-none_at None over e = refl
-none_at (Some a) over e = absurd (let apart : WantB ≡ WantA = e in cc)
+none_at current over e = grind arith
 
 open_at : (some : Bool) (phase : Phase) → want_of some (is_over phase) ≡ WantA → phase ≡ Over → ⊥
-open_at false phase e over = let apart : Nothing ≡ WantA = ap (λ (p : Phase). want_of false (is_over p)) (sym over) ∙ e in cc
-open_at true phase e over = let apart : WantB ≡ WantA = e in cc
+open_at some phase e over = grind arith
 
 some_at : (some over : Bool) → want_of some over ≡ WantB → some ≡ true
-some_at true over e = refl
-some_at false true e = absurd (let apart : Nothing ≡ WantB = e in cc)
-some_at false false e = absurd (let apart : WantA ≡ WantB = e in cc)
+some_at some over e = grind arith
 
 pub none_waits : (s : Sweeping) → want_in s ≡ WantA → s.current ≡ None
 none_waits s e = none_at s.current (is_over s.phase) e
@@ -175,81 +164,60 @@ module _ (order : Order) (old mid : Sweeping) (first : Feature) (pre : List Feat
 
   module _ {A B U : Type 0} (a_gives : A → List Feature → A → Type 0) (a_ended : A → Type 0) (b_gives : B → List Feature → B → Type 0) (b_ended b_ended' : B → Type 0) (b_line : B → ℕ)
       (u_gives : U → List Feature → U → Type 0) (u_ended : U → Type 0) (from_u to_u : U) (from_a to_a : A) (from_b to_b : B) (out grown : Output) (new : Sweeping) where
-    pub advances_from : (waiting : Option Feature) (final : Sweeping) (j : JoinsSo a_gives a_ended b_gives b_ended' b_line (IsThis order) (Settles order mid.phase) mid first from_a from_b [] out waiting new to_a to_b [] grown)
-        → u_gives from_u (pre ++ j.firsts) to_u → new.phase ≡ old.phase → final ≡ record new { current = waiting } → IsOpen waiting → IfSome waiting (LeavesLast order j.seconds) → AdvancesSo u_gives u_ended b_gives b_ended b_line order old from_u from_b out final to_u to_b grown
-    advances_from waiting final j gives same is goes_on leaves = record {
-      firsts = pre ++ j.firsts;
-      seconds = j.seconds;
-      newly = j.newly;
+    abbrev proceeds_from : (waiting now : Option Feature) (p : Joined a_gives a_ended b_gives b_ended' b_line (IsThis order) (Settles order mid.phase) mid first from_a from_b [] out waiting to_a to_b)
+        → u_gives from_u (pre ++ p.firsts) to_u → waiting ≡ now → Proceeded u_gives u_ended b_gives b_ended b_line order old from_u from_b out now to_u to_b
+    proceeds_from waiting now p gives w = record {
+      firsts = pre ++ p.firsts;
+      seconds = p.seconds;
+      newly = p.newly;
       gives_firsts = gives;
-      gives_seconds = j.gives_seconds;
-      are = sym (append_assoc (option_to_list old.current) pre j.firsts) ∙ ap (λ (l : List Feature). l ++ j.firsts) pre_is ∙ j.are ∙ ap (λ (n : Sweeping). j.newly ++ option_to_list n.current) (sym is);
-      next = j.next;
-      comes = j.comes;
-      settles = subst (λ (p : Phase). Settles order p j.newly (j.seconds ++ option_to_list j.next)) phase j.settles;
-      each = each_from j.firsts j.seconds j.each;
-      leaves = subst (λ (n : Sweeping). IfSome n.current (LeavesLast order j.seconds)) (sym is) leaves;
+      gives_seconds = p.gives_seconds;
+      are = sym (append_assoc (option_to_list old.current) pre p.firsts) ∙ ap (λ (l : List Feature). l ++ p.firsts) pre_is ∙ p.are ∙ ap (λ (o : Option Feature). p.newly ++ option_to_list o) w;
+      next = p.next;
+      comes = p.comes;
+      settles = subst (λ (phase : Phase). Settles order phase p.newly (p.seconds ++ option_to_list p.next)) phase p.settles;
+      each = each_from p.firsts p.seconds p.each;
+    }
+
+    pub advances_from : (waiting : Option Feature) (final : Sweeping) (j : JoinsSo a_gives a_ended b_gives b_ended' b_line (IsThis order) (Settles order mid.phase) mid first from_a from_b [] out waiting new to_a to_b [] grown)
+        → u_gives from_u (pre ++ j.proceeds.firsts) to_u → new.phase ≡ old.phase → final ≡ record new { current = waiting } → IsOpen waiting → IfSome waiting (LeavesLast order j.proceeds.seconds) → AdvancesSo u_gives u_ended b_gives b_ended b_line order old from_u from_b out final to_u to_b grown
+    advances_from waiting final j gives same is goes_on leaves = record {
+      proceeds = proceeds_from waiting final.current j.proceeds gives (ap (λ (n : Sweeping). n.current) (sym is));
+      leaves = subst (λ (n : Sweeping). IfSome n.current (LeavesLast order j.proceeds.seconds)) (sym is) leaves;
       stands = λ stage st pg pt.
-          stands_from stage j.firsts j.seconds j.newly waiting new final st
-          (at_each j.firsts j.seconds (λ order shape rule limit as_given taken. Keeps order shape rule limit as_given taken new) j.goes stage st pg pt) j.are same is goes_on;
-      puts = puts_each j.firsts j.seconds j.newly out grown j.writes;
+          stands_from stage j.proceeds.firsts j.proceeds.seconds j.proceeds.newly waiting new final st
+          (at_each j.proceeds.firsts j.proceeds.seconds (λ order shape rule limit as_given taken. Keeps order shape rule limit as_given taken new) j.goes stage st pg pt) j.proceeds.are same is goes_on;
+      puts = puts_each j.proceeds.firsts j.proceeds.seconds j.proceeds.newly out grown j.writes;
     }
 
     -- it failed at one of them
     pub fails_from : (fault : FaultValue) (b : Breaks a_gives a_ended b_gives b_ended' b_line (IsThis order) (Settles order mid.phase) mid first from_a from_b [] out fault to_a to_b [] grown)
-        → u_gives from_u (pre ++ b.firsts) to_u → FailsAt u_gives u_ended b_gives b_ended b_line order old from_u from_b out fault to_u to_b grown
+        → u_gives from_u (pre ++ b.proceeds.firsts) to_u → FailsAt u_gives u_ended b_gives b_ended b_line order old from_u from_b out fault to_u to_b grown
     fails_from fault b gives = record {
-      firsts = pre ++ b.firsts;
-      seconds = b.seconds;
-      newly = b.newly;
+      proceeds = proceeds_from b.waiting b.waiting b.proceeds gives refl;
       waiting = b.waiting;
-      gives_firsts = gives;
-      gives_seconds = b.gives_seconds;
-      are = sym (append_assoc (option_to_list old.current) pre b.firsts) ∙ ap (λ (l : List Feature). l ++ b.firsts) pre_is ∙ b.are;
-      next = b.next;
-      comes = b.comes;
-      settles = subst (λ (p : Phase). Settles order p b.newly (b.seconds ++ option_to_list b.next)) phase b.settles;
-      each = each_from b.firsts b.seconds b.each;
       cause = elim b.cause [
-        | inl cut ↦ inl (record {
-          cuts = at_each b.firsts b.seconds (λ order shape rule limit as_given taken. FailsToAdd out (intersect shape rule b.newly taken) fault grown) cut.cuts;
-        })
+        | inl cut ↦ inl (at_each b.proceeds.firsts b.proceeds.seconds (λ order shape rule limit as_given taken. FailsToAdd out (intersect shape rule b.proceeds.newly taken) fault grown) cut)
         | inr lack ↦ inr (inl (record {
-          last = lack.last;
-          waits = lack.waits;
-          b = lack.b;
-          after = lack.after;
-          gives = lack.gives;
-          chrom = lack.chrom;
-          starts = lack.starts;
-          ends = lack.ends;
-          puts = puts_each b.firsts b.seconds b.newly out grown lack.writes;
-          lacks = at_each b.firsts b.seconds (λ order shape rule limit as_given taken. CannotBeHeld limit lack.last taken (b_line lack.after) fault) lack.lacks;
+          shares = lack.shares;
+          puts = puts_each b.proceeds.firsts b.proceeds.seconds b.proceeds.newly out grown lack.writes;
+          lacks = at_each b.proceeds.firsts b.proceeds.seconds (λ order shape rule limit as_given taken. CannotBeHeld limit lack.shares.last taken (b_line lack.shares.after) fault) lack.lacks;
         }))
       ];
     }
 
     -- the one that waits can't be kept
     pub lacks_from : (a : Feature) (fault : FaultValue) (j : JoinsSo a_gives a_ended b_gives b_ended' b_line (IsThis order) (Settles order mid.phase) mid first from_a from_b [] out (Some a) new to_a to_b [] grown)
-        → u_gives from_u (pre ++ j.firsts) to_u → old.current ≡ None → old.phase ≡ Both → b_ended to_b → fault ≡ no_memory → FailsAt u_gives u_ended b_gives b_ended b_line order old from_u from_b out fault to_u to_b grown
+        → u_gives from_u (pre ++ j.proceeds.firsts) to_u → old.current ≡ None → old.phase ≡ Both → b_ended to_b → fault ≡ no_memory → FailsAt u_gives u_ended b_gives b_ended b_line order old from_u from_b out fault to_u to_b grown
     lacks_from a fault j gives none both ended is = record {
-      firsts = pre ++ j.firsts;
-      seconds = j.seconds;
-      newly = j.newly;
+      proceeds = proceeds_from (Some a) (Some a) j.proceeds gives refl;
       waiting = Some a;
-      gives_firsts = gives;
-      gives_seconds = j.gives_seconds;
-      are = sym (append_assoc (option_to_list old.current) pre j.firsts) ∙ ap (λ (l : List Feature). l ++ j.firsts) pre_is ∙ j.are;
-      next = j.next;
-      comes = j.comes;
-      settles = subst (λ (p : Phase). Settles order p j.newly (j.seconds ++ option_to_list j.next)) phase j.settles;
-      each = each_from j.firsts j.seconds j.each;
-      cause = inr (inr (record { last = a; waits = refl; is = is; none = none; both = both; ended = ended; puts = puts_each j.firsts j.seconds j.newly out grown j.writes }));
+      cause = inr (inr (record { last = a; waits = refl; is = is; none = none; both = both; ended = ended; puts = puts_each j.proceeds.firsts j.proceeds.seconds j.proceeds.newly out grown j.writes }));
     }
 
     -- it is kept, or can't be
     pub kept_or_not : {T : Type 0} (a : Feature) (j : JoinsSo a_gives a_ended b_gives b_ended' b_line (IsThis order) (Settles order mid.phase) mid first from_a from_b [] out (Some a) new to_a to_b [] grown) → old.current ≡ None → b_ended to_b → (mid.phase ≡ First → ⊥)
-        → u_gives from_u (pre ++ j.firsts) to_u → new.phase ≡ old.phase → (old.phase ≡ Over → ⊥) → LeavesLast order j.seconds a → (result : Result T Fault) (final : Sweeping) → KeepsOne new a result final
+        → u_gives from_u (pre ++ j.proceeds.firsts) to_u → new.phase ≡ old.phase → (old.phase ≡ Over → ⊥) → LeavesLast order j.proceeds.seconds a → (result : Result T Fault) (final : Sweeping) → KeepsOne new a result final
         → Advances u_gives u_ended b_gives b_ended b_line order old from_u from_b out result final to_u to_b grown
     kept_or_not a j none ended not_first gives same not_over leaves (Ok t) final is = (
       advances_from (Some a) final j gives same is (λ w stage st. both_open stage.a_ended stage.b_ended old.phase st.phase_is (λ e. not_first (phase ∙ e)) not_over) leaves,
@@ -280,16 +248,18 @@ module _ {U V : Type 0} (u_gives : U → List Feature → U → Type 0) (u_ended
 
   pub advances_none : AdvancesSo u_gives u_ended v_gives v_ended v_line order old from_u from_v out old from_u from_v out
   advances_none = record {
-    firsts = [];
-    seconds = [];
-    newly = [];
-    gives_firsts = u_none;
-    gives_seconds = v_none;
-    are = append-nil (option_to_list old.current);
-    next = None;
-    comes = tt;
-    settles = inr refl;
-    each = λ stage st pg pt. tt;
+    proceeds = record {
+      firsts = [];
+      seconds = [];
+      newly = [];
+      gives_firsts = u_none;
+      gives_seconds = v_none;
+      are = append-nil (option_to_list old.current);
+      next = None;
+      comes = tt;
+      settles = inr refl;
+      each = λ stage st pg pt. tt;
+    };
     leaves = leaves_nothing old.current;
     stands = λ stage st pg pt. same_stands stage st;
     puts = λ stage st pg pt. grown_none out;

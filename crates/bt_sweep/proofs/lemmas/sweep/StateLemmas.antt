@@ -1,8 +1,8 @@
 -- Lemmas on what a sweep keeps.
-use Rattle.std.proofs.Common.{◌≡◌, ◌<◌, ℕ, Bool, true, false, cond, List, [], ◌∷◌, length, Option, Some, None, refl, sym, ◌∙◌, ltb, arith, filter}
+use Rattle.std.proofs.Common.{◌≡◌, ◌<◌, ℕ, Bool, true, cond, List, [], ◌∷◌, length, Option, Some, None, refl, sym, ◌∙◌, ltb, arith, filter}
 use Rattle.std.specs.Prelude.{All, IfSome, slice_index_or}
 use Rattle.std.specs.List.{AllByRecursion}
-use Rattle.std.proofs.lemmas.Bool.{false≢true, ltb-true}
+use Rattle.std.proofs.lemmas.Bool.{false≢true}
 use Rattle.std.proofs.lemmas.List.Elements.{All-filter, All-from_recursion, recursion_from_All}
 use Rattle.bt_bed.specs.model.feature.Feature.{Feature}
 use Rattle.bt_bed.proofs.lemmas.parse.NameLemmas.{same_name}
@@ -28,8 +28,7 @@ on_one_filter p held on =
 module _ (name : List ℕ) (start : ℕ) where
   kept_at : (b : Feature) (bs : List Feature) (c : Bool) → ltb start b.stop ≡ c → (b.chrom ≡ name) × (b.start < b.stop) → AllByRecursion (CanHitAt name start) (filter (λ b. ltb start b.stop) bs)
       → AllByRecursion (CanHitAt name start) (cond c (b ∷ filter (λ b. ltb start b.stop) bs) (filter (λ b. ltb start b.stop) bs))
-  kept_at b bs true e one rest = ((one.0, ltb-true start b.stop e, one.1), rest)
-  kept_at b bs false e one rest = rest
+  kept_at b bs c e one rest = grind arith
 
   kept_rec : (bs : List Feature) → AllByRecursion (λ b. (b.chrom ≡ name) × (b.start < b.stop)) bs → AllByRecursion (CanHitAt name start) (filter (λ b. ltb start b.stop) bs)
   kept_rec [] all = tt

@@ -1,9 +1,10 @@
 -- Lemmas on what is known of blocks, from call to call.
-use Rattle.std.proofs.Common.{◌≡◌, ℕ, ◌⊎◌, Bool, true, false, cond, ◌&&◌, not, List, [], ◌∷◌, ◌++◌, Option, Some, None, refl, sym, ap, ◌∙◌, subst, inl, inr, bytes_eq}
+use Rattle.std.proofs.Common.{◌≡◌, ℕ, ◌⊎◌, Bool, true, false, cond, List, [], ◌∷◌, ◌++◌, Option, Some, None, refl, sym, ap, ◌∙◌, subst, inl, inr, bytes_eq, arith}
+use Rattle.std.proofs.lemmas.Bool.{cases_Bool}
 use Rattle.std.specs.Cmp.Lexicographic.{bytes_decides}
 use Rattle.std.specs.Prelude.{is_some}
 use Rattle.bt_bed.specs.model.feature.Feature.{Feature}
-use Rattle.bt_seq.proofs.lemmas.laws.KnowsLemmas.{found_by, last_goes_on, owner_is, owners_found}
+use Rattle.bt_seq.proofs.lemmas.laws.KnowsLemmas.{last_goes_on, owners_found}
 use Rattle.bt_seq.proofs.lemmas.laws.LeftLemmas.{goes_on_or_begins}
 use Rattle.bt_seq.proofs.lemmas.mask.steps.NextLemmas.{left_grows}
 use Rattle.bt_seq.specs.calls.Matching.{Knows, KnowsEarlier, last_chrom, owner_by, Matched, begins_own, is_it, matched_with, named, owner_of}
@@ -11,7 +12,7 @@ use Rattle.bt_seq.specs.inside.mask.MaskInside.{KnowsAhead, KnowsLast, KnowsNext
 use Rattle.bt_seq.specs.calls.MaskStage.{IsNext}
 use Rattle.bt_seq.specs.model.Masked.{is_unnamed}
 use Rattle.bt_seq.specs.model.Owners.{goes_on, left_after, left_by, names_behind}
-use Rattle.bt_seq.specs.declared.mask.matching.Owner.TheVariants.{Own, Earlier, Nobody}
+use Rattle.bt_seq.specs.declared.mask.matching.Owner.TheVariants.{Own, Nobody}
 
 pub never : false ≡ true → ⊥
 never e = absurd (let apart : false ≡ true = e in cc)
@@ -44,23 +45,23 @@ snoc_front (a ∷ xs) (b ∷ ys) x y e =
     let rest : xs ++ x ∷ [] ≡ ys ++ y ∷ [] = cc in
     let same : xs ≡ ys = snoc_front xs ys x y rest in cc
 
-some_same : (a b : List (List ℕ)) → Some a ≡ Some b → a ≡ b
-some_same a b e = let it : Some a ≡ Some b = e in cc
-
 no_snoc : (xs : List (List ℕ)) (x : List ℕ) → Some [] ≡ Some (xs ++ x ∷ []) → ⊥
 no_snoc [] x e = absurd (let apart : Some [] ≡ Some (x ∷ []) = e in cc)
 no_snoc (a ∷ xs) x e = absurd (let apart : Some [] ≡ Some (a ∷ (xs ++ x ∷ [])) = e in cc)
 
 -- what is left of a block whose owner is known
 own_left : (left : Option (List (List ℕ))) → Own ≡ owner_by left → left ≡ Some []
-own_left None e = absurd (let apart : Own ≡ Nobody = e in cc)
-own_left (Some []) e = refl
-own_left (Some (n ∷ ns)) e = absurd (let apart : Own ≡ Earlier = e in cc)
+own_left left e = grind arith
 
 pub nobody_left : (left : Option (List (List ℕ))) → Nobody ≡ owner_by left → left ≡ None
-nobody_left None e = refl
-nobody_left (Some []) e = absurd (let apart : Nobody ≡ Own = e in cc)
-nobody_left (Some (n ∷ ns)) e = absurd (let apart : Nobody ≡ Earlier = e in cc)
+nobody_left left e = grind arith
+
+-- what shows that a block begins, or that it belongs to none
+begun_by : (m : Matched) (chrom : List ℕ) → (owner_of m chrom ≡ Nobody → ⊥) → is_it m.last chrom ≡ false → (begins_own m chrom ≡ true) × (is_it m.name chrom ≡ true) × (owner_of m chrom ≡ Own)
+begun_by m chrom some it = grind arith
+
+none_by : (m : Matched) (chrom : List ℕ) → owner_of m chrom ≡ Nobody → (is_it m.last chrom ≡ false) × (begins_own m chrom ≡ false)
+none_by m chrom nobody = grind arith
 
 module _ (names : List (List ℕ)) (taken : List Feature) (r : Feature) (m : Matched) where
   next_left : left_after names (taken ++ r ∷ []) ≡ cond (goes_on taken r) (left_after names taken) (left_by (left_after names taken) r.chrom)
@@ -84,22 +85,6 @@ module _ (names : List (List ℕ)) (taken : List Feature) (r : Feature) (m : Mat
   pub owner_may : MayTake → owner_of m r.chrom ≡ owner_by (left_after names (taken ++ r ∷ []))
   owner_may k = owners_found names taken m r k.knows k.none
 
-  owner_at : (goes own : Bool) → is_it m.last r.chrom ≡ goes → m.own ≡ own → owner_of m r.chrom ≡ found_by own goes (is_it m.name r.chrom)
-  owner_at goes own e o = owner_is m r.chrom own goes e o
-
-  matched_same : is_it m.last r.chrom ≡ true → matched_with m r.chrom ≡ m
-  matched_same e = ap (λ b. cond b m (cond (begins_own m r.chrom) (record { name = m.name; last = m.name; own = true }) m)) e
-
-  matched_new : is_it m.last r.chrom ≡ false → begins_own m r.chrom ≡ true → matched_with m r.chrom ≡ record { name = m.name; last = m.name; own = true }
-  matched_new e b =
-      ap (λ b. cond b m (cond (begins_own m r.chrom) (record { name = m.name; last = m.name; own = true }) m)) e
-      ∙ ap (λ b. cond b (record { name = m.name; last = m.name; own = true }) m) b
-
-  matched_none : is_it m.last r.chrom ≡ false → begins_own m r.chrom ≡ false → matched_with m r.chrom ≡ m
-  matched_none e b =
-      ap (λ b. cond b m (cond (begins_own m r.chrom) (record { name = m.name; last = m.name; own = true }) m)) e
-      ∙ ap (λ b. cond b (record { name = m.name; last = m.name; own = true }) m) b
-
   -- it goes on with the last block
   goes_known : MayTake → goes_on taken r ≡ true → KnowsLast names (taken ++ r ∷ []) (matched_with m r.chrom)
   goes_known k goes =
@@ -114,67 +99,44 @@ module _ (names : List (List ℕ)) (taken : List Feature) (r : Feature) (m : Mat
       } in
       let near : (e : KnowsEarlier names (taken ++ r ∷ []) m) → e.before ≡ [] = λ e. k.near goes (record { before = e.before; name = e.name; left = sym left ∙ e.left; named = e.named; own = e.own }) in
       let all : KnowsLast names (taken ++ r ∷ []) m = record { knows = known; near = near } in
-      subst (λ (x : Matched). KnowsLast names (taken ++ r ∷ []) x) (sym (matched_same it)) all
+      rw it all
 
   -- it begins a block of the last sequence
-  begins_known : MayTake → goes_on taken r ≡ false → begins_own m r.chrom ≡ true → is_it m.name r.chrom ≡ true → m.own ≡ false → KnowsLast names (taken ++ r ∷ []) (matched_with m r.chrom)
-  begins_known k begins b name own =
+  begins_known : MayTake → goes_on taken r ≡ false → (owner_of m r.chrom ≡ Nobody → ⊥) → KnowsLast names (taken ++ r ∷ []) (matched_with m r.chrom)
+  begins_known k begins some =
       let it : is_it m.last r.chrom ≡ false = goes_is k.knows ∙ begins in
-      let is_own : owner_of m r.chrom ≡ Own = owner_at false false it own ∙ ap (λ b. cond b Own Nobody) name in
-      let left : left_after names (taken ++ r ∷ []) ≡ Some [] = own_left (left_after names (taken ++ r ∷ [])) (sym is_own ∙ owner_may k) in
+      let begun = begun_by m r.chrom some it in
+      let left : left_after names (taken ++ r ∷ []) ≡ Some [] = own_left (left_after names (taken ++ r ∷ [])) (sym begun.2 ∙ owner_may k) in
       let x : Matched = record { name = m.name; last = m.name; own = true } in
       let known : Knows names (taken ++ r ∷ []) x = record {
-        last = is_it_true m.name r.chrom name ∙ sym (last_more taken r);
+        last = is_it_true m.name r.chrom begun.1 ∙ sym (last_more taken r);
         where_last = inl (record { left = left; own = refl });
       } in
       let near : (e : KnowsEarlier names (taken ++ r ∷ []) x) → e.before ≡ [] = λ e. absurd (no_snoc e.before e.name (sym left ∙ e.left)) in
       let all : KnowsLast names (taken ++ r ∷ []) x = record { knows = known; near = near } in
-      subst (λ (x : Matched). KnowsLast names (taken ++ r ∷ []) x) (sym (matched_new it b)) all
-
-  begins_by : MayTake → goes_on taken r ≡ false → (own name : Bool) → m.own ≡ own → is_it m.name r.chrom ≡ name
-      → (owner_of m r.chrom ≡ Nobody → ⊥) → KnowsLast names (taken ++ r ∷ []) (matched_with m r.chrom)
-  begins_by k begins true name o n some =
-      absurd (some (owner_at false true (goes_is k.knows ∙ begins) o))
-  begins_by k begins false true o n some =
-      begins_known k begins (ap (λ b. not b && is_it m.name r.chrom) o ∙ n) n o
-  begins_by k begins false false o n some =
-      absurd (some (owner_at false false (goes_is k.knows ∙ begins) o ∙ ap (λ b. cond b Own Nobody) n))
-
-  take_by : MayTake → (goes : Bool) → goes_on taken r ≡ goes → (owner_of m r.chrom ≡ Nobody → ⊥) → KnowsLast names (taken ++ r ∷ []) (matched_with m r.chrom)
-  take_by k true e some = goes_known k e
-  take_by k false e some = begins_by k e m.own (is_it m.name r.chrom) refl refl some
+      rw (it, begun.0) all
 
   -- it is taken
   pub take_may : MayTake → (owner_of m r.chrom ≡ Nobody → ⊥) → KnowsLast names (taken ++ r ∷ []) (matched_with m r.chrom)
-  take_may k some = take_by k (goes_on taken r) refl some
-
-  found_goes : (own name : Bool) → found_by own true name ≡ Nobody → ⊥
-  found_goes true name e = absurd (let apart : Own ≡ Nobody = e in cc)
-  found_goes false name e = absurd (let apart : Earlier ≡ Nobody = e in cc)
-
-  found_own : (own name : Bool) → found_by own false name ≡ Nobody → (not own && name) ≡ false
-  found_own true name e = refl
-  found_own false true e = absurd (let apart : Own ≡ Nobody = e in cc)
-  found_own false false e = refl
+  take_may k some = elim (cases_Bool (goes_on taken r)) [
+    | inl goes ↦ goes_known k goes
+    | inr begins ↦ begins_known k begins some
+  ]
 
   -- it belongs to none
-  nobody_by : MayTake → (goes : Bool) → goes_on taken r ≡ goes → owner_of m r.chrom ≡ Nobody → KnowsAhead names taken r (matched_with m r.chrom)
-  nobody_by k true e nobody = absurd (found_goes m.own (is_it m.name r.chrom) (sym (owner_at true m.own (goes_is k.knows ∙ e) refl) ∙ nobody))
-  nobody_by k false e nobody =
-      let it : is_it m.last r.chrom ≡ false = goes_is k.knows ∙ e in
-      let b : begins_own m r.chrom ≡ false = found_own m.own (is_it m.name r.chrom) (sym (owner_at false m.own it refl) ∙ nobody) in
-      let all : KnowsAhead names taken r m = record { knows = k.knows; begins = e; none = k.none e } in
-      subst (λ (x : Matched). KnowsAhead names taken r x) (sym (matched_none it b)) all
-
   pub nobody_may : MayTake → owner_of m r.chrom ≡ Nobody → KnowsAhead names taken r (matched_with m r.chrom)
-  nobody_may k nobody = nobody_by k (goes_on taken r) refl nobody
+  nobody_may k nobody =
+      let none = none_by m r.chrom nobody in
+      let begins = sym (goes_is k.knows) ∙ none.0 in
+      let all : KnowsAhead names taken r m = record { knows = k.knows; begins = begins; none = k.none begins } in
+      rw (none.0, none.1) all
 
   -- it was ahead, and its block is known
   known_it : KnowsLast names (taken ++ r ∷ []) m → is_it m.last r.chrom ≡ true
   known_it k = ap (λ l. is_it l r.chrom) (k.knows.last ∙ last_more taken r) ∙ bytes_same r.chrom
 
   pub take_known : KnowsLast names (taken ++ r ∷ []) m → KnowsLast names (taken ++ r ∷ []) (matched_with m r.chrom)
-  take_known k = subst (λ (x : Matched). KnowsLast names (taken ++ r ∷ []) x) (sym (matched_same (known_it k))) k
+  take_known k = rw (known_it k) k
 
   pub owner_known : KnowsLast names (taken ++ r ∷ []) m → owner_of m r.chrom ≡ owner_by (left_after names (taken ++ r ∷ []))
   owner_known k =
@@ -192,11 +154,13 @@ module _ (names : List (List ℕ)) (taken : List Feature) (r : Feature) (m : Mat
     | inr ahead ↦ inr (inl (may_ahead (subst (λ (x : Feature). KnowsAhead names taken x m) next ahead.0)))
   ]
 
+  left_none : KnowsNone names taken m → left_after names (taken ++ r ∷ []) ≡ None
+  left_none k = ap (λ ns. left_after ns (taken ++ r ∷ [])) k.unnamed ∙ ap (λ (rs : List Feature). left_after [] (rs ++ r ∷ [])) k.untaken
+
   owner_none : KnowsNone names taken m → m.name ≡ last_name names → owner_of m r.chrom ≡ owner_by (left_after names (taken ++ r ∷ []))
   owner_none k name =
-      owner_at false false (ap (λ l. is_it l r.chrom) k.last) k.own
-      ∙ ap (λ n. cond (is_it n r.chrom) Own Nobody) (name ∙ ap last_name k.unnamed)
-      ∙ sym (ap (λ ns. owner_by (left_after ns (taken ++ r ∷ []))) k.unnamed ∙ ap (λ (rs : List Feature). owner_by (left_after [] (rs ++ r ∷ []))) k.untaken)
+      let nobody : owner_of m r.chrom ≡ Nobody = rw (k.last, k.own, name, k.unnamed) refl in
+      nobody ∙ sym (ap owner_by (left_none k))
 
   -- the sequence of its block is found
   pub owner_next : KnowsNone names taken m ⊎ (MayTake ⊎ KnowsLast names (taken ++ r ∷ []) m) → m.name ≡ last_name names → owner_of m r.chrom ≡ owner_by (left_after names (taken ++ r ∷ []))
@@ -208,19 +172,11 @@ module _ (names : List (List ℕ)) (taken : List Feature) (r : Feature) (m : Mat
     ]
   ]
 
-  left_none : KnowsNone names taken m → left_after names (taken ++ r ∷ []) ≡ None
-  left_none k = ap (λ ns. left_after ns (taken ++ r ∷ [])) k.unnamed ∙ ap (λ (rs : List Feature). left_after [] (rs ++ r ∷ [])) k.untaken
-
   known_left : KnowsLast names (taken ++ r ∷ []) m → left_after names (taken ++ r ∷ []) ≡ None → ⊥
-  known_left k e = elim k.knows.where_last [
-    | inl own ↦ absurd (let apart : Some [] ≡ None = sym own.left ∙ e in cc)
-    | inr earlier ↦ absurd (let apart : Some (earlier.before ++ earlier.name ∷ []) ≡ None = sym earlier.left ∙ e in cc)
-  ]
+  known_left k e = grind arith
 
   not_nobody : (left : Option (List (List ℕ))) → is_some left ≡ true → owner_by left ≡ Nobody → ⊥
-  not_nobody None e o = never e
-  not_nobody (Some []) e o = absurd (let apart : Own ≡ Nobody = o in cc)
-  not_nobody (Some (n ∷ ns)) e o = absurd (let apart : Earlier ≡ Nobody = o in cc)
+  not_nobody left e o = grind arith
 
   -- it is taken: its block belongs to a sequence
   pub take_next : KnowsNone names taken m ⊎ (MayTake ⊎ KnowsLast names (taken ++ r ∷ []) m) → is_some (left_after names (taken ++ r ∷ [])) ≡ true → KnowsLast names (taken ++ r ∷ []) (matched_with m r.chrom)
@@ -255,7 +211,9 @@ module _ (names : List (List ℕ)) (n : List ℕ) (taken : List Feature) (m : Ma
   }
 
   front_is : (rs : List Feature) (left : List (List ℕ)) → left_after names rs ≡ Some left → (e : KnowsEarlier (names ++ n ∷ []) rs (named m n)) → e.before ≡ left
-  front_is rs left is e = snoc_front e.before left e.name n (some_same (e.before ++ e.name ∷ []) (left ++ n ∷ []) (sym e.left ∙ left_grows n names left rs is))
+  front_is rs left is e =
+      let both : Some (e.before ++ e.name ∷ []) ≡ Some (left ++ n ∷ []) = sym e.left ∙ left_grows n names left rs is in
+      snoc_front e.before left e.name n cc
 
   grown_last : (rs : List Feature) → m.last ≡ last_chrom rs → left_after names rs ≡ Some [] → KnowsLast (names ++ n ∷ []) rs (named m n)
   grown_last rs last e = record { knows = grown_known rs [] last e; near = λ k. front_is rs [] e k }
@@ -292,8 +250,4 @@ module _ (names : List (List ℕ)) (n : List ℕ) (taken : List Feature) (m : Ma
 
 -- one more line of the same sequence
 pub with_plain : (names : List (List ℕ)) (taken : List Feature) (ahead : Option Feature) (m : Matched) → KnowsNext false names taken ahead m → KnowsNext true names taken ahead m
-with_plain names taken None m known = known
-with_plain names taken (Some r) m known = elim known [
-  | inl last ↦ inl (last.0, λ e. absurd (never (sym e)))
-  | inr ahead ↦ inr (ahead.0, λ e. absurd (never (sym e)))
-]
+with_plain names taken ahead m known = grind arith

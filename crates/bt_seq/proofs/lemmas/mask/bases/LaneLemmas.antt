@@ -10,9 +10,6 @@ use Rattle.std.proofs.lemmas.Simd.{put_chunk_is}
 use Rattle.std.proofs.Math.Seq.{take-add}
 
 module _ (f : ℕ → ℕ) (old : List ℕ) (at : ℕ) (within : at + 32 ≤ length old) where
-  first : List ℕ
-  first = map f (take at old)
-
   -- as many were masked as come before these lanes
   as_many : length (map f (take at old)) ≡ at
   as_many = length-map (take at old) f ∙ length-take-le at old (omega (arith, within))

@@ -55,48 +55,14 @@ wrote_kept {A} r old kept new line out grown is writes =
     kept_by (Ok done) w = w
     kept_by (Err fault) w = (w.0, inl w.1)
 
-or_last : (a b c : Bool) → c ≡ true → (a || (b || c)) ≡ true
-or_last true b c e = refl
-or_last false true c e = refl
-or_last false false c e = e
-
 or_middle : (a b c : Bool) → b ≡ false → (a || (not b || c)) ≡ true
-or_middle true b c e = refl
-or_middle false false c e = refl
-or_middle false true c e = absurd (let apart : true ≡ false = e in cc)
-
-written_now : {A : Type 0} (r : Result A Fault) (old new : Masking) (number : ℕ) (line : Waiting) (out grown : Output)
-    → is_stray old line.text ≡ false → writes_at_once (moved_to old line.text) line.text ≡ true
-    → WritesGiven (moved_to old line.text) line out r new grown → TakesLine old number line out r new grown
-written_now (Ok done) old new number line out grown fine now w =
-    let moved = moved_to old line.text in (
-      fine,
-      w.0 ∙ ap (λ b. record moved { waiting = cond b None (Some line); want = cond b Line Bed }) (sym now),
-      subst (λ b. Grown out (cond b (line_bytes moved line) []) grown) (sym now) w.1,
-    )
-written_now (Err fault) old new number line out grown fine now w =
-    let moved = moved_to old line.text in (
-      w.0,
-      inr (
-        fine,
-        elim w.1 [
-          | inl adds ↦ inl (subst (λ b. FailsToAdd out (cond b (line_bytes moved line) []) (fault_value fault) grown) (sym now) adds)
-          | inr memory ↦ inr (
-            memory.0,
-            memory.1,
-            or_last (is_header line.text) (not (writes_at_once moved line.text)) (nat_lt 0 (length moved.window.held)) memory.2,
-          )
-        ],
-      ),
-    )
+or_middle a b c e = grind arith
 
 -- a line was written as soon as it was given
 pub writes_line : {A : Type 0} (r : Result A Fault) (old moved new : Masking) (number : ℕ) (line : Waiting) (out grown : Output)
     → (moved ≡ moved_to old line.text) × (is_stray old line.text ≡ false) → writes_at_once moved line.text ≡ true
     → WritesGiven moved line out r new grown → TakesLine old number line out r new grown
-writes_line r old moved new number line out grown m now writes =
-    written_now r old new number line out grown m.1 (sym (ap (λ (s : Masking). writes_at_once s line.text) m.0) ∙ now)
-    (subst (λ (s : Masking). WritesGiven s line out r new grown) m.0 writes)
+writes_line r old moved new number line out grown m now writes = grind arith
 
 waits_now : {A : Type 0} (r : Result A Fault) (old new : Masking) (number : ℕ) (line : Waiting) (out : Output)
     → is_stray old line.text ≡ false → writes_at_once (moved_to old line.text) line.text ≡ false
@@ -130,22 +96,13 @@ keeps_line r old moved new number line out m later keeps =
 
 ahead_parts : (h n e d : Bool) → (not h && (n && (e && d))) ≡ true
     → (h ≡ false) × (n ≡ true) × (e ≡ true) × (d ≡ true)
-ahead_parts false true true true is = (refl, refl, refl, refl)
-ahead_parts false true true false is = absurd (let apart : false ≡ true = is in cc)
-ahead_parts false true false d is = absurd (let apart : false ≡ true = is in cc)
-ahead_parts false false e d is = absurd (let apart : false ≡ true = is in cc)
-ahead_parts true n e d is = absurd (let apart : false ≡ true = is in cc)
+ahead_parts h n e d is = grind arith
 
 named_not_stray : (name : Option (List ℕ)) (h text : Bool) → is_some name ≡ true → (not h && (is_none name && text)) ≡ false
-named_not_stray (Some name) true text e = refl
-named_not_stray (Some name) false text e = refl
-named_not_stray None h text e = absurd (let apart : false ≡ true = e in cc)
+named_not_stray name h text e = grind arith
 
 decided_now : (ended none h within : Bool) → h ≡ false → (ended || within) ≡ true → (ended || (none || (not h && within))) ≡ true
-decided_now true none h within e is = refl
-decided_now false true h within e is = refl
-decided_now false false false within e is = is
-decided_now false false true within e is = absurd (let apart : true ≡ false = e in cc)
+decided_now ended none h within e is = grind arith
 
 none_held_on : (held : List Extent) (place : ℕ) → held ≡ [] → filter (λ (s : Extent). nat_lt place s.stop) held ≡ []
 none_held_on held place none = ap (λ ss. filter (λ (s : Extent). nat_lt place s.stop) ss) none

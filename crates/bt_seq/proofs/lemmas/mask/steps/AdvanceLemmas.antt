@@ -20,7 +20,7 @@ use Rattle.bt_seq.proofs.lemmas.mask.steps.SettleLemmas.{decided_goes, goes_more
 use Rattle.bt_seq.proofs.lemmas.mask.steps.StandLemmas.{stays_at, wants_bed, wants_line}
 use Rattle.bt_seq.specs.inside.mask.CopyThrough.{CopiesThrough, StayEach, passed_all}
 use Rattle.bt_seq.specs.calls.GivenLines.{PassesLines}
-use Rattle.bt_seq.specs.calls.MaskAdvance.{BothCome, ComesAfter, ComesNext, FailsAtRecord, GivesBoth, GivesLines, GivesRecord, HasCome, LinesCome, asks_more, left_to_give}
+use Rattle.bt_seq.specs.calls.MaskAdvance.{BothCome, ComesAfter, ComesNext, FailsAfter, FailsAtRecord, GivesBoth, GivesLines, HasCome, LinesCome, asks_more, left_to_give}
 use Rattle.bt_seq.specs.calls.MaskSettles.{GoesOn}
 use Rattle.bt_seq.specs.calls.MaskStage.{IsNext, MaskStage, is_written_at_once, reached, want_of, with_decided, with_line, with_record}
 use Rattle.bt_seq.specs.calls.MaskStanding.{MaskMovesTo, MaskStandsAt}
@@ -55,8 +55,7 @@ bytes_known bytes more g = g.appends
 -- giving a line leaves the record ahead
 ahead_by : (stage : MaskStage) (item : SequenceLine) (b : Bool)
     → (cond b (record stage { written = stage.written ++ item ∷ [] }) (record stage { waiting = Some item })).ahead ≡ stage.ahead
-ahead_by stage item true = refl
-ahead_by stage item false = refl
+ahead_by stage item b = grind arith
 
 module _ (how : MaskHow) (full : Bool) where
   record LineCopied (stage : MaskStage) (m : Masking) (line : TextLine) : Type 0 where
@@ -113,6 +112,11 @@ module _ (how : MaskHow) (full : Bool) where
 
   abbrev pub come_nowhere : (stage : MaskStage) (m : Masking) (out : Output) → MaskMovesTo how full stage m → HasCome how full stage [] [] out m out
   come_nowhere stage m out stands = record { stage = stage; bytes = []; goes_on = goes_nowhere how full stage; stands = stands; puts = grown_none out }
+
+  -- what failed may be said otherwise
+  fails_as : (old : MaskStage) (lines : List TextLine) (taken : List Feature) (out : Output) {P Q : MaskStage → List TextLine → Output → Type 0} (f : FailsAfter how full old lines taken out P)
+      → Q f.comes.stage f.failing f.through → FailsAfter how full old lines taken out Q
+  fails_as old lines taken out f q = record { before = f.before; failing = f.failing; parts = f.parts; mask = f.mask; through = f.through; comes = f.comes; fails = q }
 
   -- lines that were copied through
   abbrev pub come_copied : (stage : MaskStage) (m new : Masking) (lines : List TextLine) (out grown : Output) → new ≡ passed_all m lines → Grown out (flat_map spelled lines) grown
@@ -205,9 +209,7 @@ module _ (old : Masking) (lines : BufferedLines) (out : Output) (wants : old.wan
                 mask = mid;
                 through = between;
                 comes = come_copied old.how old.full stage old mid copies.texts out between copies.writes.0 copies.writes.1 c;
-                ahead_is = c.ahead;
-                asks = sym at.stands.want_is ∙ wants_more;
-                fails = inl (line, refl, failed.1);
+                fails = (c.ahead, sym at.stands.want_is ∙ wants_more, inl (line, refl, failed.1));
               },
             );
       }
@@ -227,9 +229,7 @@ module _ (old : Masking) (lines : BufferedLines) (out : Output) (wants : old.wan
             mask = old;
             through = out;
             comes = come_nowhere old.how old.full stage old out (stays_at stage old stands);
-            ahead_is = refl;
-            asks = sym stands.want_is ∙ wants;
-            fails = inr (record { stage = c.now; bytes = flat_map spelled copies.texts; goes_on = c.goes; ahead_is = c.ahead; fails = copies.writes.1 });
+            fails = (refl, sym stands.want_is ∙ wants, inr (record { stage = c.now; bytes = flat_map spelled copies.texts; goes_on = c.goes; ahead_is = c.ahead; fails = copies.writes.1 }));
           },
         );
   }
@@ -243,9 +243,11 @@ module _ {C : Type 0} (gives : C → List Feature → C → Type 0) (line_at : C
   after_none : (ahead : Option Feature) (records : C) → ComesAfter gives line_at has_ended ahead records [] ahead
   after_none ahead records r e = inl (e, refl)
 
-  -- no record comes next
-  pub gave_none : {A : Type 0} (done : A) (old : Masking) (records : C) (out : Output) → GivesRecord gives line_at has_ended old records out (Ok done) old records out
-  gave_none done old records out = record {
+  -- nothing comes next
+  pub gave_none : {A : Type 0} (done : A) (old : Masking) (lines : BufferedLines) (records : C) (out : Output) → GivesBoth gives line_at has_ended old lines records out (Ok done) old lines records out
+  gave_none done old lines records out = record {
+    texts = [];
+    passes = none_pass lines;
     taken = [];
     given = gives_none records;
     comes = λ stage stands ahead. (come_nowhere old.how old.full stage old out (stays_at stage old stands), ahead, after_none stage.ahead records);
@@ -331,47 +333,33 @@ module _ {C : Type 0} (gives : C → List Feature → C → Type 0) (line_at : C
               mask = old;
               through = out;
               comes = come_nowhere old.how old.full stage old out (stays_at stage old stands);
-              ahead = ahead;
-              ahead_is = after_none stage.ahead records;
-              fails = inr (
-                r,
-                later,
-                refl,
-                sym stands.want_is ∙ wants,
-                given,
-                subst (λ (n : ℕ). FailsAtRecord old.how old.full stage.waiting stage r n out (fault_value fault) grown) number_is f.1,
+              fails = (
+                ahead,
+                after_none stage.ahead records,
+                inr (r, later, refl, sym stands.want_is ∙ wants, given, subst (λ (n : ℕ). FailsAtRecord old.how old.full stage.waiting stage r n out (fault_value fault) grown) number_is f.1),
               );
             },
           )
 
-    pub gave_taken : {A : Type 0} (done : A) (new : Masking) (grown : Output) → Waits (Ok Yes) new grown → NoneWaits (Ok Yes) new grown → GivesRecord gives line_at has_ended old records out (Ok done) new later grown
-    gave_taken done new grown waits none = record { taken = r ∷ []; given = given; comes = λ stage stands ahead. come_taken stage stands ahead new grown waits none }
+    pub gave_taken : {A : Type 0} (done : A) (new : Masking) (grown : Output) (lines : BufferedLines) → Waits (Ok Yes) new grown → NoneWaits (Ok Yes) new grown → GivesBoth gives line_at has_ended old lines records out (Ok done) new lines later grown
+    gave_taken done new grown lines waits none = record { texts = []; passes = none_pass lines; taken = r ∷ []; given = given; comes = λ stage stands ahead. come_taken stage stands ahead new grown waits none }
 
-    pub gave_left : {A : Type 0} (done : A) (new : Masking) (grown : Output) → Waits (Ok No) new grown → NoneWaits (Ok No) new grown → GivesRecord gives line_at has_ended old records out (Ok done) new records grown
-    gave_left done new grown waits none = record { taken = []; given = gives_none records; comes = λ stage stands ahead. come_left stage stands ahead new grown waits none stage.waiting refl }
+    pub gave_left : {A : Type 0} (done : A) (new : Masking) (grown : Output) (lines : BufferedLines) → Waits (Ok No) new grown → NoneWaits (Ok No) new grown → GivesBoth gives line_at has_ended old lines records out (Ok done) new lines records grown
+    gave_left done new grown lines waits none = record { texts = []; passes = none_pass lines; taken = []; given = gives_none records; comes = λ stage stands ahead. come_left stage stands ahead new grown waits none stage.waiting refl }
 
-    pub failed_record : {A : Type 0} (fault : Fault) (new : Masking) (grown : Output) → Waits (Err fault) new grown → NoneWaits (Err fault) new grown → GivesRecord gives line_at has_ended {A = A} old records out (Err fault) new records grown
-    failed_record fault new grown waits none = record { taken = []; given = gives_none records; comes = λ stage stands ahead. come_failed stage stands ahead fault new grown waits none }
+    pub failed_record : {A : Type 0} (fault : Fault) (new : Masking) (grown : Output) (lines : BufferedLines) → Waits (Err fault) new grown → NoneWaits (Err fault) new grown → GivesBoth gives line_at has_ended {A = A} old lines records out (Err fault) new lines records grown
+    failed_record fault new grown lines waits none = record { texts = []; passes = none_pass lines; taken = []; given = gives_none records; comes = λ stage stands ahead. come_failed stage stands ahead fault new grown waits none }
 
   -- what giving lines or a record does is what giving both does
   module _ (records : C) {A : Type 0} (old new : Masking) (lines left : BufferedLines) (out grown : Output) where
     lift_lines : (answer : Result A Fault) (texts : List TextLine) (how : MaskHow) (full : Bool) (stage : MaskStage) → ComesNext gives line_at has_ended stage.ahead records
         → LinesCome how full stage texts out answer new grown → BothCome gives line_at has_ended how full stage texts [] out records answer new records grown
     lift_lines (Ok done) texts how full stage ahead c = (c.0, subst (λ (o : Option Feature). ComesNext gives line_at has_ended o records) (sym c.1) ahead, λ r e. inl (sym c.1 ∙ e, refl))
-    lift_lines (Err fault) texts how full stage ahead c = (
-      c.0,
-      record {
-        before = c.1.before;
-        failing = c.1.failing;
-        parts = c.1.parts;
-        mask = c.1.mask;
-        through = c.1.through;
-        comes = c.1.comes;
-        ahead = subst (λ (o : Option Feature). ComesNext gives line_at has_ended o records) (sym c.1.ahead_is) ahead;
-        ahead_is = λ r e. inl (sym c.1.ahead_is ∙ e, refl);
-        fails = inl (c.1.asks, c.1.fails);
-      },
-    )
+    lift_lines (Err fault) texts how full stage ahead c =
+        let f = c.1.fails in (
+          c.0,
+          fails_as how full stage texts [] out c.1 (subst (λ (o : Option Feature). ComesNext gives line_at has_ended o records) (sym f.0) ahead, λ r e. inl (sym f.0 ∙ e, refl), inl (f.1, f.2)),
+        )
 
     pub lines_both : (answer : Result A Fault) → GivesLines old lines out answer new left grown → GivesBoth gives line_at has_ended old lines records out answer new left records grown
     lines_both answer g = record {
@@ -381,25 +369,6 @@ module _ {C : Type 0} (gives : C → List Feature → C → Type 0) (line_at : C
       given = gives_none records;
       comes = λ stage stands ahead. lift_lines answer g.texts old.how old.full stage ahead (g.comes stage stands);
     }
-
-  pub record_both : {A : Type 0} (old new : Masking) (lines : BufferedLines) (records left : C) (out grown : Output) (answer : Result A Fault) → GivesRecord gives line_at has_ended old records out answer new left grown
-      → GivesBoth gives line_at has_ended old lines records out answer new lines left grown
-  record_both old new lines records left out grown answer g = record {
-    texts = [];
-    passes = none_pass lines;
-    taken = g.taken;
-    given = g.given;
-    comes = g.comes;
-  }
-
-  pub nothing_both : {A : Type 0} (done : A) (old : Masking) (lines : BufferedLines) (records : C) (out : Output) → GivesBoth gives line_at has_ended old lines records out (Ok done) old lines records out
-  nothing_both done old lines records out = record {
-    texts = [];
-    passes = none_pass lines;
-    taken = [];
-    given = gives_none records;
-    comes = λ stage stands ahead. (come_nowhere old.how old.full stage old out (stays_at stage old stands), ahead, after_none stage.ahead records);
-  }
 
   -- what is given after that
   module _ {A : Type 0} (done : A) (old mid new : Masking) (lines between left : BufferedLines) (records passing last : C) (out through grown : Output)
@@ -434,9 +403,7 @@ module _ {C : Type 0} (gives : C → List Feature → C → Type 0) (line_at : C
         mask = c.1.mask;
         through = c.1.through;
         comes = come_more how full stage first.texts c.1.before first.taken taken out through c.1.through mid c.1.mask f.0 c.1.comes;
-        ahead = c.1.ahead;
-        ahead_is = after_both stage.ahead f.0.stage.ahead c.1.comes.stage.ahead taken f.2 c.1.ahead_is;
-        fails = c.1.fails;
+        fails = (c.1.fails.0, after_both stage.ahead f.0.stage.ahead c.1.comes.stage.ahead taken f.2 c.1.fails.1, c.1.fails.2);
       },
     )
 
@@ -473,9 +440,7 @@ module _ {C : Type 0} (gives : C → List Feature → C → Type 0) (line_at : C
     }
 
 asks_one : (want : MaskWant) → asks_more want ≤ 1
-asks_one Line = omega arith
-asks_one Bed = omega arith
-asks_one Nothing = omega arith
+asks_one want = grind arith
 
 -- less may be given then
 module _ {C : Type 0} (room : C → ℕ) (old new : Masking) where
@@ -484,5 +449,4 @@ module _ {C : Type 0} (room : C → ℕ) (old new : Masking) where
 
   pub record_shrinks : (lines : BufferedLines) (records left : C) → old.want ≡ Bed → (room left < room records) ⊎ ((left ≡ records) × (new.want ≡ Line))
       → left_to_give room new lines left < left_to_give room old lines records
-  record_shrinks lines records left wants (inl less) = omega (arith, less, asks_one new.want, ap asks_more wants)
-  record_shrinks lines records left wants (inr same) = omega (arith, ap room same.0, ap asks_more same.1, ap asks_more wants)
+  record_shrinks lines records left wants x4 = grind arith

@@ -1,13 +1,12 @@
 -- Lemmas on a masking engine that is given a record, or the end of the records.
 use Rattle.std.proofs.Common.{◌≡◌, ℕ, ◌≤◌, ◌<◌, min, Bool, true, false, cond, ◌&&◌, ◌||◌, nat_le, nat_lt, List, [], ◌∷◌, ◌++◌, map, filter, Option, Some, None, Result, Ok, Err, refl, sym, ap, ◌∙◌, subst, append-nil, inl, inr, ◌⊎◌, arith}
-use Rattle.std.specs.Prelude.{IsOk, OnErr, is_some, option_map, option_to_list}
+use Rattle.std.specs.Prelude.{is_some, option_map, option_to_list}
 use Rattle.std.proofs.lemmas.Bool.Decides.{nat_tests}
 use Rattle.std.proofs.lemmas.List.{map-append}
 use Rattle.std.proofs.lemmas.List.Elements.{filter-append}
 use Rattle.bt_bed.specs.model.feature.Feature.{Feature}
 use Rattle.bt_bed.specs.model.input.GoodBlocks.{AreInBlocks}
 use Rattle.bt_bed.specs.model.feature.LineKind.{fault_at_line}
-use Rattle.bt_lines.specs.model.Lines.{end_bytes}
 use Rattle.bt_lines.specs.calls.Names.{fault_value}
 use Rattle.bt_lines.specs.model.Number.{max_number}
 use Rattle.bt_lines.specs.calls.Output.{Output}
@@ -15,41 +14,35 @@ use Rattle.bt_lines.specs.calls.Putting.{FailsToAdd, Grown}
 use Rattle.bt_lines.specs.declared.fault.Fault.{Fault}
 use Rattle.bt_lines.specs.declared.fault.Input.TheVariants.{Second}
 use Rattle.bt_lines.specs.declared.fault.Kind.TheVariants.{NoSequence}
-use Rattle.bt_seq.proofs.lemmas.mask.steps.CountLemmas.{decides_alike, range_more, text_masked}
+use Rattle.bt_seq.proofs.lemmas.mask.steps.CountLemmas.{decides_alike, range_more, line_masked}
 use Rattle.bt_seq.proofs.lemmas.mask.bases.KnownLemmas.{MayTake, never, next_can_be, nobody_left, none_ahead, own_ahead, owner_next, take_next}
 use Rattle.bt_seq.proofs.lemmas.laws.MaskPrefixLemmas.{blocks_front, decided_stays, held_before, masked_before}
+use Rattle.bt_seq.proofs.lemmas.mask.steps.LineStepLemmas.{open_undecided}
 use Rattle.bt_seq.proofs.lemmas.mask.steps.NextLemmas.{decided_more, own_more}
-use Rattle.bt_seq.proofs.lemmas.mask.steps.StandLemmas.{StandsBy, last_waits, stands_at, stands_by, wants_bed}
+use Rattle.bt_seq.proofs.lemmas.mask.steps.StandLemmas.{last_waits, stands_at, wants_bed}
 use Rattle.bt_seq.specs.calls.HeldMasks.{extent_of}
-use Rattle.bt_seq.specs.calls.Matching.{owner_by, Matched, begins_own, is_it, matched_with, owner_of}
+use Rattle.bt_seq.specs.calls.Matching.{owner_by, Matched, matched_with, owner_of}
 use Rattle.bt_seq.specs.inside.mask.MaskInside.{Counts, IsDecided, KnowsLast, KnowsNone, decided_up_to}
 use Rattle.bt_seq.specs.calls.MaskStage.{IsNext, MaskStage, given, held_by, line_given_last, reached, want_of, with_bed_ended, with_decided, with_record}
-use Rattle.bt_seq.specs.calls.MaskStanding.{MaskMovesTo, Waits, kept_line}
+use Rattle.bt_seq.specs.calls.MaskStanding.{MaskMovesTo, StandsAfter, Waits, kept_line}
 use Rattle.bt_seq.specs.calls.MaskSteps.{EndsRecords, GivesBed, HasSequence, LacksSequence, WritesLine}
 use Rattle.bt_seq.specs.model.Masked.{decided, held_for, masked_line}
-use Rattle.bt_seq.specs.calls.MaskState.{Masking, TakesBed, Waiting, Writes, decides, decides_by, decides_up_to, has_owner, holding, holds, holds_by, line_bytes, with_owner, with_extent}
+use Rattle.bt_seq.specs.calls.MaskState.{Masking, TakesBed, Writes, decides, decides_by, decides_up_to, has_owner, holding, holds, holds_by, line_bytes, with_owner, with_extent}
 use Rattle.bt_seq.specs.model.Owners.{block_decides, items_if_last, left_after, own_records}
 use Rattle.bt_seq.specs.model.Sequences.{SequenceLine, bases_up_to}
-use Rattle.bt_seq.specs.inside.mask.MaskedBases.{masked_in}
 use Rattle.bt_seq.specs.inside.mask.Window.{Bounds, limit}
 use Rattle.bt_seq.specs.declared.mask.mask_how.MaskHow.{MaskHow}
-use Rattle.bt_seq.specs.declared.mask.mask_want.MaskWant.TheVariants.{Line, Bed, Nothing}
+use Rattle.bt_seq.specs.declared.mask.mask_want.MaskWant.TheVariants.{Line, Bed}
 use Rattle.bt_bed.specs.declared.record.taken.Taken.{Taken}
 use Rattle.bt_bed.specs.declared.record.taken.Taken.TheVariants.{Yes, No}
 use Rattle.bt_seq.specs.declared.mask.matching.Owner.TheVariants.{Nobody}
 use Rattle.bt_seq.specs.declared.sam.extent.Extent.{Extent}
 
 extent_counts : (last : Option SequenceLine) (w : Bounds) (b : Bool) (start stop : ℕ) → Counts last w → Counts last (with_extent b w start stop)
-extent_counts last w true start stop c = record { before = c.before; bases = c.bases }
-extent_counts last w false start stop c = c
-
-name_by : (m : Matched) (it b : Bool) → (cond it m (cond b (record { name = m.name; last = m.name; own = true }) m)).name ≡ m.name
-name_by m true b = refl
-name_by m false true = refl
-name_by m false false = refl
+extent_counts last w b start stop c = grind arith
 
 name_same : (m : Matched) (chrom : List ℕ) → (matched_with m chrom).name ≡ m.name
-name_same m chrom = name_by m (is_it m.last chrom) (begins_own m chrom)
+name_same m chrom = grind arith
 
 module _ (line : SequenceLine) (r : Feature) (range : r.stop ≤ max_number) where
   abbrev reaches : Feature → Bool
@@ -75,39 +68,27 @@ module _ (line : SequenceLine) (r : Feature) (range : r.stop ≤ max_number) whe
     extent_more (Some []) e = extent_by (nat_lt w.before r.stop) (reaches r) (agrees e)
     extent_more (Some (n ∷ ns)) e = sym (append-nil w.held)
 
-    one_by : (h t : Bool) → h ≡ t → h ≡ true → cond t (r ∷ []) [] ≡ r ∷ []
-    one_by h true e d = refl
-    one_by h false e d = absurd (never (sym e ∙ d))
-
     hold_item : (left : Option (List (List ℕ))) → block_decides (bases_up_to line) left (r ∷ []) ≡ false → holds_by (owner_by left) w r ≡ true → filter reaches (items_if_last left (r ∷ [])) ≡ r ∷ []
-    hold_item None e d = absurd (never d)
-    hold_item (Some []) e d = one_by (nat_lt w.before r.stop) (reaches r) (agrees e) d
-    hold_item (Some (n ∷ ns)) e d = absurd (never d)
+    hold_item left e d = grind (arith, nat_tests)
 
 left_some : (bases : ℕ) (left : Option (List (List ℕ))) (r : Feature) → block_decides bases left (r ∷ []) ≡ false → is_some left ≡ true
-left_some bases None r e = absurd (never (sym e))
-left_some bases (Some l) r e = refl
+left_some bases left r e = grind (arith, nat_tests)
 
 owner_some : (left : Option (List (List ℕ))) → has_owner (owner_by left) → is_some left ≡ true
-owner_some None h = absurd h
-owner_some (Some l) h = refl
+owner_some left h = grind arith
 
 -- how far a record decides lines
 up_to_by : (left : Option (List (List ℕ))) (r : Feature) → decides_up_to (owner_by left) r.start ≡ decided_up_to left r
-up_to_by None r = refl
-up_to_by (Some []) r = refl
-up_to_by (Some (n ∷ ns)) r = refl
+up_to_by left r = grind arith
 
 -- the block of a record that decides a line belongs to the last sequence or to none
 decides_left : (bases : ℕ) (left : Option (List (List ℕ))) (r : Feature) → block_decides bases left (r ∷ []) ≡ true → (left ≡ None) ⊎ (left ≡ Some [])
-decides_left bases None r e = inl refl
-decides_left bases (Some []) r e = inr refl
-decides_left bases (Some (n ∷ ns)) r e = absurd (never e)
+decides_left bases left r e = grind (arith, nat_tests)
 
 -- a line waits
 module _ (how : MaskHow) (full : Bool) (stage : MaskStage) (line : SequenceLine) (waits : stage.waiting ≡ Some line) (old : Masking) (stands : MaskMovesTo how full stage old) where
-  at_last : StandsBy how full stage (Some line) old
-  at_last = subst (λ (l : Option SequenceLine). StandsBy how full stage l old) (last_waits stage line waits) (stands_by how full stage old stands)
+  at_last : StandsAfter stage (Some line) old
+  at_last = subst (λ (l : Option SequenceLine). StandsAfter stage l old) (last_waits stage line waits) stands.stands
 
   as_waits : Waits stage line
   as_waits = stands.stands.waits line waits
@@ -116,19 +97,11 @@ module _ (how : MaskHow) (full : Bool) (stage : MaskStage) (line : SequenceLine)
   kept_is = stands.stands.waiting_is ∙ ap (λ (w : Option SequenceLine). option_map kept_line w) waits
 
   undecided_yet : decided line stage.taken ≡ false
-  undecided_yet = elim (at_last.is_open as_waits.lines) [
-    | inl none ↦ ap (λ (rs : List Feature). decided line rs) none ∙ ap (λ b. b || false) as_waits.named
-    | inr undecided ↦ undecided
-  ]
+  undecided_yet = open_undecided line stage.taken as_waits.named (at_last.is_open as_waits.lines)
 
   bytes_are : line_bytes old (kept_line line) ≡ masked_line how stage.taken line
   bytes_are =
-      ap (λ (t : List ℕ). t ++ end_bytes line.ending)
-      (ap (λ (h : MaskHow). masked_in h old.window.held old.window.before line.text) at_last.how_is
-      ∙ ap (λ (l : List Extent). masked_in how l old.window.before line.text)
-      (at_last.holds (inl as_waits.lines))
-      ∙ ap (λ b. masked_in how (map extent_of (held_for line stage.taken)) b line.text) at_last.counts.before
-      ∙ text_masked how line stage.taken at_last.in_range as_waits.header)
+      line_masked how line stage.taken at_last.inside.in_range as_waits.header old stands.how_is (at_last.holds (inl as_waits.lines)) at_last.inside.counts.before
 
   given_last : line_given_last ((stage.written ++ option_to_list stage.waiting) ++ []) ≡ Some line
   given_last = ap line_given_last (append-nil (stage.written ++ option_to_list stage.waiting)) ∙ last_waits stage line waits
@@ -141,15 +114,15 @@ module _ (how : MaskHow) (full : Bool) (stage : MaskStage) (line : SequenceLine)
     low = omega arith
 
     can : KnowsNone line.names stage.taken old.matched ⊎ (MayTake line.names stage.taken r old.matched ⊎ KnowsLast line.names (stage.taken ++ r ∷ []) old.matched)
-    can = next_can_be line.names stage.taken r old.matched (is_some stage.waiting) stage.ahead (at_last.knows as_waits.bed) next
+    can = next_can_be line.names stage.taken r old.matched (is_some stage.waiting) stage.ahead (at_last.inside.knows as_waits.bed) next
 
     owner_is : owner_of old.matched r.chrom ≡ owner_by left
-    owner_is = owner_next line.names stage.taken r old.matched can at_last.name_is
+    owner_is = owner_next line.names stage.taken r old.matched can at_last.inside.name_is
 
     decides_is : decides old r ≡ block_decides (bases_up_to line) left (r ∷ [])
     decides_is =
         ap (λ o. decides_by o old.window.bases r.start) owner_is
-        ∙ ap (λ b. decides_by (owner_by left) b r.start) at_last.counts.bases
+        ∙ ap (λ b. decides_by (owner_by left) b r.start) at_last.inside.counts.bases
         ∙ decides_alike (bases_up_to line) left r (omega arith)
 
     decided_is : decided line (stage.taken ++ r ∷ []) ≡ decides old r
@@ -164,29 +137,29 @@ module _ (how : MaskHow) (full : Bool) (stage : MaskStage) (line : SequenceLine)
         let owned : is_some left ≡ true = left_some (bases_up_to line) left r undecided in
         let held : old.window.held ≡ map extent_of (held_for line stage.taken) =
         at_last.holds (inl as_waits.lines) in
-        stands_at how full (with_record stage r) (holding old r) (Some line) (last_waits stage line waits) (record {
-          how_is = at_last.how_is;
-          full_is = at_last.full_is;
+        stands_at how full (with_record stage r) (holding old r) (Some line) (last_waits stage line waits) stands.how_is stands.full_is (record {
           waiting_is = at_last.waiting_is;
           want_is = at_last.want_is;
           bed_ended_is = at_last.bed_ended_is;
           waits = λ l d. let w = stands.stands.waits l d in record { lines = w.lines; bed = w.bed; named = w.named; header = w.header };
-          counts = extent_counts (Some line) old.window (holds old r) r.start r.stop at_last.counts;
-          name_is = name_same old.matched r.chrom ∙ at_last.name_is;
           holds = λ d.
               ap (λ h. (with_extent h old.window r.start r.stop).held) holds_is
-              ∙ extent_more line r range old.window at_last.counts.before left undecided
+              ∙ extent_more line r range old.window at_last.inside.counts.before left undecided
               ∙ ap (λ (l : List Extent). l ++ map extent_of (filter (reaches line r range) (items_if_last left (r ∷ [])))) held
               ∙ sym (map-append extent_of (held_for line stage.taken) (filter (reaches line r range) (items_if_last left (r ∷ []))))
               ∙ sym (ap (map extent_of) (held_more line r range stage.taken));
           is_open = λ d. inr (decided_is ∙ e);
-          is_decided = λ n. absurd (let apart : Some line ≡ None = sym waits ∙ n in cc);
           owned = owned;
-          in_range = range_more stage.taken r at_last.in_range range;
-          knows = λ d. inr (take_next line.names stage.taken r old.matched can owned);
-          has_ahead = λ d. absurd (let apart : Bed ≡ Line = sym (ap (λ (w : Option SequenceLine). want_of (is_some w) stage.lines_ended stage.bed_ended) waits) ∙ d in cc);
-          ahead_in_range = λ a d. absurd (let apart : None ≡ Some a = d in cc);
-          decided_to_is = λ n going a d. absurd (let apart : None ≡ Some a = d in cc);
+          inside = record {
+            counts = extent_counts (Some line) old.window (holds old r) r.start r.stop at_last.inside.counts;
+            name_is = name_same old.matched r.chrom ∙ at_last.inside.name_is;
+            is_decided = λ n. absurd (let apart : Some line ≡ None = sym waits ∙ n in cc);
+            in_range = range_more stage.taken r at_last.inside.in_range range;
+            knows = λ d. inr (take_next line.names stage.taken r old.matched can owned);
+            has_ahead = λ d. absurd (let apart : Bed ≡ Line = sym (ap (λ (w : Option SequenceLine). want_of (is_some w) stage.lines_ended stage.bed_ended) waits) ∙ d in cc);
+            ahead_in_range = λ a d. absurd (let apart : None ≡ Some a = d in cc);
+            decided_to_is = λ n going a d. absurd (let apart : None ≡ Some a = d in cc);
+          };
         })
 
     abbrev after_decided : Masking
@@ -198,30 +171,30 @@ module _ (how : MaskHow) (full : Bool) (stage : MaskStage) (line : SequenceLine)
 
     decided_stands : decides old r ≡ true → MaskMovesTo how full (with_decided stage r) after_decided
     decided_stands e =
-        stands_at how full (with_decided stage r) after_decided (Some line) given_last (record {
-          how_is = at_last.how_is;
-          full_is = at_last.full_is;
+        stands_at how full (with_decided stage r) after_decided (Some line) given_last stands.how_is stands.full_is (record {
           waiting_is = refl;
           want_is = sym (ap (λ b. want_of false b stage.bed_ended) as_waits.lines);
           bed_ended_is = at_last.bed_ended_is;
           waits = λ l d. absurd (let apart : None ≡ Some l = d in cc);
-          counts = at_last.counts;
-          name_is = name_same old.matched r.chrom ∙ at_last.name_is;
           holds = at_last.holds;
           is_open = at_last.is_open;
-          is_decided = λ n going. decided_is ∙ e;
           owned = at_last.owned;
-          in_range = at_last.in_range;
-          knows = λ d. elim (decides_left (bases_up_to line) left r (sym decides_is ∙ e)) [
-            | inl none ↦ none_ahead line.names stage.taken r old.matched can as_waits.named none
-            | inr own ↦ own_ahead line.names stage.taken r old.matched can own
-          ];
-          has_ahead = λ d going u. refl;
-          ahead_in_range = λ a d. let same : r ≡ a = cc in subst (λ (a : Feature). a.start < limit) same low;
-          decided_to_is = λ n going a d.
-              let same : r ≡ a = cc in
-              ap (λ o. decides_up_to o r.start) owner_is ∙ up_to_by left r
-              ∙ ap (λ (a : Feature). decided_up_to (left_after line.names (stage.taken ++ a ∷ [])) a) same;
+          inside = record {
+            counts = at_last.inside.counts;
+            name_is = name_same old.matched r.chrom ∙ at_last.inside.name_is;
+            is_decided = λ n going. decided_is ∙ e;
+            in_range = at_last.inside.in_range;
+            knows = λ d. elim (decides_left (bases_up_to line) left r (sym decides_is ∙ e)) [
+              | inl none ↦ none_ahead line.names stage.taken r old.matched can as_waits.named none
+              | inr own ↦ own_ahead line.names stage.taken r old.matched can own
+            ];
+            has_ahead = λ d going u. refl;
+            ahead_in_range = λ a d. let same : r ≡ a = cc in subst (λ (a : Feature). a.start < limit) same low;
+            decided_to_is = λ n going a d.
+                let same : r ≡ a = cc in
+                ap (λ o. decides_up_to o r.start) owner_is ∙ up_to_by left r
+                ∙ ap (λ (a : Feature). decided_up_to (left_after line.names (stage.taken ++ a ∷ [])) a) same;
+          };
         })
 
     module _ (out : Output) (new : Masking) (grown : Output) where
@@ -251,7 +224,7 @@ module _ (how : MaskHow) (full : Bool) (stage : MaskStage) (line : SequenceLine)
           | inr held ↦ inr (record {
             undecided = decided_is ∙ held.0;
             to_hold = held_more line r range stage.taken
-                ∙ ap (λ (l : List Feature). held_for line stage.taken ++ l) (hold_item line r range old.window at_last.counts.before left (sym decides_is ∙ held.0) (sym holds_is ∙ held.1));
+                ∙ ap (λ (l : List Feature). held_for line stage.taken ++ l) (hold_item line r range old.window at_last.inside.counts.before left (sym decides_is ∙ held.0) (sym holds_is ∙ held.1));
             is = held.2;
             same_output = held.3;
           })
@@ -261,24 +234,24 @@ module _ (how : MaskHow) (full : Bool) (stage : MaskStage) (line : SequenceLine)
   -- the records end
   ended_stands : MaskMovesTo how full (with_bed_ended stage) (record old { bed_ended = true; waiting = None; want = Line })
   ended_stands =
-      stands_at how full (with_bed_ended stage) (record old { bed_ended = true; waiting = None; want = Line }) (Some line) given_last (record {
-        how_is = at_last.how_is;
-        full_is = at_last.full_is;
+      stands_at how full (with_bed_ended stage) (record old { bed_ended = true; waiting = None; want = Line }) (Some line) given_last stands.how_is stands.full_is (record {
         waiting_is = refl;
         want_is = sym (ap (λ b. want_of false b true) as_waits.lines);
         bed_ended_is = refl;
         waits = λ l d. absurd (let apart : None ≡ Some l = d in cc);
-        counts = at_last.counts;
-        name_is = at_last.name_is;
         holds = at_last.holds;
         is_open = at_last.is_open;
-        is_decided = λ n going. absurd (never (sym going));
         owned = at_last.owned;
-        in_range = at_last.in_range;
-        knows = λ d. absurd (never (sym d));
-        has_ahead = λ d e u. absurd (never (sym e));
-        ahead_in_range = at_last.ahead_in_range;
-        decided_to_is = λ n going. absurd (never (sym going));
+        inside = record {
+          counts = at_last.inside.counts;
+          name_is = at_last.inside.name_is;
+          is_decided = λ n going. absurd (never (sym going));
+          in_range = at_last.inside.in_range;
+          knows = λ d. absurd (never (sym d));
+          has_ahead = λ d e u. absurd (never (sym e));
+          ahead_in_range = at_last.inside.ahead_in_range;
+          decided_to_is = λ n going. absurd (never (sym going));
+        };
       })
 
   pub ends_bed : {A : Type 0} (answer : Result A Fault) (out : Output) (new : Masking) (grown : Output) → Writes (record old { bed_ended = true }) (kept_line line) out answer new grown → EndsRecords how full stage line out answer new grown
@@ -378,38 +351,3 @@ module _ (how : MaskHow) (full : Bool) (stage : MaskStage) (none : stage.waiting
       is = is;
       same_output = refl;
     }
-
--- after a fault nothing is wanted
-stops_at : (old new : Masking) (l : Waiting) (r : Feature) (out grown : Output) (answer : Result Taken Fault) → TakesBed old l r out answer new grown → OnErr answer (new.want ≡ Nothing)
-stops_at old new l r out grown (Ok Yes) t = tt
-stops_at old new l r out grown (Ok No) t = tt
-stops_at old new l r out grown (Err fault) t = t.0
-
-pub stops_bed : (old new : Masking) (r : Feature) (out grown : Output) (answer : Result Taken Fault) (w : Option Waiting) → is_some w ≡ true
-    → ((l : Waiting) → w ≡ Some l → TakesBed old l r out answer new grown) → OnErr answer (new.want ≡ Nothing)
-stops_bed old new r out grown answer None e t = absurd (never e)
-stops_bed old new r out grown answer (Some l) e t = stops_at old new l r out grown answer (t l refl)
-
-leaves_at : (old new : Masking) (l : Waiting) (r : Feature) (out grown : Output) (answer : Result Taken Fault) → TakesBed old l r out answer new grown → answer ≡ Ok No → new.want ≡ Line
-leaves_at old new l r out grown (Ok Yes) t e = absurd (let apart : Ok Yes ≡ Ok No = e in cc)
-leaves_at old new l r out grown (Ok No) t e = ap (λ (m : Masking). m.want) t.1
-leaves_at old new l r out grown (Err fault) t e = absurd (let apart : Err fault ≡ Ok No = e in cc)
-
--- a line is wanted after a record that was left
-pub leaves_bed : (old new : Masking) (r : Feature) (out grown : Output) (answer : Result Taken Fault) (w : Option Waiting) → is_some w ≡ true
-    → ((l : Waiting) → w ≡ Some l → TakesBed old l r out answer new grown) → answer ≡ Ok No → new.want ≡ Line
-leaves_bed old new r out grown answer None e t is = absurd (never e)
-leaves_bed old new r out grown answer (Some l) e t is = leaves_at old new l r out grown answer (t l refl) is
-
-stops_writing : {A : Type 0} (old new : Masking) (l : Waiting) (out grown : Output) (answer : Result A Fault) → Writes old l out answer new grown → OnErr answer (new.want ≡ Nothing)
-stops_writing old new l out grown (Ok done) t = tt
-stops_writing old new l out grown (Err fault) t = t.0
-
-never_stops : {A : Type 0} (new : Masking) (answer : Result A Fault) → IsOk answer → OnErr answer (new.want ≡ Nothing)
-never_stops new (Ok done) ok = tt
-never_stops new (Err fault) ok = absurd (never ok)
-
-pub stops_end : {A : Type 0} (old new : Masking) (out grown : Output) (answer : Result A Fault) (w : Option Waiting)
-    → ((l : Waiting) → w ≡ Some l → Writes old l out answer new grown) → (w ≡ None → IsOk answer) → OnErr answer (new.want ≡ Nothing)
-stops_end old new out grown answer None t ok = never_stops new answer (ok refl)
-stops_end old new out grown answer (Some l) t ok = stops_writing old new l out grown answer (t l refl)

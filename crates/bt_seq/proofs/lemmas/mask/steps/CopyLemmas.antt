@@ -1,7 +1,6 @@
 -- Lemmas on lines of bases that are copied through.
 use Rattle.std.proofs.Common.{◌≡◌, ℕ, suc, ◌+◌, ◌-◌, ◌≤◌, min, Bool, true, false, not, ◌&&◌, ◌||◌, nat_eq, nat_le, nat_lt, if◌then◌else◌, List, [], ◌∷◌, ◌++◌, length, take, drop, length-append, append_assoc, append-nil, None, Result, Ok, Err, is_some, slice_range, refl, sym, ap, ◌∙◌, subst, arith}
 use Rattle.std.specs.Prelude.{IsErr, IsOk, flat_map}
-use Rattle.std.proofs.lemmas.Bool.{false≢true}
 use Rattle.std.proofs.lemmas.Bool.Decides.{nat_tests}
 use Rattle.std.proofs.Math.Seq.{take-append_seam}
 use Rattle.bt_lines.proofs.lemmas.reader.lines.LinesLemmas.{spelled-fed}
@@ -95,8 +94,7 @@ all_true h n e d p q r s = rw (p, q, r, s) refl
 
 -- up to a base lines are known to be decided
 pub known_up_to : (ended : Bool) (to bases : ℕ) → bases ≤ (if ended then limit else to) → (ended || nat_le bases to) ≡ true
-known_up_to true to bases within = refl
-known_up_to false to bases within = grind (arith, nat_tests)
+known_up_to ended to bases within = grind (arith, nat_tests)
 
 -- the bounds of a line if nothing is held
 pub bounds_are : (before bases : ℕ) (w : Bounds) → before ≡ w.before → bases ≡ w.bases → w.held ≡ []
@@ -143,8 +141,7 @@ module _ (to : ℕ) where
       ap (λ (w : Bounds). record m { window = w; waiting = None; want = Line }) is ∙ sym (copies_come lines line p q m at named known copies)
 
 pub some_bytes : (bytes : List ℕ) → nat_eq (length bytes) 0 ≡ false → bytes ≡ [] → ⊥
-some_bytes [] e none = false≢true (sym e)
-some_bytes (byte ∷ bytes) e none = absurd (let apart : byte ∷ bytes ≡ [] = none in cc)
+some_bytes bytes e none = grind (arith, nat_tests)
 
 -- where it has come lies within what is buffered
 pub copies_within : (to : ℕ) (lines : List TextLine) (old new : CopyThrough) → CopiesLines to old lines new → new.lines.at ≤ length old.lines.all.now

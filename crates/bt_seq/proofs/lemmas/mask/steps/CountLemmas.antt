@@ -10,11 +10,13 @@ use Rattle.bt_seq.proofs.lemmas.laws.MaskPrefixLemmas.{chrom_of}
 use Rattle.bt_seq.proofs.lemmas.sam.ExtentLemmas.{none_masked}
 use Rattle.bt_seq.proofs.lemmas.sam.TagLemmas.{next_left, own_in, own_tagged, tag_decides, tags}
 use Rattle.bt_seq.specs.calls.HeldMasks.{extent_of}
+use Rattle.bt_lines.specs.model.Lines.{end_bytes}
+use Rattle.bt_seq.specs.calls.MaskStanding.{kept_line}
 use Rattle.bt_seq.specs.calls.Matching.{owner_by}
 use Rattle.bt_seq.specs.model.MaskHow.{masked_byte}
 use Rattle.bt_seq.specs.inside.mask.MaskInside.{AreInRange}
-use Rattle.bt_seq.specs.model.Masked.{held_for, masked_from, masked_text}
-use Rattle.bt_seq.specs.calls.MaskState.{decides_by}
+use Rattle.bt_seq.specs.model.Masked.{held_for, masked_from, masked_line, masked_text}
+use Rattle.bt_seq.specs.calls.MaskState.{Masking, decides_by, line_bytes}
 use Rattle.bt_seq.specs.model.Owners.{block_decides, items_if_last, own_records}
 use Rattle.bt_seq.specs.model.Sequences.{SequenceLine, bases_up_to, is_header}
 use Rattle.bt_seq.specs.inside.mask.MaskedBases.{has_position, masked_in}
@@ -31,9 +33,7 @@ pub range_more : (rs : List Feature) (r : Feature) → AreInRange rs → r.stop 
 range_more rs r h low = all_both (λ (r : Feature). r.stop ≤ max_number) rs (r ∷ []) h (low, tt)
 
 item_range : (left : Option (List (List ℕ))) (r : Feature) → r.stop ≤ max_number → AreInRange (items_if_last left (r ∷ []))
-item_range None r h = tt
-item_range (Some []) r h = (h, tt)
-item_range (Some (n ∷ ns)) r h = tt
+item_range left r h = grind arith
 
 own_range : (left : Option (List (List ℕ))) (last : Option (List ℕ)) (rs : List Feature) → AreInRange rs → AreInRange (own_in (tags chrom_of left last rs))
 own_range left last [] h = tt
@@ -46,13 +46,8 @@ abbrev pub IsLow : ℕ → Feature → Type 0
 IsLow low r = (r.start < low) × (r.stop ≤ max_number)
 
 module _ (low : ℕ) where
-  lt_false : (start : ℕ) → (nat_le low start || false) ≡ false → start < low
-  lt_false start e = grind (arith, nat_tests)
-
   item_low : (left : Option (List (List ℕ))) (r : Feature) → block_decides low left (r ∷ []) ≡ false → r.stop ≤ max_number → AllByRecursion (IsLow low) (items_if_last left (r ∷ []))
-  item_low None r e h = tt
-  item_low (Some []) r e h = ((lt_false r.start e, h), tt)
-  item_low (Some (n ∷ ns)) r e h = tt
+  item_low left r e h = grind (arith, nat_tests)
 
   pub own_low : (left : Option (List (List ℕ))) (last : Option (List ℕ)) (rs : List Feature) → list_any (tag_decides low) (tags chrom_of left last rs) ≡ false → AreInRange rs
       → AllByRecursion (IsLow low) (own_in (tags chrom_of left last rs))
@@ -73,18 +68,9 @@ module _ (first low high : ℕ) (up : first ≤ low) (further : low ≤ high) wh
   abbrev goes_past : Extent → Bool
   goes_past s = nat_lt (min low limit) s.stop
 
-  held_at : (r : Feature) (old new : List Feature) (q w : Bool) → q ≡ w → filter goes_past (map extent_of old) ≡ map extent_of new
-      → cond q (extent_of r ∷ filter goes_past (map extent_of old)) (filter goes_past (map extent_of old)) ≡ map extent_of (cond w (r ∷ new) new)
-  held_at r old new true true e rest = ap (λ (l : List Extent). extent_of r ∷ l) rest
-  held_at r old new true false e rest = absurd (let apart : true ≡ false = e in cc)
-  held_at r old new false true e rest = absurd (let apart : false ≡ true = e in cc)
-  held_at r old new false false e rest = rest
-
   held_if : (r : Feature) (old new : List Feature) (p w : Bool) → (p && nat_lt (min low limit) r.stop) ≡ w → filter goes_past (map extent_of old) ≡ map extent_of new
       → filter goes_past (map extent_of (cond p (r ∷ old) old)) ≡ map extent_of (cond w (r ∷ new) new)
-  held_if r old new true w e rest = held_at r old new (nat_lt (min low limit) r.stop) w e rest
-  held_if r old new false true e rest = absurd (let apart : false ≡ true = e in cc)
-  held_if r old new false false e rest = rest
+  held_if r old new p w e rest = grind (arith, nat_tests)
 
   tests_agree : (start stop : ℕ) → start < low → stop ≤ max_number → ((nat_lt start low && nat_lt first stop) && nat_lt (min low limit) stop) ≡ (nat_lt start high && nat_lt low stop)
   tests_agree start stop before short = grind (arith, nat_tests)
@@ -98,8 +84,7 @@ abbrev AreShort : List Extent → Type 0
 AreShort extents = AllByRecursion (λ (s : Extent). s.stop ≤ max_number) extents
 
 short_if : (p : Bool) (r : Feature) (rs : List Feature) → r.stop ≤ max_number → AreShort (map extent_of rs) → AreShort (map extent_of (cond p (r ∷ rs) rs))
-short_if true r rs h k = (h, k)
-short_if false r rs h k = k
+short_if p r rs h k = grind arith
 
 held_short : (p : Feature → Bool) (rs : List Feature) → AreInRange rs → AreShort (map extent_of (filter p rs))
 held_short p [] h = tt
@@ -155,8 +140,11 @@ module _ (how : MaskHow) (line : SequenceLine) (rs : List Feature) (range : AreI
   pub text_masked : (is_header line.text ≡ true → line.before ≡ 0) → masked_in how (map extent_of (held_for line rs)) (min line.before limit) line.text ≡ masked_text how rs line
   text_masked header = text_by (is_header line.text) refl header
 
+  -- so what is written of it are its bytes
+  pub line_masked : (is_header line.text ≡ true → line.before ≡ 0) → (m : Masking) → m.how ≡ how → m.window.held ≡ map extent_of (held_for line rs) → m.window.before ≡ min line.before limit
+      → line_bytes m (kept_line line) ≡ masked_line how rs line
+  line_masked header m same_how held before = ap (λ t. t ++ end_bytes line.ending) (rw (same_how, held, before) (text_masked header))
+
 -- whether a record decides a line, by the bases as they are counted
 pub decides_alike : (bases : ℕ) (left : Option (List (List ℕ))) (r : Feature) → r.start < limit → decides_by (owner_by left) (min bases limit) r.start ≡ block_decides bases left (r ∷ [])
-decides_alike bases None r low = refl
-decides_alike bases (Some []) r low = grind (arith, nat_tests)
-decides_alike bases (Some (n ∷ ns)) r low = refl
+decides_alike bases left r low = grind (arith, nat_tests)

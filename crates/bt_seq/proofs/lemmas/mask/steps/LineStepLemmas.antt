@@ -4,19 +4,19 @@ use Rattle.std.specs.List.{AllByRecursion, list_any}
 use Rattle.std.specs.Prelude.{is_none, is_some, option_map, option_to_list}
 use Rattle.std.proofs.lemmas.Bool.Decides.{nat_tests}
 use Rattle.std.proofs.lemmas.List.{length-map}
-use Rattle.std.proofs.lemmas.Bool.{not-true, not-false, or_parts}
+use Rattle.std.proofs.lemmas.Bool.{cases_Bool, not-true, not-false, or_parts}
 use Rattle.bt_bed.specs.model.feature.Feature.{Feature}
-use Rattle.bt_lines.specs.model.Lines.{TextLine, end_bytes}
+use Rattle.bt_lines.specs.model.Lines.{TextLine}
 use Rattle.bt_lines.specs.calls.Names.{fault_value}
 use Rattle.bt_lines.specs.calls.Output.{Output}
 use Rattle.bt_lines.specs.calls.Putting.{FailsToAdd, Grown}
 use Rattle.bt_lines.specs.declared.fault.Fault.{Fault}
 use Rattle.bt_lines.specs.declared.fault.Kind.TheVariants.{TextBeforeHeader}
-use Rattle.bt_seq.proofs.lemmas.mask.steps.CountLemmas.{IsLow, decides_alike, held_on, own_low, text_masked}
+use Rattle.bt_seq.proofs.lemmas.mask.steps.CountLemmas.{IsLow, held_on, own_low, line_masked}
 use Rattle.bt_seq.proofs.lemmas.mask.bases.KnownLemmas.{never, with_header, with_plain}
 use Rattle.bt_seq.proofs.lemmas.laws.MaskPrefixLemmas.{decided_by_tags, masked_before}
 use Rattle.bt_seq.proofs.lemmas.mask.steps.NextLemmas.{decided_more, left_grows, named_more, none_own, undecided_header, undecided_next}
-use Rattle.bt_seq.proofs.lemmas.mask.steps.StandLemmas.{last_more, last_name_more, last_name_none, stands_at, unnamed_are, unnamed_untaken, wants_line}
+use Rattle.bt_seq.proofs.lemmas.mask.steps.StandLemmas.{last_more, last_name_more, last_name_none, stands_at, wants_line}
 use Rattle.bt_seq.proofs.lemmas.sam.TagLemmas.{own_tagged, tag_decides, tags_of}
 use Rattle.bt_seq.specs.calls.HeldMasks.{extent_of}
 use Rattle.bt_seq.specs.inside.mask.MaskInside.{AreInRange, Counts, KnowsNext, decided_up_to, last_name}
@@ -28,27 +28,17 @@ use Rattle.bt_seq.specs.calls.MaskState.{Masking, TakesLine, Waiting, bytes_at_o
 use Rattle.bt_seq.specs.calls.Matching.{Matched, named}
 use Rattle.bt_seq.specs.model.Owners.{block_decides, left_after, own_records}
 use Rattle.bt_seq.specs.model.Sequences.{SequenceLine, bases_in, bases_up_to, header_behind, is_header, line_behind, line_says, may_stand, name_in}
-use Rattle.bt_seq.specs.inside.mask.MaskedBases.{masked_in}
 use Rattle.bt_seq.specs.inside.mask.Window.{Bounds, gone_on, limit, no_bases}
 use Rattle.bt_seq.specs.declared.mask.mask_how.MaskHow.{MaskHow}
 use Rattle.bt_seq.specs.declared.mask.mask_want.MaskWant.TheVariants.{Line, Bed, Nothing}
 use Rattle.bt_seq.specs.declared.sam.extent.Extent.{Extent}
 
 pub neither : (a b c : Bool) → (a || (b || c)) ≡ false → (a ≡ false) × (b ≡ false)
-neither true b c e = absurd (never (sym e))
-neither false true c e = absurd (never (sym e))
-neither false false c e = (refl, refl)
+neither a b c e = grind arith
 
 -- a list that there is
 pub some_list : (o : Option (List (List ℕ))) → is_some o ≡ true → (l : List (List ℕ)) × (o ≡ Some l)
-some_list None e = absurd (never e)
-some_list (Some l) e = (l, refl)
-
-nothing_masked : (held : List Feature) → held ≡ [] → [] ≡ map extent_of held
-nothing_masked held e = sym (ap (λ (l : List Feature). map extent_of l) e)
-
-no_own : (p : Feature → Bool) (own : List Feature) → own ≡ [] → filter p own ≡ []
-no_own p own e = ap (filter p) e
+some_list o e = grind arith
 
 -- what the next line of a sequence goes on to hold
 module _ (taken : List Feature) (range : AreInRange taken) (line : TextLine) (plain : is_header line.text ≡ false) where
@@ -57,12 +47,7 @@ module _ (taken : List Feature) (range : AreInRange taken) (line : TextLine) (pl
 
   held_untaken : (last : Option SequenceLine) (w : Bounds) → taken ≡ [] → w.held ≡ map extent_of (held_by last taken)
       → filter (λ (s : Extent). nat_lt w.bases s.stop) w.held ≡ map extent_of (held_for (next last) taken)
-  held_untaken None w none held =
-      ap (λ (l : List Extent). filter (λ (s : Extent). nat_lt w.bases s.stop) l) held
-      ∙ sym (ap (λ (rs : List Feature). map extent_of (held_for (next None) rs)) none)
-  held_untaken (Some l) w none held =
-      ap (λ (l : List Extent). filter (λ (s : Extent). nat_lt w.bases s.stop) l) (held ∙ ap (λ (rs : List Feature). map extent_of (held_for l rs)) none)
-      ∙ sym (ap (λ (rs : List Feature). map extent_of (held_for (next (Some l)) rs)) none)
+  held_untaken last w none held = grind (arith, nat_tests)
 
   undecided_tags : (l : SequenceLine) → decided l taken ≡ false → list_any (tag_decides (bases_up_to l)) (tags_of l.names taken) ≡ false
   undecided_tags l e = (or_parts (is_unnamed l.names) (list_any (tag_decides (bases_up_to l)) (tags_of l.names taken)) (sym (decided_by_tags l taken) ∙ e)).1
@@ -92,76 +77,44 @@ module _ (taken : List Feature) (range : AreInRange taken) (line : TextLine) (pl
   ]
 
 or_third : (a b c d : Bool) → (a ≡ false → b ≡ false → c ≡ d) → (a || (b || c)) ≡ (a || (b || d))
-or_third true b c d e = refl
-or_third false true c d e = refl
-or_third false false c d e = e refl refl
-
-no_and : (a b : Bool) → a ≡ true → (not a && b) ≡ false
-no_and true b e = refl
-no_and false b e = absurd (never e)
+or_third a b c d e = grind arith
 
 -- the record ahead doesn't decide a header, and if it decides a line there is one
 header_ahead : (o : Option Feature) (taken : List Feature) (item : SequenceLine) → is_header item.text ≡ true
     → is_written_ahead o taken item ≡ false
-header_ahead None taken item e = refl
-header_ahead (Some r) taken item e = no_and (is_header item.text) (decided item (taken ++ r ∷ [])) e
+header_ahead o taken item e = grind (arith, nat_tests)
 
 decided_some : (o : Option Feature) (taken : List Feature) (item : SequenceLine) → is_written_ahead o taken item ≡ true
     → is_some o ≡ true
-decided_some None taken item e = e
-decided_some (Some r) taken item e = refl
-
-and_second : (a b : Bool) → (not a && b) ≡ true → b ≡ true
-and_second true b e = absurd (never e)
-and_second false b e = e
+decided_some o taken item e = grind (arith, nat_tests)
 
 -- a line that is written at once while records may come is decided
 decided_at_once : (u : Bool) (o : Option Feature) (taken : List Feature) (item : SequenceLine)
     → is_unnamed item.names ≡ u → (u || is_written_ahead o taken item) ≡ true
     → decided item (taken ++ option_to_list o) ≡ true
-decided_at_once true o taken item unnamed e =
-    let records = taken ++ option_to_list o in
-    let decides = list_any (tag_decides (bases_up_to item)) (tags_of item.names records) in
-    decided_by_tags item records ∙ ap (λ b. b || decides) unnamed
-decided_at_once false None taken item is_named e = absurd (never e)
-decided_at_once false (Some r) taken item is_named e =
-    and_second (is_header item.text) (decided item (taken ++ r ∷ [])) e
+decided_at_once u o taken item unnamed e = grind (arith, nat_tests)
 
 or_rest : (a b : Bool) → (a || b) ≡ true → a ≡ false → b ≡ true
-or_rest true b e d = absurd (never (sym d))
-or_rest false b e d = e
+or_rest a b e d = grind arith
 
 -- whether it decides one more line of the sequence, by how far it decides them
 ahead_decides : (bases : ℕ) (left : Option (List (List ℕ))) (r : Feature) → r.start < limit
     → (left ≡ Some []) ⊎ (left ≡ None)
     → nat_le (min bases limit) (decided_up_to left r) ≡ block_decides bases left (r ∷ [])
-ahead_decides bases None r low which = grind (arith, nat_tests)
-ahead_decides bases (Some []) r low which = decides_alike bases (Some []) r low
-ahead_decides bases (Some (n ∷ ns)) r low which = elim which [
-  | inl own ↦ absurd (let apart : Some (n ∷ ns) ≡ Some [] = own in cc)
-  | inr none ↦ absurd (let apart : Some (n ∷ ns) ≡ None = none in cc)
-]
+ahead_decides bases left r low which = grind (arith, nat_tests)
 
 -- its block belongs to the last sequence, or to none
 ahead_left : (names : List (List ℕ)) (taken : List Feature) (r : Feature) (m : Matched) → KnowsNext false names taken (Some r) m
     → (left_after names (taken ++ r ∷ []) ≡ Some []) ⊎ (left_after names (taken ++ r ∷ []) ≡ None)
-ahead_left names taken r m known = elim known [
-  | inl last ↦ inl (last.1 refl)
-  | inr ahead ↦ inr (ahead.1 refl)
-]
+ahead_left names taken r m known = grind arith
 
 -- a line of a sequence that is open is undecided
-open_undecided : (item : SequenceLine) (taken : List Feature) → is_unnamed item.names ≡ false → IsOpen (Some item) taken
+pub open_undecided : (item : SequenceLine) (taken : List Feature) → is_unnamed item.names ≡ false → IsOpen (Some item) taken
     → decided item taken ≡ false
-open_undecided item taken is_named open_at = elim open_at [
-  | inl none ↦ ap (λ (rs : List Feature). decided item rs) none ∙ ap (λ b. b || false) is_named
-  | inr undecided ↦ undecided
-]
+open_undecided item taken is_named open_at = grind arith
 
 not_strayed : (names : List (List ℕ)) (text : List ℕ) → may_stand names text ≡ not (is_unnamed names && nat_lt 0 (length text))
-not_strayed [] [] = refl
-not_strayed [] (byte ∷ bytes) = let some : nat_lt 0 (length (byte ∷ bytes)) ≡ true = grind (arith, nat_tests) in sym (ap not some)
-not_strayed (n ∷ ns) text = refl
+not_strayed names text = grind (arith, nat_tests)
 
 module _ (how : MaskHow) (full : Bool) (stage : MaskStage) (old : Masking) (s : MaskMovesTo how full stage old) (wants : old.want ≡ Line) where
   asked : (stage.waiting ≡ None) × (stage.lines_ended ≡ false)
@@ -197,8 +150,7 @@ module _ (how : MaskHow) (full : Bool) (stage : MaskStage) (old : Masking) (s : 
   going_known going = subst (λ (w : Option SequenceLine). KnowsNext (is_some w) names stage.taken stage.ahead old.matched) asked.0 (s.stands.inside.knows going)
 
   first_by : (u : Bool) → is_unnamed names ≡ u → (u ≡ false → is_some stage.ahead ≡ true) → is_some stage.ahead ≡ false → (names ≡ []) × (stage.taken ≡ [])
-  first_by true e ahead none = (unnamed_are names e, unnamed_untaken (line_given_last (given stage)) stage.taken open_at e)
-  first_by false e ahead none = absurd (never (sym none ∙ ahead refl))
+  first_by u e ahead none = grind arith
 
   first_header : stage.bed_ended ≡ false → is_some stage.ahead ≡ false → (names ≡ []) × (stage.taken ≡ [])
   first_header going none = first_by (is_unnamed names) refl (λ e. s.stands.inside.has_ahead (sym s.stands.want_is ∙ wants) going e) none
@@ -218,9 +170,7 @@ module _ (how : MaskHow) (full : Bool) (stage : MaskStage) (old : Masking) (s : 
   header_later : (item : SequenceLine) → is_unnamed item.names ≡ false → is_header item.text ≡ true → stage.bed_ended ≡ false
       → is_written_at_once stage item ≡ true → ⊥
   header_later item is_named e going now =
-      never (sym (ap (λ b. b || (is_unnamed item.names || is_written_ahead stage.ahead stage.taken item)) going
-      ∙ ap (λ b. b || is_written_ahead stage.ahead stage.taken item) is_named
-      ∙ header_ahead stage.ahead stage.taken item e) ∙ now)
+      never (sym (rw (going, is_named, header_ahead stage.ahead stage.taken item e) refl) ∙ now)
 
   module _ (line : TextLine) where
     abbrev header_moved : Masking
@@ -240,14 +190,13 @@ module _ (how : MaskHow) (full : Bool) (stage : MaskStage) (old : Masking) (s : 
           bed_ended_is = s.stands.bed_ended_is;
           counts = record { before = omega arith; bases = omega arith };
           name_is = sym (last_name_more names n);
-          holds = nothing_masked (held_for header_item stage.taken) (no_own (λ (r : Feature). nat_lt r.start (bases_up_to header_item) && nat_lt header_item.before r.stop) (own_records header_item.names stage.taken) (none_own n names left.0 stage.taken left.1));
+          holds = sym (ap (λ (own : List Feature). map extent_of (filter (λ r. nat_lt r.start (bases_up_to header_item) && nat_lt header_item.before r.stop) own)) (none_own n names left.0 stage.taken left.1));
           is_open = inr (undecided_header n header_item names left.0 stage.taken refl left.1);
           owned = ap is_some (left_grows n names left.0 stage.taken left.1);
           header = λ e. refl;
           waits_known = λ going u. with_header names n stage.taken old.matched stage.ahead (first_header going) (going_known going);
           at_once = once_by header_item header_moved s.stands.bed_ended_is (sym (last_name_more names n)) (λ going u.
-              no_and (is_header line.text) (nat_le header_moved.window.bases header_moved.decided_to) e
-              ∙ sym (header_ahead stage.ahead stage.taken header_item e));
+              ap (λ b. not b && nat_le header_moved.window.bases header_moved.decided_to) e ∙ sym (header_ahead stage.ahead stage.taken header_item e));
           written_known = λ going now. absurd (header_later header_item (named_more n names) e going now);
           written_to = λ going now. absurd (header_later header_item (named_more n names) e going now);
         }
@@ -344,12 +293,11 @@ module _ (how : MaskHow) (full : Bool) (stage : MaskStage) (old : Masking) (s : 
       stray = stray_is e ∙ not-false (is_unnamed names && nat_lt 0 (length line.text)) (sym (not_strayed names line.text) ∙ may);
     })
 
-    goes_by : (h : Bool) → is_header line.text ≡ h → Goes ⊎ Strays
-    goes_by true e = inl (header_goes e)
-    goes_by false e = plain_goes e (may_stand names line.text) refl
-
     goes : Goes ⊎ Strays
-    goes = goes_by (is_header line.text) refl
+    goes = elim (cases_Bool (is_header line.text)) [
+      | inl e ↦ inl (header_goes e)
+      | inr e ↦ plain_goes e (may_stand names line.text) refl
+    ]
 
   module _ (item : SequenceLine) (moved : Masking) (m : Moved item moved) where
     -- whether it may need memory
@@ -365,33 +313,29 @@ module _ (how : MaskHow) (full : Bool) (stage : MaskStage) (old : Masking) (s : 
     -- its bytes
     bytes_are : line_bytes moved (kept_line item) ≡ masked_line how stage.taken item
     bytes_are =
-        ap (λ (t : List ℕ). t ++ end_bytes item.ending)
-        (ap (λ (h : MaskHow). masked_in h moved.window.held moved.window.before item.text) m.how_is
-        ∙ ap (λ (l : List Extent). masked_in how l moved.window.before item.text) m.holds
-        ∙ ap (λ b. masked_in how (map extent_of (held_for item stage.taken)) b item.text) m.counts.before
-        ∙ text_masked how item stage.taken s.stands.inside.in_range m.header)
+        line_masked how item stage.taken s.stands.inside.in_range m.header moved m.how_is m.holds m.counts.before
 
     waiting_stands : stage.bed_ended ≡ false → is_unnamed item.names ≡ false
         → MaskMovesTo how full (record stage { waiting = Some item }) (record moved { waiting = Some (kept_line item); want = Bed })
     waiting_stands going is_named =
-        stands_at how full (record stage { waiting = Some item }) (record moved { waiting = Some (kept_line item); want = Bed }) (Some item) (last_more stage.written item) (record {
-          how_is = m.how_is;
-          full_is = m.full_is;
+        stands_at how full (record stage { waiting = Some item }) (record moved { waiting = Some (kept_line item); want = Bed }) (Some item) (last_more stage.written item) m.how_is m.full_is (record {
           waiting_is = refl;
           want_is = refl;
           bed_ended_is = m.bed_ended_is;
           waits = λ l e. let same : item ≡ l = cc in rw (← same) (record { lines = asked.1; bed = going; named = is_named; header = m.header });
-          counts = m.counts;
-          name_is = m.name_is;
           holds = λ e. m.holds;
           is_open = λ e. m.is_open;
-          is_decided = λ e. absurd (let apart : Some item ≡ None = e in cc);
           owned = m.owned;
-          in_range = s.stands.inside.in_range;
-          knows = λ e. m.waits_known going is_named;
-          has_ahead = λ e. absurd (let apart : Bed ≡ Line = e in cc);
-          ahead_in_range = s.stands.inside.ahead_in_range;
-          decided_to_is = λ e. absurd (let apart : Some item ≡ None = e in cc);
+          inside = record {
+            counts = m.counts;
+            name_is = m.name_is;
+            is_decided = λ e. absurd (let apart : Some item ≡ None = e in cc);
+            in_range = s.stands.inside.in_range;
+            knows = λ e. m.waits_known going is_named;
+            has_ahead = λ e. absurd (let apart : Bed ≡ Line = e in cc);
+            ahead_in_range = s.stands.inside.ahead_in_range;
+            decided_to_is = λ e. absurd (let apart : Some item ≡ None = e in cc);
+          };
         })
 
     abbrev written_stage : MaskStage
@@ -403,34 +347,32 @@ module _ (how : MaskHow) (full : Bool) (stage : MaskStage) (old : Masking) (s : 
         ∙ ap line_given_last (append-nil (stage.written ++ item ∷ [])) ∙ last_more stage.written item
 
     or_true : (a b c : Bool) → (a || (b || c)) ≡ true → a ≡ false → b ≡ false → c ≡ true
-    or_true true b c e d f = absurd (never (sym d))
-    or_true false true c e d f = absurd (never (sym f))
-    or_true false false c e d f = e
+    or_true a b c e d f = grind arith
 
     written_stands : is_written_at_once stage item ≡ true → MaskMovesTo how full written_stage (record moved { waiting = None; want = Line })
     written_stands now =
-        stands_at how full written_stage (record moved { waiting = None; want = Line }) (Some item) written_last (record {
-          how_is = m.how_is;
-          full_is = m.full_is;
+        stands_at how full written_stage (record moved { waiting = None; want = Line }) (Some item) written_last m.how_is m.full_is (record {
           waiting_is = sym (ap (λ (w : Option SequenceLine). option_map kept_line w) asked.0);
           want_is = sym (ap (λ (w : Option SequenceLine). want_of (is_some w) stage.lines_ended stage.bed_ended) asked.0 ∙ ap (λ b. want_of false b stage.bed_ended) asked.1);
           bed_ended_is = m.bed_ended_is;
           waits = λ l e. absurd (let apart : None ≡ Some l = sym asked.0 ∙ e in cc);
-          counts = m.counts;
-          name_is = m.name_is;
           holds = λ e. m.holds;
           is_open = λ e. m.is_open;
-          is_decided = λ n going.
-              let ahead = is_written_ahead stage.ahead stage.taken item in
-              decided_at_once (is_unnamed item.names) stage.ahead stage.taken item refl
-              (or_rest stage.bed_ended (is_unnamed item.names || ahead) now going);
           owned = m.owned;
-          in_range = s.stands.inside.in_range;
-          knows = λ going. rw asked.0 (m.written_known going now);
-          has_ahead = λ e going u. decided_some stage.ahead stage.taken item
-              (or_true stage.bed_ended (is_unnamed item.names) (is_written_ahead stage.ahead stage.taken item) now going u);
-          ahead_in_range = s.stands.inside.ahead_in_range;
-          decided_to_is = λ e going. m.written_to going now;
+          inside = record {
+            counts = m.counts;
+            name_is = m.name_is;
+            is_decided = λ n going.
+                let ahead = is_written_ahead stage.ahead stage.taken item in
+                decided_at_once (is_unnamed item.names) stage.ahead stage.taken item refl
+                (or_rest stage.bed_ended (is_unnamed item.names || ahead) now going);
+            in_range = s.stands.inside.in_range;
+            knows = λ going. rw asked.0 (m.written_known going now);
+            has_ahead = λ e going u. decided_some stage.ahead stage.taken item
+                (or_true stage.bed_ended (is_unnamed item.names) (is_written_ahead stage.ahead stage.taken item) now going u);
+            ahead_in_range = s.stands.inside.ahead_in_range;
+            decided_to_is = λ e going. m.written_to going now;
+          };
         })
 
     stands_with : (b : Bool) → is_written_at_once stage item ≡ b
@@ -493,15 +435,12 @@ module _ (how : MaskHow) (full : Bool) (stage : MaskStage) (old : Masking) (s : 
       ],
     )
 
-    gives_by : {A : Type 0} (answer : Result A Fault) → Goes line ⊎ Strays line → TakesLine old line.number kept out answer new grown → GivesNextLine how full stage line out answer new grown
-    gives_by (Ok done) g t = elim g [
+    pub gives_line : {A : Type 0} (answer : Result A Fault) → TakesLine old line.number kept out answer new grown → GivesNextLine how full stage line out answer new grown
+    gives_line (Ok done) t = elim (goes line) [
       | inl goes ↦ takes done goes t
       | inr strays ↦ absurd (never (sym t.0 ∙ strays.stray))
     ]
-    gives_by {A} (Err fault) g t = elim g [
+    gives_line {A} (Err fault) t = elim (goes line) [
       | inl goes ↦ fails A fault goes t
       | inr strays ↦ refuses A fault strays t
     ]
-
-    pub gives_line : {A : Type 0} (answer : Result A Fault) → TakesLine old line.number kept out answer new grown → GivesNextLine how full stage line out answer new grown
-    gives_line answer t = gives_by answer (goes line) t

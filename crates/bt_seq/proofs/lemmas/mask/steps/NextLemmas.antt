@@ -1,5 +1,5 @@
 -- Lemmas on one more record, and on the next line.
-use Rattle.std.proofs.Common.{◌≡◌, ℕ, ◌≤◌, Bool, true, false, cond, ◌||◌, List, [], ◌∷◌, ◌++◌, Option, Some, None, refl, sym, ap, ◌∙◌, bytes_eq, append-nil, arith}
+use Rattle.std.proofs.Common.{◌≡◌, ℕ, ◌≤◌, Bool, false, cond, ◌||◌, List, [], ◌∷◌, ◌++◌, Option, Some, None, refl, sym, ap, ◌∙◌, bytes_eq, append-nil, arith}
 use Rattle.std.specs.List.{list_any}
 use Rattle.std.proofs.lemmas.Bool.Decides.{nat_tests}
 use Rattle.std.proofs.lemmas.Grind.{flat_map-append}
@@ -25,10 +25,7 @@ own_more names rs r =
     ∙ ap (λ left. own_records names rs ++ items_if_last left (r ∷ [])) (leave_all (Some names) (rs ++ r ∷ []))
 
 or_last : (a b c : Bool) → (a || (b || (c || false))) ≡ ((a || b) || c)
-or_last true b c = refl
-or_last false true c = refl
-or_last false false true = refl
-or_last false false false = refl
+or_last a b c = grind arith
 
 -- whether one more record decides a line
 pub decided_more : (line : SequenceLine) (rs : List Feature) (r : Feature) → decided line (rs ++ r ∷ []) ≡ (decided line rs || block_decides (bases_up_to line) (left_after line.names (rs ++ r ∷ [])) (r ∷ []))
@@ -46,16 +43,14 @@ decided_more line rs r =
 module _ (n : List ℕ) where
   behind_by : (name m : List ℕ) (ms k : List (List ℕ)) (t : Bool) → cond t (Some ms) (names_behind name ms) ≡ Some k → (names_behind name ms ≡ Some k → names_behind name (ms ++ n ∷ []) ≡ Some (k ++ n ∷ []))
       → cond t (Some (ms ++ n ∷ [])) (names_behind name (ms ++ n ∷ [])) ≡ Some (k ++ n ∷ [])
-  behind_by name m ms k true e rest = let same : ms ≡ k = cc in ap (λ l. Some (l ++ n ∷ [])) same
-  behind_by name m ms k false e rest = rest e
+  behind_by name m ms k t e rest = grind arith
 
   pub behind_grows : (name : List ℕ) (ns k : List (List ℕ)) → names_behind name ns ≡ Some k → names_behind name (ns ++ n ∷ []) ≡ Some (k ++ n ∷ [])
   behind_grows name [] k e = absurd (let apart : None ≡ Some k = e in cc)
   behind_grows name (m ∷ ms) k e = behind_by name m ms k (bytes_eq m name) e (behind_grows name ms k)
 
   next_grows : (name : List ℕ) (ns k : List (List ℕ)) (t : Bool) → cond t (Some ns) (names_behind name ns) ≡ Some k → cond t (Some (ns ++ n ∷ [])) (names_behind name (ns ++ n ∷ [])) ≡ Some (k ++ n ∷ [])
-  next_grows name ns k true e = let same : ns ≡ k = cc in ap (λ l. Some (l ++ n ∷ [])) same
-  next_grows name ns k false e = behind_grows name ns k e
+  next_grows name ns k t e = behind_by name name ns k t e (behind_grows name ns k)
 
   no_items : (k : List (List ℕ)) (xs : List Feature) → items_if_last (Some (k ++ n ∷ [])) xs ≡ []
   no_items [] xs = refl
@@ -113,9 +108,7 @@ module _ (n : List ℕ) where
 -- a later line of the sequence isn't decided before an earlier one
 module _ (low high : ℕ) (up : low ≤ high) where
   not_yet : (left : Option (List (List ℕ))) (r : Feature) → block_decides low left (r ∷ []) ≡ false → block_decides high left (r ∷ []) ≡ false
-  not_yet None r e = e
-  not_yet (Some []) r e = grind (arith, nat_tests)
-  not_yet (Some (n ∷ ns)) r e = refl
+  not_yet left r e = grind (arith, nat_tests)
 
   none_yet : (ts : List (Tagged Feature)) → list_any (tag_decides low) ts ≡ false → list_any (tag_decides high) ts ≡ false
   none_yet [] e = refl

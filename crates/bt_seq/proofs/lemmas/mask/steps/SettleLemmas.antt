@@ -1,8 +1,8 @@
 -- Lemmas on how a masking engine goes on from one stage to another.
-use Rattle.std.proofs.Common.{◌≡◌, ℕ, Bool, true, false, cond, not, ◌&&◌, ◌||◌, List, [], ◌∷◌, ◌++◌, append-nil, append_assoc, Option, Some, None, Ok, refl, sym, ap, ◌∙◌, subst}
+use Rattle.std.proofs.Common.{◌≡◌, ℕ, Bool, true, false, cond, not, ◌||◌, List, [], ◌∷◌, ◌++◌, append-nil, append_assoc, Option, Some, None, Ok, refl, sym, ap, ◌∙◌, subst}
 use Rattle.std.specs.Prelude.{flat_map, option_to_list}
 use Rattle.std.specs.List.{list_all}
-use Rattle.std.proofs.lemmas.Bool.{and_parts, false≢true, or_left}
+use Rattle.std.proofs.lemmas.Bool.{and_from, and_parts, false≢true, or_left}
 use Rattle.std.proofs.lemmas.Grind.{flat_map-append}
 use Rattle.std.proofs.lemmas.List.Folds.{list_all-append}
 use Rattle.bt_bed.specs.model.feature.Feature.{Feature}
@@ -48,15 +48,12 @@ settled_later how old new lines bytes same sees s = record {
   bytes_are = λ records ordered follows. s.bytes_are records ordered (sees records follows);
 }
 
-both_true : (a b : Bool) → a ≡ true → b ≡ true → (a && b) ≡ true
-both_true a b p q = rw (p, q) refl
-
 settled_both : (how : MaskHow) (stage : MaskStage) (lines more : List SequenceLine) (bytes further : List ℕ) → SettlesLines how stage lines bytes
     → SettlesLines how stage more further → SettlesLines how stage (lines ++ more) (bytes ++ further)
 settled_both how stage lines more bytes further first rest = record {
   are_decided = λ records follows going.
       list_all-append (λ (line : SequenceLine). decided line records) lines more
-      ∙ both_true (list_all (λ (line : SequenceLine). decided line records) lines) (list_all (λ (line : SequenceLine). decided line records) more)
+      ∙ and_from (list_all (λ (line : SequenceLine). decided line records) lines) (list_all (λ (line : SequenceLine). decided line records) more)
       (first.are_decided records follows going) (rest.are_decided records follows going);
   bytes_are = λ records ordered follows.
       flat_map-append (masked_line how records) lines more
@@ -70,7 +67,7 @@ one_settled : (how : MaskHow) (stage : MaskStage) (line : SequenceLine) (bytes :
     → ((records : List Feature) → AreInBlocks records → MayFollow stage records → masked_line how records line ≡ bytes)
     → SettlesLines how stage (line ∷ []) bytes
 one_settled how stage line bytes decides is = record {
-  are_decided = λ records follows going. both_true (decided line records) true (decides records follows going) refl;
+  are_decided = λ records follows going. and_from (decided line records) true (decides records follows going) refl;
   bytes_are = λ records ordered follows. append-nil (masked_line how records line) ∙ is records ordered follows;
 }
 

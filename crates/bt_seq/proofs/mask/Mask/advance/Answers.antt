@@ -1,16 +1,9 @@
-use Rattle.std.proofs.Common.{◌≡◌, ◌∙◌, Bool, Ok, Result, ap, true, false, refl}
+use Rattle.std.proofs.Common.{◌≡◌, ◌∙◌, Bool, Ok, Result, ap, true, false}
 use Rattle.std.proofs.lemmas.Result.{err_from_is_err_and}
 use Rattle.bt_lines.specs.declared.fault.Fault.{Fault}
 use Rattle.bt_seq.specs.calls.MaskState.{Masking}
-use Rattle.bt_seq.proofs.lemmas.mask.steps.AdvanceLemmas.{both_fail, both_more, nothing_both}
+use Rattle.bt_seq.proofs.lemmas.mask.steps.AdvanceLemmas.{both_fail, both_more}
 use Rattle.bt_seq.proofs.mask.Mask.advance.Goals as goal
-
-pub loop-init : goal.loop-init
-loop-init g c = record {
-  gives = nothing_both g.C.Cursor.gives g.C.Cursor.line g.C.Cursor.has_ended g.met.C.Cursor.gives_none g.met.C.Cursor.gives_more g.met.C.Cursor.gives_same true
-      c.args.self.now c.args.lines.now c.args.records.now c.args.out.now.output;
-  idle = λ nothing. (refl, refl, refl, refl);
-}
 
 -- one more was given, and none was
 not_both : (given : Bool) → given ≡ true → ◌≡◌ {A = Result Bool Fault} (Ok given) (Ok false) → ⊥
@@ -27,9 +20,6 @@ loop-preserved g c = record {
       absurd (not_both c.in_ok-gives_next.field-0 c.if-branch.true more.0);
 }
 
-pub loop-smaller : goal.loop-smaller
-loop-smaller g c = c.in_ok-gives_next.ensures.shrinks (rw c.if-branch.true refl)
-
 pub returns-in_err-gives_next-clause-gives : goal.returns-in_err-gives_next-clause-gives
 returns-in_err-gives_next-clause-gives g c =
     let p = err_from_is_err_and c.from_residual.result c.from_residual.ensures.1 in
@@ -42,19 +32,3 @@ returns-clause-gives g c =
     both_more g.C.Cursor.gives g.C.Cursor.line g.C.Cursor.has_ended g.met.C.Cursor.gives_none g.met.C.Cursor.gives_more g.met.C.Cursor.gives_same true
     c.args.self.now c.loop.self c.gives_next.new.self c.args.lines.now c.loop.lines c.gives_next.new.lines c.args.records.now c.loop.records c.gives_next.new.records
     c.args.out.now.output c.loop.out.output c.gives_next.new.out.output c.loop.invariant.gives false (tt {0}) (rw c.if-branch.false at c.in_ok-gives_next.ensures.gives)
-
-pub returns-clause-stops : goal.returns-clause-stops
-returns-clause-stops g c = c.in_ok-gives_next.ensures.stops (rw c.if-branch.false refl)
-
-pub returns-clause-idle : goal.returns-clause-idle
-returns-clause-idle g c nothing =
-    let stays = c.loop.invariant.idle nothing in
-    let more = c.in_ok-gives_next.ensures.idle (ap (λ (m : Masking). m.want) stays.0 ∙ nothing) in
-    (refl, (more.1.0 ∙ stays.0, more.1.1 ∙ stays.1, more.1.2 ∙ stays.2, more.1.3 ∙ stays.3))
-
-pub returns-in_err-gives_next-clause-idle : goal.returns-in_err-gives_next-clause-idle
-returns-in_err-gives_next-clause-idle g c nothing =
-    let stays = c.loop.invariant.idle nothing in
-    let more = c.in_err-gives_next.ensures.idle (ap (λ (m : Masking). m.want) stays.0 ∙ nothing) in
-    let none = more.0 in
-    cc

@@ -1,28 +1,11 @@
 use Rattle.std.proofs.Common.{◌∙◌, ap, subst, sym}
 use Rattle.std.proofs.lemmas.Result.{err_from_is_err_and}
 use Rattle.bt_bed.specs.calls.Bed.{feature_lent}
-use Rattle.bt_seq.proofs.lemmas.mask.steps.BedStepLemmas.{checks_bed, gives_bed, kept_is, lacks_sequence, leaves_bed, stops_bed}
+use Rattle.bt_seq.proofs.lemmas.mask.steps.BedStepLemmas.{checks_bed, lacks_sequence}
 use Rattle.bt_seq.proofs.lemmas.mask.steps.StandLemmas.{stays_at}
 use Rattle.bt_seq.proofs.mask.Mask.give_bed.Goals as goal
-use Rattle.bt_seq.specs.calls.MaskStanding.{MaskMovesTo, kept_line}
+use Rattle.bt_seq.specs.calls.MaskStanding.{MaskMovesTo}
 use Rattle.bt_seq.specs.calls.MaskState.{Masking}
-
-pub returns-then-waits-clause-waits : goal.returns-then-waits-clause-waits
-returns-then-waits-clause-waits g c = λ stage waiting stands is next.
-    let at = subst (λ (m : Masking). MaskMovesTo c.args.self.now.how c.args.self.now.full stage m) (sym c.self.view_is) (stays_at stage c.args.self.now stands) in
-    gives_bed c.args.self.now.how c.args.self.now.full stage waiting is c.self.inside.state at (feature_lent c.args.bed.now) c.args.bed.now.non_empty c.args.bed.now.in_range next
-    c.args.out.now.output c.take_bed.new.self c.take_bed.new.out.output c.take_bed.result
-    (c.take_bed.ensures (kept_line waiting) (kept_is c.args.self.now.how c.args.self.now.full stage waiting is c.self.inside.state at))
-
-pub returns-then-waits-clause-stops : goal.returns-then-waits-clause-stops
-returns-then-waits-clause-stops g c =
-    stops_bed c.self.inside.state c.take_bed.new.self (feature_lent c.args.bed.now) c.args.out.now.output c.take_bed.new.out.output c.take_bed.result c.self.inside.state.waiting
-    (sym c.waits.ensures ∙ c.if-waits.true) c.take_bed.ensures
-
-pub returns-then-waits-clause-leaves : goal.returns-then-waits-clause-leaves
-returns-then-waits-clause-leaves g c =
-    leaves_bed c.self.inside.state c.take_bed.new.self (feature_lent c.args.bed.now) c.args.out.now.output c.take_bed.new.out.output c.take_bed.result c.self.inside.state.waiting
-    (sym c.waits.ensures ∙ c.if-waits.true) c.take_bed.ensures
 
 pub returns-in_err-check_bed-clause-none_waits : goal.returns-in_err-check_bed-clause-none_waits
 returns-in_err-check_bed-clause-none_waits g c = λ stage stands none next.

@@ -2,20 +2,8 @@ use Rattle.std.proofs.Common.{◌≡◌, ◌∙◌, ◌<◌, ◌+◌, ◌-◌, S
 use Rattle.std.proofs.lemmas.List.{length-drop, take_all}
 use Rattle.bt_lines.proofs.lemmas.numbers.NumberLemmas.{value_more, digits_more}
 use Rattle.bt_seq.specs.model.Cigar.{operations_in, with_operation}
-use Rattle.bt_seq.proofs.lemmas.sam.CigarLemmas.{digits_alone, first_is, large_number, no_operation_at_all, other_byte}
-use Rattle.bt_seq.proofs.sam.cigar.first_operation.Goals.{then-end-eq0-via-then-end-eq0, then-end-eq0-via-else-end-eq0+then-not-is_letter}
+use Rattle.bt_seq.proofs.lemmas.sam.CigarLemmas.{first_is, large_number}
 use Rattle.bt_seq.proofs.sam.cigar.first_operation.Goals as goal
-
-pub returns-then-end-eq0-clause-first : goal.returns-then-end-eq0-clause-first
-returns-then-end-eq0-clause-first c =
-    let text = c.args.text.now in
-    let no_digit = sym c.is_ascii_digit.ensures.value ∙ c.if-not-is_ascii_digit.true in
-    elim c.then-end-eq0.branch [
-      | then-end-eq0-via-then-end-eq0 w ↦
-          no_operation_at_all text c.loop-end.end w.if-end-eq0.true c.loop-end-test.true no_digit
-      | then-end-eq0-via-else-end-eq0+then-not-is_letter w ↦
-          other_byte text c.loop-end.end c.loop-end-test.true c.loop-end.invariant.digits no_digit (sym w.is_letter.ensures ∙ w.if-not-is_letter.true)
-    ]
 
 pub returns-then-not-is_ascii_digit-clause-first : goal.returns-then-not-is_ascii_digit-clause-first
 returns-then-not-is_ascii_digit-clause-first c =
@@ -32,17 +20,3 @@ returns-then-length-gt-MAX_NUMBER-clause-first c =
     let digit = sym c.is_ascii_digit.ensures.value ∙ c.if-not-is_ascii_digit.false in
     let more = value_more text c.loop-end.end c.loop-end.length c.loop-end-test.true c.loop-end.invariant.value digit in
     large_number text c.loop-end.end _ c.loop-end-test.true (digits_more text c.loop-end.end c.loop-end-test.true c.loop-end.invariant.digits digit) (rw c.from.ensures more) c.if-length-gt-MAX_NUMBER.true
-
-pub loop-end-preserved : goal.loop-end-preserved
-loop-end-preserved c =
-    let text = c.args.text.now in
-    let digit = sym c.is_ascii_digit.ensures.value ∙ c.if-not-is_ascii_digit.false in
-    record {
-      value = rw c.from.ensures (value_more text c.loop-end.end c.loop-end.length c.loop-end-test.true c.loop-end.invariant.value digit);
-      digits = digits_more text c.loop-end.end c.loop-end-test.true c.loop-end.invariant.digits digit;
-      small = omega arith;
-      within = omega arith;
-    }
-
-pub returns-clause-first : goal.returns-clause-first
-returns-clause-first c = digits_alone c.args.text.now c.loop-end.end c.loop-end-test.false c.loop-end.invariant.digits

@@ -2,11 +2,8 @@ use Rattle.std.proofs.Common.{◌∙◌, [], ◌∷◌, get_or, ap, sym, take}
 use Rattle.std.proofs.lemmas.List.{take_more}
 use Rattle.bt_seq.specs.inside.mask.MaskedBases.{masked_in}
 use Rattle.bt_seq.specs.declared.sam.extent.Extent.{Extent}
-use Rattle.bt_seq.proofs.lemmas.sam.ExtentLemmas.{none_masked, one_behind}
+use Rattle.bt_seq.proofs.lemmas.sam.ExtentLemmas.{one_behind}
 use Rattle.bt_seq.proofs.sam.extent.mask_extents.Goals as goal
-
-pub loop-extent-init : goal.loop-extent-init
-loop-extent-init c = none_masked c.args.how c.args.position c.args.bases.now
 
 pub loop-extent-preserved : goal.loop-extent-preserved
 loop-extent-preserved c =

@@ -38,7 +38,7 @@ returns-in_err-decide-clause-decides g c =
     rw (e.1, e.2)
     (fails_from order old mid first [] (pre_current order old first some mid taken) (keeps_current order old first some mid taken) phase GivesSingle HasNone g.B.Cursor.gives g.B.Cursor.has_ended (EndsWhile g.B.Cursor.has_ended c.take_current.new.self.phase) g.B.Cursor.line
     NoneGiven (λ u. ⊤) tt tt c.new-none.result.cursor c.decide.new.a.cursor c.args.b.now c.decide.new.b c.args.out.now.output c.decide.new.out.output (state_of c.decide.new.self)
-    (fault_value c.in_err-decide.field-0.0) b (single_none c.new-none.result.cursor c.decide.new.a.cursor b.firsts (ap single_left c.new-none.ensures.cursor ∙ c.none.ensures.left) b.gives_firsts))
+    (fault_value c.in_err-decide.field-0.0) b (single_none c.new-none.result.cursor c.decide.new.a.cursor b.proceeds.firsts (ap single_left c.new-none.ensures.cursor ∙ c.none.ensures.left) b.proceeds.gives_firsts))
 
 pub returns-in_default-2-clause-decides : goal.returns-in_default-2-clause-decides
 returns-in_default-2-clause-decides g c =
@@ -53,7 +53,7 @@ returns-in_default-2-clause-decides g c =
     let final = state_of c.decide.new.self in (
       advances_from order old mid first [] (pre_current order old first some mid taken) (keeps_current order old first some mid taken) phase GivesSingle HasNone g.B.Cursor.gives g.B.Cursor.has_ended (EndsWhile g.B.Cursor.has_ended c.take_current.new.self.phase) g.B.Cursor.line
           NoneGiven (λ u. ⊤) tt tt c.new-none.result.cursor c.decide.new.a.cursor c.args.b.now c.decide.new.b c.args.out.now.output c.decide.new.out.output (state_of c.decide.new.self)
-          None final j.0 (single_none c.new-none.result.cursor c.decide.new.a.cursor j.0.firsts (ap single_left c.new-none.ensures.cursor ∙ c.none.ensures.left) j.0.gives_firsts) (c.in_ok-decide.ensures.phase ∙ phase)
+          None final j.0 (single_none c.new-none.result.cursor c.decide.new.a.cursor j.0.proceeds.firsts (ap single_left c.new-none.ensures.cursor ∙ c.none.ensures.left) j.0.proceeds.gives_firsts) (c.in_ok-decide.ensures.phase ∙ phase)
           (ap (λ (o : Option Feature). record final { current = o }) c.decide.ensures.none) (λ bad. absurd (false≢true bad)) tt,
       inr c.decide.ensures.none,
     )
@@ -62,8 +62,8 @@ pub put_back-requires : goal.put_back-requires
 put_back-requires g c =
     let j = rw c.in-Some-2.is at c.in_ok-decide.ensures.joins in
     let first = feature_lent c.as_bed-bed.result in
-    let alone = single_none c.new-none.result.cursor c.decide.new.a.cursor j.0.firsts (ap single_left c.new-none.ensures.cursor ∙ c.none.ensures.left) j.0.gives_firsts in
-    let same = only_first first (feature_lent c.in-Some-2.field-0) j.0.newly (ap (λ (l : List Feature). first ∷ l) (sym alone) ∙ j.0.are) in
+    let alone = single_none c.new-none.result.cursor c.decide.new.a.cursor j.0.proceeds.firsts (ap single_left c.new-none.ensures.cursor ∙ c.none.ensures.left) j.0.proceeds.gives_firsts in
+    let same = only_first first (feature_lent c.in-Some-2.field-0) j.0.proceeds.newly (ap (λ (l : List Feature). first ∷ l) (sym alone) ∙ j.0.proceeds.are) in
     subst (λ (f : Feature). All (CanHit f) (state_of c.decide.new.self).held) (sym same ∙ c.as_bed-bed.ensures) j.0.waits.1
 
 pub returns-clause-decides : goal.returns-clause-decides
@@ -77,9 +77,9 @@ returns-clause-decides g c =
     let phase : mid.phase ≡ old.phase = ap (λ (s : Sweeping). s.phase) taken in
     let j = rw c.in-Some-2.is at c.in_ok-decide.ensures.joins in
     let final = c.put_back.new.self in
-    let alone = single_none c.new-none.result.cursor c.decide.new.a.cursor j.0.firsts (ap single_left c.new-none.ensures.cursor ∙ c.none.ensures.left) j.0.gives_firsts in
+    let alone = single_none c.new-none.result.cursor c.decide.new.a.cursor j.0.proceeds.firsts (ap single_left c.new-none.ensures.cursor ∙ c.none.ensures.left) j.0.proceeds.gives_firsts in
     let last = feature_lent c.in-Some-2.field-0 in
-    let same = only_first first last j.0.newly (ap (λ (l : List Feature). first ∷ l) (sym alone) ∙ j.0.are) in
+    let same = only_first first last j.0.proceeds.newly (ap (λ (l : List Feature). first ∷ l) (sym alone) ∙ j.0.proceeds.are) in
     let back : final ≡ record (state_of c.decide.new.self) { current = Some last } = c.put_back.ensures ∙ ap (λ (f : Feature). record (state_of c.decide.new.self) { current = Some f }) (sym c.as_bed-bed.ensures ∙ same) in (
       advances_from order old mid first [] (pre_current order old first some mid taken) (keeps_current order old first some mid taken) phase GivesSingle HasNone g.B.Cursor.gives g.B.Cursor.has_ended (EndsWhile g.B.Cursor.has_ended c.take_current.new.self.phase) g.B.Cursor.line
           NoneGiven (λ u. ⊤) tt tt c.new-none.result.cursor c.decide.new.a.cursor c.args.b.now c.decide.new.b c.args.out.now.output c.decide.new.out.output (state_of c.decide.new.self)

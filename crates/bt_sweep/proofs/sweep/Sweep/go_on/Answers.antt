@@ -35,7 +35,7 @@ returns-in_err-waiting-clause-advances g c =
     (keeps_entered order (g.met.O.ChromOrder.total c.args.self.now.order.now) old (none_waits old c.requires.want) first mid c.enter.ensures.entered) phase
     g.A.Cursor.gives g.A.Cursor.has_ended g.B.Cursor.gives g.B.Cursor.has_ended (EndsWhile g.B.Cursor.has_ended c.enter.new.self.phase) g.B.Cursor.line
     g.A.Cursor.gives g.A.Cursor.has_ended c.args.a.now c.decide-decided.new.a.cursor c.next.new.self.cursor c.decide-decided.new.a.cursor c.args.b.now c.decide-decided.new.b c.args.out.now.output c.decide-decided.new.out.output (state_of c.decide-decided.new.self)
-    (fault_value c.in_err-waiting.field-0.0) b (g.met.A.Cursor.gives_more _ _ _ (first ∷ []) b.firsts given b.gives_firsts))
+    (fault_value c.in_err-waiting.field-0.0) b (g.met.A.Cursor.gives_more _ _ _ (first ∷ []) b.proceeds.firsts given b.proceeds.gives_firsts))
 
 pub returns-in_default-2-clause-advances : goal.returns-in_default-2-clause-advances
 returns-in_default-2-clause-advances g c =
@@ -52,7 +52,7 @@ returns-in_default-2-clause-advances g c =
           (keeps_entered order (g.met.O.ChromOrder.total c.args.self.now.order.now) old (none_waits old c.requires.want) first mid c.enter.ensures.entered) phase
           g.A.Cursor.gives g.A.Cursor.has_ended g.B.Cursor.gives g.B.Cursor.has_ended (EndsWhile g.B.Cursor.has_ended c.enter.new.self.phase) g.B.Cursor.line
           g.A.Cursor.gives g.A.Cursor.has_ended c.args.a.now c.decide-decided.new.a.cursor c.next.new.self.cursor c.decide-decided.new.a.cursor c.args.b.now c.decide-decided.new.b c.args.out.now.output c.decide-decided.new.out.output (state_of c.decide-decided.new.self)
-          None final j.0 (g.met.A.Cursor.gives_more _ _ _ (first ∷ []) j.0.firsts given j.0.gives_firsts) same
+          None final j.0 (g.met.A.Cursor.gives_more _ _ _ (first ∷ []) j.0.proceeds.firsts given j.0.proceeds.gives_firsts) same
           (ap (λ (o : Option Feature). record final { current = o }) c.decide-decided.ensures.none) (λ bad. absurd (false≢true bad)) tt,
       stops_a g.A.Cursor.gives g.A.Cursor.has_ended g.B.Cursor.gives g.B.Cursor.has_ended g.B.Cursor.line order old c.args.a.now c.decide-decided.new.a.cursor c.args.b.now c.decide-decided.new.b c.args.out.now.output final
           (want_a final c.decide-decided.ensures.none (λ e. not_over old c.requires.want (sym same ∙ e))) j.1,
@@ -72,5 +72,5 @@ returns-clause-advances g c =
     (keeps_entered order (g.met.O.ChromOrder.total c.args.self.now.order.now) old (none_waits old c.requires.want) first mid c.enter.ensures.entered) phase
     g.A.Cursor.gives g.A.Cursor.has_ended g.B.Cursor.gives g.B.Cursor.has_ended (EndsWhile g.B.Cursor.has_ended c.enter.new.self.phase) g.B.Cursor.line
     g.A.Cursor.gives g.A.Cursor.has_ended c.args.a.now c.decide-decided.new.a.cursor c.next.new.self.cursor c.decide-decided.new.a.cursor c.args.b.now c.decide-decided.new.b c.args.out.now.output c.decide-decided.new.out.output (state_of c.decide-decided.new.self)
-    a j.0 (none_waits old c.requires.want) j.1.0 j.1.1 (g.met.A.Cursor.gives_more _ _ _ (first ∷ []) j.0.firsts given j.0.gives_firsts) (c.in_ok-waiting.ensures.phase ∙ phase)
+    a j.0 (none_waits old c.requires.want) j.1.0 j.1.1 (g.met.A.Cursor.gives_more _ _ _ (first ∷ []) j.0.proceeds.firsts given j.0.proceeds.gives_firsts) (c.in_ok-waiting.ensures.phase ∙ phase)
     (not_over old c.requires.want) j.2 c.keep.result c.keep.new.self c.keep.ensures

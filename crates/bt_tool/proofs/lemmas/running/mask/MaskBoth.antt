@@ -211,7 +211,7 @@ module _ {A B : Type 0} (source_a : Source A) (source_b : Source B) (run : MaskB
     comes = behind.comes
 
     kept : (r : Feature) → comes.stage.ahead ≡ Some r → item_ahead second_now ≡ Some r
-    kept = kept_then comes.stage.ahead behind.ahead_is
+    kept = kept_then comes.stage.ahead behind.fails.1
 
     -- lines that are settled weren't all written
     module _ (final : MaskStage) (bytes : List ℕ) (goes : GoesOn run.how run.full comes.stage behind.failing [] final bytes) (ahead_is : final.ahead ≡ comes.stage.ahead) where
@@ -330,7 +330,7 @@ module _ {A B : Type 0} (source_a : Source A) (source_b : Source B) (run : MaskB
     fails_both (inr at_record) = fails_next at_record.0 at_record.1 at_record.2 at_record.3 at_record.4 at_record.5
 
     failed_both : EndsAt (Some fault) now
-    failed_both = fails_both behind.fails
+    failed_both = fails_both behind.fails.2
 
   -- the engine masks as the run says
   as_run : {T : Type 0} (answer : Result T Fault) (masked : Masking) (now : Output) → BothCome Passes line_in HasEnded mask.how mask.full s.stage texts taken out first_beds answer masked last_beds now

@@ -130,13 +130,13 @@ ahead_placed now order is past m total state ahead placed =
 -- the records that a sweep took of either batch
 pub first_passed : {T : Type 0} (order : Order) (sweep : Sweeping) (firsts seconds : Batch) (out : Output) (result : Result T Fault) (swept : Sweeping) (last_firsts last_seconds : Batch) (grown : Output)
     → AdvancesOn Passes HasEnded Passes HasEnded line_in order sweep firsts seconds out result swept last_firsts last_seconds grown → (records : List Feature) × Passes firsts records last_firsts
-first_passed order sweep firsts seconds out (Ok done) swept last_firsts last_seconds grown (so, stops) = (so.firsts, so.gives_firsts)
-first_passed order sweep firsts seconds out (Err fault) swept last_firsts last_seconds grown fails = (fails.firsts, fails.gives_firsts)
+first_passed order sweep firsts seconds out (Ok done) swept last_firsts last_seconds grown (so, stops) = (so.proceeds.firsts, so.proceeds.gives_firsts)
+first_passed order sweep firsts seconds out (Err fault) swept last_firsts last_seconds grown fails = (fails.proceeds.firsts, fails.proceeds.gives_firsts)
 
 pub second_passed : {T : Type 0} (order : Order) (sweep : Sweeping) (firsts seconds : Batch) (out : Output) (result : Result T Fault) (swept : Sweeping) (last_firsts last_seconds : Batch) (grown : Output)
     → AdvancesOn Passes HasEnded Passes HasEnded line_in order sweep firsts seconds out result swept last_firsts last_seconds grown → (records : List Feature) × Passes seconds records last_seconds
-second_passed order sweep firsts seconds out (Ok done) swept last_firsts last_seconds grown (so, stops) = (so.seconds, so.gives_seconds)
-second_passed order sweep firsts seconds out (Err fault) swept last_firsts last_seconds grown fails = (fails.seconds, fails.gives_seconds)
+second_passed order sweep firsts seconds out (Ok done) swept last_firsts last_seconds grown (so, stops) = (so.proceeds.seconds, so.proceeds.gives_seconds)
+second_passed order sweep firsts seconds out (Err fault) swept last_firsts last_seconds grown fails = (fails.proceeds.seconds, fails.proceeds.gives_seconds)
 
 -- what comes next is seen too
 settles_seen : (order : Order) (phase : Phase) (newly seconds : List Feature) (next ahead : Option Feature) → IfSome next (λ b. ahead ≡ Some b) → Settles order phase newly (seconds ++ option_to_list next) → Settles order phase newly (seconds ++ option_to_list ahead)
@@ -172,44 +172,44 @@ module _ {A B O : Type 0} {g : Ghosts O} (source_a : Source A) (source_b : Sourc
   pub advances_both : {T : Type 0} (result : Result T Fault) (swept : Sweeping) (grown : Output) → AdvancesOn Passes HasEnded Passes HasEnded line_in order sweep firsts seconds out result swept last_firsts last_seconds grown
       → AdvancesSweep source_a source_b order first second sweep out result new_first new_second swept grown
   advances_both (Ok done) swept grown (so, stops) = record {
-    firsts = so.firsts;
-    seconds = so.seconds;
-    newly = so.newly;
-    takes = takes_both so.firsts so.seconds so.gives_firsts so.gives_seconds;
-    are = so.are;
-    settles = seen_then so.seconds so.newly so.next so.gives_seconds so.comes so.settles;
-    each = so.each;
+    firsts = so.proceeds.firsts;
+    seconds = so.proceeds.seconds;
+    newly = so.proceeds.newly;
+    takes = takes_both so.proceeds.firsts so.proceeds.seconds so.proceeds.gives_firsts so.proceeds.gives_seconds;
+    are = so.proceeds.are;
+    settles = seen_then so.proceeds.seconds so.proceeds.newly so.proceeds.next so.proceeds.gives_seconds so.proceeds.comes so.proceeds.settles;
+    each = so.proceeds.each;
     stands = so.stands;
     puts = so.puts;
     stops = elim stops [
-      | inl for ↦ inl (stops_for (want_in swept) so.firsts so.seconds so.gives_firsts so.gives_seconds for)
+      | inl for ↦ inl (stops_for (want_in swept) so.proceeds.firsts so.proceeds.seconds so.proceeds.gives_firsts so.proceeds.gives_seconds for)
       | inr written ↦ inr written
     ];
   }
   advances_both (Err fault) swept grown fails = record {
-    firsts = fails.firsts;
-    seconds = fails.seconds;
-    newly = fails.newly;
+    firsts = fails.proceeds.firsts;
+    seconds = fails.proceeds.seconds;
+    newly = fails.proceeds.newly;
     waiting = fails.waiting;
-    takes = takes_both fails.firsts fails.seconds fails.gives_firsts fails.gives_seconds;
-    are = fails.are;
-    settles = seen_then fails.seconds fails.newly fails.next fails.gives_seconds fails.comes fails.settles;
-    each = fails.each;
+    takes = takes_both fails.proceeds.firsts fails.proceeds.seconds fails.proceeds.gives_firsts fails.proceeds.gives_seconds;
+    are = fails.proceeds.are;
+    settles = seen_then fails.proceeds.seconds fails.proceeds.newly fails.proceeds.next fails.proceeds.gives_seconds fails.proceeds.comes fails.proceeds.settles;
+    each = fails.proceeds.each;
     cause = elim fails.cause [
-      | inl write ↦ inl (record { cuts = write.cuts })
+      | inl write ↦ inl (record { cuts = write })
       | inr others ↦ elim others [
         | inl lack ↦ inr (inl (record {
-          last = lack.last;
-          waits = lack.waits;
-          m = record { line = suc (lines_given (below new_second)); item = lack.b };
-          ahead = first_then second seconds lends_second last_seconds fails.seconds fails.gives_seconds second_consumed second_is source_b comes_second new_second second_takes lack.b lack.after lack.gives;
-          chrom = lack.chrom;
-          starts = lack.starts;
-          ends = lack.ends;
+          last = lack.shares.last;
+          waits = lack.shares.waits;
+          m = record { line = suc (lines_given (below new_second)); item = lack.shares.b };
+          ahead = first_then second seconds lends_second last_seconds fails.proceeds.seconds fails.proceeds.gives_seconds second_consumed second_is source_b comes_second new_second second_takes lack.shares.b lack.shares.after lack.shares.gives;
+          chrom = lack.shares.chrom;
+          starts = lack.shares.starts;
+          ends = lack.shares.ends;
           puts = lack.puts;
           lacks = λ stage stands placed placed_second.
-              subst (λ (n : ℕ). CannotBeHeld sweep.limit lack.last (stage.taken ++ fails.seconds) n (fault_value fault))
-              (line_then second seconds lends_second last_seconds fails.seconds fails.gives_seconds second_consumed second_is source_b comes_second new_second second_takes lack.b lack.after lack.gives)
+              subst (λ (n : ℕ). CannotBeHeld sweep.limit lack.shares.last (stage.taken ++ fails.proceeds.seconds) n (fault_value fault))
+              (line_then second seconds lends_second last_seconds fails.proceeds.seconds fails.proceeds.gives_seconds second_consumed second_is source_b comes_second new_second second_takes lack.shares.b lack.shares.after lack.shares.gives)
               (lack.lacks stage stands placed placed_second);
         }))
         | inr keep ↦ inr (inr (record {
@@ -218,7 +218,7 @@ module _ {A B O : Type 0} {g : Ghosts O} (source_a : Source A) (source_b : Sourc
           is = keep.is;
           none = keep.none;
           both = keep.both;
-          ended = ended_then second seconds lends_second last_seconds fails.seconds fails.gives_seconds second_consumed second_is source_b comes_second new_second second_takes keep.ended;
+          ended = ended_then second seconds lends_second last_seconds fails.proceeds.seconds fails.proceeds.gives_seconds second_consumed second_is source_b comes_second new_second second_takes keep.ended;
           puts = keep.puts;
         }))
       ]

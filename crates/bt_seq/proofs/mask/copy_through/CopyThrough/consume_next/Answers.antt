@@ -5,9 +5,6 @@ use Rattle.bt_lines.specs.model.Lines.{TextLine}
 use Rattle.bt_seq.proofs.lemmas.mask.steps.CopyLemmas.{copied_line}
 use Rattle.bt_seq.proofs.mask.copy_through.CopyThrough.consume_next.Goals as goal
 
-pub consume-requires : goal.consume-requires
-consume-requires c = (line_shown c.in-Some.field-0, c.in-Some.ensures.cut, refl)
-
 pub returns-clause-consumed : goal.returns-clause-consumed
 returns-clause-consumed c = λ e.
     let line : Shown = line_shown c.in-Some.field-0 in

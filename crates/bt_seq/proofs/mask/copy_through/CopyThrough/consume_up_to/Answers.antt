@@ -1,17 +1,6 @@
-use Rattle.std.proofs.Common.{[], ◌∷◌, ◌++◌, ◌∙◌, ap, arith, length, refl}
+use Rattle.std.proofs.Common.{[], ◌∷◌, ◌++◌, ◌∙◌}
 use Rattle.bt_seq.proofs.lemmas.mask.steps.CopyLemmas.{copied_behind}
 use Rattle.bt_seq.proofs.mask.copy_through.CopyThrough.consume_up_to.Goals as goal
-
-pub loop-init : goal.loop-init
-loop-init c = record { come = ([], refl); closed = c.requires }
-
-pub consume_next-requires : goal.consume_next-requires
-consume_next-requires c = c.loop.invariant.closed
-
-pub loop-smaller : goal.loop-smaller
-loop-smaller c =
-    let next = c.consume_next.ensures.consumed c.loop-test.true in
-    omega (arith, ap length next.1.passes.left_is)
 
 pub loop-preserved : goal.loop-preserved
 loop-preserved c =
@@ -21,8 +10,3 @@ loop-preserved c =
       come = (past.0 ++ next.0 ∷ [], copied_behind c.args.to c.args.self c.loop.through c.consume_next.new.self past.0 next.0 past.1 next.1);
       closed = next.1.passes.open_is ∙ c.loop.invariant.closed;
     }
-
-pub returns : goal.returns
-returns c =
-    let past = c.loop.invariant.come in
-    (past.0, rw (c.consume_next.ensures.unchanged c.loop-test.false) past.1)

@@ -1,21 +1,11 @@
-use Rattle.std.proofs.Common.{◌≡◌, ◌∙◌, if◌then◌else◌, slice_range, is_some, ap, sym, subst, arith}
-use Rattle.bt_seq.proofs.lemmas.mask.steps.CopyLemmas.{bounds_are, bytes_between, copied_through, copies_within, some_bytes}
+use Rattle.std.proofs.Common.{◌≡◌, ◌∙◌, if◌then◌else◌, slice_range, is_some, ap, sym, subst}
+use Rattle.bt_seq.proofs.lemmas.mask.steps.CopyLemmas.{bounds_are, copied_through, some_bytes}
 use Rattle.bt_seq.proofs.lemmas.mask.bases.MaskingLemmas.{none_held}
 use Rattle.bt_seq.proofs.mask.mask_state.MaskState.copy_through.Goals as goal
 use Rattle.bt_seq.specs.inside.mask.CopyThrough.{CopiesThrough}
 use Rattle.bt_seq.specs.calls.MaskState.{Masking}
 use Rattle.bt_seq.specs.inside.mask.Window.{limit}
 use Rattle.bt_seq.specs.contracts.mask.mask_state.MaskState.{the_view}
-
-pub between-copied-requires-clause-ordered : goal.between-copied-requires-clause-ordered
-between-copied-requires-clause-ordered g c =
-    let copies = c.consume_up_to-through.ensures in
-    omega (arith, c.offset.ensures, c.offset-2.ensures, (bytes_between c.known_to.result copies.0 _ c.consume_up_to-through.result copies.1).1)
-
-pub between-copied-requires-clause-within : goal.between-copied-requires-clause-within
-between-copied-requires-clause-within g c =
-    let copies = c.consume_up_to-through.ensures in
-    omega (arith, c.offset-2.ensures, copies_within c.known_to.result copies.0 _ c.consume_up_to-through.result copies.1)
 
 pub returns : goal.returns
 returns g c =

@@ -1,8 +1,7 @@
-use Rattle.std.proofs.Common.{true, ◌∙◌, ap, arith, length, length-append}
+use Rattle.std.proofs.Common.{true}
 use Rattle.std.proofs.lemmas.Result.{err_from_is_err_and}
-use Rattle.bt_lines.specs.calls.Buffered.{lines_in}
 use Rattle.bt_lines.specs.calls.LentLine.{line_seen}
-use Rattle.bt_seq.proofs.lemmas.mask.steps.AdvanceLemmas.{failed_copy, failed_line, gave_copied, gave_line, wants_more}
+use Rattle.bt_seq.proofs.lemmas.mask.steps.AdvanceLemmas.{failed_copy, failed_line, gave_line}
 use Rattle.bt_seq.proofs.mask.mask_state.MaskState.give_lines.Goals as goal
 
 pub returns-in_err-copy_through-clause-gives : goal.returns-in_err-copy_through-clause-gives
@@ -10,17 +9,6 @@ returns-in_err-copy_through-clause-gives g c =
     let p = err_from_is_err_and c.from_residual.result c.from_residual.ensures.1 in
     rw (p.1, p.2) (failed_copy c.args.self.now c.args.lines.now c.args.out.now.output c.requires c.in_err-copy_through.field-0.0 c.copy_through.new.self c.copy_through.new.lines c.copy_through.new.out.output
     c.in_err-copy_through.ensures)
-
-pub returns-in_default-clause-gives : goal.returns-in_default-clause-gives
-returns-in_default-clause-gives g c =
-    rw c.in_default.ensures.unchanged (gave_copied c.args.self.now c.args.lines.now c.args.out.now.output c.requires _ c.copy_through.new.self c.copy_through.new.lines c.copy_through.new.out.output
-    c.in_ok-copy_through.ensures _)
-
-pub returns-in_default-clause-stops : goal.returns-in_default-clause-stops
-returns-in_default-clause-stops g c = λ e. (
-  ap lines_in c.in_default.ensures.unchanged ∙ c.in_default.ensures.none,
-  wants_more c.args.self.now c.args.lines.now c.args.out.now.output c.requires _ c.copy_through.new.self c.copy_through.new.lines c.copy_through.new.out.output c.in_ok-copy_through.ensures,
-)
 
 pub returns-in_err-take_line-clause-gives : goal.returns-in_err-take_line-clause-gives
 returns-in_err-take_line-clause-gives g c =
@@ -32,8 +20,3 @@ pub returns-clause-gives : goal.returns-clause-gives
 returns-clause-gives g c =
     gave_line c.args.self.now c.args.lines.now c.args.out.now.output c.requires _ c.copy_through.new.self c.copy_through.new.lines c.copy_through.new.out.output c.in_ok-copy_through.ensures
     (line_seen c.in-Some.line) c.next.new.self c.in-Some.ensures.some c.take_line.new.self c.take_line.new.out.output (tt {0}) true c.in_ok-take_line.ensures
-
-pub returns-clause-shrinks : goal.returns-clause-shrinks
-returns-clause-shrinks g c = λ e.
-    let copied = c.in_ok-copy_through.ensures in
-    omega (arith, ap length copied.passes.left_is, length-append copied.texts (lines_in c.copy_through.new.lines), ap length c.in-Some.ensures.some.left_is)

@@ -20,7 +20,7 @@ loop-next-init g c = record {
   same = refl;
   going = let first = joins_first g.A.Cursor.gives g.A.Cursor.has_ended g.met.A.Cursor.gives_none g.met.A.Cursor.gives_more g.B.Cursor.gives g.B.Cursor.has_ended g.B.Cursor.line g.met.B.Cursor.gives_none g.met.B.Cursor.gives_more
       c.args.self.now (g.A.Record.Record.feature c.args.first) c.args.firsts.now.cursor c.args.seconds.now (pending_in (g.A.Cursor.consumed c.args.firsts.now.cursor) c.args.firsts.now.from c.args.firsts.now.to) c.args.out.now.output
-      IsTotal (AreDecidedOn (g.A.Record.Record.feature c.args.first).chrom) (λ order total known. refl) c.requires.hits in (first.0, first.1, λ order total known. leaves_none order first.0.seconds (g.A.Record.Record.feature c.args.first) first.2);
+      IsTotal (AreDecidedOn (g.A.Record.Record.feature c.args.first).chrom) (λ order total known. refl) c.requires.hits in (first.0, first.1, λ order total known. leaves_none order first.0.proceeds.seconds (g.A.Record.Record.feature c.args.first) first.2);
 }
 
 pub returns-in_err-waiting-clause-joins : goal.returns-in_err-waiting-clause-joins
