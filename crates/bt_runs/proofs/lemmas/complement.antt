@@ -4,5 +4,4 @@ mod GapExamples
 pub mod GapRuleLemmas
 pub mod GapSteps
 pub mod OneGap
-pub mod RuleSteps
 pub mod Walks

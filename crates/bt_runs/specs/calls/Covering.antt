@@ -1,11 +1,6 @@
 -- A count of depths as its callers see it.
-use Rattle.std.specs.Prelude.{◌≡◌, ℕ, ◌<◌, ◌⊎◌, ⊤, Bool, true, false, List, [], length}
+use Rattle.std.specs.Prelude.{◌≡◌, ℕ, ◌<◌, ⊤, Bool, true, false, List, [], length}
 use Rattle.std.specs.Prelude.{Option, Some, None, Result, Ok, Err, cond, nat_lt}
-use Rattle.bt_lines.specs.model.Fault.{FaultValue, no_memory}
-use Rattle.bt_lines.specs.calls.Names.{fault_value}
-use Rattle.bt_lines.specs.calls.Output.{Output}
-use Rattle.bt_lines.specs.calls.Putting.{FailsToAdd, Grown}
-use Rattle.bt_lines.specs.declared.fault.Fault.{Fault}
 use Rattle.bt_bed.specs.model.feature.Feature.{Feature}
 use Rattle.bt_bed.specs.model.order.Genome.{Entry}
 use Rattle.bt_bed.specs.model.feature.Interval.{Span}
@@ -148,28 +143,18 @@ with_chrom coverage on = record {
   length = on.length;
 }
 
-module _ (old : Covering) (r : Feature) (out : Output) where
-  -- what one more record reaches, and what it settles
-  abbrev pub depth_step : Option (Place Known) × List DepthInterval
-  depth_step = walk_step (depth_walk old.zeros old.strand) old.entries old.current r
+-- what one more record reaches, and what it settles
+abbrev pub depth_step : Covering → Feature → Option (Place Known) × List DepthInterval
+depth_step old r = walk_step (depth_walk old.zeros old.strand) old.entries old.current r
 
-  -- it was taken, as the step says
-  pub record CountsRecord (new : Covering) (grown : Output) : Type 0 where
-    pub same_entries : new.entries ≡ old.entries
-    pub same_zeros : new.zeros ≡ old.zeros
-    pub same_strand : new.strand ≡ old.strand
-    pub current : new.current ≡ depth_step.0
-    pub at : AreReached old.entries old.current → AreReached old.entries new.current
-    pub puts : Grown out (depth_lines depth_step.1) grown
+-- the lines of the intervals that it settles
+abbrev pub next_lines : Covering → Feature → List ℕ
+next_lines old r = depth_lines (depth_step old r).1
 
-  -- its lines were written, and it couldn't be kept
-  pub record RunsShort (answer : FaultValue) (grown : Output) : Type 0 where
-    pub is : answer ≡ no_memory
-    pub puts : Grown out (depth_lines depth_step.1) grown
-    pub to_keep : HasToKeep old.entries old.strand r
-
-  -- what is done with it
-  abbrev pub CountsDepths : Result (Unit {0}) Fault → Covering → Output → Type 0
-  CountsDepths (Ok done) new grown = CountsRecord new grown
-  CountsDepths (Err fault) new grown =
-      FailsToAdd out (depth_lines depth_step.1) (fault_value fault) grown ⊎ RunsShort (fault_value fault) grown
+-- the record was taken, as the step says
+pub record CountsRecord (old : Covering) (r : Feature) (new : Covering) : Type 0 where
+  pub same_entries : new.entries ≡ old.entries
+  pub same_zeros : new.zeros ≡ old.zeros
+  pub same_strand : new.strand ≡ old.strand
+  pub current : new.current ≡ (depth_step old r).0
+  pub at : AreReached old.entries old.current → AreReached old.entries new.current

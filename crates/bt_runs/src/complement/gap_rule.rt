@@ -8,7 +8,7 @@ ghost use Rattle.bt_bed.specs.model.feature.IntervalLine.{interval_lines};
 ghost use Rattle.bt_runs.specs.calls.Complementing.{held_count, is_quiet, kept_in, may_take, settled_lines, stands_after, whole_output};
 ghost use Rattle.bt_runs.specs.calls.Engine.{KeepsHeld};
 ghost use Rattle.bt_runs.specs.inside.walk.GapCursor.{seen};
-ghost use Rattle.bt_runs.specs.inside.walk.GapRule.{CoversRecord, IsOnChrom, complement_at, with_cursor};
+ghost use Rattle.bt_runs.specs.inside.walk.GapRule.{IsOnChrom, IsWith, complement_at, next_lines, with_cursor};
 ghost use Rattle.bt_runs.specs.inside.walk.GapStep.{bare_gap, last_gap};
 ghost use Rattle.bt_runs.specs.inside.walk.Walk.{left_before};
 
@@ -69,7 +69,9 @@ impl<'g> Rule for GapRule<'g> {
     // It doesn't allocate.
     ghost wants = { λ rule r. ⊥ };
 
-    ghost does = { CoversRecord };
+    ghost lines = { next_lines };
+
+    ghost has = { IsWith };
 
     ghost is_on = { IsOnChrom };
 

@@ -5,12 +5,11 @@ ghost use Rattle.bt_lines.specs.calls.Putting.{Adds};
 ghost use Rattle.bt_bed.specs.calls.GenomeTable.{entries};
 ghost use Rattle.bt_runs.specs.inside.coverage.CountSeen.{known_seen, seen};
 ghost use Rattle.bt_runs.specs.inside.coverage.CountedDepths.{CountAnswers, known_past, levels_past};
-ghost use Rattle.bt_runs.specs.calls.Covering.{CountsDepths, IsOnChrom, OnWant, held_count, is_quiet, kept_in, may_take, settled_known, settled_lines, stands_after, wants_memory, whole_output, with_chrom};
+ghost use Rattle.bt_runs.specs.calls.Covering.{CountsRecord, IsOnChrom, OnWant, held_count, is_quiet, kept_in, may_take, next_lines, settled_known, settled_lines, stands_after, wants_memory, whole_output, with_chrom};
 ghost use Rattle.bt_runs.specs.model.Depth.{depth_lines, is_counted_by};
 ghost use Rattle.bt_runs.specs.inside.coverage.DepthStep.{bare_of, depths_left, levels_by, levels_left, levels_on};
 ghost use Rattle.bt_runs.specs.calls.Engine.{KeepsHeld};
 ghost use Rattle.bt_runs.specs.inside.coverage.OpenRecords.{none_open_at};
-ghost use Rattle.bt_runs.specs.inside.walk.Rule.{EnterAnswers, Taken};
 ghost use Rattle.bt_runs.specs.inside.walk.Walk.{AreReached, begun, is_on, left_before, left_of};
 
 use crate::coverage::depth_line::put_depth;
@@ -128,7 +127,9 @@ impl<'g> Rule for DepthRule<'g> {
 
     ghost wants = { wants_memory };
 
-    ghost does = { CountsDepths };
+    ghost lines = { next_lines };
+
+    ghost has = { CountsRecord };
 
     ghost is_on = { IsOnChrom };
 

@@ -6,7 +6,8 @@ ghost use Rattle.bt_lines.specs.calls.Putting.{Adds};
 ghost use Rattle.bt_runs.specs.calls.Engine.{KeepsHeld};
 ghost use Rattle.bt_runs.specs.inside.merge.PendingRuns.{left_runs, passed_runs, placed_runs};
 ghost use Rattle.bt_runs.specs.calls.Stranding.{held_count, is_quiet, may_take, settled_lines, stands_after, strand_lines, whole_output};
-ghost use Rattle.bt_runs.specs.inside.merge.StrandTaking.{JoinsAmong, TakesNext, wants_memory};
+ghost use Rattle.bt_runs.specs.inside.merge.StrandTaking.{JoinsAmong, Takes, lines_by, wants_memory};
+ghost use Rattle.bt_runs.specs.inside.walk.Rule.{Does};
 
 use crate::engine::failure::Failure;
 use crate::engine::rule::Rule;
@@ -101,7 +102,7 @@ impl PerStrandMerge {
     ) -> Result<(), Fault>
         requires { is_on (with_on self.old on.old) (R.feature «record».now).chrom }
         ensures on { OnOk result (is_on (with_on self.new on.new) (R.feature «record».now).chrom) }
-        ensures does { TakesNext (with_on self.old on.old) (R.feature «record».now) out.old.output result
+        ensures does { Does lines_by Takes wants_memory (with_on self.old on.old) (R.feature «record».now) out.old.output result
             (with_on self.new on.new) out.new.output }
     {
         let run = PendingRun {
@@ -154,7 +155,9 @@ impl Rule for PerStrandMerge {
 
     ghost wants = { wants_memory };
 
-    ghost does = { TakesNext };
+    ghost lines = { lines_by };
+
+    ghost has = { Takes };
 
     ghost is_on = { is_on };
 

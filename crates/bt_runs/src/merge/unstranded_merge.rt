@@ -70,7 +70,7 @@ impl UnstrandedMerge {
 }
 
 impl Rule for UnstrandedMerge {
-    ghost use Rattle.bt_runs.specs.inside.merge.UnstrandedStep.{Does, IsElsewhere, is_on, with_run};
+    ghost use Rattle.bt_runs.specs.inside.merge.UnstrandedStep.{IsElsewhere, Takes, is_on, lines_by, with_run};
 
     type OnChrom = OpenRun;
 
@@ -86,7 +86,9 @@ impl Rule for UnstrandedMerge {
 
     ghost wants = { IsElsewhere };
 
-    ghost does = { Does };
+    ghost lines = { lines_by };
+
+    ghost has = { Takes };
 
     ghost is_on = { is_on };
 

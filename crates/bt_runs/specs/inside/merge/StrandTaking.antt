@@ -1,10 +1,8 @@
 -- What a merge that keeps the strands apart does with one more record, exactly.
 use Rattle.std.specs.Prelude.{◌≡◌, ℕ, ◌⊎◌, Bool, true, false, cond, List, [], ◌∷◌, ◌++◌, Result, Ok, Err}
-use Rattle.bt_lines.specs.model.Fault.{no_memory, write_failed}
-use Rattle.bt_lines.specs.calls.Names.{fault_value}
+use Rattle.bt_lines.specs.model.Fault.{write_failed}
 use Rattle.bt_lines.specs.calls.Output.{Output}
 use Rattle.bt_lines.specs.calls.Putting.{FailsToAdd, Grown}
-use Rattle.bt_lines.specs.declared.fault.Fault.{Fault}
 use Rattle.bt_bed.specs.model.feature.Feature.{Feature}
 use Rattle.bt_runs.specs.inside.merge.PendingRuns.{left_runs, passed_runs, place_of, placed_runs, with_joined}
 use Rattle.bt_runs.specs.inside.merge.StrandStep.{left_unsettled, settled_prefix, kept_with, run_from, with_added}
@@ -31,25 +29,11 @@ IsElsewhere old r = old.chrom ≡ r.chrom → ⊥
 abbrev pub wants_memory : Stranding → Feature → Type 0
 wants_memory old r = OpensRun old r ⊎ IsElsewhere old r
 
-module _ (old : Stranding) (r : Feature) (out : Output) where
-  -- the record was taken
-  pub record Takes (new : Stranding) (grown : Output) : Type 0 where
-    pub gap : new.gap ≡ old.gap
-    pub chrom : new.chrom ≡ r.chrom
-    pub kept : new.kept ≡ kept_with old.gap old.kept r
-    pub puts : Grown out (lines_by old r) grown
-
-  -- it wasn't, since memory ran out
-  pub record FailsToKeep (grown : Output) : Type 0 where
-    pub wanted : wants_memory old r
-    pub puts : Grown out (lines_by old r) grown
-
--- what is done with a record
-abbrev pub TakesNext : Stranding → Feature → Output → Result (Unit {0}) Fault → Stranding → Output → Type 0
-TakesNext old r out (Ok done) new grown = Takes old r out new grown
-TakesNext old r out (Err fault) new grown =
-    FailsToAdd out (lines_by old r) (fault_value fault) grown
-    ⊎ ((fault_value fault ≡ no_memory) × FailsToKeep old r out grown)
+-- the record was taken
+pub record Takes (old : Stranding) (r : Feature) (new : Stranding) : Type 0 where
+  pub gap : new.gap ≡ old.gap
+  pub chrom : new.chrom ≡ r.chrom
+  pub kept : new.kept ≡ kept_with old.gap old.kept r
 
 -- a record whose start less the gap is `reach`, as a run, among runs on its chromosome
 module _ (chrom : List ℕ) (reach : ℕ) (runs : List PendingRun) (run : PendingRun) (out : Output) where
