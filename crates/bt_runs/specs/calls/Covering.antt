@@ -79,22 +79,13 @@ whole_output first past = depth_lines (coverage first.zeros first.strand first.e
 abbrev pub held_count : Covering → List Feature → ℕ
 held_count first past = length (kept_records first.strand first.entries past)
 
--- no record is said to be taken quietly: `IsForRecord` says when memory may be wanted
+-- no record is said to be taken quietly: `wants_memory` says when memory may be needed
 abbrev pub is_quiet : Covering → List Feature → Feature → Type 0
 is_quiet first past r = ⊥
 
--- a record has to be kept: it is counted, and starts below this length of its chromosome
-pub record IsToKeep (size : ℕ) (strand : Option Strand) (r : Feature) : Type 0 where
-  pub counted : is_counted_by strand r.strand ≡ true
-  pub starts : r.start < size
-
--- on the chromosome of its name
-abbrev pub HasToKeep : List Entry → Option Strand → Feature → Type 0
-HasToKeep entries strand r = IsToKeep (length_in entries r.chrom) strand r
-
--- memory is needed for records that have to be kept
+-- memory is needed for a record that has to be kept: it is counted, and starts below its chromosome's length
 abbrev pub wants_memory : Covering → Feature → Type 0
-wants_memory old r = HasToKeep old.entries old.strand r
+wants_memory old r = (is_counted_by old.strand r.strand ≡ true) × (r.start < length_in old.entries r.chrom)
 
 -- this holds if memory ran out
 abbrev pub OnWant : {A : Type 0} → Type 0 → Result A Failure → Type 0

@@ -117,6 +117,7 @@ impl<'g> Rule for GapRule<'g> {
         self.cursor = on;
     }
 
+    #[tactic(auto, using(crate::proofs::lemmas::complement::GapRuleLemmas::cursor_reached, crate::proofs::lemmas::complement::GapRuleLemmas::gap_finishes))]
     fn finish<K: Sink>(self, out: &mut Out<K>) -> Result<(), Fault> {
         let GapRule { limit, cursor } = self;
         put_before(&cursor, limit, cursor.genome.count(), out)

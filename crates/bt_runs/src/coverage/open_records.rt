@@ -69,6 +69,7 @@ impl OpenRecords {
 
     // How many are open.
     #[inline(always)]
+    #[tactic(auto, using(crate::proofs::lemmas::coverage::OpenLemmas::as_many))]
     pub(crate) fn depth(&self) -> usize
         ensures { result ≡ length (still_open self.now.at self.now.spans) }
     {
@@ -153,6 +154,7 @@ fn drop_ended(spans: &mut VecDeque<OpenSpan>, position: u64, left: usize)
 }
 
 // The index of the first record that ended before a position, where this many are still open there.
+#[tactic(auto, using(crate::proofs::lemmas::coverage::OpenLemmas::none_past, crate::proofs::lemmas::coverage::OpenLemmas::open_within))]
 fn first_ended(spans: &VecDeque<OpenSpan>, position: u64, left: usize) -> usize
     requires { left ≡ length (still_open position (spans_open spans.now.items)) }
     ensures within { result ≤ length spans.now.items }

@@ -119,6 +119,7 @@ impl<E: Rule + Drop> Ruled<E> {
     }
 
     // Writes the lines that are still unsettled, unless it has failed.
+    #[tactic(auto, using(crate::proofs::lemmas::engine::RuledLemmas::ruled_finishes))]
     pub(crate) fn finish<K: Sink>(self, out: &mut Out<K>) -> Result<(), Fault>
         ensures { Finishes (ruled_takes E.takes) (ruled_stands E.is_after) ruled_fault (ruled_text E.settled) (ruled_text E.output)
             self out.old.output result out.new.output }

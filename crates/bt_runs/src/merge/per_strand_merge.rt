@@ -194,6 +194,7 @@ impl Rule for PerStrandMerge {
         self.only = on;
     }
 
+    #[tactic(auto, using(crate::proofs::lemmas::merge::PerStrandLemmas::finishes_kept))]
     fn finish<K: Sink>(mut self, out: &mut Out<K>) -> Result<(), Fault> {
         self.close(out)
     }
@@ -226,6 +227,7 @@ fn put_passed<K: Sink>(
 // Takes a record among the runs of the list. Those that it closes are written. It is joined to the last one of
 // its strand that is left, or is one more. If none is left, it returns true and the record isn't taken.
 #[inline(never)]
+#[tactic(auto, using(crate::proofs::lemmas::merge::PerStrandLemmas::none_first, crate::proofs::lemmas::merge::PerStrandLemmas::put_well, crate::proofs::lemmas::merge::PerStrandLemmas::went_well))]
 fn join_among<K: Sink>(
     chrom: &[u8],
     reach: u64,

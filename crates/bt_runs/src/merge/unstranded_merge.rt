@@ -134,6 +134,7 @@ impl Rule for UnstrandedMerge {
         self.run = on;
     }
 
+    #[tactic(auto, using(crate::proofs::lemmas::merge::UnstrandedLemmas::finishes_kept))]
     fn finish<K: Sink>(self, out: &mut Out<K>) -> Result<(), Fault> {
         put_run(self.chrom.as_slice(), self.run, out)
     }

@@ -9,10 +9,10 @@ use Rattle.bt_bed.specs.model.order.Rank.{rank_of}
 use Rattle.bt_bed.specs.declared.parse.bounds.Bounds.{Bounds}
 use Rattle.bt_bed.proofs.lemmas.parse.NameLemmas.{same_name}
 use Rattle.bt_runs.specs.inside.coverage.CountSeen.{known_seen, place_seen, seen}
-use Rattle.bt_runs.specs.inside.coverage.CountedDepths.{CountAnswers, Counts, known_past, levels_past}
-use Rattle.bt_runs.specs.calls.Covering.{CountsRecord, Covering, HasToKeep, IsOnBy, IsOnChrom, OnWant, depth_step, next_lines, wants_memory, with_begun, with_chrom}
+use Rattle.bt_runs.specs.inside.coverage.CountedDepths.{CountAnswers}
+use Rattle.bt_runs.specs.calls.Covering.{CountsRecord, Covering, IsOnBy, IsOnChrom, OnWant, depth_step, next_lines, wants_memory, with_begun, with_chrom}
 use Rattle.bt_runs.specs.model.Depth.{is_counted_by}
-use Rattle.bt_runs.specs.inside.coverage.DepthStep.{Known, levels_on}
+use Rattle.bt_runs.specs.inside.coverage.DepthStep.{Known, known_with, levels_on, levels_with}
 use Rattle.bt_runs.specs.calls.Ruled.{fault_of}
 use Rattle.bt_runs.specs.inside.coverage.OpenRecords.{OpenAt}
 use Rattle.bt_runs.specs.inside.walk.Rule.{Does}
@@ -40,24 +40,24 @@ module _ (old : Covering) (place : Place Known) (reached : old.current ≡ Some 
     (named : (entry_at old.entries place.rank).name ≡ chrom) (sized : (entry_at old.entries place.rank).length ≡ size)
     (r : Feature) (on : is_on old.entries old.current r.chrom ≡ true) (bounds : Bounds) (starts : r.start ≡ bounds.start) (stops : r.stop ≡ bounds.stop)
     (counted : Bool) (counts : is_counted_by old.strand r.strand ≡ counted) (out : Output) where
-  step_is : depth_step old r ≡ (Some (record { rank = place.rank; known = known_past old.zeros counted size place.known bounds }), levels_on chrom (levels_past old.zeros size place.known bounds))
+  step_is : depth_step old r ≡ (Some (record { rank = place.rank; known = known_with old.zeros counted size place.known bounds.start bounds.stop }), levels_on chrom (levels_with old.zeros size place.known bounds.start))
   step_is = step_here old r place reached on ∙ rw (named, sized, counts, starts, stops) refl
 
   -- it was taken
-  pub counts_ok : (begun : Option OpenInterval) (held : OpenAt) (grown : Output) → Counts chrom (levels_past old.zeros size place.known bounds) (known_past old.zeros counted size place.known bounds) begun held out grown
+  pub counts_ok : (begun : Option OpenInterval) (held : OpenAt) (grown : Output) → CountAnswers chrom (levels_with old.zeros size place.known bounds.start) (known_with old.zeros counted size place.known bounds.start bounds.stop) (Ok begun) held out grown
       → Does next_lines CountsRecord wants_memory old r out (Ok tt) (record { entries = old.entries; zeros = old.zeros; strand = old.strand; current = Some (place_seen (record { rank = place.rank; begun = begun }) held); is_known = old.is_known; name = old.name; length = old.length }) grown
   counts_ok begun held grown c =
-      let current = ap (λ k. Some (record { rank = place.rank; known = k })) c.knows ∙ sym (ap (λ s. s.0) step_is) in
-      (record { same_entries = refl; same_zeros = refl; same_strand = refl; current = current; at = λ at. placed }, rw step_is c.puts)
+      let current = ap (λ k. Some (record { rank = place.rank; known = k })) c.1 ∙ sym (ap (λ s. s.0) step_is) in
+      (record { same_entries = refl; same_zeros = refl; same_strand = refl; current = current; at = λ at. placed }, rw step_is c.0)
 
-  to_keep : (counted ≡ true) × (bounds.start < size) → HasToKeep old.entries old.strand r
+  to_keep : (counted ≡ true) × (bounds.start < size) → wants_memory old r
   to_keep is =
       let here = subst (λ (o : Option (Place Known)). is_on old.entries o r.chrom ≡ true) reached on in
       let ranked : rank_of (genome_names old.entries) r.chrom ≡ Some place.rank = ap (rank_of (genome_names old.entries)) (sym (same_name (entry_at old.entries place.rank).name r.chrom here)) ∙ placed.named in
-      record { counted = counts ∙ is.0; starts = rw (starts, size_ranked old.entries r.chrom place.rank ranked, sized) is.1 }
+      (counts ∙ is.0, rw (starts, size_ranked old.entries r.chrom place.rank ranked, sized) is.1)
 
   -- it couldn't be
-  pub counts_err : (failure : Failure) (fault : Fault) (new : Covering) (held : OpenAt) (grown : Output) → fault_value fault ≡ fault_of failure → CountAnswers chrom (levels_past old.zeros size place.known bounds) (known_past old.zeros counted size place.known bounds) (Err failure) held out grown
+  pub counts_err : (failure : Failure) (fault : Fault) (new : Covering) (held : OpenAt) (grown : Output) → fault_value fault ≡ fault_of failure → CountAnswers chrom (levels_with old.zeros size place.known bounds.start) (known_with old.zeros counted size place.known bounds.start bounds.stop) (Err failure) held out grown
       → OnWant {A = Option OpenInterval} ((counted ≡ true) × (bounds.start < size)) (Err failure) → Does next_lines CountsRecord wants_memory old r out (Err fault) new grown
   counts_err Write fault new held grown is cut want = inl (rw (step_is, is) cut)
   counts_err Memory fault new held grown is puts want = inr (is, (to_keep want, rw step_is puts))
@@ -73,7 +73,7 @@ module _ (table : List Entry) (zeros : Bool) (strand : Option Strand) (is_known 
   ended_with begun = record { is_known = on.is_known; name = on.name; length = on.length; begun = begun }
 
   pub step_ok : (current : Option DepthCursor) (held : OpenAt) → AreReached table (seen current held) → IsOnChrom (with_chrom (covering current held) on) r.chrom → (begun : Option OpenInterval) (now_held : OpenAt)
-      → Counts on.name.now (levels_past zeros on.length (known_seen on.begun held) bounds) (known_past zeros counted on.length (known_seen on.begun held) bounds) begun now_held out grown
+      → CountAnswers on.name.now (levels_with zeros on.length (known_seen on.begun held) bounds.start) (known_with zeros counted on.length (known_seen on.begun held) bounds.start bounds.stop) (Ok begun) now_held out grown
       → Does next_lines CountsRecord wants_memory (with_chrom (covering current held) on) r out (Ok tt) (with_chrom (covering current now_held) (ended_with begun)) grown
   step_ok None held placed lies begun now_held c = absurd (on_here table None on.name.now on.length r.chrom on.is_known here lies).1
   step_ok (Some reached) held placed lies begun now_held c =
@@ -82,7 +82,7 @@ module _ (table : List Entry) (zeros : Bool) (strand : Option Strand) (is_known 
       counts_ok (with_chrom (covering (Some reached) held) on) place refl placed on.name.now on.length l.1.0 l.1.1 r l.0 bounds starts stops counted counts out begun now_held grown c
 
   pub step_err : (current : Option DepthCursor) (held : OpenAt) → AreReached table (seen current held) → IsOnChrom (with_chrom (covering current held) on) r.chrom → (failure : Failure) (fault : Fault) (new : Covering) (now_held : OpenAt) → fault_value fault ≡ fault_of failure
-      → CountAnswers on.name.now (levels_past zeros on.length (known_seen on.begun held) bounds) (known_past zeros counted on.length (known_seen on.begun held) bounds) (Err failure) now_held out grown
+      → CountAnswers on.name.now (levels_with zeros on.length (known_seen on.begun held) bounds.start) (known_with zeros counted on.length (known_seen on.begun held) bounds.start bounds.stop) (Err failure) now_held out grown
       → OnWant {A = Option OpenInterval} ((counted ≡ true) × (bounds.start < on.length)) (Err failure) → Does next_lines CountsRecord wants_memory (with_chrom (covering current held) on) r out (Err fault) new grown
   step_err None held placed lies failure fault new now_held is c want = absurd (on_here table None on.name.now on.length r.chrom on.is_known here lies).1
   step_err (Some reached) held placed lies failure fault new now_held is c want =

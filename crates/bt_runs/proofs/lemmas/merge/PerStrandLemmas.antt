@@ -25,7 +25,7 @@ use Rattle.bt_runs.specs.inside.merge.PerStrand.{kept_in}
 use Rattle.bt_runs.specs.inside.walk.Rule.{Does, EnterAnswers, FitsPast, PutsRestAtEnd}
 use Rattle.bt_runs.specs.model.StrandRuns.{StrandRun, kept_strand_runs, places_of, settled_strand_runs}
 use Rattle.bt_runs.specs.inside.merge.StrandStep.{added_at, left_unsettled, settled_prefix, kept_with, last_place, place_among, run_from, run_with, with_added}
-use Rattle.bt_runs.specs.inside.merge.StrandTaking.{JoinsAmong, JoinsLeft, LeavesNone, OpensRun, Takes, joined_among, lines_by, wants_memory}
+use Rattle.bt_runs.specs.inside.merge.StrandTaking.{JoinsAmong, OpensRun, Takes, joined_among, lines_by, wants_memory}
 use Rattle.bt_runs.specs.calls.Stranding.{Stranding, held_count, is_quiet, may_take, settled_lines, stands_after, strand_lines, whole_output}
 use Rattle.bt_runs.specs.declared.engine.failure.Failure.{Failure}
 use Rattle.bt_runs.specs.declared.engine.failure.Failure.TheVariants.{Write, Memory}
@@ -196,18 +196,18 @@ module _ (old : Stranding) (r : Feature) (out : Output) (runs : List PendingRun)
   left_kept now true is e = added.one is ∙ ap (placed_runs old.chrom) (sym e)
   left_kept now false is e = (added.more is).1 ∙ sym (opened_by old.gap old.chrom r left now on e)
 
-  pub takes_left : (now : List PendingRun) (new : Stranding) (grown : Output) → JoinsLeft old.chrom near runs (pending_from r) out now grown → new.gap ≡ old.gap → new.chrom ≡ old.chrom → new.kept ≡ placed_runs old.chrom now → TakesNext old r out (Ok tt) new grown
-  takes_left now new grown p gap chrom kept = takes_with new grown gap chrom (left_kept now joined.0 refl p.now ∙ sym kept) p.puts
+  pub takes_left : (now : List PendingRun) (new : Stranding) (grown : Output) → JoinsAmong old.chrom near runs (pending_from r) out (Ok false) now grown → new.gap ≡ old.gap → new.chrom ≡ old.chrom → new.kept ≡ placed_runs old.chrom now → TakesNext old r out (Ok tt) new grown
+  takes_left now new grown p gap chrom kept = takes_with new grown gap chrom (left_kept now joined.0 refl p.0 ∙ sym kept) p.1
 
-  pub takes_alone : (now : List PendingRun) (new : Stranding) (grown : Output) → LeavesNone old.chrom near runs (pending_from r) out now grown → new.gap ≡ old.gap → new.chrom ≡ old.chrom → new.kept ≡ placed_run old.chrom (pending_from r) ∷ [] → TakesNext old r out (Ok tt) new grown
+  pub takes_alone : (now : List PendingRun) (new : Stranding) (grown : Output) → JoinsAmong old.chrom near runs (pending_from r) out (Ok true) now grown → new.gap ≡ old.gap → new.chrom ≡ old.chrom → new.kept ≡ placed_run old.chrom (pending_from r) ∷ [] → TakesNext old r out (Ok tt) new grown
   takes_alone now new grown p gap chrom kept =
       takes_with new grown gap chrom
-      (ap (λ rest. with_added old.gap (placed_runs old.chrom rest) r) p.none ∙ ap (λ n. placed_run n (pending_from r) ∷ []) (sym on) ∙ sym kept)
-      p.puts
+      (ap (λ rest. with_added old.gap (placed_runs old.chrom rest) r) p.0 ∙ ap (λ n. placed_run n (pending_from r) ∷ []) (sym on) ∙ sym kept)
+      p.1.1
 
   pub fails_among : (failure : Failure) (fault : Fault) (now : List PendingRun) (new : Stranding) (grown : Output) → fault_value fault ≡ fault_of failure → JoinsAmong old.chrom near runs (pending_from r) out (Err failure) now grown → TakesNext old r out (Err fault) new grown
   fails_among Write fault now new grown is p = fails_with fault new grown (subst (λ t. FailsToAdd out (strand_lines (placed_runs old.chrom (passed_runs true near runs))) t grown) (sym is) p)
-  fails_among Memory fault now new grown is p = inr (is, (inl (rw behind_is (added.more p.joins).1), subst (λ l. Grown out l grown) lines_is p.puts))
+  fails_among Memory fault now new grown is p = inr (is, (inl (rw behind_is (added.more p.0).1), subst (λ l. Grown out l grown) lines_is p.1))
 
 -- the only run couldn't be written
 pub fails_alone : (old : Stranding) (r : Feature) (out : Output) (w : PendingRun) → old.kept ≡ placed_run old.chrom w ∷ [] → old.chrom ≡ r.chrom → w.stop < r.start - old.gap

@@ -47,26 +47,12 @@ module _ (chrom : List ℕ) (reach : ℕ) (runs : List PendingRun) (run : Pendin
   abbrev pub PutsPassed : Output → Type 0
   PutsPassed grown = Grown out (strand_lines (placed_runs chrom (passed_runs true reach runs))) grown
 
-  -- none is left
-  pub record LeavesNone (new : List PendingRun) (grown : Output) : Type 0 where
-    pub none : left_runs true reach runs ≡ []
-    pub now : new ≡ []
-    pub puts : PutsPassed grown
-
-  -- it was joined to one of those that are left, or is one more
-  pub record JoinsLeft (new : List PendingRun) (grown : Output) : Type 0 where
-    pub now : new ≡ cond joined_among.0 joined_among.1 (left_runs true reach runs ++ run ∷ [])
-    pub puts : PutsPassed grown
-
-  -- it had to be one more, and couldn't be kept
-  pub record KeepsNone (grown : Output) : Type 0 where
-    pub joins : joined_among.0 ≡ false
-    pub puts : PutsPassed grown
-
-  -- it returns true if none is left
+  -- it returns true if none is left, and else it was joined to one of those that are left, or is one more; or it had to
+  -- be one more, and couldn't be kept
   abbrev pub JoinsAmong : Result Bool Failure → List PendingRun → Output → Type 0
-  JoinsAmong (Ok true) new grown = LeavesNone new grown
-  JoinsAmong (Ok false) new grown = JoinsLeft new grown
+  JoinsAmong (Ok true) new grown = (left_runs true reach runs ≡ []) × ((new ≡ []) × PutsPassed grown)
+  JoinsAmong (Ok false) new grown =
+      (new ≡ cond joined_among.0 joined_among.1 (left_runs true reach runs ++ run ∷ [])) × PutsPassed grown
   JoinsAmong (Err Write) new grown =
       FailsToAdd out (strand_lines (placed_runs chrom (passed_runs true reach runs))) write_failed grown
-  JoinsAmong (Err Memory) new grown = KeepsNone grown
+  JoinsAmong (Err Memory) new grown = (joined_among.0 ≡ false) × PutsPassed grown
