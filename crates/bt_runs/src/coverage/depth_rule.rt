@@ -178,6 +178,7 @@ impl<'g> Rule for DepthRule<'g> {
     }
 
     #[inline(always)]
+    #[tactic(auto, using(crate::proofs::lemmas::coverage::DepthCounts::off_here, crate::proofs::lemmas::coverage::DepthCounts::stays_on, crate::proofs::lemmas::coverage::DepthCounts::step_err, crate::proofs::lemmas::coverage::DepthCounts::step_ok, crate::proofs::lemmas::coverage::DepthSteps::counts_none, crate::proofs::lemmas::coverage::DepthSteps::fits))]
     fn step<R: Record, K: Sink>(
         &mut self,
         on: &mut CurrentChrom<'g>,
@@ -294,6 +295,7 @@ fn settle<K: Sink>(
 // Writes what is left of a chromosome, and drops its records.
 #[cold]
 #[inline(never)]
+#[tactic(auto, using(crate::proofs::lemmas::coverage::DepthLines::adds_levels, crate::proofs::lemmas::coverage::DepthLines::left_cut))]
 fn put_rest<K: Sink>(
     chrom: &CoveredChrom<'_>,
     begun: Option<OpenInterval>,

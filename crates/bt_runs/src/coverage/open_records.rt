@@ -97,6 +97,7 @@ impl OpenRecords {
 
     // Goes on to a position before which none ends, and drops those that aren't open from the list.
     #[inline(always)]
+    #[tactic(auto, using(crate::proofs::lemmas::coverage::OpenLemmas::all_stay, crate::proofs::lemmas::coverage::OpenLemmas::keeps_same, crate::proofs::lemmas::coverage::OpenLemmas::open_count))]
     pub(crate) fn settle(&mut self, position: u64)
         requires { All (λ s. position ≤ s.stop) (still_open self.old.at self.old.spans) }
         ensures { self.new ≡ open_from (max self.old.at position) self.old }

@@ -78,6 +78,7 @@ impl PerStrandMerge {
     }
 
     // Writes all runs, and keeps none.
+    #[tactic(auto, using(crate::proofs::lemmas::merge::PerStrandLemmas::list_closed, crate::proofs::lemmas::merge::PerStrandLemmas::list_closes))]
     fn close<K: Sink>(&mut self, out: &mut Out<K>) -> Result<(), Fault>
         ensures adds { Adds out.old.output (strand_lines self.old.kept) result out.new.output }
         ensures left { OnOk result (self.new ≡ record self.old { kept = []; listed = [] }) }

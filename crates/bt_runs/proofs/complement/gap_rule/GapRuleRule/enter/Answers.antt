@@ -5,7 +5,7 @@ use Rattle.bt_runs.specs.inside.walk.GapCursor.{seen}
 use Rattle.bt_runs.specs.inside.walk.GapRule.{complement_at}
 use Rattle.bt_runs.specs.inside.walk.GapStep.{bare_gap, last_gap}
 use Rattle.bt_runs.specs.inside.walk.Walk.{IsNamed, left_before}
-use Rattle.bt_runs.proofs.lemmas.complement.GapRuleLemmas.{cursor_reached, enters_failing, enters_here, enters_next, goes_other, has_chrom, lacks_chrom, on_found, other_rank, rank_placed, same_rank}
+use Rattle.bt_runs.proofs.lemmas.complement.GapRuleLemmas.{cursor_reached, enters_failing, enters_next, goes_other, has_chrom, lacks_chrom, on_found, other_rank, rank_placed, same_rank}
 use Rattle.bt_runs.proofs.lemmas.order.GenomeRanks.{length_read, name_read}
 use Rattle.bt_runs.proofs.complement.gap_rule.GapRuleRule.enter.Goals as goal
 
@@ -13,26 +13,12 @@ pub returns-in_default-clause-on : goal.returns-in_default-clause-on
 returns-in_default-clause-on g c =
     lacks_chrom c.self.inside.limit c.self.inside.cursor c.args.chrom.now (sym c.rank.ensures ∙ c.in_default.is)
 
-pub returns-in_default-clause-enters : goal.returns-in_default-clause-enters
-returns-in_default-clause-enters g c =
-    let cursor = c.self.inside.cursor in
-    rw (← c.self.view_is) (enters_here (complement_at c.self.inside.limit cursor) (cursor_reached cursor) c.args.chrom.now c.args.out.now.output 0)
-
-pub length-self-inside-requires : goal.length-self-inside-requires
-length-self-inside-requires g c =
-    (rank_placed c.self.inside.limit c.self.inside.cursor c.args.chrom.now c.in-Some.rank (sym c.in-Some.ensures)).within
-
 pub returns-then-eq-clause-on : goal.returns-then-eq-clause-on
 returns-then-eq-clause-on g c =
     let cursor = c.self.inside.cursor in
     let same = same_rank cursor.rank c.in-Some.rank c.eq.result c.eq.ensures c.if-eq.true in
     let size = length_read (entries cursor.genome.now) c.in-Some.rank c.length-self-inside.result c.length-self-inside.ensures.is in
     has_chrom c.self.inside.limit cursor c.args.chrom.now c.in-Some.rank (sym c.in-Some.ensures) cursor.end c.length-self-inside.result (seen cursor) (rw same refl) size
-
-pub returns-then-eq-clause-enters : goal.returns-then-eq-clause-enters
-returns-then-eq-clause-enters g c =
-    let cursor = c.self.inside.cursor in
-    rw (← c.self.view_is) (enters_here (complement_at c.self.inside.limit cursor) (cursor_reached cursor) c.args.chrom.now c.args.out.now.output c.length-self-inside.result)
 
 pub put_before-requires : goal.put_before-requires
 put_before-requires g c =
