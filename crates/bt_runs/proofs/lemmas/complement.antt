@@ -3,5 +3,4 @@ pub mod ComplementForm
 pub mod GapRuleLemmas
 pub mod GapSteps
 pub mod OneGap
-pub mod RuleSteps
 pub mod Walks

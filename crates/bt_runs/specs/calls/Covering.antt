@@ -1,11 +1,6 @@
 -- A count of depths as its callers see it.
-use Rattle.std.specs.Prelude.{◌≡◌, ℕ, ◌<◌, ◌⊎◌, ⊤, Bool, true, false, List, [], length}
+use Rattle.std.specs.Prelude.{◌≡◌, ℕ, ◌<◌, ⊤, Bool, true, false, List, [], length}
 use Rattle.std.specs.Prelude.{Option, Some, None, Result, Ok, Err, cond, nat_lt}
-use Rattle.bt_lines.specs.model.Fault.{FaultValue, no_memory}
-use Rattle.bt_lines.specs.calls.Names.{fault_value}
-use Rattle.bt_lines.specs.calls.Output.{Output}
-use Rattle.bt_lines.specs.calls.Putting.{FailsToAdd, Grown}
-use Rattle.bt_lines.specs.declared.fault.Fault.{Fault}
 use Rattle.bt_bed.specs.model.feature.Feature.{Feature}
 use Rattle.bt_bed.specs.model.order.Genome.{Entry}
 use Rattle.bt_bed.specs.model.feature.Interval.{Span}
@@ -84,22 +79,13 @@ whole_output first past = depth_lines (coverage first.zeros first.strand first.e
 abbrev pub held_count : Covering → List Feature → ℕ
 held_count first past = length (kept_records first.strand first.entries past)
 
--- no record is said to be taken quietly: `IsForRecord` says when memory may be wanted
+-- no record is said to be taken quietly: `wants_memory` says when memory may be needed
 abbrev pub is_quiet : Covering → List Feature → Feature → Type 0
 is_quiet first past r = ⊥
 
--- a record has to be kept: it is counted, and starts below this length of its chromosome
-pub record IsToKeep (size : ℕ) (strand : Option Strand) (r : Feature) : Type 0 where
-  pub counted : is_counted_by strand r.strand ≡ true
-  pub starts : r.start < size
-
--- on the chromosome of its name
-abbrev pub HasToKeep : List Entry → Option Strand → Feature → Type 0
-HasToKeep entries strand r = IsToKeep (length_in entries r.chrom) strand r
-
--- memory is needed for records that have to be kept
+-- memory is needed for a record that has to be kept: it is counted, and starts below its chromosome's length
 abbrev pub wants_memory : Covering → Feature → Type 0
-wants_memory old r = HasToKeep old.entries old.strand r
+wants_memory old r = (is_counted_by old.strand r.strand ≡ true) × (r.start < length_in old.entries r.chrom)
 
 -- this holds if memory ran out
 abbrev pub OnWant : {A : Type 0} → Type 0 → Result A Failure → Type 0
@@ -148,28 +134,18 @@ with_chrom coverage on = record {
   length = on.length;
 }
 
-module _ (old : Covering) (r : Feature) (out : Output) where
-  -- what one more record reaches, and what it settles
-  abbrev pub depth_step : Option (Place Known) × List DepthInterval
-  depth_step = walk_step (depth_walk old.zeros old.strand) old.entries old.current r
+-- what one more record reaches, and what it settles
+abbrev pub depth_step : Covering → Feature → Option (Place Known) × List DepthInterval
+depth_step old r = walk_step (depth_walk old.zeros old.strand) old.entries old.current r
 
-  -- it was taken, as the step says
-  pub record CountsRecord (new : Covering) (grown : Output) : Type 0 where
-    pub same_entries : new.entries ≡ old.entries
-    pub same_zeros : new.zeros ≡ old.zeros
-    pub same_strand : new.strand ≡ old.strand
-    pub current : new.current ≡ depth_step.0
-    pub at : AreReached old.entries old.current → AreReached old.entries new.current
-    pub puts : Grown out (depth_lines depth_step.1) grown
+-- the lines of the intervals that it settles
+abbrev pub next_lines : Covering → Feature → List ℕ
+next_lines old r = depth_lines (depth_step old r).1
 
-  -- its lines were written, and it couldn't be kept
-  pub record RunsShort (answer : FaultValue) (grown : Output) : Type 0 where
-    pub is : answer ≡ no_memory
-    pub puts : Grown out (depth_lines depth_step.1) grown
-    pub to_keep : HasToKeep old.entries old.strand r
-
-  -- what is done with it
-  abbrev pub CountsDepths : Result (Unit {0}) Fault → Covering → Output → Type 0
-  CountsDepths (Ok done) new grown = CountsRecord new grown
-  CountsDepths (Err fault) new grown =
-      FailsToAdd out (depth_lines depth_step.1) (fault_value fault) grown ⊎ RunsShort (fault_value fault) grown
+-- the record was taken, as the step says
+pub record CountsRecord (old : Covering) (r : Feature) (new : Covering) : Type 0 where
+  pub same_entries : new.entries ≡ old.entries
+  pub same_zeros : new.zeros ≡ old.zeros
+  pub same_strand : new.strand ≡ old.strand
+  pub current : new.current ≡ (depth_step old r).0
+  pub at : AreReached old.entries old.current → AreReached old.entries new.current

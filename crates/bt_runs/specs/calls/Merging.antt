@@ -12,7 +12,7 @@ use Rattle.bt_runs.specs.inside.merge.StrandTaking as strand_step
 use Rattle.bt_runs.specs.calls.Unstranded as unstranded
 use Rattle.bt_runs.specs.inside.merge.UnstrandedStep as unstranded_step
 use Rattle.bt_runs.specs.declared.merge.merge_strand.MergeStrand.{MergeStrand}
-use Rattle.bt_runs.specs.declared.merge.merge_strand.MergeStrand.TheVariants.{All, Each, One}
+use Rattle.bt_runs.specs.declared.merge.merge_strand.MergeStrand.TheVariants.{Each}
 use Rattle.bt_runs.specs.declared.engine.rule.Ruled.{Ruled}
 
 -- a merge as its callers see it: of all counted records together, or of each strand separately
@@ -21,15 +21,11 @@ pub data Merging : Type 0 where
   PerStrand : Ruled strands.Stranding → Merging
 
 -- one that has taken no record
-abbrev pub unstranded_begun : ℕ → MergeStrand → Merging
-unstranded_begun gap strand =
-    Unstranded (record { rule = record { gap = gap; strand = strand; chrom = []; kept = [] }; failure = None })
-
 abbrev pub merge_begun : ℕ → MergeStrand → Merging
 merge_begun gap Each =
     PerStrand (record { rule = record { gap = gap; chrom = []; kept = []; listed = [] }; failure = None })
-merge_begun gap All = unstranded_begun gap All
-merge_begun gap (One strand) = unstranded_begun gap (One strand)
+merge_begun gap strand =
+    Unstranded (record { rule = record { gap = gap; strand = strand; chrom = []; kept = [] }; failure = None })
 
 -- the records that may be taken
 abbrev pub may_take : Merging → List Feature → Type 0

@@ -8,7 +8,7 @@ ghost use Rattle.bt_bed.specs.model.feature.IntervalLine.{interval_lines};
 ghost use Rattle.bt_runs.specs.calls.Complementing.{held_count, is_quiet, kept_in, may_take, settled_lines, stands_after, whole_output};
 ghost use Rattle.bt_runs.specs.calls.Engine.{KeepsHeld};
 ghost use Rattle.bt_runs.specs.inside.walk.GapCursor.{seen};
-ghost use Rattle.bt_runs.specs.inside.walk.GapRule.{CoversRecord, IsOnChrom, complement_at, with_cursor};
+ghost use Rattle.bt_runs.specs.inside.walk.GapRule.{IsOnChrom, IsWith, complement_at, next_lines, with_cursor};
 ghost use Rattle.bt_runs.specs.inside.walk.GapStep.{bare_gap, last_gap};
 ghost use Rattle.bt_runs.specs.inside.walk.Walk.{left_before};
 
@@ -69,13 +69,16 @@ impl<'g> Rule for GapRule<'g> {
     // It doesn't allocate.
     ghost wants = { λ rule r. ⊥ };
 
-    ghost does = { CoversRecord };
+    ghost lines = { next_lines };
+
+    ghost has = { IsWith };
 
     ghost is_on = { IsOnChrom };
 
     ghost with_on = { with_cursor };
 
     // On a chromosome that the genome file lacks no base counts, so that records there are skipped.
+    #[tactic(auto, using(crate::proofs::lemmas::complement::GapRuleLemmas::cursor_reached, crate::proofs::lemmas::complement::GapRuleLemmas::enters_failing, crate::proofs::lemmas::complement::GapRuleLemmas::enters_here, crate::proofs::lemmas::complement::GapRuleLemmas::enters_next, crate::proofs::lemmas::complement::GapRuleLemmas::goes_other, crate::proofs::lemmas::complement::GapRuleLemmas::has_chrom, crate::proofs::lemmas::complement::GapRuleLemmas::lacks_chrom, crate::proofs::lemmas::complement::GapRuleLemmas::on_found, crate::proofs::lemmas::complement::GapRuleLemmas::other_rank, crate::proofs::lemmas::complement::GapRuleLemmas::rank_placed, crate::proofs::lemmas::complement::GapRuleLemmas::same_rank, crate::proofs::lemmas::order::GenomeRanks::length_read, crate::proofs::lemmas::order::GenomeRanks::name_read))]
     fn enter<K: Sink>(&mut self, chrom: &[u8], out: &mut Out<K>) -> Result<(), Fault> {
         let genome = self.cursor.genome;
         let Some(rank) = genome.rank(chrom) else {
@@ -102,6 +105,7 @@ impl<'g> Rule for GapRule<'g> {
     }
 
     #[inline(always)]
+    #[tactic(auto, using(crate::proofs::lemmas::complement::GapRuleLemmas::cursor_covers, crate::proofs::lemmas::complement::GapRuleLemmas::cursor_reached, crate::proofs::lemmas::complement::GapRuleLemmas::fits))]
     fn step<R: Record, K: Sink>(
         &mut self,
         on: &mut GapCursor<'g>,
@@ -115,6 +119,7 @@ impl<'g> Rule for GapRule<'g> {
         self.cursor = on;
     }
 
+    #[tactic(auto, using(crate::proofs::lemmas::complement::GapRuleLemmas::cursor_reached, crate::proofs::lemmas::complement::GapRuleLemmas::gap_finishes))]
     fn finish<K: Sink>(self, out: &mut Out<K>) -> Result<(), Fault> {
         let GapRule { limit, cursor } = self;
         put_before(&cursor, limit, cursor.genome.count(), out)

@@ -12,6 +12,7 @@ const ROOM: usize = 3 * COLUMN + 1;
 
 // Puts the line of an interval: its name, and what follows it in one piece. It doesn't allocate.
 #[inline(always)]
+#[tactic(auto, using(crate::proofs::lemmas::coverage::DepthLines::line_parts))]
 pub(crate) fn put_depth<K: Sink>(
     chrom: &[u8],
     start: u64,

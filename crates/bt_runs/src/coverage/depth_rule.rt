@@ -4,13 +4,12 @@ ghost use Rattle.std.specs.Prelude.{◌≡◌, false, true, ◌<◌, ◌≤◌, 
 ghost use Rattle.bt_lines.specs.calls.Putting.{Adds};
 ghost use Rattle.bt_bed.specs.calls.GenomeTable.{entries};
 ghost use Rattle.bt_runs.specs.inside.coverage.CountSeen.{known_seen, seen};
-ghost use Rattle.bt_runs.specs.inside.coverage.CountedDepths.{CountAnswers, known_past, levels_past};
-ghost use Rattle.bt_runs.specs.calls.Covering.{CountsDepths, IsOnChrom, OnWant, held_count, is_quiet, kept_in, may_take, settled_known, settled_lines, stands_after, wants_memory, whole_output, with_chrom};
+ghost use Rattle.bt_runs.specs.inside.coverage.CountedDepths.{CountAnswers};
+ghost use Rattle.bt_runs.specs.calls.Covering.{CountsRecord, IsOnChrom, OnWant, held_count, is_quiet, kept_in, may_take, next_lines, settled_known, settled_lines, stands_after, wants_memory, whole_output, with_chrom};
 ghost use Rattle.bt_runs.specs.model.Depth.{depth_lines, is_counted_by};
-ghost use Rattle.bt_runs.specs.inside.coverage.DepthStep.{bare_of, depths_left, levels_by, levels_left, levels_on};
+ghost use Rattle.bt_runs.specs.inside.coverage.DepthStep.{bare_of, depths_left, known_with, levels_by, levels_left, levels_on, levels_with};
 ghost use Rattle.bt_runs.specs.calls.Engine.{KeepsHeld};
 ghost use Rattle.bt_runs.specs.inside.coverage.OpenRecords.{none_open_at};
-ghost use Rattle.bt_runs.specs.inside.walk.Rule.{EnterAnswers, Taken};
 ghost use Rattle.bt_runs.specs.inside.walk.Walk.{AreReached, begun, is_on, left_before, left_of};
 
 use crate::coverage::depth_line::put_depth;
@@ -128,7 +127,9 @@ impl<'g> Rule for DepthRule<'g> {
 
     ghost wants = { wants_memory };
 
-    ghost does = { CountsDepths };
+    ghost lines = { next_lines };
+
+    ghost has = { CountsRecord };
 
     ghost is_on = { IsOnChrom };
 
@@ -177,6 +178,7 @@ impl<'g> Rule for DepthRule<'g> {
     }
 
     #[inline(always)]
+    #[tactic(auto, using(crate::proofs::lemmas::coverage::DepthCounts::off_here, crate::proofs::lemmas::coverage::DepthCounts::stays_on, crate::proofs::lemmas::coverage::DepthCounts::step_err, crate::proofs::lemmas::coverage::DepthCounts::step_ok, crate::proofs::lemmas::coverage::DepthSteps::counts_none, crate::proofs::lemmas::coverage::DepthSteps::fits))]
     fn step<R: Record, K: Sink>(
         &mut self,
         on: &mut CurrentChrom<'g>,
@@ -219,6 +221,7 @@ impl<'g> Rule for DepthRule<'g> {
         }
     }
 
+    #[tactic(auto, using(crate::proofs::lemmas::coverage::DepthSteps::finishes_left))]
     fn finish<K: Sink>(mut self, out: &mut Out<K>) -> Result<(), Fault> {
         let count = self.chroms.genome.count();
         let chroms = self.chroms;
@@ -247,8 +250,8 @@ fn count_next<K: Sink>(
     held: &mut OpenRecords,
     out: &mut Out<K>,
 ) -> Result<Option<OpenInterval>, Failure>
-    ensures counts { CountAnswers chrom.now.name.now (levels_past chrom.now.zeros chrom.now.length (known_seen begun held.old) next.bounds)
-        (known_past chrom.now.zeros next.counted chrom.now.length (known_seen begun held.old) next.bounds)
+    ensures counts { CountAnswers chrom.now.name.now (levels_with chrom.now.zeros chrom.now.length (known_seen begun held.old) next.bounds.start)
+        (known_with chrom.now.zeros next.counted chrom.now.length (known_seen begun held.old) next.bounds.start next.bounds.stop)
         result held.new out.old.output out.new.output }
     ensures memory { OnWant ((next.counted ≡ true) × (next.bounds.start < chrom.now.length)) result }
 {
@@ -292,6 +295,7 @@ fn settle<K: Sink>(
 // Writes what is left of a chromosome, and drops its records.
 #[cold]
 #[inline(never)]
+#[tactic(auto, using(crate::proofs::lemmas::coverage::DepthLines::adds_levels, crate::proofs::lemmas::coverage::DepthLines::left_cut))]
 fn put_rest<K: Sink>(
     chrom: &CoveredChrom<'_>,
     begun: Option<OpenInterval>,

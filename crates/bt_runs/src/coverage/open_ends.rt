@@ -48,6 +48,7 @@ impl OpenEnds {
 
     // The least, but no more than `stop`.
     #[inline(always)]
+    #[tactic(auto, using(crate::proofs::lemmas::coverage::OpenLemmas::top_in, crate::proofs::lemmas::coverage::OpenLemmas::top_least))]
     pub(crate) fn first(&self, stop: u64) -> u64
         ensures within { result ≤ stop }
         ensures least { All (λ end. result ≤ end) self.now }

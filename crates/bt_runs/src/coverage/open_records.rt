@@ -69,6 +69,7 @@ impl OpenRecords {
 
     // How many are open.
     #[inline(always)]
+    #[tactic(auto, using(crate::proofs::lemmas::coverage::OpenLemmas::as_many))]
     pub(crate) fn depth(&self) -> usize
         ensures { result ≡ length (still_open self.now.at self.now.spans) }
     {
@@ -96,6 +97,7 @@ impl OpenRecords {
 
     // Goes on to a position before which none ends, and drops those that aren't open from the list.
     #[inline(always)]
+    #[tactic(auto, using(crate::proofs::lemmas::coverage::OpenLemmas::all_stay, crate::proofs::lemmas::coverage::OpenLemmas::keeps_same, crate::proofs::lemmas::coverage::OpenLemmas::open_count))]
     pub(crate) fn settle(&mut self, position: u64)
         requires { All (λ s. position ≤ s.stop) (still_open self.old.at self.old.spans) }
         ensures { self.new ≡ open_from (max self.old.at position) self.old }
@@ -153,6 +155,7 @@ fn drop_ended(spans: &mut VecDeque<OpenSpan>, position: u64, left: usize)
 }
 
 // The index of the first record that ended before a position, where this many are still open there.
+#[tactic(auto, using(crate::proofs::lemmas::coverage::OpenLemmas::none_past, crate::proofs::lemmas::coverage::OpenLemmas::open_within))]
 fn first_ended(spans: &VecDeque<OpenSpan>, position: u64, left: usize) -> usize
     requires { left ≡ length (still_open position (spans_open spans.now.items)) }
     ensures within { result ≤ length spans.now.items }

@@ -1,10 +1,8 @@
 //! The rules by which engines take records, and the loop that all of them share.
 
 ghost use Rattle.std.specs.Prelude.{◌≡◌, ℕ, List, None, Option, Result, Some, OnOk};
-ghost use Rattle.bt_lines.specs.calls.Output.{Output};
-ghost use Rattle.bt_lines.specs.declared.fault.Fault.{Fault};
 ghost use Rattle.bt_bed.specs.model.feature.Feature.{Feature};
-ghost use Rattle.bt_runs.specs.inside.walk.Rule.{EnterAnswers, Follows, RuleFeeds, RuleFinishes, Taken, WantsMemory};
+ghost use Rattle.bt_runs.specs.inside.walk.Rule.{Does, EnterAnswers, FitsPast, Follows, PutsRestAtEnd, Taken};
 
 use crate::engine::failure::Failure;
 use bt_bed::{Cursor, Record};
@@ -34,8 +32,11 @@ pub(crate) trait Rule {
     // What needs memory: if it runs out, this holds of the rule and the record.
     ghost wants: { Self → Feature → Type 0 };
 
-    // What it does with a record, exactly.
-    ghost does: { Self → Feature → Output → Result (Unit {0}) Fault → Self → Output → Type 0 };
+    // The lines that a record settles.
+    ghost lines: { Self → Feature → List ℕ };
+
+    // What it has become with the record.
+    ghost has: { Self → Feature → Self → Type 0 };
 
     // It has entered this chromosome.
     ghost is_on: { Self → List ℕ → Type 0 };
@@ -46,7 +47,8 @@ pub(crate) trait Rule {
     // Goes on to the chromosome of this name, which may be the one that it is on, and writes the lines that this settles.
     fn enter<K: Sink>(&mut self, chrom: &[u8], out: &mut Out<K>) -> Result<(), Fault>
         ensures on { OnOk result (is_on self.new chrom.now) }
-        ensures enters { EnterAnswers does (Taken takes is_after settled quiet wants does) self.old chrom.now out.old.output result self.new out.new.output };
+        ensures enters { EnterAnswers lines has wants takes is_after settled quiet self.old chrom.now out.old.output result self.new
+            out.new.output };
 
     // What it keeps of the chromosome that it is on.
     fn on_chrom(&self) -> Self::OnChrom
@@ -61,11 +63,9 @@ pub(crate) trait Rule {
     ) -> Result<(), Fault>
         requires { is_on (with_on self.old on.old) (R.feature «record».now).chrom }
         ensures on { OnOk result (is_on (with_on self.new on.new) (R.feature «record».now).chrom) }
-        ensures does { does (with_on self.old on.old) (R.feature «record».now) out.old.output result
+        ensures does { Does lines has wants (with_on self.old on.old) (R.feature «record».now) out.old.output result
             (with_on self.new on.new) out.new.output }
-        ensures feeds { RuleFeeds takes is_after settled (with_on self.old on.old) (R.feature «record».now) out.old.output
-            quiet result (with_on self.new on.new) out.new.output }
-        ensures memory { WantsMemory wants (with_on self.old on.old) (R.feature «record».now) result };
+        ensures fits { FitsPast lines has wants takes is_after settled quiet (with_on self.old on.old) (R.feature «record».now) };
 
     // Keeps what was in the local.
     fn leave(&mut self, on: Self::OnChrom)
@@ -73,7 +73,7 @@ pub(crate) trait Rule {
 
     // Writes the lines that are still unsettled, after the last record.
     fn finish<K: Sink>(self, out: &mut Out<K>) -> Result<(), Fault>
-        ensures { RuleFinishes takes is_after settled self output out.old.output result out.new.output };
+        ensures { PutsRestAtEnd takes is_after settled output self out.old.output result out.new.output };
 }
 
 // A rule, and the failure that ended it, if there was one.
@@ -119,6 +119,7 @@ impl<E: Rule + Drop> Ruled<E> {
     }
 
     // Writes the lines that are still unsettled, unless it has failed.
+    #[tactic(auto, using(crate::proofs::lemmas::engine::RuledLemmas::ruled_finishes))]
     pub(crate) fn finish<K: Sink>(self, out: &mut Out<K>) -> Result<(), Fault>
         ensures { Finishes (ruled_takes E.takes) (ruled_stands E.is_after) ruled_fault (ruled_text E.settled) (ruled_text E.output)
             self out.old.output result out.new.output }
@@ -138,7 +139,7 @@ fn follow<E: Rule, C: Cursor, K: Sink>(
     records: &mut C,
     out: &mut Out<K>,
 ) -> Result<(), Fault>
-    ensures { Follows (Taken E.takes E.is_after E.settled E.quiet E.wants E.does) C.gives C.has_ended rule.old records.old out.old.output result rule.new records.new
+    ensures { Follows (Taken E.lines E.has E.wants E.takes E.is_after E.settled E.quiet) C.gives C.has_ended rule.old records.old out.old.output result rule.new records.new
         out.new.output }
 {
     let mut ahead = *records;

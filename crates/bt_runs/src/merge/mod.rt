@@ -56,6 +56,7 @@ impl Model for Merge {
 impl Merge {
     /// A merge that has taken no record. It bridges up to `d` bases between features, at most 999,999,999,999: with 0
     /// those that overlap or touch become one.
+    #[tactic(auto, using(crate::proofs::lemmas::merge::MergeLemmas::begun_stands))]
     pub fn new(alloc: Global, d: u64, strand: MergeStrand) -> Merge
         requires { d ≤ max_number }
         ensures stands { StandsNew d strand result }
@@ -77,6 +78,7 @@ impl Merge {
     /// fail if it opens no run, and closes none that can be written. The first fault is returned from
     /// then on: `WriteFailed`, or `NoMemory`, only if the chromosome is
     /// another than that of the record before, and with [`MergeStrand::Each`] if a run has to be opened too.
+    #[tactic(auto, using(crate::proofs::lemmas::coverage::CallLemmas::feeds_again, crate::proofs::lemmas::coverage::CallLemmas::feeds_fault, crate::proofs::lemmas::coverage::CallLemmas::feeds_first, crate::proofs::lemmas::coverage::CallLemmas::feeds_prefix, crate::proofs::lemmas::coverage::CallLemmas::feeds_settled))]
     pub fn feed<K: Sink>(&mut self, bed: &BedRef<'_>, out: &mut Out<K>) -> Result<(), Fault>
         ensures going { IsFaultless stands_after kept_fault self.old }
         ensures written { WritesSettled may_take stands_after kept_fault settled_lines self.old
@@ -100,6 +102,7 @@ impl Merge {
 
     /// Writes the lines that are still unsettled, after the last record. It fails with `WriteFailed`, or with the
     /// fault that was returned before.
+    #[tactic(auto, using(crate::proofs::lemmas::coverage::CallLemmas::finishes_again, crate::proofs::lemmas::coverage::CallLemmas::finishes_left, crate::proofs::lemmas::coverage::CallLemmas::finishes_prefix))]
     pub fn finish<K: Sink>(self, out: &mut Out<K>) -> Result<(), Fault>
         ensures going { IsFaultless stands_after kept_fault self }
         ensures written { WritesLeft may_take stands_after kept_fault settled_lines whole_output self
@@ -151,6 +154,7 @@ impl Engine for Merge {
         }
     }
 
+    #[tactic(auto, using(crate::proofs::lemmas::merge::MergeLemmas::finishes_inside, crate::proofs::lemmas::merge::MergeLemmas::only_per_strand, crate::proofs::lemmas::merge::MergeLemmas::only_unstranded))]
     fn finish<K: Sink>(self, out: &mut Out<K>) -> Result<(), Fault> {
         match self.kind {
             Kind::Unstranded(merge) => merge.finish(out),

@@ -6,7 +6,8 @@ ghost use Rattle.bt_lines.specs.calls.Putting.{Adds};
 ghost use Rattle.bt_runs.specs.calls.Engine.{KeepsHeld};
 ghost use Rattle.bt_runs.specs.inside.merge.PendingRuns.{left_runs, passed_runs, placed_runs};
 ghost use Rattle.bt_runs.specs.calls.Stranding.{held_count, is_quiet, may_take, settled_lines, stands_after, strand_lines, whole_output};
-ghost use Rattle.bt_runs.specs.inside.merge.StrandTaking.{JoinsAmong, TakesNext, wants_memory};
+ghost use Rattle.bt_runs.specs.inside.merge.StrandTaking.{JoinsAmong, Takes, lines_by, wants_memory};
+ghost use Rattle.bt_runs.specs.inside.walk.Rule.{Does};
 
 use crate::engine::failure::Failure;
 use crate::engine::rule::Rule;
@@ -77,6 +78,7 @@ impl PerStrandMerge {
     }
 
     // Writes all runs, and keeps none.
+    #[tactic(auto, using(crate::proofs::lemmas::merge::PerStrandLemmas::list_closed, crate::proofs::lemmas::merge::PerStrandLemmas::list_closes))]
     fn close<K: Sink>(&mut self, out: &mut Out<K>) -> Result<(), Fault>
         ensures adds { Adds out.old.output (strand_lines self.old.kept) result out.new.output }
         ensures left { OnOk result (self.new ≡ record self.old { kept = []; listed = [] }) }
@@ -101,7 +103,7 @@ impl PerStrandMerge {
     ) -> Result<(), Fault>
         requires { is_on (with_on self.old on.old) (R.feature «record».now).chrom }
         ensures on { OnOk result (is_on (with_on self.new on.new) (R.feature «record».now).chrom) }
-        ensures does { TakesNext (with_on self.old on.old) (R.feature «record».now) out.old.output result
+        ensures does { Does lines_by Takes wants_memory (with_on self.old on.old) (R.feature «record».now) out.old.output result
             (with_on self.new on.new) out.new.output }
     {
         let run = PendingRun {
@@ -154,7 +156,9 @@ impl Rule for PerStrandMerge {
 
     ghost wants = { wants_memory };
 
-    ghost does = { TakesNext };
+    ghost lines = { lines_by };
+
+    ghost has = { Takes };
 
     ghost is_on = { is_on };
 
@@ -191,6 +195,7 @@ impl Rule for PerStrandMerge {
         self.only = on;
     }
 
+    #[tactic(auto, using(crate::proofs::lemmas::merge::PerStrandLemmas::finishes_kept))]
     fn finish<K: Sink>(mut self, out: &mut Out<K>) -> Result<(), Fault> {
         self.close(out)
     }
@@ -223,6 +228,7 @@ fn put_passed<K: Sink>(
 // Takes a record among the runs of the list. Those that it closes are written. It is joined to the last one of
 // its strand that is left, or is one more. If none is left, it returns true and the record isn't taken.
 #[inline(never)]
+#[tactic(auto, using(crate::proofs::lemmas::merge::PerStrandLemmas::none_first, crate::proofs::lemmas::merge::PerStrandLemmas::put_well, crate::proofs::lemmas::merge::PerStrandLemmas::went_well))]
 fn join_among<K: Sink>(
     chrom: &[u8],
     reach: u64,

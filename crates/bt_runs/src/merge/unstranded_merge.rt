@@ -70,7 +70,7 @@ impl UnstrandedMerge {
 }
 
 impl Rule for UnstrandedMerge {
-    ghost use Rattle.bt_runs.specs.inside.merge.UnstrandedStep.{Does, IsElsewhere, is_on, with_run};
+    ghost use Rattle.bt_runs.specs.inside.merge.UnstrandedStep.{IsElsewhere, Takes, is_on, lines_by, with_run};
 
     type OnChrom = OpenRun;
 
@@ -86,7 +86,9 @@ impl Rule for UnstrandedMerge {
 
     ghost wants = { IsElsewhere };
 
-    ghost does = { Does };
+    ghost lines = { lines_by };
+
+    ghost has = { Takes };
 
     ghost is_on = { is_on };
 
@@ -132,6 +134,7 @@ impl Rule for UnstrandedMerge {
         self.run = on;
     }
 
+    #[tactic(auto, using(crate::proofs::lemmas::merge::UnstrandedLemmas::finishes_kept))]
     fn finish<K: Sink>(self, out: &mut Out<K>) -> Result<(), Fault> {
         put_run(self.chrom.as_slice(), self.run, out)
     }

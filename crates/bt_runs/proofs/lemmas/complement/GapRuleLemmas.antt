@@ -1,5 +1,5 @@
 -- What the rule of a complement does with a record: by the step of its walk, and so after every past.
-use Rattle.std.proofs.Common.{◌≡◌, ◌⊎◌, ℕ, List, [], ◌∷◌, ◌++◌, refl, sym, ap, ap₂, subst, ◌∙◌, inl, inr, arith, suc, min, max, length, nat_lt, bytes_eq, eqb, Bool, true, false, Option, None, Some, Result, Ok, Err, IfOk, OnOk, option_map}
+use Rattle.std.proofs.Common.{◌≡◌, ◌⊎◌, ℕ, List, [], ◌∷◌, ◌++◌, refl, sym, ap, ap₂, ◌∙◌, inl, inr, arith, suc, min, max, length, nat_lt, bytes_eq, eqb, Bool, true, false, Option, None, Some, Result, Ok, Err, OnOk, option_map}
 use Rattle.std.specs.Option.{option_eq}
 use Rattle.std.proofs.lemmas.Bool.{cases_Bool, cond-true, cond-false, eqb-false, eqb-true, le-ltb}
 use Rattle.std.proofs.lemmas.Grind.{flat_map-append}
@@ -7,7 +7,7 @@ use Rattle.bt_lines.specs.calls.Names.{fault_value}
 use Rattle.bt_lines.specs.calls.Output.{Output}
 use Rattle.bt_lines.specs.calls.Putting.{Adds, FailsToAdd, Grown}
 use Rattle.bt_lines.specs.declared.fault.Fault.{Fault}
-use Rattle.bt_lines.proofs.lemmas.writer.PuttingLemmas.{adds_lines, cut_lines}
+use Rattle.bt_lines.proofs.lemmas.writer.PuttingLemmas.{grown_none}
 use Rattle.bt_bed.specs.model.feature.Feature.{Feature}
 use Rattle.bt_bed.specs.model.order.Genome.{Entry, genome_names}
 use Rattle.bt_bed.specs.calls.GenomeTable.{entries}
@@ -15,21 +15,20 @@ use Rattle.bt_bed.specs.model.feature.Interval.{Interval}
 use Rattle.bt_bed.specs.model.feature.IntervalLine.{interval_line, interval_lines}
 use Rattle.bt_bed.specs.model.order.Rank.{rank_of}
 use Rattle.bt_bed.proofs.lemmas.parse.NameLemmas.{name_eq, name_ne, same_name}
-use Rattle.bt_runs.specs.calls.Complementing.{Complementing, held_count, is_quiet, kept_in, may_take, settled_lines, stands_after, whole_output}
-use Rattle.bt_runs.specs.calls.Engine.{AfterEach, AtEnd}
+use Rattle.bt_runs.specs.calls.Complementing.{Complementing, is_quiet, kept_in, may_take, settled_lines, stands_after, whole_output}
+use Rattle.bt_runs.specs.calls.Engine.{AfterEach}
 use Rattle.bt_runs.specs.inside.walk.GapCursor.{Covers, gap_before, seen}
-use Rattle.bt_runs.specs.inside.walk.GapRule.{CoversRecord, IsOnChrom, complement_at, next_gaps, with_record}
+use Rattle.bt_runs.specs.inside.walk.GapRule.{IsOnChrom, IsWith, complement_at, next_lines, with_record}
 use Rattle.bt_runs.specs.model.Gaps.{kept_place, length_in, settled_gaps}
 use Rattle.bt_runs.specs.inside.walk.GapStep.{bare_gap, gap_between, gap_walk, last_gap}
-use Rattle.bt_runs.specs.inside.walk.Rule.{EnterAnswers, RuleFeeds, RuleFinishes, Taken, WantsMemory}
-use Rattle.bt_runs.specs.inside.walk.Walk.{AreReached, IsNamed, IsPlaced, Place, entry_at, going, is_on, left_before, step_from, taking, walk_step}
+use Rattle.bt_runs.specs.inside.walk.Rule.{Does, EnterAnswers, FitsPast, PutsRestAtEnd}
+use Rattle.bt_runs.specs.inside.walk.Walk.{AreReached, IsNamed, IsPlaced, Place, entry_at, going, is_on, left_before, step_from, walk_step}
 use Rattle.bt_runs.specs.declared.complement.gap_cursor.GapCursor.{GapCursor}
 use Rattle.bt_runs.proofs.lemmas.complement.GapSteps.{held_kept, leaves, moves}
 use Rattle.bt_runs.proofs.lemmas.order.GenomeRanks.{found_at, found_entry, name_at, size_ranked}
-use Rattle.bt_runs.proofs.lemmas.coverage.CallLemmas.{other_fault}
-use Rattle.bt_runs.proofs.lemmas.complement.RuleSteps.{quiet_adds_none, rule_cut, rule_finishes, rule_taken}
+use Rattle.bt_runs.proofs.lemmas.engine.EnterLemmas.{enters, enters_cut, none_more}
 use Rattle.bt_runs.proofs.lemmas.laws.Standing.{found}
-use Rattle.bt_runs.proofs.lemmas.complement.Walks.{going_on, going_to, step_goes, step_starts}
+use Rattle.bt_runs.proofs.lemmas.complement.Walks.{entered_steps, going_on, going_to, step_goes, step_starts}
 
 none_mapped : (o : Option ℕ) → option_map (λ n. suc n) o ≡ None → o ≡ None
 none_mapped None e = refl
@@ -109,11 +108,12 @@ cursor_reached cursor = reached_at (entries cursor.genome.now) cursor.name.now c
 same_complement : (a b : Complementing) → a.entries ≡ b.entries → a.limit ≡ b.limit → a.current ≡ b.current → a.bases ≡ b.bases → a ≡ b
 same_complement a b e l c n = rw (e, l, c, n) refl
 
+-- no record needs memory
 abbrev none_wanted : Complementing → Feature → Type 0
 none_wanted rule r = ⊥
 
--- a rule of gaps and one more record
-module _ (old : Complementing) (at : AreReached old.entries old.current) (out : Output) where
+-- a rule of gaps
+module _ (old : Complementing) (at : AreReached old.entries old.current) where
   -- whatever complement took the records of the past, it has this table and limit, and its place is the one that is kept
   record Same (first : Complementing) (past : List Feature) : Type 0 where
     same_entries : first.entries ≡ old.entries
@@ -127,103 +127,67 @@ module _ (old : Complementing) (at : AreReached old.entries old.current) (out : 
     kept = stands.kept ∙ ap (λ e. kept_place e past) (sym stands.same_entries);
   }
 
-  module _ (r : Feature) where
-    abbrev step_lines : List ℕ
-    step_lines = interval_lines (next_gaps old r)
-
-    -- the lines of the step are those that the record settles
-    next_lines : AfterEach may_take stands_after old r (λ first past. settled_lines first (past ++ r ∷ []) ≡ settled_lines first past ++ step_lines)
-    next_lines first past stands taken =
-        let s = same first past stands in
-        rw (s.same_entries, s.same_limit) (ap interval_lines (moves old.limit old.entries past r old.current (rw s.same_entries at taken) at s.kept).settles
-        ∙ flat_map-append interval_line (settled_gaps old.limit old.entries past) (next_gaps old r))
-
-    none : AfterEach may_take stands_after old r (λ first past. is_quiet first past r → step_lines ≡ [])
-    none = quiet_adds_none may_take stands_after settled_lines old out step_lines held_count r next_lines
-
-    -- the complement is after the record too
-    stands_next : AfterEach may_take stands_after old r (λ first past. stands_after first (past ++ r ∷ []) (with_record old r))
-    stands_next first past stands taken =
-        let s = same first past stands in
-        let more = rw s.same_entries at taken in
-        record {
-          same_entries = sym s.same_entries;
-          same_limit = sym s.same_limit;
-          kept = rw s.same_entries (held_kept old.limit old.entries (past ++ r ∷ []) _ more.distinct (moves old.limit old.entries past r old.current more at s.kept).held);
-        }
-
-    pub gap_feeds : (result : Result (Unit {0}) Fault) (new : Complementing) (grown : Output) → CoversRecord old r out result new grown
-        → RuleFeeds may_take stands_after settled_lines old r out is_quiet result new grown
-    gap_feeds (Ok done) new grown d =
-        rule_taken may_take stands_after settled_lines old out step_lines is_quiet r next_lines none done new grown
-        (subst (λ (new : Complementing). AfterEach may_take stands_after old r (λ first past. stands_after first (past ++ r ∷ []) new)) (sym d.next) stands_next) d.adds
-    gap_feeds (Err e) new grown d =
-        rule_cut may_take stands_after settled_lines old out step_lines is_quiet r next_lines none {A = Unit {0}} e new grown d.adds
-
-    -- and no memory is needed
-    pub gap_memory : (result : Result (Unit {0}) Fault) (new : Complementing) (grown : Output) → CoversRecord old r out result new grown → WantsMemory none_wanted old r result
-    gap_memory (Ok done) new grown d = tt
-    gap_memory (Err e) new grown d = λ memory. absurd (other_fault memory d.adds.puts.is)
-
-    pub gap_taken : (result : Result (Unit {0}) Fault) (new : Complementing) (grown : Output) → CoversRecord old r out result new grown
-        → Taken may_take stands_after settled_lines is_quiet none_wanted CoversRecord old r out result new grown
-    gap_taken result new grown d = record { exact = d; feeds = gap_feeds result new grown d; memory = gap_memory result new grown d }
+  -- what is done with a record exactly is done after every past
+  pub fits : (r : Feature) → FitsPast next_lines IsWith none_wanted may_take stands_after settled_lines is_quiet old r
+  fits r =
+      let settles : AfterEach may_take stands_after old r (λ first past. settled_lines first (past ++ r ∷ []) ≡ settled_lines first past ++ next_lines old r) = λ first past stands taken.
+      let s = same first past stands in
+      rw (s.same_entries, s.same_limit) (ap interval_lines (moves old.limit old.entries past r old.current (rw s.same_entries at taken) at s.kept).settles
+      ∙ flat_map-append interval_line (settled_gaps old.limit old.entries past) (walk_step (gap_walk old.limit) old.entries old.current r).1) in
+      record {
+        settles = settles;
+        next = λ new is first past stands taken.
+            let s = same first past stands in
+            let more = rw s.same_entries at taken in
+            rw is (record {
+              same_entries = sym s.same_entries;
+              same_limit = sym s.same_limit;
+              kept = rw s.same_entries (held_kept old.limit old.entries (past ++ r ∷ []) _ more.distinct (moves old.limit old.entries past r old.current more at s.kept).held);
+            });
+        quiet = λ first past stands taken q. (none_more (settled_lines first past) (next_lines old r) _ (settles first past stands taken) q.settles, λ wanted. wanted);
+      }
 
   -- the lines that are left
   abbrev left : ℕ → List Interval
   left stop = left_before last_gap (bare_gap old.limit) old.entries old.current stop
 
-  lines_left : (stop : ℕ) → stop ≡ length old.entries → AtEnd may_take stands_after old (λ first past. whole_output first past ≡ settled_lines first past ++ interval_lines (left stop))
-  lines_left stop all first past stands taken =
-      let s = same first past stands in
-      rw (s.same_entries, s.same_limit, all) (ap interval_lines (leaves old.limit old.entries past old.current (rw s.same_entries at taken) at s.kept)
-      ∙ flat_map-append interval_line (settled_gaps old.limit old.entries past) (left (length old.entries)))
-
-  pub gap_finishes : {A : Type 0} (stop : ℕ) (result : Result A Fault) (grown : Output) → stop ≡ length old.entries → Adds out (interval_lines (left stop)) result grown
-      → RuleFinishes may_take stands_after settled_lines old whole_output out result grown
-  gap_finishes stop result grown all p =
-      rule_finishes may_take stands_after settled_lines old out (interval_lines (left stop)) whole_output (lines_left stop all) result grown p
+  pub gap_finishes : {A : Type 0} (out : Output) (stop : ℕ) (result : Result A Fault) (grown : Output) → stop ≡ length old.entries → Adds out (interval_lines (left stop)) result grown
+      → PutsRestAtEnd may_take stands_after settled_lines whole_output old out result grown
+  gap_finishes out stop result grown all p = record {
+    left = interval_lines (left stop);
+    is = λ first past stands taken.
+        let s = same first past stands in
+        rw (s.same_entries, s.same_limit, all) (ap interval_lines (leaves old.limit old.entries past old.current (rw s.same_entries at taken) at s.kept)
+        ∙ flat_map-append interval_line (settled_gaps old.limit old.entries past) (left (length old.entries)));
+    adds = p;
+  }
 
   -- a chromosome is entered
-  module _ (chrom : List ℕ) where
+  module _ (chrom : List ℕ) (out : Output) where
     abbrev Enters : Result (Unit {0}) Fault → Complementing → Output → Type 0
-    Enters result new grown = EnterAnswers CoversRecord (Taken may_take stands_after settled_lines is_quiet none_wanted CoversRecord) old chrom out result new grown
+    Enters result new grown = EnterAnswers next_lines IsWith none_wanted may_take stands_after settled_lines is_quiet old chrom out result new grown
 
     -- the one that was reached, or one that the genome file lacks
     pub enters_here : (bases : ℕ) → Enters (Ok tt) (record { entries = old.entries; limit = old.limit; current = old.current; bases = bases }) out
-    enters_here bases = λ r on result next later d. gap_taken r result next later (record { adds = d.adds; next = d.next })
+    enters_here bases = enters fits [] {mid = record { entries = old.entries; limit = old.limit; current = old.current; bases = bases }} (grown_none out) (λ r on. refl) (λ r on new is. is) (λ r on wanted. wanted)
 
     module _ (place : Place ℕ) (items : List Interval) (goes : going (gap_walk old.limit) old.entries old.current chrom ≡ (Some place, items)) where
       -- the next one, after what is left before it
       pub enters_next : (bases : ℕ) (mid : Output) → is_on old.entries (Some place) chrom ≡ true → Grown out (interval_lines items) mid
           → Enters (Ok tt) (record { entries = old.entries; limit = old.limit; current = Some place; bases = bases }) mid
-      enters_next bases mid at_place p = λ r on result next later d.
-          let walk = gap_walk old.limit in
-          let way : going walk old.entries old.current r.chrom ≡ (Some place, items) = ap (going walk old.entries old.current) on ∙ goes in
-          let here : is_on old.entries (Some place) r.chrom ≡ true = ap (is_on old.entries (Some place)) on ∙ at_place in
-          let from_old = step_goes walk old.entries old.current r place items way in
-          let from_new = step_goes walk old.entries (Some place) r place [] (going_on walk old.entries (Some place) r.chrom here) in
-          let step = taking walk old.entries place r in
-          let last : Adds mid (interval_lines step.1) result later = subst (λ (gaps : List Interval). Adds mid (interval_lines gaps) result later) (ap (λ s. s.1) from_new) d.adds in
-          let all : Adds out (interval_lines (items ++ step.1)) result later = adds_lines interval_line out mid later items step.1 result p last in
-          let currents = ap (λ s. s.0) from_new ∙ sym (ap (λ s. s.0) from_old) in
-          gap_taken r result next later (record {
-            adds = subst (λ (gaps : List Interval). Adds out (interval_lines gaps) result later) (sym (ap (λ s. s.1) from_old)) all;
-            next = subst (λ (current : Option (Place ℕ)). IfOk result (λ done. next ≡ record { entries = old.entries; limit = old.limit; current = current; bases = length_in old.entries r.chrom })) currents d.next;
-          })
+      enters_next bases mid here p =
+          let steps = λ (r : Feature) (on : r.chrom ≡ chrom). entered_steps (gap_walk old.limit) old.entries old.current r place items (ap (going (gap_walk old.limit) old.entries old.current) on ∙ goes) (ap (is_on old.entries (Some place)) on ∙ here) in
+          enters fits (interval_lines items) {mid = record { entries = old.entries; limit = old.limit; current = Some place; bases = bases }} p
+          (λ r on. ap interval_lines (steps r on).1 ∙ flat_map-append interval_line items (walk_step (gap_walk old.limit) old.entries (Some place) r).1)
+          (λ r on new is. is ∙ ap (λ (current : Option (Place ℕ)). record { entries = old.entries; limit = old.limit; current = current; bases = length_in old.entries r.chrom }) (sym (steps r on).0))
+          (λ r on wanted. wanted)
 
       -- what is left before it can't be written
-      pub enters_cut : (fault : Fault) (new : Complementing) (grown : Output) → FailsToAdd out (interval_lines items) (fault_value fault) grown → Enters (Err fault) new grown
-      enters_cut fault new grown p = λ r on.
-          let walk = gap_walk old.limit in
-          let way : going walk old.entries old.current r.chrom ≡ (Some place, items) = ap (going walk old.entries old.current) on ∙ goes in
-          let starts = step_starts walk old.entries old.current r in
-          let more = cut_lines interval_line out grown items starts.0 (fault_value fault) p in
-          let same : (next_gaps old r) ≡ items ++ starts.0 = starts.1 ∙ ap (λ s. s.1 ++ starts.0) way in
-          gap_taken r (Err fault) new grown (record {
-            adds = subst (λ (gaps : List Interval). FailsToAdd out (interval_lines gaps) (fault_value fault) grown) (sym same) more;
-            next = tt;
-          })
+      pub enters_failing : (fault : Fault) (new : Complementing) (grown : Output) → FailsToAdd out (interval_lines items) (fault_value fault) grown → Enters (Err fault) new grown
+      enters_failing fault new grown p = enters_cut fits (interval_lines items) fault new grown p (λ r on.
+          let starts = step_starts (gap_walk old.limit) old.entries old.current r in
+          let way = ap (going (gap_walk old.limit) old.entries old.current) on ∙ goes in
+          (interval_lines starts.0, ap interval_lines (starts.1 ∙ ap (λ s. s.1 ++ starts.0) way) ∙ flat_map-append interval_line items starts.0))
 
 -- a cursor takes a record on its chromosome
 module _ (limit : Bool) (old : GapCursor) (r : Feature) (on : IsOnChrom (complement_at limit old) r.chrom) where
@@ -234,16 +198,10 @@ module _ (limit : Bool) (old : GapCursor) (r : Feature) (on : IsOnChrom (complem
   covered new c = same_complement (complement_at limit new) (with_record (complement_at limit old) r) c.same_entries refl
       (ap₂ (λ (end : ℕ) (rank : Option ℕ). place_at end rank) c.end c.same_rank ∙ sym (ap (λ s. s.0) step_is)) (c.same_length ∙ on.bases)
 
-  next_is : (result : Result (Unit {0}) Fault) (new : GapCursor) → OnOk result (Covers old r.stop new) → IfOk result (λ done. complement_at limit new ≡ with_record (complement_at limit old) r)
-  next_is (Ok done) new c = covered new c
-  next_is (Err e) new c = tt
-
   pub cursor_covers : (out : Output) (result : Result (Unit {0}) Fault) (new : GapCursor) (grown : Output) → Adds out (interval_lines (gap_before old r.start)) result grown → OnOk result (Covers old r.stop new)
-      → CoversRecord (complement_at limit old) r out result (complement_at limit new) grown
-  cursor_covers out result new grown p c = record {
-    adds = subst (λ (gaps : List Interval). Adds out (interval_lines gaps) result grown) (sym (ap (λ s. s.1) step_is)) p;
-    next = next_is result new c;
-  }
+      → Does next_lines IsWith none_wanted (complement_at limit old) r out result (complement_at limit new) grown
+  cursor_covers out (Ok done) new grown p c = (covered new c, rw step_is p)
+  cursor_covers out (Err fault) new grown p c = inl (rw step_is p)
 
 -- whether the chromosome of a rank is the one that was reached
 pub same_rank : (o : Option ℕ) (rank : ℕ) (test : Bool) → test ≡ option_eq eqb o (Some rank) → test ≡ true → o ≡ Some rank

@@ -84,6 +84,11 @@ module _ {T S : Type 0} (walk : Walk T S) (entries : List Entry) where
       → walk_step walk entries current r ≡ (Some (taking walk entries place r).0, items ++ (taking walk entries place r).1)
   step_goes current r place items is = rw is refl
 
+  -- once another chromosome is reached, a record on it settles what is left
+  pub entered_steps : (current : Option (Place S)) (r : Feature) (place : Place S) (items : List T) → going walk entries current r.chrom ≡ (Some place, items) → is_on entries (Some place) r.chrom ≡ true
+      → ((walk_step walk entries current r).0 ≡ (walk_step walk entries (Some place) r).0) × ((walk_step walk entries current r).1 ≡ items ++ (walk_step walk entries (Some place) r).1)
+  entered_steps current r place items goes on = rw (step_goes current r place items goes, step_goes (Some place) r place [] (going_on (Some place) r.chrom on)) (refl, refl)
+
   taking_at : (key : Entry) (place : Place S) (r : Feature) → entry_at entries place.rank ≡ key → taking walk entries place r ≡ (record { rank = place.rank; known = walk.after key place.known r }, walk.step key place.known r)
   taking_at key place r is = rw is refl
 

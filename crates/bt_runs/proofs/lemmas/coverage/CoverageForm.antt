@@ -64,7 +64,7 @@ module _ (zeros : Bool) (strand : Option Strand) where
         }
 
     own_next : (entry : Entry) (past : List Feature) (start : ℕ) (done : List DepthInterval) (known : Known) (r : Feature) → Own entry past start done known → entry.name ≡ r.chrom → start ≤ r.start → r.start < r.stop
-        → Own entry (past ++ r ∷ []) r.start (done ++ levels_on entry.name (levels_with zeros entry.length known r)) (known_with zeros (is_counted_by strand r.strand) entry.length known r)
+        → Own entry (past ++ r ∷ []) r.start (done ++ levels_on entry.name (levels_with zeros entry.length known r.start)) (known_with zeros (is_counted_by strand r.strand) entry.length known r.start r.stop)
     own_next entry past start done known r own is up full =
         let spans = counted_on strand entry.name past in
         let counted = is_counted_by strand r.strand in
@@ -76,13 +76,13 @@ module _ (zeros : Bool) (strand : Option Strand) where
         let from = start_same zeros size spans start r.start up in
         record {
           done_is =
-              ap₂ (λ (l : List DepthInterval) (k : Known). l ++ levels_on entry.name (levels_with zeros size k r)) own.done_is own.known_is
+              ap₂ (λ (l : List DepthInterval) (k : Known). l ++ levels_on entry.name (levels_with zeros size k r.start)) own.done_is own.known_is
               ∙ ap (λ n. levels_on entry.name settled ++ levels_on entry.name (levels_by zeros size (known_at zeros size spans start) n)) from
               ∙ sym (map-append (depth_on entry.name) settled more)
               ∙ ap (levels_on entry.name) (sym (settled_next zeros counted size spans start s up full))
               ∙ ap (λ l. levels_on entry.name (settled_at zeros size l r.start)) (sym next);
           known_is =
-              ap (λ k. known_with zeros counted size k r) own.known_is
+              ap (λ k. known_with zeros counted size k r.start r.stop) own.known_is
               ∙ ap (λ n. known_by zeros counted size (known_at zeros size spans start) n r.stop) from
               ∙ sym (known_next zeros counted size spans start s up full)
               ∙ ap (λ l. known_at zeros size l r.start) (sym next);

@@ -9,12 +9,13 @@ use Rattle.bt_bed.specs.model.order.Rank.{rank_of}
 use Rattle.bt_bed.specs.declared.parse.bounds.Bounds.{Bounds}
 use Rattle.bt_bed.proofs.lemmas.parse.NameLemmas.{same_name}
 use Rattle.bt_runs.specs.inside.coverage.CountSeen.{known_seen, place_seen, seen}
-use Rattle.bt_runs.specs.inside.coverage.CountedDepths.{CountAnswers, Counts, known_past, levels_past}
-use Rattle.bt_runs.specs.calls.Covering.{CountsDepths, Covering, HasToKeep, IsOnBy, IsOnChrom, OnWant, depth_step, with_chrom}
+use Rattle.bt_runs.specs.inside.coverage.CountedDepths.{CountAnswers}
+use Rattle.bt_runs.specs.calls.Covering.{CountsRecord, Covering, IsOnBy, IsOnChrom, OnWant, depth_step, next_lines, wants_memory, with_begun, with_chrom}
 use Rattle.bt_runs.specs.model.Depth.{is_counted_by}
-use Rattle.bt_runs.specs.inside.coverage.DepthStep.{Known, levels_on}
+use Rattle.bt_runs.specs.inside.coverage.DepthStep.{Known, known_with, levels_on, levels_with}
 use Rattle.bt_runs.specs.calls.Ruled.{fault_of}
 use Rattle.bt_runs.specs.inside.coverage.OpenRecords.{OpenAt}
+use Rattle.bt_runs.specs.inside.walk.Rule.{Does}
 use Rattle.bt_runs.specs.inside.walk.Walk.{AreReached, IsPlaced, Place, entry_at, is_on}
 use Rattle.bt_runs.specs.declared.coverage.depth_rule.CurrentChrom.{CurrentChrom}
 use Rattle.bt_runs.specs.declared.coverage.depths.OpenInterval.{OpenInterval}
@@ -35,42 +36,31 @@ module _ (entries : List Entry) (current : Option (Place Known)) (name : List �
   off_here true is on = absurd (cc)
   off_here false is on = on
 
--- a place of the same rank is the same chromosome
-stays_here : (entries : List Entry) (place now : Place Known) (name : List ℕ) (size : ℕ) (chrom : List ℕ) (is_known : Bool) → now.rank ≡ place.rank → is_known ≡ true → IsOnBy true entries (Some place) name size chrom → IsOnBy is_known entries (Some now) name size chrom
-stays_here entries place now name size chrom true same here on = rw same on
-stays_here entries place now name size chrom false same here on = absurd (cc)
-
 module _ (old : Covering) (place : Place Known) (reached : old.current ≡ Some place) (placed : IsPlaced old.entries place.rank) (chrom : List ℕ) (size : ℕ)
     (named : (entry_at old.entries place.rank).name ≡ chrom) (sized : (entry_at old.entries place.rank).length ≡ size)
     (r : Feature) (on : is_on old.entries old.current r.chrom ≡ true) (bounds : Bounds) (starts : r.start ≡ bounds.start) (stops : r.stop ≡ bounds.stop)
     (counted : Bool) (counts : is_counted_by old.strand r.strand ≡ counted) (out : Output) where
-  step_is : depth_step old r out ≡ (Some (record { rank = place.rank; known = known_past old.zeros counted size place.known bounds }), levels_on chrom (levels_past old.zeros size place.known bounds))
-  step_is = step_here old r out place reached on ∙ rw (named, sized, counts, starts, stops) refl
+  step_is : depth_step old r ≡ (Some (record { rank = place.rank; known = known_with old.zeros counted size place.known bounds.start bounds.stop }), levels_on chrom (levels_with old.zeros size place.known bounds.start))
+  step_is = step_here old r place reached on ∙ rw (named, sized, counts, starts, stops) refl
 
   -- it was taken
-  pub counts_ok : (begun : Option OpenInterval) (held : OpenAt) (grown : Output) → Counts chrom (levels_past old.zeros size place.known bounds) (known_past old.zeros counted size place.known bounds) begun held out grown
-      → CountsDepths old r out (Ok tt) (record { entries = old.entries; zeros = old.zeros; strand = old.strand; current = Some (place_seen (record { rank = place.rank; begun = begun }) held); is_known = old.is_known; name = old.name; length = old.length }) grown
+  pub counts_ok : (begun : Option OpenInterval) (held : OpenAt) (grown : Output) → CountAnswers chrom (levels_with old.zeros size place.known bounds.start) (known_with old.zeros counted size place.known bounds.start bounds.stop) (Ok begun) held out grown
+      → Does next_lines CountsRecord wants_memory old r out (Ok tt) (record { entries = old.entries; zeros = old.zeros; strand = old.strand; current = Some (place_seen (record { rank = place.rank; begun = begun }) held); is_known = old.is_known; name = old.name; length = old.length }) grown
   counts_ok begun held grown c =
-      record {
-        same_entries = refl;
-        same_zeros = refl;
-        same_strand = refl;
-        current = ap (λ k. Some (record { rank = place.rank; known = k })) c.knows ∙ sym (ap (λ s. s.0) step_is);
-        at = λ at. placed;
-        puts = rw step_is c.puts;
-      }
+      let current = ap (λ k. Some (record { rank = place.rank; known = k })) c.1 ∙ sym (ap (λ s. s.0) step_is) in
+      (record { same_entries = refl; same_zeros = refl; same_strand = refl; current = current; at = λ at. placed }, rw step_is c.0)
 
-  to_keep : (counted ≡ true) × (bounds.start < size) → HasToKeep old.entries old.strand r
+  to_keep : (counted ≡ true) × (bounds.start < size) → wants_memory old r
   to_keep is =
       let here = subst (λ (o : Option (Place Known)). is_on old.entries o r.chrom ≡ true) reached on in
       let ranked : rank_of (genome_names old.entries) r.chrom ≡ Some place.rank = ap (rank_of (genome_names old.entries)) (sym (same_name (entry_at old.entries place.rank).name r.chrom here)) ∙ placed.named in
-      record { counted = counts ∙ is.0; starts = rw (starts, size_ranked old.entries r.chrom place.rank ranked, sized) is.1 }
+      (counts ∙ is.0, rw (starts, size_ranked old.entries r.chrom place.rank ranked, sized) is.1)
 
   -- it couldn't be
-  pub counts_err : (failure : Failure) (fault : Fault) (new : Covering) (held : OpenAt) (grown : Output) → fault_value fault ≡ fault_of failure → CountAnswers chrom (levels_past old.zeros size place.known bounds) (known_past old.zeros counted size place.known bounds) (Err failure) held out grown
-      → OnWant {A = Option OpenInterval} ((counted ≡ true) × (bounds.start < size)) (Err failure) → CountsDepths old r out (Err fault) new grown
+  pub counts_err : (failure : Failure) (fault : Fault) (new : Covering) (held : OpenAt) (grown : Output) → fault_value fault ≡ fault_of failure → CountAnswers chrom (levels_with old.zeros size place.known bounds.start) (known_with old.zeros counted size place.known bounds.start bounds.stop) (Err failure) held out grown
+      → OnWant {A = Option OpenInterval} ((counted ≡ true) × (bounds.start < size)) (Err failure) → Does next_lines CountsRecord wants_memory old r out (Err fault) new grown
   counts_err Write fault new held grown is cut want = inl (rw (step_is, is) cut)
-  counts_err Memory fault new held grown is puts want = inr (record { is = is; puts = rw step_is puts; to_keep = to_keep want })
+  counts_err Memory fault new held grown is puts want = inr (is, (to_keep want, rw step_is puts))
 
 -- the same for the place that the code has
 module _ (table : List Entry) (zeros : Bool) (strand : Option Strand) (is_known : Bool) (name : List ℕ) (size : ℕ) (on : CurrentChrom) (here : on.is_known ≡ true)
@@ -83,21 +73,26 @@ module _ (table : List Entry) (zeros : Bool) (strand : Option Strand) (is_known 
   ended_with begun = record { is_known = on.is_known; name = on.name; length = on.length; begun = begun }
 
   pub step_ok : (current : Option DepthCursor) (held : OpenAt) → AreReached table (seen current held) → IsOnChrom (with_chrom (covering current held) on) r.chrom → (begun : Option OpenInterval) (now_held : OpenAt)
-      → Counts on.name.now (levels_past zeros on.length (known_seen on.begun held) bounds) (known_past zeros counted on.length (known_seen on.begun held) bounds) begun now_held out grown
-      → CountsDepths (with_chrom (covering current held) on) r out (Ok tt) (with_chrom (covering current now_held) (ended_with begun)) grown × IsOnChrom (with_chrom (covering current now_held) (ended_with begun)) r.chrom
+      → CountAnswers on.name.now (levels_with zeros on.length (known_seen on.begun held) bounds.start) (known_with zeros counted on.length (known_seen on.begun held) bounds.start bounds.stop) (Ok begun) now_held out grown
+      → Does next_lines CountsRecord wants_memory (with_chrom (covering current held) on) r out (Ok tt) (with_chrom (covering current now_held) (ended_with begun)) grown
   step_ok None held placed lies begun now_held c = absurd (on_here table None on.name.now on.length r.chrom on.is_known here lies).1
   step_ok (Some reached) held placed lies begun now_held c =
       let place = place_seen (record { rank = reached.rank; begun = on.begun }) held in
-      let l = on_here table (Some place) on.name.now on.length r.chrom on.is_known here lies in (
-        counts_ok (with_chrom (covering (Some reached) held) on) place refl placed on.name.now on.length l.1.0 l.1.1 r l.0 bounds starts stops counted counts out begun now_held grown c,
-        stays_here table place (place_seen (record { rank = reached.rank; begun = begun }) now_held) on.name.now on.length r.chrom on.is_known refl here l,
-      )
+      let l = on_here table (Some place) on.name.now on.length r.chrom on.is_known here lies in
+      counts_ok (with_chrom (covering (Some reached) held) on) place refl placed on.name.now on.length l.1.0 l.1.1 r l.0 bounds starts stops counted counts out begun now_held grown c
 
   pub step_err : (current : Option DepthCursor) (held : OpenAt) → AreReached table (seen current held) → IsOnChrom (with_chrom (covering current held) on) r.chrom → (failure : Failure) (fault : Fault) (new : Covering) (now_held : OpenAt) → fault_value fault ≡ fault_of failure
-      → CountAnswers on.name.now (levels_past zeros on.length (known_seen on.begun held) bounds) (known_past zeros counted on.length (known_seen on.begun held) bounds) (Err failure) now_held out grown
-      → OnWant {A = Option OpenInterval} ((counted ≡ true) × (bounds.start < on.length)) (Err failure) → CountsDepths (with_chrom (covering current held) on) r out (Err fault) new grown
+      → CountAnswers on.name.now (levels_with zeros on.length (known_seen on.begun held) bounds.start) (known_with zeros counted on.length (known_seen on.begun held) bounds.start bounds.stop) (Err failure) now_held out grown
+      → OnWant {A = Option OpenInterval} ((counted ≡ true) × (bounds.start < on.length)) (Err failure) → Does next_lines CountsRecord wants_memory (with_chrom (covering current held) on) r out (Err fault) new grown
   step_err None held placed lies failure fault new now_held is c want = absurd (on_here table None on.name.now on.length r.chrom on.is_known here lies).1
   step_err (Some reached) held placed lies failure fault new now_held is c want =
       let place = place_seen (record { rank = reached.rank; begun = on.begun }) held in
       let l = on_here table (Some place) on.name.now on.length r.chrom on.is_known here lies in
       counts_err (with_chrom (covering (Some reached) held) on) place refl placed on.name.now on.length l.1.0 l.1.1 r l.0 bounds starts stops counted counts out failure fault new now_held grown is c want
+
+-- what is known of a chromosome changes nothing of where it lies
+pub stays_on : (table : List Entry) (current : Option DepthCursor) (held now_held : OpenAt) (begun now_begun : Option OpenInterval) (is_known : Bool) (name : List ℕ) (size : ℕ) (chrom : List ℕ)
+    → IsOnBy is_known table (with_begun begun (seen current held)) name size chrom → IsOnBy is_known table (with_begun now_begun (seen current now_held)) name size chrom
+stays_on table None held now_held begun now_begun is_known name size chrom on = on
+stays_on table (Some reached) held now_held begun now_begun true name size chrom on = on
+stays_on table (Some reached) held now_held begun now_begun false name size chrom on = on

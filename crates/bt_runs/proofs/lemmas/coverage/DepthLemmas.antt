@@ -1,6 +1,6 @@
 -- The depth of the positions past the last start: that of the records that are open there.
 use Rattle.std.proofs.Common.{◌≡◌, ℕ, ◌+◌, ◌<◌, ◌≤◌, inl, inr, List, [], ◌∷◌, ◌++◌, refl, sym, ap, ap₂, ◌∙◌, arith, length, length-append, map, filter, min, cond, nat_le, nat_lt, Bool, true, false, bytes_eq, Option}
-use Rattle.std.proofs.lemmas.Bool.{cases_Bool, cases_lt, or_parts, lt-ltb, le-ltb, lt-leb, le-leb}
+use Rattle.std.proofs.lemmas.Bool.{cases_Bool, cases_lt, or_parts, lt-ltb, le-ltb, lt-leb}
 use Rattle.std.proofs.lemmas.List.{map-append}
 use Rattle.std.proofs.lemmas.List.Elements.{filter-append}
 use Rattle.bt_bed.specs.model.feature.Feature.{Feature, interval_of, intervals_of}
@@ -9,6 +9,7 @@ use Rattle.bt_bed.specs.model.order.Contiguous.{has_records}
 use Rattle.bt_bed.specs.declared.record.strand.Strand.{Strand}
 use Rattle.bt_runs.specs.model.Depth.{counted_on, covers, cut_at, depth_at, depth_of, is_counted_by, open_at, reported}
 use Rattle.bt_runs.specs.inside.coverage.DepthStep.{opened, still_open}
+use Rattle.bt_runs.proofs.lemmas.coverage.OpenLemmas.{depth_open, open_after}
 use Rattle.bt_runs.proofs.lemmas.order.ChromosomeLemmas.{spans_on-append, spans_on-here, spans_on-elsewhere}
 
 -- a span that starts past a position doesn't cover it
@@ -27,35 +28,24 @@ pub depth_of-push : (zeros : Bool) (xs : List Span) (s : Span) (p : ℕ) → p <
 unfolding depth_of
 depth_of-push zeros xs s p h = ap (reported zeros) (depth_push xs s p h)
 
-one_count : (b : Bool) (x y : Span) → length (cond {A = List Span} b (x ∷ []) []) ≡ length (cond {A = List Span} b (y ∷ []) [])
-one_count true x y = refl
-one_count false x y = refl
+-- a span that is cut at a length covers the same positions below it
+covers_cut : (size p : ℕ) (s : Span) → p < size → covers p (cut_at size s) ≡ covers p s
+covers_cut size p s high = elim (cases_lt p s.stop) [
+  | inl l ↦ rw (lt-ltb p s.stop l, lt-ltb p (min s.stop size) (omega arith)) refl
+  | inr l ↦ rw (le-ltb p s.stop l, le-ltb p (min s.stop size) (omega arith)) refl
+]
 
--- the records that are left out cover no position from the start on and below the length
-module _ (size start p : ℕ) (low : start ≤ p) (high : p < size) where
-  covers_cut : (s : Span) → covers p (cut_at size s) ≡ covers p s
-  covers_cut s = elim (cases_lt p s.stop) [
-    | inl l ↦ rw (lt-ltb p s.stop l, lt-ltb p (min s.stop size) (omega arith)) refl
-    | inr l ↦ rw (le-ltb p s.stop l, le-ltb p (min s.stop size) (omega arith)) refl
-  ]
-
-  covers_closed : (s : Span) → s.stop < start → covers p s ≡ false
-  covers_closed s h = elim (cases_Bool (nat_le s.start p)) [
-    | inl t ↦ rw (t, le-ltb p s.stop (omega arith)) refl
-    | inr f ↦ rw f refl
-  ]
-
-  -- of one more span the same is counted
-  open_one : (s : Span) → depth_at (open_at size start (s ∷ [])) p ≡ depth_at (s ∷ []) p
-  open_one s = elim (cases_lt s.start size) [
-    | inl below ↦ elim (cases_lt (min s.stop size) start) [
-      | inl closed ↦
-          let none : covers p s ≡ false = sym (covers_cut s) ∙ covers_closed (cut_at size s) closed in
-          rw (lt-ltb s.start size below, lt-leb start (min s.stop size) closed, none) refl
-      | inr left ↦ rw (lt-ltb s.start size below, le-leb start (min s.stop size) left, covers_cut s) (one_count (covers p s) (cut_at size s) s)
+depth_cut : (size p : ℕ) (spans : List Span) → p < size → depth_at (map (cut_at size) (filter (λ s. nat_lt s.start size) spans)) p ≡ depth_at spans p
+depth_cut size p [] high = refl
+depth_cut size p (s ∷ ss) high =
+    let rest = depth_cut size p ss high in
+    elim (cases_lt s.start size) [
+      | inl below ↦ elim (cases_Bool (covers p s)) [
+        | inl t ↦ rw (lt-ltb s.start size below, covers_cut size p s high, t, rest) refl
+        | inr f ↦ rw (lt-ltb s.start size below, covers_cut size p s high, f) rest
+      ]
+      | inr past ↦ rw (le-ltb s.start size past, covers_not p s (omega arith)) rest
     ]
-    | inr past ↦ rw (le-ltb s.start size past, covers_not p s (omega arith)) refl
-  ]
 
 pub open_append : (size start : ℕ) (xs ys : List Span) → open_at size start (xs ++ ys) ≡ open_at size start xs ++ open_at size start ys
 open_append size start xs ys =
@@ -65,17 +55,9 @@ open_append size start xs ys =
     ∙ ap (filter left) (map-append (cut_at size) (filter below xs) (filter below ys))
     ∙ filter-append left (map (cut_at size) (filter below xs)) (map (cut_at size) (filter below ys))
 
-depth_open : (size start p : ℕ) (spans : List Span) → start ≤ p → p < size → depth_at (open_at size start spans) p ≡ depth_at spans p
-depth_open size start p [] low high = refl
-depth_open size start p (s ∷ ss) low high =
-    ap (λ l. depth_at l p) (open_append size start (s ∷ []) ss)
-    ∙ depth_append (open_at size start (s ∷ [])) (open_at size start ss) p
-    ∙ ap₂ (λ a b. a + b) (open_one size start p low high s) (depth_open size start p ss low high)
-    ∙ sym (depth_append (s ∷ []) ss p)
-
 pub depth_of-open : (zeros : Bool) (size start p : ℕ) (spans : List Span) → start ≤ p → p < size → depth_of zeros (open_at size start spans) p ≡ depth_of zeros spans p
 unfolding depth_of
-depth_of-open zeros size start p spans low high = ap (reported zeros) (depth_open size start p spans low high)
+depth_of-open zeros size start p spans low high = ap (reported zeros) (depth_open start p (map (cut_at size) (filter (λ s. nat_lt s.start size) spans)) low ∙ depth_cut size p spans high)
 
 -- past the length none is open
 pub none_open : (size start : ℕ) (spans : List Span) → size < start → open_at size start spans ≡ []
@@ -87,19 +69,7 @@ none_open size start (s ∷ ss) h = elim (cases_lt s.start size) [
 
 -- those that are open at a later start are open at this one
 pub open_later : (size start later : ℕ) (spans : List Span) → start ≤ later → open_at size later spans ≡ still_open later (open_at size start spans)
-open_later size start later [] h = refl
-open_later size start later (s ∷ ss) h =
-    let rest = open_later size start later ss h in
-    elim (cases_lt s.start size) [
-      | inl below ↦ elim (cases_lt (min s.stop size) start) [
-        | inl closed ↦ rw (lt-ltb s.start size below, lt-leb start (min s.stop size) closed, lt-leb later (min s.stop size) (omega arith)) rest
-        | inr left ↦ elim (cases_lt (min s.stop size) later) [
-          | inl now ↦ rw (lt-ltb s.start size below, le-leb start (min s.stop size) left, lt-leb later (min s.stop size) now) rest
-          | inr still ↦ rw (lt-ltb s.start size below, le-leb start (min s.stop size) left, le-leb later (min s.stop size) still) (ap (λ l. cut_at size s ∷ l) rest)
-        ]
-      ]
-      | inr past ↦ rw (le-ltb s.start size past) rest
-    ]
+open_later size start later spans h = sym (open_after start later (map (cut_at size) (filter (λ s. nat_lt s.start size) spans)) h)
 
 -- the record itself is open, if it starts below the length
 pub open_self : (size : ℕ) (s : Span) → open_at size s.start (s ∷ []) ≡ opened true size s.start s.stop

@@ -1,5 +1,5 @@
 -- The lines of intervals with their depths, and what the private calls of a coverage write of them.
-use Rattle.std.proofs.Common.{◌≡◌, ℕ, List, [], ◌∷◌, ◌++◌, Result, Err, sym, ap, ◌∙◌, append_assoc, codes, decimal, arith, length, length-append, ◌<◌, refl, Bool, true, false, Option, Some}
+use Rattle.std.proofs.Common.{◌≡◌, ℕ, List, [], ◌∷◌, ◌++◌, Result, Err, sym, ap, ◌∙◌, append_assoc, codes, decimal, arith, length, length-append, ◌<◌, refl, Bool, true, false}
 use Rattle.std.proofs.lemmas.List.{map-append}
 use Rattle.bt_lines.specs.calls.Names.{fault_value}
 use Rattle.bt_lines.specs.calls.Output.{Output}
@@ -7,16 +7,12 @@ use Rattle.bt_lines.specs.calls.Putting.{Adds, FailsToAdd, Grown, Puts}
 use Rattle.bt_lines.specs.declared.fault.Fault.{Fault}
 use Rattle.bt_lines.proofs.lemmas.writer.PuttingLemmas.{line_alone, adds_lines, cut_lines}
 use Rattle.bt_runs.specs.model.Depth.{DepthInterval, depth_line, depth_lines, depth_on}
-use Rattle.bt_runs.specs.inside.coverage.DepthStep.{levels_on, Known, bare_of, depth_walk, depths_left, unknown}
+use Rattle.bt_runs.specs.inside.coverage.DepthStep.{levels_on, bare_of}
 use Rattle.bt_runs.specs.inside.coverage.DepthStep.{depth_text}
 use Rattle.bt_runs.specs.model.Levels.{Level}
 use Rattle.std.proofs.lemmas.Bool.{lt-ltb}
-use Rattle.bt_bed.specs.model.feature.Feature.{Feature}
-use Rattle.bt_bed.specs.model.order.Genome.{Entry, genome_names}
-use Rattle.bt_bed.specs.model.order.Rank.{rank_of}
-use Rattle.bt_bed.specs.declared.record.strand.Strand.{Strand}
-use Rattle.bt_runs.specs.inside.walk.Walk.{Place, entry_at, is_on, left_before, taking, walk_step}
-use Rattle.bt_runs.proofs.lemmas.complement.Walks.{going_to, step_goes}
+use Rattle.bt_bed.specs.model.order.Genome.{Entry}
+use Rattle.bt_runs.specs.inside.walk.Walk.{entry_at}
 
 -- the name, and what follows it
 pub line_parts : (r : DepthInterval) → r.chrom ++ depth_text r.start r.stop r.depth ≡ depth_line r
@@ -69,10 +65,3 @@ bare_unasked zeros entry f = rw f refl
 pub bare_empty : (zeros : Bool) (entry : Entry) (size : ℕ) → entry.length ≡ size → size ≡ 0 → bare_of zeros entry ≡ []
 bare_empty true entry size is none = rw (is, none) refl
 bare_empty false entry size is none = refl
-
--- a record on another chromosome: what is left before that, and then what it settles there
-pub count_begins : (zeros : Bool) (strand : Option Strand) (entries : List Entry) (current : Option (Place Known)) (r : Feature) (rank : ℕ) → is_on entries current r.chrom ≡ false → Some rank ≡ rank_of (genome_names entries) r.chrom
-    → (let place : Place Known = record { rank = rank; known = unknown } in walk_step (depth_walk zeros strand) entries current r ≡ (Some (taking (depth_walk zeros strand) entries place r).0, left_before (depths_left zeros) (bare_of zeros) entries current rank ++ (taking (depth_walk zeros strand) entries place r).1))
-count_begins zeros strand entries current r rank off is =
-    let place : Place Known = record { rank = rank; known = unknown } in
-    step_goes (depth_walk zeros strand) entries current r place (left_before (depths_left zeros) (bare_of zeros) entries current rank) (going_to (depth_walk zeros strand) entries current r.chrom (Some rank) off is)

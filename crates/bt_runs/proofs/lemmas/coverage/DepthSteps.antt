@@ -10,26 +10,23 @@ use Rattle.bt_runs.specs.model.Gaps.{AreTaken, length_in}
 use Rattle.bt_runs.specs.calls.Settling.{Settles}
 use Rattle.bt_runs.specs.inside.walk.Walk.{AreReached, Place, is_on, left_before, step_from, taking}
 use Rattle.bt_runs.proofs.lemmas.coverage.CoverageForm.{Own, depths, owes, written}
-use Rattle.bt_runs.proofs.lemmas.complement.Walks.{Held, Steps, ends, going_on, going_to, reaches, settles_items, step_goes, steps, rank_entry, same_place, taken_front}
-use Rattle.bt_lines.proofs.lemmas.writer.PuttingLemmas.{adds_lines, cut_lines, grown_none}
+use Rattle.bt_runs.proofs.lemmas.complement.Walks.{Held, Steps, ends, entered_steps, going_on, going_to, reaches, settles_items, step_goes, steps, rank_entry, same_place, taken_front}
+use Rattle.bt_lines.proofs.lemmas.writer.PuttingLemmas.{grown_none}
 use Rattle.std.proofs.lemmas.Bool.{cases_lt, lt-ltb, le-ltb}
 use Rattle.std.proofs.lemmas.Grind.{flat_map-append}
 use Rattle.bt_lines.specs.calls.Output.{Output}
 use Rattle.bt_lines.specs.calls.Putting.{Adds, FailsToAdd, Grown}
 use Rattle.bt_lines.specs.calls.Names.{fault_value}
 use Rattle.bt_lines.specs.declared.fault.Fault.{Fault}
-use Rattle.bt_lines.specs.declared.fault.Kind.TheVariants.{NoMemory, WriteFailed}
 use Rattle.bt_bed.specs.model.feature.Interval.{Span, last_of}
-use Rattle.bt_runs.specs.calls.Covering.{CountsDepths, CountsRecord, Covering, IsOnBy, begun_of, depth_step, held_of, is_quiet, may_take, place_of, settled_lines, stands_after, wants_memory, whole_output}
-use Rattle.bt_runs.specs.calls.Engine.{AfterEach, AtEnd}
-use Rattle.bt_runs.specs.inside.walk.Rule.{EnterAnswers, RuleFeeds, RuleFinishes, Taken, WantsMemory}
+use Rattle.bt_runs.specs.calls.Covering.{CountsRecord, Covering, IsOnBy, begun_of, depth_step, held_of, is_quiet, may_take, next_lines, place_of, settled_lines, stands_after, wants_memory, whole_output}
+use Rattle.bt_runs.specs.inside.walk.Rule.{Does, EnterAnswers, FitsPast, PutsRestAtEnd}
 use Rattle.bt_runs.specs.model.Levels.{Begun, levels_of}
 use Rattle.bt_runs.proofs.lemmas.coverage.OneDepth.{across_known, known_at}
 use Rattle.bt_runs.proofs.lemmas.coverage.DepthLemmas.{none_open}
 use Rattle.bt_runs.proofs.lemmas.complement.GapRuleLemmas.{on_found}
-use Rattle.bt_runs.proofs.lemmas.complement.RuleSteps.{rule_cut, rule_finishes, rule_short, rule_taken}
+use Rattle.bt_runs.proofs.lemmas.engine.EnterLemmas.{enters, enters_cut}
 use Rattle.bt_runs.proofs.lemmas.order.GenomeRanks.{found_at, name_at, size_there}
-use Rattle.bt_runs.proofs.lemmas.coverage.DepthLines.{count_begins}
 use Rattle.bt_runs.proofs.lemmas.laws.Standing.{apart}
 
 module _ (zeros : Bool) (strand : Option Strand) (entries : List Entry) where
@@ -118,7 +115,7 @@ module _ (zeros : Bool) (strand : Option Strand) (entries : List Entry) where
 
 -- entering a chromosome
 abbrev pub Enters : Covering → List ℕ → Output → Result (Unit {0}) Fault → Covering → Output → Type 0
-Enters = EnterAnswers CountsDepths (Taken may_take stands_after settled_lines is_quiet wants_memory CountsDepths)
+Enters = EnterAnswers next_lines CountsRecord wants_memory may_take stands_after settled_lines is_quiet
 
 module _ (old : Covering) where
   -- whatever coverage took the records of the past, it has this table and these rules, and keeps what is to be kept
@@ -138,29 +135,19 @@ module _ (old : Covering) where
       let kept = stands.kept ∙ ap₂ (λ s e. kept_records s e past) wanted entries in
       record { same_entries = entries; same_zeros = rules; same_strand = wanted; reached = λ t. held_is old.zeros old.strand old.entries past old.current t stands.reached place begun kept }
 
-  -- one more record
-  module _ (r : Feature) (out : Output) where
-    abbrev step : Option (Place Known) × List DepthInterval
-    step = depth_step old r out
-
-    -- the lines of the step are those that the record settles
-    next_lines : AfterEach may_take stands_after old r (λ first past. settled_lines first (past ++ r ∷ []) ≡ settled_lines first past ++ depth_lines step.1)
-    next_lines first past stands taken =
+  -- what is done with a record exactly is done after every past
+  pub fits : (r : Feature) → FitsPast next_lines CountsRecord wants_memory may_take stands_after settled_lines is_quiet old r
+  fits r = record {
+    settles = λ first past stands taken.
         let s = same first past stands in
         let more = rw s.same_entries at taken in
         rw (s.same_entries, s.same_zeros, s.same_strand) (ap depth_lines (moves old.zeros old.strand old.entries past r old.current more (s.reached (taken_front old.entries past (r ∷ []) more))).settles
-        ∙ flat_map-append depth_line (settled_depths old.zeros old.strand old.entries past) step.1)
-
-    none : AfterEach may_take stands_after old r (λ first past. is_quiet first past r → depth_lines step.1 ≡ [])
-    none first past stands taken q = absurd q
-
-    -- the coverage is after the record too
-    stands_next : (new : Covering) (grown : Output) → CountsRecord old r out new grown → AfterEach may_take stands_after old r (λ first past. stands_after first (past ++ r ∷ []) new)
-    stands_next new grown c first past stands taken =
+        ∙ flat_map-append depth_line (settled_depths old.zeros old.strand old.entries past) (depth_step old r).1);
+    next = λ new c first past stands taken.
         let s = same first past stands in
         let more = rw s.same_entries at taken in
         let m = moves old.zeros old.strand old.entries past r old.current more (s.reached (taken_front old.entries past (r ∷ []) more)) in
-        let k = keeps old.zeros old.strand old.entries (past ++ r ∷ []) step.0 more.distinct m.held in
+        let k = keeps old.zeros old.strand old.entries (past ++ r ∷ []) (depth_step old r).0 more.distinct m.held in
         record {
           same_entries = c.same_entries ∙ sym s.same_entries;
           same_zeros = c.same_zeros ∙ sym s.same_zeros;
@@ -169,53 +156,27 @@ module _ (old : Covering) where
           begun = rw (s.same_entries, s.same_zeros, s.same_strand) (ap begun_of c.current ∙ k.begun);
           kept = rw (s.same_entries, s.same_strand) (ap held_of c.current ∙ k.held);
           reached = subst (λ (e : List Entry). AreReached e new.current) (sym c.same_entries) (c.at stands.reached);
-        }
+        };
+    quiet = λ first past stands taken q. absurd q;
+  }
 
-    pub feeds_by : (result : Result (Unit {0}) Fault) (new : Covering) (grown : Output) → CountsDepths old r out result new grown → RuleFeeds may_take stands_after settled_lines old r out is_quiet result new grown
-    feeds_by (Ok done) new grown c = rule_taken may_take stands_after settled_lines old out (depth_lines step.1) is_quiet r next_lines none done new grown (stands_next new grown c) c.puts
-    feeds_by (Err e) new grown (inl cut) = rule_cut may_take stands_after settled_lines old out (depth_lines step.1) is_quiet r next_lines none {A = Unit {0}} e new grown cut
-    feeds_by (Err e) new grown (inr short) = rule_short may_take stands_after settled_lines old out (depth_lines step.1) is_quiet r next_lines none {A = Unit {0}} e new grown short.is (λ first past s taken q. q) short.puts
+  -- a record of a chromosome that the genome file doesn't have changes nothing
+  pub counts_none : (r : Feature) (out : Output) → IsOnBy false old.entries old.current old.name old.length r.chrom → Does next_lines CountsRecord wants_memory old r out (Ok tt) old out
+  counts_none r out off =
+      let here : depth_step old r ≡ (old.current, []) = ap (step_from (depth_walk old.zeros old.strand) old.entries old.current r) (going_to (depth_walk old.zeros old.strand) old.entries old.current r.chrom None off.0 (sym off.1)) in
+      (record { same_entries = refl; same_zeros = refl; same_strand = refl; current = sym (ap (λ s. s.0) here); at = λ at. at }, rw here (grown_none out))
 
-    -- and memory was wanted for a record that has to be kept
-    pub memory_by : (result : Result (Unit {0}) Fault) (new : Covering) (grown : Output) → CountsDepths old r out result new grown → WantsMemory {A = Unit {0}} wants_memory old r result
-    memory_by (Ok done) new grown c = tt
-    memory_by (Err e) new grown (inl cut) = λ is. let kind : WriteFailed ≡ NoMemory = ap (λ t. t.kind) (sym cut.puts.is ∙ is) in absurd (cc)
-    memory_by (Err e) new grown (inr short) = λ is. short.to_keep
-
-    taken_by : (result : Result (Unit {0}) Fault) (new : Covering) (grown : Output) → CountsDepths old r out result new grown → Taken may_take stands_after settled_lines is_quiet wants_memory CountsDepths old r out result new grown
-    taken_by result new grown c = record { exact = c; feeds = feeds_by result new grown c; memory = memory_by result new grown c }
-
-    -- a record of a chromosome that the genome file doesn't have changes nothing
-    pub counts_none : IsOnBy false old.entries old.current old.name old.length r.chrom → CountsDepths old r out (Ok tt) old out
-    counts_none off =
-        let here : step ≡ (old.current, []) = ap (step_from (depth_walk old.zeros old.strand) old.entries old.current r) (going_to (depth_walk old.zeros old.strand) old.entries old.current r.chrom None off.0 (sym off.1)) in
-        record {
-          same_entries = refl;
-          same_zeros = refl;
-          same_strand = refl;
-          current = sym (ap (λ s. s.0) here);
-          at = λ at. at;
-          puts = rw here (grown_none out);
-        }
-
-    -- one of the chromosome that was reached
-    pub step_here : (place : Place Known) → old.current ≡ Some place → is_on old.entries old.current r.chrom ≡ true
-        → step ≡ (Some (taking (depth_walk old.zeros old.strand) old.entries place r).0, (taking (depth_walk old.zeros old.strand) old.entries place r).1)
-    step_here place is on =
-        step_goes (depth_walk old.zeros old.strand) old.entries old.current r place [] (going_on (depth_walk old.zeros old.strand) old.entries old.current r.chrom on ∙ ap (λ o. (o, [])) is)
+  -- one of the chromosome that was reached
+  pub step_here : (r : Feature) (place : Place Known) → old.current ≡ Some place → is_on old.entries old.current r.chrom ≡ true
+      → depth_step old r ≡ (Some (taking (depth_walk old.zeros old.strand) old.entries place r).0, (taking (depth_walk old.zeros old.strand) old.entries place r).1)
+  step_here r place is on =
+      step_goes (depth_walk old.zeros old.strand) old.entries old.current r place [] (going_on (depth_walk old.zeros old.strand) old.entries old.current r.chrom on ∙ ap (λ o. (o, [])) is)
 
   -- on which chromosome the last record lies changes nothing
-  module _ (is_known : Bool) (name : List ℕ) (size : ℕ) where
-    abbrev pub moved : Covering
-    moved = record { entries = old.entries; zeros = old.zeros; strand = old.strand; current = old.current; is_known = is_known; name = name; length = size }
-
-    answers_moved : (r : Feature) (out : Output) (result : Result (Unit {0}) Fault) (new : Covering) (grown : Output) → CountsDepths moved r out result new grown → CountsDepths old r out result new grown
-    answers_moved r out (Ok done) new grown c = record { same_entries = c.same_entries; same_zeros = c.same_zeros; same_strand = c.same_strand; current = c.current; at = c.at; puts = c.puts }
-    answers_moved r out (Err fault) new grown (inl cut) = inl cut
-    answers_moved r out (Err fault) new grown (inr short) = inr (record { is = short.is; puts = short.puts; to_keep = short.to_keep })
-
-    pub enters_moved : (chrom : List ℕ) (out : Output) → Enters old chrom out (Ok tt) moved out
-    enters_moved chrom out r same result new grown c = taken_by r out result new grown (answers_moved r out result new grown c)
+  pub enters_moved : (is_known : Bool) (name : List ℕ) (size : ℕ) (chrom : List ℕ) (out : Output)
+      → Enters old chrom out (Ok tt) (record { entries = old.entries; zeros = old.zeros; strand = old.strand; current = old.current; is_known = is_known; name = name; length = size }) out
+  enters_moved is_known name size chrom out = enters fits [] {mid = record { entries = old.entries; zeros = old.zeros; strand = old.strand; current = old.current; is_known = is_known; name = name; length = size }} (grown_none out) (λ r same. refl)
+      (λ r same new c. record { same_entries = c.same_entries; same_zeros = c.same_zeros; same_strand = c.same_strand; current = c.current; at = c.at }) (λ r same wanted. wanted)
 
   -- another chromosome of the genome file
   module _ (name : List ℕ) (size : ℕ) (chrom : List ℕ) (rank : ℕ) (off : is_on old.entries old.current chrom ≡ false) (is : Some rank ≡ rank_of (genome_names old.entries) chrom) where
@@ -231,48 +192,40 @@ module _ (old : Covering) where
     pub is_there : is_on old.entries (Some place_first) chrom ≡ true
     is_there = on_found old.entries chrom rank (sym is)
 
-    module _ (r : Feature) (same : r.chrom ≡ chrom) where
-      abbrev taken : Place Known × List DepthInterval
-      taken = taking (depth_walk old.zeros old.strand) old.entries place_first r
+    there_steps : (r : Feature) → r.chrom ≡ chrom → ((depth_step old r).0 ≡ (depth_step begun_there r).0) × ((depth_step old r).1 ≡ before ++ (depth_step begun_there r).1)
+    there_steps r same =
+        let walk = depth_walk old.zeros old.strand in
+        entered_steps walk old.entries old.current r place_first before
+        (going_to walk old.entries old.current r.chrom (Some rank) (ap (is_on old.entries old.current) same ∙ off) (is ∙ ap (rank_of (genome_names old.entries)) (sym same)))
+        (ap (is_on old.entries (Some place_first)) same ∙ is_there)
 
-      steps_old : (out : Output) → depth_step old r out ≡ (Some taken.0, before ++ taken.1)
-      steps_old out = count_begins old.zeros old.strand old.entries old.current r rank (ap (is_on old.entries old.current) same ∙ off) (is ∙ ap (rank_of (genome_names old.entries)) (sym same))
-
-      steps_new : (out : Output) → depth_step begun_there r out ≡ (Some taken.0, taken.1)
-      steps_new out =
-          step_goes (depth_walk old.zeros old.strand) old.entries (Some place_first) r place_first [] (going_on (depth_walk old.zeros old.strand) old.entries (Some place_first) r.chrom (ap (is_on old.entries (Some place_first)) same ∙ is_there))
-
-      answers_there : (out mid : Output) (result : Result (Unit {0}) Fault) (new : Covering) (grown : Output) → Grown out (depth_lines before) mid → CountsDepths begun_there r mid result new grown → CountsDepths old r out result new grown
-      answers_there out mid (Ok done) new grown p c = record {
-        same_entries = c.same_entries;
-        same_zeros = c.same_zeros;
-        same_strand = c.same_strand;
-        current = c.current ∙ ap (λ s. s.0) (steps_new mid) ∙ sym (ap (λ s. s.0) (steps_old out));
-        at = λ at. c.at (found_at old.entries chrom rank (sym is));
-        puts = rw (steps_old out) (adds_lines depth_line out mid grown before taken.1 {A = Unit {0}} (Ok tt) p (rw (steps_new mid) at c.puts));
-      }
-      answers_there out mid (Err fault) new grown p (inl cut) =
-          inl (rw (steps_old out) (adds_lines depth_line out mid grown before taken.1 {A = Unit {0}} (Err fault) p (rw (steps_new mid) at cut)))
-      answers_there out mid (Err fault) new grown p (inr short) =
-          inr (record { is = short.is; puts = rw (steps_old out) (adds_lines depth_line out mid grown before taken.1 {A = Unit {0}} (Ok tt) p (rw (steps_new mid) at short.puts)); to_keep = short.to_keep })
+    lines_are : (r : Feature) → r.chrom ≡ chrom → next_lines old r ≡ depth_lines before ++ next_lines begun_there r
+    lines_are r same = ap depth_lines (there_steps r same).1 ∙ flat_map-append depth_line before (depth_step begun_there r).1
 
     pub enters_there : (out mid : Output) → Grown out (depth_lines before) mid → Enters old chrom out (Ok tt) begun_there mid
-    enters_there out mid p r same result new grown c = taken_by r out result new grown (answers_there r same out mid result new grown p c)
+    enters_there out mid p = enters fits (depth_lines before) {mid = begun_there} p lines_are
+        (λ r same new c. record {
+          same_entries = c.same_entries;
+          same_zeros = c.same_zeros;
+          same_strand = c.same_strand;
+          current = c.current ∙ sym (there_steps r same).0;
+          at = λ at. c.at (found_at old.entries chrom rank (sym is));
+        })
+        (λ r same wanted. wanted)
 
     -- or what is left before it couldn't be written
-    pub enters_cut : (out : Output) (fault : Fault) (new : Covering) (grown : Output) → FailsToAdd out (depth_lines before) (fault_value fault) grown → Enters old chrom out (Err fault) new grown
-    enters_cut out fault new grown cut r same =
-        taken_by r out (Err fault) new grown (inl (rw (steps_old r same out) (cut_lines depth_line out grown before (taken r same).1 (fault_value fault) cut)))
+    pub enters_failing : (out : Output) (fault : Fault) (new : Covering) (grown : Output) → FailsToAdd out (depth_lines before) (fault_value fault) grown → Enters old chrom out (Err fault) new grown
+    enters_failing out fault new grown cut = enters_cut fits (depth_lines before) fault new grown cut (λ r same. (next_lines begun_there r, lines_are r same))
 
   -- the lines that are left
-  lines_left : (out : Output) (stop : ℕ) → stop ≡ length old.entries → AtEnd may_take stands_after old (λ first past. whole_output first past ≡ settled_lines first past ++ depth_lines (left_before (depths_left old.zeros) (bare_of old.zeros) old.entries old.current stop))
-  lines_left out stop all first past stands taken =
-      let s = same first past stands in
-      let t = rw s.same_entries at taken in
-      rw (s.same_entries, s.same_zeros, s.same_strand, all) (ap depth_lines (leaves old.zeros old.strand old.entries past old.current t.distinct (s.reached t))
-      ∙ flat_map-append depth_line (settled_depths old.zeros old.strand old.entries past) (left_before (depths_left old.zeros) (bare_of old.zeros) old.entries old.current (length old.entries)))
-
   pub finishes_left : (out : Output) {A : Type 0} (stop : ℕ) (result : Result A Fault) (grown : Output) → stop ≡ length old.entries → Adds out (depth_lines (left_before (depths_left old.zeros) (bare_of old.zeros) old.entries old.current stop)) result grown
-      → RuleFinishes may_take stands_after settled_lines old whole_output out result grown
-  finishes_left out stop result grown all p =
-      rule_finishes may_take stands_after settled_lines old out (depth_lines (left_before (depths_left old.zeros) (bare_of old.zeros) old.entries old.current stop)) whole_output (lines_left out stop all) result grown p
+      → PutsRestAtEnd may_take stands_after settled_lines whole_output old out result grown
+  finishes_left out stop result grown all p = record {
+    left = depth_lines (left_before (depths_left old.zeros) (bare_of old.zeros) old.entries old.current stop);
+    is = λ first past stands taken.
+        let s = same first past stands in
+        let t = rw s.same_entries at taken in
+        rw (s.same_entries, s.same_zeros, s.same_strand, all) (ap depth_lines (leaves old.zeros old.strand old.entries past old.current t.distinct (s.reached t))
+        ∙ flat_map-append depth_line (settled_depths old.zeros old.strand old.entries past) (left_before (depths_left old.zeros) (bare_of old.zeros) old.entries old.current (length old.entries)));
+    adds = p;
+  }

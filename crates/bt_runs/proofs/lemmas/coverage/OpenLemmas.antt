@@ -1,9 +1,9 @@
 -- The records that are open at a position and at later ones, how many of them cover a position, and their ends, counted by every test of an end.
-use Rattle.std.proofs.Common.{◌≡◌, ℕ, ◌+◌, ◌<◌, ◌≤◌, inl, inr, List, [], ◌∷◌, ◌++◌, refl, sym, ap, ◌∙◌, arith, All, filter, length, max, nat_le, not, false, suc, cond, ◌&&◌, nat_lt, slice_index_or, subst, drop, Bool, MatchBool, true, IfSome, IsSome, Option, Some, None}
+use Rattle.std.proofs.Common.{◌≡◌, ℕ, ◌+◌, ◌<◌, ◌≤◌, inl, inr, List, [], ◌∷◌, ◌++◌, refl, sym, ap, ◌∙◌, arith, All, filter, length, max, nat_le, not, leb-true, false, cond, ◌&&◌, nat_lt, slice_index_or, subst, drop, Bool, MatchBool, true, IfSome, IsSome, Option, Some, None}
 use Rattle.std.proofs.lemmas.Bool.{cases_Bool, cases_lt, lt-ltb, le-ltb, lt-leb, le-leb}
-use Rattle.std.proofs.lemmas.List.{length-map}
+use Rattle.std.proofs.lemmas.List.{length-map, map-append}
 use Rattle.std.proofs.lemmas.List.Filters.{length-filter_both}
-use Rattle.std.proofs.lemmas.List.Elements.{All-cons, All-filter, All-head, All-nil, All-tail, All-weaker}
+use Rattle.std.proofs.lemmas.List.Elements.{All-cons, All-filter, All-head, All-nil, All-tail, All-weaker, filter-append, filter_agree, filter_passes}
 use Rattle.bt_bed.specs.model.feature.Interval.{Span}
 use Rattle.bt_runs.specs.model.Depth.{covers, depth_at}
 use Rattle.bt_runs.specs.inside.coverage.DepthStep.{still_open}
@@ -17,33 +17,69 @@ use Rattle.std.specs.declared.cmp.Reverse.{Reverse}
 use Rattle.std.proofs.lemmas.List.Sorted.{IsPermutation-map, sum_by-IsPermutation}
 use Rattle.std.proofs.lemmas.List.Sums.{length-filter}
 
--- those that are open at a later position are open before
-pub open_after : (first later : ℕ) (spans : List Span) → first ≤ later → still_open later (still_open first spans) ≡ still_open later spans
-open_after first later [] up = refl
-open_after first later (s ∷ ss) up =
-    let rest = open_after first later ss up in
-    elim (cases_lt s.stop first) [
-      | inl ended ↦ rw (lt-leb first s.stop ended, lt-leb later s.stop (omega arith)) rest
-      | inr left ↦ elim (cases_lt s.stop later) [
-        | inl now ↦ rw (le-leb first s.stop left, lt-leb later s.stop now) rest
-        | inr still ↦ rw (le-leb first s.stop left, le-leb later s.stop still) (ap (λ l. s ∷ l) rest)
+-- what a filter keeps
+module _ {X : Type 0} (p : X → Bool) where
+  filter_stays : (xs : List X) → All (λ x. p x ≡ true) xs → filter p xs ≡ xs
+  filter_stays [] all = refl
+  filter_stays (x ∷ xs) all = rw (All-head (λ x. p x ≡ true) x xs all) (ap (λ l. x ∷ l) (filter_stays xs (All-tail (λ x. p x ≡ true) x xs all)))
+
+  filter_few : (xs : List X) → length (filter p xs) ≤ length xs
+  filter_few xs = let all = length-filter_both p (λ x. not (p x)) (λ x. refl) xs in omega arith
+
+  -- where there are no more than are kept, all are
+  filter_full : (xs : List X) → length xs ≤ length (filter p xs) → filter p xs ≡ xs
+  filter_full [] many = refl
+  filter_full (x ∷ xs) many = elim (cases_Bool (p x)) [
+    | inl t ↦
+        let many : length (x ∷ xs) ≤ length (x ∷ filter p xs) = rw t at many in
+        rw t (ap (λ l. x ∷ l) (filter_full xs (omega arith)))
+    | inr f ↦
+        let few = filter_few xs in
+        let many : length (x ∷ xs) ≤ length (filter p xs) = rw f at many in
+        absurd (omega arith)
+  ]
+
+  -- the elements that pass two tests
+  filter_both : (q : X → Bool) (xs : List X) → filter (λ x. p x && q x) xs ≡ filter q (filter p xs)
+  filter_both q [] = refl
+  filter_both q (x ∷ xs) =
+      let rest = filter_both q xs in
+      elim (cases_Bool (p x)) [
+        | inl t ↦ elim (cases_Bool (q x)) [
+          | inl u ↦ rw (t, u) (ap (λ l. x ∷ l) rest)
+          | inr f ↦ rw (t, f) rest
+        ]
+        | inr f ↦ rw f rest
       ]
-    ]
+
+-- those that end at a position or past it do, and if all do, all are kept
+from_all : {X : Type 0} (end : X → ℕ) (position : ℕ) (xs : List X) → All (λ x. position ≤ end x) (filter (λ x. nat_le position (end x)) xs)
+from_all end position xs =
+    All-weaker (λ x. nat_le position (end x) ≡ true) (λ x. position ≤ end x) (λ x t. leb-true position (end x) t) (filter (λ x. nat_le position (end x)) xs) (filter_passes (λ x. nat_le position (end x)) xs)
+
+all_from : {X : Type 0} (end : X → ℕ) (position : ℕ) (xs : List X) → All (λ x. position ≤ end x) xs → filter (λ x. nat_le position (end x)) xs ≡ xs
+all_from end position xs all =
+    filter_stays (λ x. nat_le position (end x)) xs (All-weaker (λ x. position ≤ end x) (λ x. nat_le position (end x) ≡ true) (λ x low. le-leb position (end x) low) xs all)
+
+-- those that are open at a later position are open before
+later_alone : (first later end : ℕ) → first ≤ later → (nat_le first end && nat_le later end) ≡ nat_le later end
+later_alone first later end up = elim (cases_lt end first) [
+  | inl ended ↦ rw (lt-leb first end ended, lt-leb later end (omega arith)) refl
+  | inr left ↦ rw (le-leb first end left) refl
+]
+
+pub open_after : (first later : ℕ) (spans : List Span) → first ≤ later → still_open later (still_open first spans) ≡ still_open later spans
+open_after first later spans up =
+    sym (filter_both (λ (s : Span). nat_le first s.stop) (λ s. nat_le later s.stop) spans)
+    ∙ filter_agree (λ (s : Span). nat_le first s.stop && nat_le later s.stop) (λ s. nat_le later s.stop) (λ s. later_alone first later s.stop up) spans
 
 -- none of them ends before
 pub all_open : (position : ℕ) (spans : List Span) → All (λ s. position ≤ s.stop) (still_open position spans)
-all_open position [] = All-nil (λ s. position ≤ s.stop)
-all_open position (s ∷ ss) = elim (cases_lt s.stop position) [
-  | inl ended ↦ rw (lt-leb position s.stop ended) (all_open position ss)
-  | inr left ↦ rw (le-leb position s.stop left) (All-cons (λ s. position ≤ s.stop) s (still_open position ss) left (all_open position ss))
-]
+all_open position spans = from_all (λ (s : Span). s.stop) position spans
 
 -- those that all end at a position or past it stay
 pub stay_open : (position next : ℕ) (spans : List Span) → position ≤ next → All (λ s. next ≤ s.stop) spans → still_open position spans ≡ spans
-stay_open position next [] up all = refl
-stay_open position next (s ∷ ss) up all =
-    let mine : next ≤ s.stop = All-head (λ s. next ≤ s.stop) s ss all in
-    rw (le-leb position s.stop (omega arith)) (ap (λ l. s ∷ l) (stay_open position next ss up (All-tail (λ s. next ≤ s.stop) s ss all)))
+stay_open position next spans up all = all_from (λ (s : Span). s.stop) position spans (All-weaker (λ s. next ≤ s.stop) (λ s. position ≤ s.stop) (λ s low. omega arith) spans all)
 
 -- of those that have started, the ones that are open past a position cover it
 covers_started : (p : ℕ) (s : Span) → s.start ≤ p → covers p s ≡ nat_le (p + 1) s.stop
@@ -93,28 +129,13 @@ module _ (at position : ℕ) (first now : List Span) (low : at ≤ position) (sa
       ∙ ap length (sym (open_after (position + 1) (q + 1) now (omega arith)) ∙ stay_open (q + 1) next (still_open (position + 1) now) (omega arith) ends)
 
 -- where there are no more than are still open, all of them are
-open_few : (position : ℕ) (spans : List Span) → length (still_open position spans) ≤ length spans
-open_few position spans =
-    let test = λ (s : Span). nat_le position s.stop in
-    let all = length-filter_both test (λ s. not (test s)) (λ s. refl) spans in
-    omega arith
-
 pub all_stay : (position : ℕ) (spans : List Span) → length spans ≤ length (still_open position spans) → still_open position spans ≡ spans
-all_stay position [] many = refl
-all_stay position (s ∷ ss) many = elim (cases_lt s.stop position) [
-  | inl ended ↦
-      let few = open_few position ss in
-      let many : length (s ∷ ss) ≤ length (still_open position ss) = rw (lt-leb position s.stop ended) at many in
-      absurd (omega arith)
-  | inr left ↦
-      let many : length (s ∷ ss) ≤ length (s ∷ still_open position ss) = rw (le-leb position s.stop left) at many in
-      rw (le-leb position s.stop left) (ap (λ l. s ∷ l) (all_stay position ss (omega arith)))
-]
+all_stay position spans many = filter_full (λ (s : Span). nat_le position s.stop) spans many
 
 -- no more are open than are listed, and none past the end
 pub open_within : (position : ℕ) (items : List OpenSpan) → length (still_open position (spans_open items)) ≤ length items
 open_within position items =
-    let few = open_few position (spans_open items) in
+    let few = filter_few (λ (s : Span). nat_le position s.stop) (spans_open items) in
     let long = length-map items span_open in
     omega arith
 
@@ -124,37 +145,11 @@ none_past (s ∷ ss) = none_past ss
 
 -- those of two lists
 pub open_both : (position : ℕ) (first more : List OpenSpan) → still_open position (spans_open (first ++ more)) ≡ still_open position (spans_open first) ++ still_open position (spans_open more)
-open_both position [] more = refl
-open_both position (s ∷ ss) more = elim (cases_Bool (nat_le position s.stop)) [
-  | inl t ↦ rw t (ap (λ l. span_open s ∷ l) (open_both position ss more))
-  | inr f ↦ rw f (open_both position ss more)
-]
+open_both position first more = ap (still_open position) (map-append span_open first more) ∙ filter-append (λ (s : Span). nat_le position s.stop) (spans_open first) (spans_open more)
 
--- all pass, or none
 all_pass : {X : Type 0} (xs : List X) → filter (λ x. true) xs ≡ xs
 all_pass [] = refl
 all_pass (x ∷ xs) = ap (λ l. x ∷ l) (all_pass xs)
-
-module _ {X : Type 0} (end : X → ℕ) (position : ℕ) where
-  below : ℕ → Bool
-  below e = nat_lt e position
-
-  none_below : (xs : List X) → All (λ x. position ≤ end x) xs → length (filter (λ x. nat_lt (end x) position) xs) ≡ 0
-  none_below [] all = refl
-  none_below (x ∷ xs) all =
-      let mine : position ≤ end x = All-head (λ x. position ≤ end x) x xs all in
-      rw (le-ltb (end x) position mine) (none_below xs (All-tail (λ x. position ≤ end x) x xs all))
-
-  below_none : (xs : List X) → length (filter (λ x. nat_lt (end x) position) xs) ≡ 0 → All (λ x. position ≤ end x) xs
-  below_none [] none = All-nil (λ x. position ≤ end x)
-  below_none (x ∷ xs) none = elim (cases_lt (end x) position) [
-    | inl l ↦
-        let some : suc (length (filter (λ x. nat_lt (end x) position) xs)) ≡ 0 = sym (rw (lt-ltb (end x) position l) refl) ∙ none in
-        absurd (omega arith)
-    | inr l ↦
-        let rest : length (filter (λ x. nat_lt (end x) position) xs) ≡ 0 = sym (rw (le-ltb (end x) position l) refl) ∙ none in
-        All-cons (λ x. position ≤ end x) x xs l (below_none xs rest)
-  ]
 
 module _ (ends : List ℕ) (spans : List Span) (counts : CountsEnds ends spans) where
   -- there are as many
@@ -163,10 +158,14 @@ module _ (ends : List ℕ) (spans : List Span) (counts : CountsEnds ends spans) 
 
   -- where no end lies before a position, no record ends before it
   pub ends_left : (position : ℕ) → All (λ e. position ≤ e) ends → All (λ s. position ≤ s.stop) spans
-  ends_left position all = below_none (λ s. s.stop) position spans (sym (counts (λ e. nat_lt e position)) ∙ none_below (λ e. e) position ends all)
+  ends_left position all =
+      let same : length spans ≡ length (still_open position spans) = sym as_many ∙ ap length (sym (all_from (λ e. e) position ends all)) ∙ counts (λ e. nat_le position e) in
+      subst (λ (l : List Span). All (λ s. position ≤ s.stop) l) (all_stay position spans (omega arith)) (all_open position spans)
 
   pub left_ends : (position : ℕ) → All (λ s. position ≤ s.stop) spans → All (λ e. position ≤ e) ends
-  left_ends position all = below_none (λ e. e) position ends (counts (λ e. nat_lt e position) ∙ none_below (λ s. s.stop) position spans all)
+  left_ends position all =
+      let same : length ends ≡ length (filter (λ e. nat_le position e) ends) = as_many ∙ ap length (sym (all_from (λ (s : Span). s.stop) position spans all)) ∙ sym (counts (λ e. nat_le position e)) in
+      subst (λ (l : List ℕ). All (λ e. position ≤ e) l) (filter_full (λ e. nat_le position e) ends (omega arith)) (from_all (λ e. e) position ends)
 
 -- an order of the ends doesn't matter
 pub same_count : (test : ℕ → Bool) (xs ys : List ℕ) → IsPermutation xs ys → length (filter test ys) ≡ length (filter test xs)
@@ -183,36 +182,14 @@ counts_less position e old ends new ended counts moved test =
     let one : length (filter from (e ∷ new)) ≡ length (filter from new) = rw (lt-leb position e ended) refl in
     sym one ∙ same ∙ counts test
 
-all_from : (position : ℕ) (test : ℕ → Bool) (ends : List ℕ) → All (λ e. position ≤ e) ends → filter (λ e. nat_le position e && test e) ends ≡ filter test ends
-all_from position test [] all = refl
-all_from position test (e ∷ es) all =
-    let mine : position ≤ e = All-head (λ e. position ≤ e) e es all in
-    let rest = all_from position test es (All-tail (λ e. position ≤ e) e es all) in
-    elim (cases_Bool (test e)) [
-      | inl t ↦ rw (le-leb position e mine, t) (ap (λ l. e ∷ l) rest)
-      | inr f ↦ rw (le-leb position e mine, f) rest
-    ]
-
-open_tested : (position : ℕ) (test : ℕ → Bool) (spans : List Span) → filter (λ s. nat_le position s.stop && test s.stop) spans ≡ filter (λ s. test s.stop) (still_open position spans)
-open_tested position test [] = refl
-open_tested position test (s ∷ ss) =
-    let rest = open_tested position test ss in
-    elim (cases_Bool (nat_le position s.stop)) [
-      | inl left ↦ elim (cases_Bool (test s.stop)) [
-        | inl t ↦ rw (left, t) (ap (λ l. s ∷ l) rest)
-        | inr f ↦ rw (left, f) rest
-      ]
-      | inr ended ↦ rw ended rest
-    ]
-
 -- what is kept at a later position, once the ends before it are out
 module _ (first position : ℕ) (spans : List Span) (ends new : List ℕ) (up : first ≤ position) (kept : KeepsOpen first spans ends) (from : CountsFrom position ends new) (all : All (λ e. position ≤ e) new) where
   ends_later : CountsEnds new (still_open position spans)
   ends_later test =
-      sym (ap length (all_from position test new all))
+      sym (ap length (filter_both (λ e. nat_le position e) test new ∙ ap (filter test) (all_from (λ e. e) position new all)))
       ∙ from test
       ∙ kept.counts (λ e. nat_le position e && test e)
-      ∙ ap length (open_tested position test (still_open first spans))
+      ∙ ap length (filter_both (λ (s : Span). nat_le position s.stop) (λ s. test s.stop) (still_open first spans))
       ∙ ap (λ l. length (filter (λ (s : Span). test s.stop) l)) (open_after first position spans up)
 
   pub keeps_later : KeepsOpen position spans new

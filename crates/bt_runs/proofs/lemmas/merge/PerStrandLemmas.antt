@@ -6,12 +6,11 @@ use Rattle.std.proofs.lemmas.Bool.{cases_Bool, cases_lt, cond-true, cond-false, 
 use Rattle.std.proofs.lemmas.Grind.{flat_map-append}
 use Rattle.std.proofs.lemmas.List.{drop-map, get_or-map, length-map, map-append, map-set, take-map}
 use Rattle.std.proofs.lemmas.Option.{get_or_from_slice_get, slice_get-get_or, slice_get_within}
-use Rattle.bt_lines.specs.model.Fault.{FaultValue, no_memory, write_failed}
+use Rattle.bt_lines.specs.model.Fault.{no_memory}
 use Rattle.bt_lines.specs.calls.Names.{fault_value}
 use Rattle.bt_lines.specs.calls.Output.{Output}
 use Rattle.bt_lines.specs.calls.Putting.{Adds, FailsToAdd, FailsToPut, Grown}
 use Rattle.bt_lines.specs.declared.fault.Fault.{Fault}
-use Rattle.bt_lines.proofs.lemmas.writer.PuttingLemmas.{grown_more}
 use Rattle.bt_bed.specs.model.feature.Feature.{Feature, interval_of}
 use Rattle.bt_bed.specs.model.feature.Interval.{Interval}
 use Rattle.bt_bed.specs.model.feature.IntervalLine.{interval_line, interval_lines}
@@ -20,22 +19,26 @@ use Rattle.bt_bed.proofs.lemmas.write.IntervalLineLemmas.{adds_line}
 use Rattle.bt_bed.proofs.lemmas.parse.NameLemmas.{name_eq, name_ne, other_name}
 use Rattle.bt_runs.specs.calls.Engine.{AfterEach}
 use Rattle.bt_runs.specs.calls.Ruled.{fault_of}
-use Rattle.bt_runs.specs.model.MergedRuns.{AreTaken, is_closed}
+use Rattle.bt_runs.specs.model.MergedRuns.{is_closed}
 use Rattle.bt_runs.specs.inside.merge.PendingRuns.{joined_here, left_runs, lengthened, passed_runs, pending_from, place_of, placed_run, placed_runs, with_joined}
 use Rattle.bt_runs.specs.inside.merge.PerStrand.{kept_in}
-use Rattle.bt_runs.specs.inside.walk.Rule.{EnterAnswers, RuleFeeds, RuleFinishes, Taken, WantsMemory}
-use Rattle.bt_runs.specs.model.StrandRuns.{StrandRun, kept_strand_runs, places_of, settled_strand_runs, strand_runs}
+use Rattle.bt_runs.specs.inside.walk.Rule.{Does, EnterAnswers, FitsPast, PutsRestAtEnd}
+use Rattle.bt_runs.specs.model.StrandRuns.{StrandRun, kept_strand_runs, places_of, settled_strand_runs}
 use Rattle.bt_runs.specs.inside.merge.StrandStep.{added_at, left_unsettled, settled_prefix, kept_with, last_place, place_among, run_from, run_with, with_added}
-use Rattle.bt_runs.specs.inside.merge.StrandTaking.{JoinsAmong, JoinsLeft, LeavesNone, OpensRun, Takes, TakesNext, joined_among, lines_by, wants_memory}
-use Rattle.bt_runs.specs.calls.Stranding.{Stranding, StandsAfter, held_count, is_quiet, may_take, settled_lines, stands_after, strand_lines, whole_output}
+use Rattle.bt_runs.specs.inside.merge.StrandTaking.{JoinsAmong, OpensRun, Takes, joined_among, lines_by, wants_memory}
+use Rattle.bt_runs.specs.calls.Stranding.{Stranding, held_count, is_quiet, may_take, settled_lines, stands_after, strand_lines, whole_output}
 use Rattle.bt_runs.specs.declared.engine.failure.Failure.{Failure}
 use Rattle.bt_runs.specs.declared.engine.failure.Failure.TheVariants.{Write, Memory}
 use Rattle.bt_runs.specs.declared.merge.pending_runs.PendingRun.{PendingRun}
 use Rattle.bt_runs.specs.declared.merge.per_strand_merge.OnlyRun.{OnlyRun}
 use Rattle.bt_runs.proofs.lemmas.merge.PendingRunsLemmas.{is_over, last_place_within, left_none, over_so, passed_every}
-use Rattle.bt_runs.proofs.lemmas.complement.RuleSteps.{quiet_adds_none, rule_cut, rule_finishes, rule_short, rule_taken}
+use Rattle.bt_runs.proofs.lemmas.engine.EnterLemmas.{enters, enters_cut, enters_short, none_more}
 use Rattle.bt_runs.proofs.lemmas.merge.UnstrandedLemmas.{last_is}
 use Rattle.bt_runs.proofs.lemmas.merge.StrandSettling.{strand_next, strand_runs_are_all, take_goes}
+
+-- what is done with a record
+abbrev pub TakesNext : Stranding → Feature → Output → Result (Unit {0}) Fault → Stranding → Output → Type 0
+TakesNext = Does lines_by Takes wants_memory
 
 -- tests that agree
 prefix_same : {A : Type 0} (test other : A → Bool) → ((x : A) → test x ≡ other x) → (xs : List A) → prefix_len test xs ≡ prefix_len other xs
@@ -176,13 +179,8 @@ module _ (old : Stranding) (r : Feature) (out : Output) (runs : List PendingRun)
   kept_is_with new is = ap (λ items. with_added old.gap items r) behind_is ∙ is
 
   takes_with : (new : Stranding) (grown : Output) → new.gap ≡ old.gap → new.chrom ≡ old.chrom → with_added old.gap (placed_runs old.chrom left) r ≡ new.kept
-      → Grown out (strand_lines (placed_runs old.chrom (passed_runs true near runs))) grown → Takes old r out new grown
-  takes_with new grown gap chrom kept puts = record {
-    gap = gap;
-    chrom = chrom ∙ on;
-    kept = sym (kept_is_with new.kept kept);
-    puts = subst (λ l. Grown out l grown) lines_is puts;
-  }
+      → Grown out (strand_lines (placed_runs old.chrom (passed_runs true near runs))) grown → TakesNext old r out (Ok tt) new grown
+  takes_with new grown gap chrom kept puts = (record { gap = gap; chrom = chrom ∙ on; kept = sym (kept_is_with new.kept kept) }, subst (λ l. Grown out l grown) lines_is puts)
 
   fails_with : (fault : Fault) (new : Stranding) (grown : Output) → FailsToAdd out (strand_lines (placed_runs old.chrom (passed_runs true near runs))) (fault_value fault) grown → TakesNext old r out (Err fault) new grown
   fails_with fault new grown p = inl (subst (λ l. FailsToAdd out l (fault_value fault) grown) lines_is p)
@@ -198,24 +196,18 @@ module _ (old : Stranding) (r : Feature) (out : Output) (runs : List PendingRun)
   left_kept now true is e = added.one is ∙ ap (placed_runs old.chrom) (sym e)
   left_kept now false is e = (added.more is).1 ∙ sym (opened_by old.gap old.chrom r left now on e)
 
-  pub takes_left : (now : List PendingRun) (new : Stranding) (grown : Output) → JoinsLeft old.chrom near runs (pending_from r) out now grown → new.gap ≡ old.gap → new.chrom ≡ old.chrom → new.kept ≡ placed_runs old.chrom now → Takes old r out new grown
-  takes_left now new grown p gap chrom kept = takes_with new grown gap chrom (left_kept now joined.0 refl p.now ∙ sym kept) p.puts
+  pub takes_left : (now : List PendingRun) (new : Stranding) (grown : Output) → JoinsAmong old.chrom near runs (pending_from r) out (Ok false) now grown → new.gap ≡ old.gap → new.chrom ≡ old.chrom → new.kept ≡ placed_runs old.chrom now → TakesNext old r out (Ok tt) new grown
+  takes_left now new grown p gap chrom kept = takes_with new grown gap chrom (left_kept now joined.0 refl p.0 ∙ sym kept) p.1
 
-  pub takes_alone : (now : List PendingRun) (new : Stranding) (grown : Output) → LeavesNone old.chrom near runs (pending_from r) out now grown → new.gap ≡ old.gap → new.chrom ≡ old.chrom → new.kept ≡ placed_run old.chrom (pending_from r) ∷ [] → Takes old r out new grown
+  pub takes_alone : (now : List PendingRun) (new : Stranding) (grown : Output) → JoinsAmong old.chrom near runs (pending_from r) out (Ok true) now grown → new.gap ≡ old.gap → new.chrom ≡ old.chrom → new.kept ≡ placed_run old.chrom (pending_from r) ∷ [] → TakesNext old r out (Ok tt) new grown
   takes_alone now new grown p gap chrom kept =
       takes_with new grown gap chrom
-      (ap (λ rest. with_added old.gap (placed_runs old.chrom rest) r) p.none ∙ ap (λ n. placed_run n (pending_from r) ∷ []) (sym on) ∙ sym kept)
-      p.puts
+      (ap (λ rest. with_added old.gap (placed_runs old.chrom rest) r) p.0 ∙ ap (λ n. placed_run n (pending_from r) ∷ []) (sym on) ∙ sym kept)
+      p.1.1
 
   pub fails_among : (failure : Failure) (fault : Fault) (now : List PendingRun) (new : Stranding) (grown : Output) → fault_value fault ≡ fault_of failure → JoinsAmong old.chrom near runs (pending_from r) out (Err failure) now grown → TakesNext old r out (Err fault) new grown
   fails_among Write fault now new grown is p = fails_with fault new grown (subst (λ t. FailsToAdd out (strand_lines (placed_runs old.chrom (passed_runs true near runs))) t grown) (sym is) p)
-  fails_among Memory fault now new grown is p = inr (
-    is,
-    record {
-      wanted = inl (rw behind_is (added.more p.joins).1);
-      puts = subst (λ l. Grown out l grown) lines_is p.puts;
-    },
-  )
+  fails_among Memory fault now new grown is p = inr (is, (inl (rw behind_is (added.more p.0).1), subst (λ l. Grown out l grown) lines_is p.1))
 
 -- the only run couldn't be written
 pub fails_alone : (old : Stranding) (r : Feature) (out : Output) (w : PendingRun) → old.kept ≡ placed_run old.chrom w ∷ [] → old.chrom ≡ r.chrom → w.stop < r.start - old.gap
@@ -224,48 +216,6 @@ fails_alone old r out w kept_is on far fault new grown p =
     let passed : passed_runs true (r.start - old.gap) (w ∷ []) ≡ w ∷ [] = take_goes (is_over true (r.start - old.gap)) w [] (over_so true (r.start - old.gap) w (inr far)) in
     fails_with old r out (w ∷ []) kept_is on fault new grown
     (subst (λ (l : List PendingRun). FailsToAdd out (strand_lines (placed_runs old.chrom l)) (fault_value fault) grown) (sym passed) (adds_line {A = Unit {0}} (placed_run old.chrom w).run out grown (Err fault) p))
-
--- what is done with a record on another chromosome
-module _ (old : Stranding) (r : Feature) (out : Output) (runs : List PendingRun) (kept_is : old.kept ≡ placed_runs old.chrom runs) (other : old.chrom ≡ r.chrom → ⊥) where
-  here_not : bytes_eq old.chrom r.chrom ≡ false
-  here_not = name_ne old.chrom r.chrom other
-
-  all_settled : settled_prefix old.gap old.kept r ≡ old.kept
-  all_settled =
-      ap (λ items. settled_prefix old.gap items r) kept_is ∙ front_placed old.gap old.chrom r runs
-      ∙ ap (λ b. placed_runs old.chrom (passed_runs b (r.start - old.gap) runs)) here_not
-      ∙ ap (placed_runs old.chrom) (passed_every (r.start - old.gap) runs) ∙ sym kept_is
-
-  none_behind : left_unsettled old.gap old.kept r ≡ []
-  none_behind =
-      ap (λ items. left_unsettled old.gap items r) kept_is ∙ behind_placed old.gap old.chrom r runs
-      ∙ ap (λ b. placed_runs old.chrom (left_runs b (r.start - old.gap) runs)) here_not
-      ∙ ap (placed_runs old.chrom) (left_none (r.start - old.gap) runs)
-
-  all_lines : strand_lines old.kept ≡ lines_by old r
-  all_lines = ap strand_lines (sym all_settled)
-
-  pub fails_to_close : (fault : Fault) (new : Stranding) (grown : Output) → FailsToAdd out (strand_lines old.kept) (fault_value fault) grown → TakesNext old r out (Err fault) new grown
-  fails_to_close fault new grown p = inl (subst (λ l. FailsToAdd out l (fault_value fault) grown) all_lines p)
-
-  pub fails_to_name : (fault : Fault) (new : Stranding) (grown : Output) → fault_value fault ≡ no_memory → Grown out (strand_lines old.kept) grown → TakesNext old r out (Err fault) new grown
-  fails_to_name fault new grown is p = inr (is, record { wanted = inr other; puts = subst (λ l. Grown out l grown) all_lines p })
-
-  module _ (mid : Stranding) (through : Output) (gap : mid.gap ≡ old.gap) (none : mid.kept ≡ []) (closed : Grown out (strand_lines old.kept) through) where
-    puts_then : (later : Output) → Grown through (lines_by mid r) later → Grown out (lines_by old r) later
-    puts_then later p =
-        let nothing : lines_by mid r ≡ [] = ap (λ items. strand_lines (settled_prefix mid.gap items r)) none in
-        subst (λ l. Grown out l later) (append-nil (strand_lines old.kept) ∙ all_lines) (grown_more out through later (strand_lines old.kept) [] closed (subst (λ l. Grown through l later) nothing p))
-
-    pub enters_other : (result : Result (Unit {0}) Fault) (next : Stranding) (later : Output) → TakesNext mid r through result next later → TakesNext old r out result next later
-    enters_other (Ok done) next later p = record {
-      gap = p.gap ∙ gap;
-      chrom = p.chrom;
-      kept = p.kept ∙ ap (λ items. kept_with mid.gap items r) none ∙ sym (ap (λ items. with_added old.gap items r) none_behind);
-      puts = puts_then later p.puts;
-    }
-    enters_other (Err fault) next later (inl p) = absurd (p.some (ap (λ items. strand_lines (settled_prefix mid.gap items r)) none))
-    enters_other (Err fault) next later (inr p) = inr (p.0, record { wanted = inr other; puts = puts_then later p.1.puts })
 
 -- the kept runs, if one is in a local or none
 abbrev pub pending_in : OnlyRun → List PendingRun → List PendingRun
@@ -330,89 +280,85 @@ no_items : (items : List StrandRun) → places_of items ≡ [] → items ≡ []
 no_items [] e = refl
 no_items (x ∷ xs) e = absurd (cc)
 
-module _ (gap : ℕ) (past : List Feature) (merge : Stranding) (stands : StandsAfter gap past merge) where
-  -- the lines of the step are those that the record settles
-  pub settles_next : (r : Feature) → AreTaken (past ++ r ∷ []) → strand_lines (settled_strand_runs gap (past ++ r ∷ [])) ≡ strand_lines (settled_strand_runs gap past) ++ lines_by merge r
-  settles_next r taken =
-      rw (stands.same_gap, stands.kept) (ap strand_lines (strand_next gap past r taken).settled ∙ places-append (settled_strand_runs gap past) (settled_prefix gap (kept_strand_runs gap past) r))
+module _ (merge : Stranding) (r : Feature) where
+  next : AfterEach may_take stands_after merge r (λ first past. settled_lines first (past ++ r ∷ []) ≡ settled_lines first past ++ lines_by merge r)
+  next first past stands taken =
+      rw (stands.same_gap, stands.kept) (ap strand_lines (strand_next first.gap past r taken).settled ∙ places-append (settled_strand_runs first.gap past) (settled_prefix first.gap (kept_strand_runs first.gap past) r))
 
-  keeps_next : (r : Feature) → AreTaken (past ++ r ∷ []) → kept_strand_runs gap (past ++ r ∷ []) ≡ kept_with merge.gap merge.kept r
-  keeps_next r taken = rw (stands.same_gap, stands.kept) (strand_next gap past r taken).kept
-
-  -- it is after the record too
-  pub stands_next : (r : Feature) (out : Output) (new : Stranding) (grown : Output) → AreTaken (past ++ r ∷ []) → Takes merge r out new grown → StandsAfter gap (past ++ r ∷ []) new
-  stands_next r out new grown taken takes = record {
-    same_gap = takes.gap ∙ stands.same_gap;
-    chrom = λ front last is. takes.chrom ∙ ap (λ (f : Feature). f.chrom) (last_is past front r last is);
-    kept = takes.kept ∙ sym (keeps_next r taken);
-  }
+  keeps : AfterEach may_take stands_after merge r (λ first past. kept_strand_runs first.gap (past ++ r ∷ []) ≡ kept_with merge.gap merge.kept r)
+  keeps first past stands taken = rw (stands.same_gap, stands.kept) (strand_next first.gap past r taken).kept
 
   -- if a run has to be opened and none was settled, the record isn't quiet
-  pub loud_next : (r : Feature) → AreTaken (past ++ r ∷ []) → OpensRun merge r → lines_by merge r ≡ [] → length (kept_strand_runs gap (past ++ r ∷ [])) ≤ length (kept_strand_runs gap past) → ⊥
-  loud_next r taken opens none more =
+  loud : OpensRun merge r → lines_by merge r ≡ [] → AfterEach may_take stands_after merge r (λ first past. held_count first (past ++ r ∷ []) ≤ held_count first past → ⊥)
+  loud opens none first past stands taken more =
       let settled = no_items (settled_prefix merge.gap merge.kept r) (no_lines (places_of (settled_prefix merge.gap merge.kept r)) none) in
       let stay : left_unsettled merge.gap merge.kept r ≡ merge.kept = ap (λ (l : List StrandRun). drop (length l) merge.kept) settled in
-      let is : kept_strand_runs gap (past ++ r ∷ []) ≡ merge.kept ++ run_from r ∷ [] = keeps_next r taken ∙ opens ∙ ap (λ l. l ++ run_from r ∷ []) stay in
+      let is : kept_strand_runs first.gap (past ++ r ∷ []) ≡ merge.kept ++ run_from r ∷ [] = keeps first past stands taken ∙ opens ∙ ap (λ l. l ++ run_from r ∷ []) stay in
       let a = ap length is in
       let b = ap length stands.kept in
       let c = length-append merge.kept (run_from r ∷ []) in
       absurd (omega arith)
 
-  -- the kept runs' lines are those that are left
-  pub unsettled : strand_lines (strand_runs gap past) ≡ strand_lines (settled_strand_runs gap past) ++ strand_lines merge.kept
-  unsettled = rw stands.kept (ap strand_lines (strand_runs_are_all gap past) ∙ places-append (settled_strand_runs gap past) (kept_strand_runs gap past))
+  -- what is done with a record exactly is done after every past
+  pub fits : FitsPast lines_by Takes wants_memory may_take stands_after settled_lines is_quiet merge r
+  fits = record {
+    settles = next;
+    next = λ new takes first past stands taken. record {
+      same_gap = takes.gap ∙ stands.same_gap;
+      chrom = λ front last is. takes.chrom ∙ ap (λ (f : Feature). f.chrom) (last_is past front r last is);
+      kept = takes.kept ∙ sym (keeps first past stands taken);
+    };
+    quiet = λ first past stands taken q.
+        let none = none_more (settled_lines first past) (lines_by merge r) _ (next first past stands taken) q.0.settles in (
+          none,
+          λ wanted. elim wanted [
+            | inl opens ↦ loud opens none first past stands taken q.0.keeps
+            | inr other ↦ other (stands.chrom q.1.before q.1.last q.1.is ∙ q.1.same)
+          ],
+        );
+  }
 
-module _ (merge : Stranding) (out : Output) where
-  module _ (r : Feature) where
-    next : AfterEach may_take stands_after merge r (λ first past. settled_lines first (past ++ r ∷ []) ≡ settled_lines first past ++ lines_by merge r)
-    next first past stands taken = settles_next first.gap past merge stands r taken
-
-    none : AfterEach may_take stands_after merge r (λ first past. is_quiet first past r → lines_by merge r ≡ [])
-    none first past stands taken quiet = quiet_adds_none may_take stands_after settled_lines merge out (lines_by merge r) held_count r next first past stands taken quiet.0
-
-    -- a record isn't quiet if memory is needed
-    loud : wants_memory merge r → AfterEach may_take stands_after merge r (λ first past. is_quiet first past r → ⊥)
-    loud (inl opens) first past stands taken quiet = loud_next first.gap past merge stands r taken opens (none first past stands taken quiet) quiet.0.keeps
-    loud (inr other) first past stands taken quiet = other (stands.chrom quiet.1.before quiet.1.last quiet.1.is ∙ quiet.1.same)
-
-    -- what is done with a record exactly is done after every past
-    pub does_feeds : (result : Result (Unit {0}) Fault) (new : Stranding) (grown : Output) → TakesNext merge r out result new grown → RuleFeeds may_take stands_after settled_lines merge r out is_quiet result new grown
-    does_feeds (Ok done) new grown p =
-        rule_taken may_take stands_after settled_lines merge out (lines_by merge r) is_quiet r next none done new grown
-        (λ first past stands taken. stands_next first.gap past merge stands r out new grown taken p) p.puts
-    does_feeds (Err e) new grown (inl p) = rule_cut may_take stands_after settled_lines merge out (lines_by merge r) is_quiet r next none e new grown p
-    does_feeds (Err e) new grown (inr p) =
-        rule_short may_take stands_after settled_lines merge out (lines_by merge r) is_quiet r next none e new grown p.0 (loud p.1.wanted) p.1.puts
-
-    pub does_memory : (result : Result (Unit {0}) Fault) (new : Stranding) (grown : Output) → TakesNext merge r out result new grown → WantsMemory wants_memory merge r result
-    does_memory (Ok done) new grown p = tt
-    does_memory (Err e) new grown (inl p) = λ memory. let is = p.puts.is in let kind : no_memory.kind ≡ write_failed.kind = ap (λ (t : FaultValue). t.kind) (sym memory ∙ is) in absurd (cc)
-    does_memory (Err e) new grown (inr p) = λ memory. p.1.wanted
-
-    pub does_taken : (result : Result (Unit {0}) Fault) (new : Stranding) (grown : Output) → TakesNext merge r out result new grown
-        → Taken may_take stands_after settled_lines is_quiet wants_memory TakesNext merge r out result new grown
-    does_taken result new grown p = record { exact = p; feeds = does_feeds result new grown p; memory = does_memory result new grown p }
-
-  -- the kept runs' lines are put
-  pub finishes_kept : {A : Type 0} (result : Result A Fault) (grown : Output) → Adds out (strand_lines merge.kept) result grown
-      → RuleFinishes may_take stands_after settled_lines merge whole_output out result grown
-  finishes_kept result grown p =
-      rule_finishes may_take stands_after settled_lines merge out (strand_lines merge.kept) whole_output
-      (λ first past stands taken. unsettled first.gap past merge stands) result grown p
+-- the kept runs' lines are those that are left
+pub finishes_kept : {A : Type 0} (merge : Stranding) (out : Output) (result : Result A Fault) (grown : Output) → Adds out (strand_lines merge.kept) result grown
+    → PutsRestAtEnd may_take stands_after settled_lines whole_output merge out result grown
+finishes_kept merge out result grown p = record {
+  left = strand_lines merge.kept;
+  is = λ first past stands taken. rw stands.kept (ap strand_lines (strand_runs_are_all first.gap past) ∙ places-append (settled_strand_runs first.gap past) (kept_strand_runs first.gap past));
+  adds = p;
+}
 
 abbrev pub Enters : Stranding → List ℕ → Output → Result (Unit {0}) Fault → Stranding → Output → Type 0
-Enters old chrom out result new grown = EnterAnswers TakesNext (Taken may_take stands_after settled_lines is_quiet wants_memory TakesNext) old chrom out result new grown
+Enters = EnterAnswers lines_by Takes wants_memory may_take stands_after settled_lines is_quiet
 
--- a chromosome is entered that is another one
+-- another chromosome is entered
 module _ (old : Stranding) (out : Output) (runs : List PendingRun) (kept_is : old.kept ≡ placed_runs old.chrom runs) (chrom : List ℕ) (other : bytes_eq old.chrom chrom ≡ false) where
   not_on : (r : Feature) → r.chrom ≡ chrom → old.chrom ≡ r.chrom → ⊥
   not_on r at on = other_name old.chrom chrom other (on ∙ at)
 
+  all_lines : (r : Feature) → r.chrom ≡ chrom → lines_by old r ≡ strand_lines old.kept
+  all_lines r at = ap strand_lines (
+      ap (λ items. settled_prefix old.gap items r) kept_is ∙ front_placed old.gap old.chrom r runs
+      ∙ ap (λ b. placed_runs old.chrom (passed_runs b (r.start - old.gap) runs)) (name_ne old.chrom r.chrom (not_on r at))
+      ∙ ap (placed_runs old.chrom) (passed_every (r.start - old.gap) runs) ∙ sym kept_is)
+
+  none_behind : (r : Feature) → r.chrom ≡ chrom → left_unsettled old.gap old.kept r ≡ []
+  none_behind r at =
+      ap (λ items. left_unsettled old.gap items r) kept_is ∙ behind_placed old.gap old.chrom r runs
+      ∙ ap (λ b. placed_runs old.chrom (left_runs b (r.start - old.gap) runs)) (name_ne old.chrom r.chrom (not_on r at))
+      ∙ ap (placed_runs old.chrom) (left_none (r.start - old.gap) runs)
+
   pub enter_fails : (fault : Fault) (new : Stranding) (grown : Output) → FailsToAdd out (strand_lines old.kept) (fault_value fault) grown → Enters old chrom out (Err fault) new grown
-  enter_fails fault new grown p r at = does_taken old out r (Err fault) new grown (fails_to_close old r out runs kept_is (not_on r at) fault new grown p)
+  enter_fails fault new grown p = enters_cut (fits old) (strand_lines old.kept) fault new grown p (λ r at. ([], all_lines r at ∙ sym (append-nil (strand_lines old.kept))))
 
   pub enter_runs_out : (fault : Fault) (new : Stranding) (grown : Output) → fault_value fault ≡ no_memory → Grown out (strand_lines old.kept) grown → Enters old chrom out (Err fault) new grown
-  enter_runs_out fault new grown is p r at = does_taken old out r (Err fault) new grown (fails_to_name old r out runs kept_is (not_on r at) fault new grown is p)
+  enter_runs_out fault new grown is p = enters_short (fits old) (strand_lines old.kept) fault new grown is p (λ r at. (inr (not_on r at), all_lines r at))
 
-  pub entered : (done : Unit {0}) (mid : Stranding) (through : Output) → mid.gap ≡ old.gap → mid.kept ≡ [] → Grown out (strand_lines old.kept) through → Enters old chrom out (Ok done) mid through
-  entered done mid through gap none closed r at result next later p = does_taken old out r result next later (enters_other old r out runs kept_is (not_on r at) mid through gap none closed result next later p)
+  pub entered : (mid : Stranding) (through : Output) → mid.gap ≡ old.gap → mid.kept ≡ [] → Grown out (strand_lines old.kept) through → Enters old chrom out (Ok tt) mid through
+  entered mid through gap none closed = enters (fits old) (strand_lines old.kept) {mid = mid} closed
+      (λ r at. all_lines r at ∙ sym (append-nil (strand_lines old.kept)) ∙ ap (λ items. strand_lines old.kept ++ strand_lines (settled_prefix mid.gap items r)) (sym none))
+      (λ r at new p. record {
+        gap = p.gap ∙ gap;
+        chrom = p.chrom;
+        kept = p.kept ∙ rw gap (ap (λ items. kept_with old.gap items r) none) ∙ sym (ap (λ items. with_added old.gap items r) (none_behind r at));
+      })
+      (λ r at wanted. inr (not_on r at))

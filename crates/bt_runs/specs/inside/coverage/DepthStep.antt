@@ -1,7 +1,6 @@
 -- What a count of depths keeps and writes as records come, exactly.
 use Rattle.std.specs.Prelude.{ℕ, ◌-◌, min, max, nat_le, nat_lt, Bool, ◌&&◌, cond, Option, None}
 use Rattle.std.specs.Prelude.{codes, decimal, List, [], ◌∷◌, ◌++◌, filter, map}
-use Rattle.bt_bed.specs.model.feature.Feature.{Feature}
 use Rattle.bt_bed.specs.model.order.Genome.{Entry}
 use Rattle.bt_bed.specs.model.feature.Interval.{Span}
 use Rattle.bt_bed.specs.declared.record.strand.Strand.{Strand}
@@ -78,12 +77,11 @@ abbrev pub start_from : Known → ℕ → ℕ
 start_from known start = max start known.to
 
 -- what is known with a record, and what it settles
-abbrev pub known_with : Bool → Bool → ℕ → Known → Feature → Known
-known_with zeros counted size known r =
-    known_by zeros counted size known (start_from known r.start) r.stop
+abbrev pub known_with : Bool → Bool → ℕ → Known → ℕ → ℕ → Known
+known_with zeros counted size known start stop = known_by zeros counted size known (start_from known start) stop
 
-abbrev pub levels_with : Bool → ℕ → Known → Feature → List Level
-levels_with zeros size known r = levels_by zeros size known (start_from known r.start)
+abbrev pub levels_with : Bool → ℕ → Known → ℕ → List Level
+levels_with zeros size known start = levels_by zeros size known (start_from known start)
 
 -- a record settles the intervals that end below its start, and may be open from there on
 abbrev pub depth_walk : Bool → Option Strand → Walk DepthInterval Known
@@ -91,8 +89,8 @@ depth_walk zeros strand = record {
   bare = bare_of zeros;
   fresh = unknown;
   left = depths_left zeros;
-  step = λ entry known r. levels_on entry.name (levels_with zeros entry.length known r);
-  after = λ entry known r. known_with zeros (is_counted_by strand r.strand) entry.length known r;
+  step = λ entry known r. levels_on entry.name (levels_with zeros entry.length known r.start);
+  after = λ entry known r. known_with zeros (is_counted_by strand r.strand) entry.length known r.start r.stop;
 }
 
 -- what the line of an interval with its depth has after the name: a tab, the start, a tab, the stop, a tab, the depth and

@@ -1,5 +1,5 @@
 -- What one more record does to the runs that a merge keeps.
-use Rattle.std.specs.Prelude.{ℕ, Bool, not, cond, List, [], ◌∷◌, max, filter, Some}
+use Rattle.std.specs.Prelude.{ℕ, not, cond, List, [], ◌∷◌, max, filter, Some}
 use Rattle.bt_bed.specs.model.feature.Feature.{Feature, interval_of}
 use Rattle.bt_bed.specs.model.feature.Interval.{Interval}
 use Rattle.bt_runs.specs.model.Counted.{is_counted}
@@ -24,9 +24,7 @@ abbrev pub left_by : ℕ → List Interval → Interval → List Interval
 left_by gap runs r = filter (λ run. not (is_closed gap r run)) runs
 
 -- the runs that are kept after the record, which is added if it counts
-abbrev pub kept_then : ℕ → Bool → List Interval → Interval → List Interval
-kept_then gap counts runs r = cond counts (with_record (left_by gap runs r) r) (left_by gap runs r)
-
 abbrev pub kept_by : ℕ → MergeStrand → List Interval → Feature → List Interval
-kept_by gap strand runs feature =
-    kept_then gap (is_counted strand feature.strand) runs (interval_of feature)
+kept_by gap strand runs r =
+    let left = left_by gap runs (interval_of r) in
+    cond (is_counted strand r.strand) (with_record left (interval_of r)) left

@@ -1,10 +1,8 @@
 -- What a merge that keeps the strands apart does with one more record, exactly.
 use Rattle.std.specs.Prelude.{◌≡◌, ℕ, ◌⊎◌, Bool, true, false, cond, List, [], ◌∷◌, ◌++◌, Result, Ok, Err}
-use Rattle.bt_lines.specs.model.Fault.{no_memory, write_failed}
-use Rattle.bt_lines.specs.calls.Names.{fault_value}
+use Rattle.bt_lines.specs.model.Fault.{write_failed}
 use Rattle.bt_lines.specs.calls.Output.{Output}
 use Rattle.bt_lines.specs.calls.Putting.{FailsToAdd, Grown}
-use Rattle.bt_lines.specs.declared.fault.Fault.{Fault}
 use Rattle.bt_bed.specs.model.feature.Feature.{Feature}
 use Rattle.bt_runs.specs.inside.merge.PendingRuns.{left_runs, passed_runs, place_of, placed_runs, with_joined}
 use Rattle.bt_runs.specs.inside.merge.StrandStep.{left_unsettled, settled_prefix, kept_with, run_from, with_added}
@@ -31,25 +29,11 @@ IsElsewhere old r = old.chrom ≡ r.chrom → ⊥
 abbrev pub wants_memory : Stranding → Feature → Type 0
 wants_memory old r = OpensRun old r ⊎ IsElsewhere old r
 
-module _ (old : Stranding) (r : Feature) (out : Output) where
-  -- the record was taken
-  pub record Takes (new : Stranding) (grown : Output) : Type 0 where
-    pub gap : new.gap ≡ old.gap
-    pub chrom : new.chrom ≡ r.chrom
-    pub kept : new.kept ≡ kept_with old.gap old.kept r
-    pub puts : Grown out (lines_by old r) grown
-
-  -- it wasn't, since memory ran out
-  pub record FailsToKeep (grown : Output) : Type 0 where
-    pub wanted : wants_memory old r
-    pub puts : Grown out (lines_by old r) grown
-
--- what is done with a record
-abbrev pub TakesNext : Stranding → Feature → Output → Result (Unit {0}) Fault → Stranding → Output → Type 0
-TakesNext old r out (Ok done) new grown = Takes old r out new grown
-TakesNext old r out (Err fault) new grown =
-    FailsToAdd out (lines_by old r) (fault_value fault) grown
-    ⊎ ((fault_value fault ≡ no_memory) × FailsToKeep old r out grown)
+-- the record was taken
+pub record Takes (old : Stranding) (r : Feature) (new : Stranding) : Type 0 where
+  pub gap : new.gap ≡ old.gap
+  pub chrom : new.chrom ≡ r.chrom
+  pub kept : new.kept ≡ kept_with old.gap old.kept r
 
 -- a record whose start less the gap is `reach`, as a run, among runs on its chromosome
 module _ (chrom : List ℕ) (reach : ℕ) (runs : List PendingRun) (run : PendingRun) (out : Output) where
@@ -63,26 +47,12 @@ module _ (chrom : List ℕ) (reach : ℕ) (runs : List PendingRun) (run : Pendin
   abbrev pub PutsPassed : Output → Type 0
   PutsPassed grown = Grown out (strand_lines (placed_runs chrom (passed_runs true reach runs))) grown
 
-  -- none is left
-  pub record LeavesNone (new : List PendingRun) (grown : Output) : Type 0 where
-    pub none : left_runs true reach runs ≡ []
-    pub now : new ≡ []
-    pub puts : PutsPassed grown
-
-  -- it was joined to one of those that are left, or is one more
-  pub record JoinsLeft (new : List PendingRun) (grown : Output) : Type 0 where
-    pub now : new ≡ cond joined_among.0 joined_among.1 (left_runs true reach runs ++ run ∷ [])
-    pub puts : PutsPassed grown
-
-  -- it had to be one more, and couldn't be kept
-  pub record KeepsNone (grown : Output) : Type 0 where
-    pub joins : joined_among.0 ≡ false
-    pub puts : PutsPassed grown
-
-  -- it returns true if none is left
+  -- it returns true if none is left, and else it was joined to one of those that are left, or is one more; or it had to
+  -- be one more, and couldn't be kept
   abbrev pub JoinsAmong : Result Bool Failure → List PendingRun → Output → Type 0
-  JoinsAmong (Ok true) new grown = LeavesNone new grown
-  JoinsAmong (Ok false) new grown = JoinsLeft new grown
+  JoinsAmong (Ok true) new grown = (left_runs true reach runs ≡ []) × ((new ≡ []) × PutsPassed grown)
+  JoinsAmong (Ok false) new grown =
+      (new ≡ cond joined_among.0 joined_among.1 (left_runs true reach runs ++ run ∷ [])) × PutsPassed grown
   JoinsAmong (Err Write) new grown =
       FailsToAdd out (strand_lines (placed_runs chrom (passed_runs true reach runs))) write_failed grown
-  JoinsAmong (Err Memory) new grown = KeepsNone grown
+  JoinsAmong (Err Memory) new grown = (joined_among.0 ≡ false) × PutsPassed grown

@@ -1,10 +1,5 @@
 -- What a merge of all its records together does with one more record, exactly.
-use Rattle.std.specs.Prelude.{◌≡◌, ◌⊎◌, ◌==◌, ℕ, cond, List, [], ◌∷◌, Result, Ok, Err}
-use Rattle.bt_lines.specs.model.Fault.{no_memory}
-use Rattle.bt_lines.specs.calls.Names.{fault_value}
-use Rattle.bt_lines.specs.calls.Output.{Output}
-use Rattle.bt_lines.specs.calls.Putting.{FailsToAdd, Grown}
-use Rattle.bt_lines.specs.declared.fault.Fault.{Fault}
+use Rattle.std.specs.Prelude.{◌≡◌, ◌==◌, ℕ, cond, List, [], ◌∷◌}
 use Rattle.bt_bed.specs.model.feature.Feature.{Feature, interval_of}
 use Rattle.bt_bed.specs.model.feature.Interval.{Interval}
 use Rattle.bt_bed.specs.model.feature.IntervalLine.{interval_lines}
@@ -33,23 +28,9 @@ lines_by merge r = interval_lines (settled_by merge.gap merge.kept (interval_of 
 abbrev pub IsElsewhere : Unstranded → Feature → Type 0
 IsElsewhere old r = old.chrom ≡ r.chrom → ⊥
 
-module _ (old : Unstranded) (r : Feature) (out : Output) where
-  -- the record was taken
-  pub record Takes (new : Unstranded) (grown : Output) : Type 0 where
-    pub gap : new.gap ≡ old.gap
-    pub strand : new.strand ≡ old.strand
-    pub chrom : new.chrom ≡ r.chrom
-    pub kept : new.kept ≡ kept_by old.gap old.strand old.kept r
-    pub puts : Grown out (lines_by old r) grown
-
-  -- the name of another chromosome couldn't be kept
-  pub record FailsToKeep (grown : Output) : Type 0 where
-    pub elsewhere : IsElsewhere old r
-    pub puts : Grown out (lines_by old r) grown
-
--- what is done with a record
-abbrev pub Does : Unstranded → Feature → Output → Result (Unit {0}) Fault → Unstranded → Output → Type 0
-Does old r out (Ok done) new grown = Takes old r out new grown
-Does old r out (Err fault) new grown =
-    FailsToAdd out (lines_by old r) (fault_value fault) grown
-    ⊎ ((fault_value fault ≡ no_memory) × FailsToKeep old r out grown)
+-- the merge took the record
+pub record Takes (old : Unstranded) (r : Feature) (new : Unstranded) : Type 0 where
+  pub gap : new.gap ≡ old.gap
+  pub strand : new.strand ≡ old.strand
+  pub chrom : new.chrom ≡ r.chrom
+  pub kept : new.kept ≡ kept_by old.gap old.strand old.kept r

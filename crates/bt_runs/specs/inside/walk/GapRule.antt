@@ -1,12 +1,8 @@
 -- What the rule of a complement does with a record, exactly.
-use Rattle.std.specs.Prelude.{◌≡◌, ◌⊎◌, ℕ, Bool, true, List, None, Result, IfOk}
-use Rattle.bt_lines.specs.calls.Output.{Output}
-use Rattle.bt_lines.specs.calls.Putting.{Adds}
-use Rattle.bt_lines.specs.declared.fault.Fault.{Fault}
+use Rattle.std.specs.Prelude.{◌≡◌, ◌⊎◌, ℕ, Bool, true, List, None}
 use Rattle.bt_bed.specs.model.feature.Feature.{Feature}
 use Rattle.bt_bed.specs.model.order.Genome.{genome_names}
 use Rattle.bt_bed.specs.calls.GenomeTable.{entries}
-use Rattle.bt_bed.specs.model.feature.Interval.{Interval}
 use Rattle.bt_bed.specs.model.feature.IntervalLine.{interval_lines}
 use Rattle.bt_bed.specs.model.order.Rank.{rank_of}
 use Rattle.bt_runs.specs.calls.Complementing.{Complementing}
@@ -35,9 +31,9 @@ pub record IsOnChrom (complement : Complementing) (name : List ℕ) : Type 0 whe
   pub at : (is_on complement.entries complement.current name ≡ true)
       ⊎ (rank_of (genome_names complement.entries) name ≡ None)
 
--- the gaps that a record settles
-abbrev pub next_gaps : Complementing → Feature → List Interval
-next_gaps old r = (walk_step (gap_walk old.limit) old.entries old.current r).1
+-- the lines of the gaps that a record settles
+abbrev pub next_lines : Complementing → Feature → List ℕ
+next_lines old r = interval_lines (walk_step (gap_walk old.limit) old.entries old.current r).1
 
 -- the complement with the record
 abbrev pub with_record : Complementing → Feature → Complementing
@@ -48,8 +44,6 @@ with_record old r = record {
   bases = length_in old.entries r.chrom;
 }
 
--- the lines of those gaps are put, and then the complement has the record
-pub record CoversRecord (old : Complementing) (r : Feature) (out : Output) (result : Result (Unit {0}) Fault)
-    (new : Complementing) (grown : Output) : Type 0 where
-  pub adds : Adds out (interval_lines (next_gaps old r)) result grown
-  pub next : IfOk result (λ done. new ≡ with_record old r)
+-- it has become that
+abbrev pub IsWith : Complementing → Feature → Complementing → Type 0
+IsWith old r new = new ≡ with_record old r

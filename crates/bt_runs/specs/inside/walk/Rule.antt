@@ -1,103 +1,53 @@
 -- What the rule of an engine does: one record after another, and the chromosomes between them.
-use Rattle.std.specs.Prelude.{◌≡◌, ◌⊎◌, ℕ, true, List, [], ◌∷◌, ◌++◌, Result, Ok, Err, IsOk, ⊤}
-use Rattle.bt_lines.specs.model.Fault.{FaultValue, no_memory, write_failed}
+use Rattle.std.specs.Prelude.{◌≡◌, ◌⊎◌, ℕ, List, [], ◌∷◌, ◌++◌, Result, Ok, Err}
+use Rattle.bt_lines.specs.model.Fault.{no_memory}
 use Rattle.bt_lines.specs.calls.Names.{fault_value}
-use Rattle.bt_lines.specs.calls.Output.{Output, Grows}
-use Rattle.bt_lines.specs.calls.Putting.{CutsRest, PutsRest, WorksAsBefore}
+use Rattle.bt_lines.specs.calls.Output.{Output}
+use Rattle.bt_lines.specs.calls.Putting.{Adds, FailsToAdd, Grown}
 use Rattle.bt_lines.specs.declared.fault.Fault.{Fault}
 use Rattle.bt_bed.specs.model.feature.Feature.{Feature}
 use Rattle.bt_runs.specs.calls.Engine.{AfterEach, AtEnd}
 
-module _ {E : Type 0} (MayTake : E → List Feature → Type 0) (Stands : E → List Feature → E → Type 0)
-    (settled : E → List Feature → List ℕ) (old : E) where
-  -- one more record
-  module _ (r : Feature) (out : Output) where
-    -- it was taken, and the lines that it settles were put
-    pub record RuleTakes (new : E) (grown : Output) : Type 0 where
-      pub stands : AfterEach MayTake Stands old r (λ first past. Stands first (past ++ r ∷ []) new)
-      pub puts : AfterEach MayTake Stands old r (λ first past.
-          PutsRest (settled first past) (settled first (past ++ r ∷ [])) out grown)
-      pub works : WorksAsBefore out grown
+module _ {E : Type 0} (lines : E → Feature → List ℕ) (has : E → Feature → E → Type 0) (wants : E → Feature → Type 0) where
+  -- what is done with a record, exactly: its lines are put, and then the rule has it, or memory ran out that was needed
+  abbrev pub Does : E → Feature → Output → Result (Unit {0}) Fault → E → Output → Type 0
+  Does old r out (Ok done) new grown = has old r new × Grown out (lines old r) grown
+  Does old r out (Err fault) new grown =
+      FailsToAdd out (lines old r) (fault_value fault) grown
+      ⊎ ((fault_value fault ≡ no_memory) × (wants old r × Grown out (lines old r) grown))
 
-    -- those lines couldn't be written: only if the sink failed
-    pub record RuleFailsToWrite (answer : FaultValue) (grown : Output) : Type 0 where
-      pub is : answer ≡ write_failed
-      pub cuts : AfterEach MayTake Stands old r (λ first past.
-          CutsRest (settled first past) (settled first (past ++ r ∷ [])) out grown)
-      pub failed : grown.has_failed ≡ true
-      pub sink_failed : grown.sink_has_failed ≡ true
-
-    -- they were put, and what is kept couldn't grow
-    pub record RuleRunsOut (answer : FaultValue) (grown : Output) : Type 0 where
-      pub is : answer ≡ no_memory
-      pub puts : AfterEach MayTake Stands old r (λ first past.
-          PutsRest (settled first past) (settled first (past ++ r ∷ [])) out grown)
-      pub works : WorksAsBefore out grown
-
-    abbrev pub RuleAnswers : {A : Type 0} → Result A Fault → E → Output → Type 0
-    RuleAnswers (Ok done) new grown = RuleTakes new grown
-    RuleAnswers (Err answer) new grown = RuleFailsToWrite (fault_value answer) grown ⊎ RuleRunsOut (fault_value answer) grown
-
-    -- what a rule does with a record
-    pub record RuleFeeds {A : Type 0} (Quiet : E → List Feature → Feature → Type 0) (result : Result A Fault)
-        (new : E) (grown : Output) : Type 0 where
-      pub answers : RuleAnswers result new grown
-      -- a quiet record is taken, and the output stays as it is
+  module _ (MayTake : E → List Feature → Type 0) (Stands : E → List Feature → E → Type 0) (settled : E → List Feature → List ℕ)
+      (Quiet : E → List Feature → Feature → Type 0) where
+    -- what that means after every past
+    pub record FitsPast (old : E) (r : Feature) : Type 0 where
+      -- the lines are those that the record settles
+      pub settles : AfterEach MayTake Stands old r (λ first past.
+          settled first (past ++ r ∷ []) ≡ settled first past ++ lines old r)
+      -- a rule that has the record is after it too
+      pub next : (new : E) → has old r new → AfterEach MayTake Stands old r (λ first past. Stands first (past ++ r ∷ []) new)
+      -- a quiet record has no lines, and needs no memory
       pub quiet : AfterEach MayTake Stands old r (λ first past.
-          Quiet first past r → IsOk result × (grown ≡ out))
-      -- what the sink took stays, and nothing happens to an output that has failed
-      pub grows : Grows out.took grown.took
-      pub after_failure : out.has_failed ≡ true → grown ≡ out
+          Quiet first past r → (lines old r ≡ []) × (wants old r → ⊥))
 
-  -- the end of the input
-  module _ (whole : E → List Feature → List ℕ) (out : Output) where
-    -- the lines that were left were put
-    pub record RulePutsLeft (grown : Output) : Type 0 where
-      pub puts : AtEnd MayTake Stands old (λ first past.
-          PutsRest (settled first past) (whole first past) out grown)
-      pub works : WorksAsBefore out grown
+    -- what is done with a record, exactly and after every past
+    pub record Taken (old : E) (r : Feature) (out : Output) (result : Result (Unit {0}) Fault) (new : E) (grown : Output) : Type 0 where
+      pub does : Does old r out result new grown
+      pub fits : FitsPast old r
 
-    -- they couldn't be written: only if the sink failed
-    pub record RuleFailsAtEnd (answer : FaultValue) (grown : Output) : Type 0 where
-      pub is : answer ≡ write_failed
-      pub cuts : AtEnd MayTake Stands old (λ first past.
-          CutsRest (settled first past) (whole first past) out grown)
-      pub failed : grown.has_failed ≡ true
-      pub sink_failed : grown.sink_has_failed ≡ true
+    -- entering a chromosome: what is done with a record on it afterwards is what would have been done with it before
+    abbrev pub EnterAnswers : E → List ℕ → Output → Result (Unit {0}) Fault → E → Output → Type 0
+    EnterAnswers old chrom out (Ok done) new grown =
+        (r : Feature) → r.chrom ≡ chrom → (result : Result (Unit {0}) Fault) (next : E) (later : Output)
+        → Does new r grown result next later → Taken old r out result next later
+    EnterAnswers old chrom out (Err fault) new grown =
+        (r : Feature) → r.chrom ≡ chrom → Taken old r out (Err fault) new grown
 
-    abbrev pub RuleEnds : {A : Type 0} → Result A Fault → Output → Type 0
-    RuleEnds (Ok done) grown = RulePutsLeft grown
-    RuleEnds (Err answer) grown = RuleFailsAtEnd (fault_value answer) grown
-
-    -- what a rule does at the end
-    pub record RuleFinishes {A : Type 0} (result : Result A Fault) (grown : Output) : Type 0 where
-      pub answers : RuleEnds result grown
-      pub grows : Grows out.took grown.took
-      pub after_failure : out.has_failed ≡ true → grown ≡ out
-
--- if memory runs out, this holds of the rule and the record
-abbrev pub WantsMemory : {E A : Type 0} → (E → Feature → Type 0) → E → Feature → Result A Fault → Type 0
-WantsMemory wants old r (Ok done) = ⊤
-WantsMemory wants old r (Err fault) = fault_value fault ≡ no_memory → wants old r
-
--- what is done with a record: exactly, after every past, and what needs memory
-pub record Taken {E : Type 0} (takes : E → List Feature → Type 0) (stands : E → List Feature → E → Type 0)
-    (settled : E → List Feature → List ℕ) (quiet : E → List Feature → Feature → Type 0) (wants : E → Feature → Type 0)
-    (does : E → Feature → Output → Result (Unit {0}) Fault → E → Output → Type 0)
-    (old : E) (r : Feature) (out : Output) (result : Result (Unit {0}) Fault) (new : E) (grown : Output)
-    : Type 0 where
-  pub exact : does old r out result new grown
-  pub feeds : RuleFeeds takes stands settled old r out quiet result new grown
-  pub memory : WantsMemory wants old r result
-
--- entering a chromosome: what is done with a record on it afterwards is what would have been done with it before
-module _ {E : Type 0} (does taken : E → Feature → Output → Result (Unit {0}) Fault → E → Output → Type 0) where
-  abbrev pub EnterAnswers : E → List ℕ → Output → Result (Unit {0}) Fault → E → Output → Type 0
-  EnterAnswers old chrom out (Ok done) new grown =
-      (r : Feature) → r.chrom ≡ chrom → (result : Result (Unit {0}) Fault) (next : E) (later : Output)
-      → does new r grown result next later → taken old r out result next later
-  EnterAnswers old chrom out (Err fault) new grown =
-      (r : Feature) → r.chrom ≡ chrom → taken old r out (Err fault) new grown
+-- the end of the input: the lines that are left are put
+pub record PutsRestAtEnd {E A : Type 0} (MayTake : E → List Feature → Type 0) (Stands : E → List Feature → E → Type 0)
+    (settled whole : E → List Feature → List ℕ) (last : E) (out : Output) (result : Result A Fault) (grown : Output) : Type 0 where
+  pub left : List ℕ
+  pub is : AtEnd MayTake Stands last (λ first past. whole first past ≡ settled first past ++ left)
+  pub adds : Adds out left result grown
 
 module _ {E : Type 0} (does : E → Feature → Output → Result (Unit {0}) Fault → E → Output → Type 0) where
   -- records were taken one after another

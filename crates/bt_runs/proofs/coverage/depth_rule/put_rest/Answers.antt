@@ -1,9 +1,8 @@
-use Rattle.std.proofs.Common.{◌++◌, sym, ap}
 use Rattle.std.proofs.lemmas.Result.{err_from_is_err_and}
-use Rattle.bt_runs.specs.inside.coverage.CountSeen.{begun_seen, known_seen}
+use Rattle.bt_runs.specs.inside.coverage.CountSeen.{known_seen}
 use Rattle.bt_runs.specs.inside.coverage.DepthStep.{begun_to, ended_to}
 use Rattle.bt_runs.specs.model.Levels.{ended_at}
-use Rattle.bt_runs.proofs.lemmas.coverage.DepthLines.{adds_levels, left_cut}
+use Rattle.bt_runs.proofs.lemmas.coverage.DepthLines.{left_cut}
 use Rattle.bt_runs.proofs.coverage.depth_rule.put_rest.Goals as goal
 
 pub returns-in_err-begun-clause-adds : goal.returns-in_err-begun-clause-adds
@@ -11,10 +10,3 @@ returns-in_err-begun-clause-adds g c =
     let p = err_from_is_err_and c.from_residual.result c.from_residual.ensures.1 in
     let known = known_seen c.args.begun c.args.held.now in
     rw (p.1, p.2) (left_cut c.args.chrom.now.name.now c.args.out.now.output c.go_on.new.out.output (ended_to c.args.chrom.now.zeros known c.args.chrom.now.length) (ended_at (begun_to c.args.chrom.now.zeros known c.args.chrom.now.length) c.args.chrom.now.length) c.in_err-begun.field-0.0 c.in_err-begun.ensures.adds)
-
-pub returns-clause-adds : goal.returns-clause-adds
-returns-clause-adds g c =
-    let known = known_seen c.args.begun c.args.held.now in
-    let begun = begun_seen c.in_ok-begun.begun in
-    adds_levels c.args.chrom.now.name.now c.args.out.now.output c.go_on.new.out.output c.put_ended.new.out.output (ended_to c.args.chrom.now.zeros known c.args.chrom.now.length) (ended_at begun c.args.chrom.now.length) _ c.put_ended.result
-    (ap (λ b. ended_to c.args.chrom.now.zeros known c.args.chrom.now.length ++ ended_at b c.args.chrom.now.length) (sym c.in_ok-begun.ensures.begun)) c.in_ok-begun.ensures.adds c.put_ended.ensures

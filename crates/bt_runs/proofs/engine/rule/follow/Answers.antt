@@ -1,34 +1,47 @@
-use Rattle.std.proofs.Common.{◌∙◌, subst}
-use Rattle.bt_runs.proofs.lemmas.engine.RuleLemmas.{begins_following, enters_none, follows_all, follows_on, follows_up_to}
-use Rattle.bt_runs.specs.inside.walk.Rule.{Taken}
+use Rattle.std.proofs.Common.{◌∙◌, refl, subst, sym}
+use Rattle.bt_runs.proofs.lemmas.engine.RuleLemmas.{follows_all, follows_on, follows_up_to}
 use Rattle.bt_runs.proofs.engine.rule.follow.Goals as goal
 
 pub returns-in-Err : goal.returns-in-Err
-returns-in-Err g c =
-    enters_none g.E.Rule.does (Taken g.E.Rule.takes g.E.Rule.is_after g.E.Rule.settled g.E.Rule.quiet g.E.Rule.wants g.E.Rule.does) (λ old r out result new grown d. d.exact) g.C.Cursor.gives g.C.Cursor.has_ended g.E.Rule.is_on c.args.rule.now c.args.records.now c.args.out.now.output _ _ _ _ _ _ _
-    (g.met.C.Cursor.gives_none c.args.records.now) c.in-Some.ensures.some c.in-Some.ensures.on c.chrom.ensures c.in-Err.ensures.enters
+returns-in-Err g c = record {
+  records = _;
+  before = _;
+  given = g.met.C.Cursor.gives_none c.args.records.now;
+  mid = _;
+  through = _;
+  each = (refl, refl);
+  r = _;
+  last = c.in-Some.ensures.some;
+  fails = c.in-Err.ensures.enters _ (c.in-Some.ensures.on ∙ sym c.chrom.ensures);
+}
 
 pub loop-fault-init : goal.loop-fault-init
 loop-fault-init g c = record {
-  following = rw c.on_chrom-on.ensures
-      (begins_following g.E.Rule.does (Taken g.E.Rule.takes g.E.Rule.is_after g.E.Rule.settled g.E.Rule.quiet g.E.Rule.wants g.E.Rule.does) (λ old r out result new grown d. d.exact) g.C.Cursor.gives g.C.Cursor.has_ended g.E.Rule.is_on c.args.rule.now c.args.records.now c.args.out.now.output _ c.chrom.result.now c.enter.new.self _ _ _
-      (g.met.C.Cursor.gives_none c.args.records.now) c.in-Some.ensures.some c.in-Some.ensures.on c.chrom.ensures c.in_default-enter.ensures.on c.in_default-enter.ensures.enters);
+  following = rw c.on_chrom-on.ensures (record {
+    records = _;
+    before = _;
+    given = g.met.C.Cursor.gives_none c.args.records.now;
+    next = c.in-Some.ensures.some;
+    on = c.in-Some.ensures.on;
+    entered = subst (g.E.Rule.is_on c.enter.new.self) c.chrom.ensures c.in_default-enter.ensures.on;
+    mid = _;
+    through = _;
+    each = (refl, refl);
+    does_so = λ result next later d. c.in_default-enter.ensures.enters _ (c.in-Some.ensures.on ∙ sym c.chrom.ensures) result next later d.does;
+  });
   same_name = c.in-Some.ensures.same;
 }
 
 pub returns-in-Err-step : goal.returns-in-Err-step
 returns-in-Err-step g c =
-    rw c.leave.ensures
-    (follows_up_to g.E.Rule.does (Taken g.E.Rule.takes g.E.Rule.is_after g.E.Rule.settled g.E.Rule.quiet g.E.Rule.wants g.E.Rule.does) (λ old r out result new grown d. d.exact) g.C.Cursor.gives g.C.Cursor.has_ended g.E.Rule.is_on c.args.rule.now c.args.records.now c.args.out.now.output g.met.C.Cursor.gives_more _ _ _ _ _
-    c.loop-fault.invariant.following _ _ _ (record { exact = c.in-Err-step.ensures.does; feeds = c.in-Err-step.ensures.feeds; memory = c.in-Err-step.ensures.memory }))
+    rw c.leave.ensures (follows_up_to g.met.C.Cursor.gives_more c.loop-fault.invariant.following _ _ _ (record { does = c.in-Err-step.ensures.does; fits = c.in-Err-step.ensures.fits }))
 
 pub loop-fault-preserved : goal.loop-fault-preserved
 loop-fault-preserved g c =
     let f = c.loop-fault.invariant.following in
     let name = c.loop-fault.invariant.same_name in
     record {
-      following = follows_on g.E.Rule.does (Taken g.E.Rule.takes g.E.Rule.is_after g.E.Rule.settled g.E.Rule.quiet g.E.Rule.wants g.E.Rule.does) (λ old r out result new grown d. d.exact) g.C.Cursor.gives g.C.Cursor.has_ended g.E.Rule.is_on c.args.rule.now c.args.records.now c.args.out.now.output g.met.C.Cursor.gives_more _ _ _ _ _
-          f _ _ _ _ (record { exact = c.in_default-step.ensures.does; feeds = c.in_default-step.ensures.feeds; memory = tt }) (subst (g.E.Rule.is_on (g.E.Rule.with_on c.step.new.self c.step.new.on)) f.on c.in_default-step.ensures.on)
+      following = follows_on g.met.C.Cursor.gives_more f _ _ _ _ (record { does = c.in_default-step.ensures.does; fits = c.in_default-step.ensures.fits }) (subst (g.E.Rule.is_on (g.E.Rule.with_on c.step.new.self c.step.new.on)) f.on c.in_default-step.ensures.on)
           c.in-Some-next.ensures.some (c.in-Some-next.ensures.on ∙ name);
       same_name = c.in-Some-next.ensures.same ∙ name;
     }
@@ -36,5 +49,4 @@ loop-fault-preserved g c =
 pub returns : goal.returns
 returns g c =
     rw (c.leave-2.ensures, c.in-None.ensures.unchanged)
-    (follows_all g.E.Rule.does (Taken g.E.Rule.takes g.E.Rule.is_after g.E.Rule.settled g.E.Rule.quiet g.E.Rule.wants g.E.Rule.does) (λ old r out result new grown d. d.exact) g.C.Cursor.gives g.C.Cursor.has_ended g.E.Rule.is_on c.args.rule.now c.args.records.now c.args.out.now.output g.met.C.Cursor.gives_more _ _ _ _ _
-    c.loop-fault.invariant.following _ _ (record { exact = c.in_default-step.ensures.does; feeds = c.in_default-step.ensures.feeds; memory = tt }) c.in-None.ensures.none)
+    (follows_all g.met.C.Cursor.gives_more c.loop-fault.invariant.following _ _ (record { does = c.in_default-step.ensures.does; fits = c.in_default-step.ensures.fits }) c.in-None.ensures.none)

@@ -5,7 +5,7 @@ use Rattle.bt_runs.specs.inside.walk.GapCursor.{seen}
 use Rattle.bt_runs.specs.inside.walk.GapRule.{complement_at}
 use Rattle.bt_runs.specs.inside.walk.GapStep.{bare_gap, last_gap}
 use Rattle.bt_runs.specs.inside.walk.Walk.{IsNamed, left_before}
-use Rattle.bt_runs.proofs.lemmas.complement.GapRuleLemmas.{cursor_reached, enters_cut, enters_here, enters_next, goes_other, has_chrom, lacks_chrom, on_found, other_rank, rank_placed, same_rank}
+use Rattle.bt_runs.proofs.lemmas.complement.GapRuleLemmas.{cursor_reached, enters_failing, enters_next, goes_other, has_chrom, lacks_chrom, on_found, other_rank, rank_placed, same_rank}
 use Rattle.bt_runs.proofs.lemmas.order.GenomeRanks.{length_read, name_read}
 use Rattle.bt_runs.proofs.complement.gap_rule.GapRuleRule.enter.Goals as goal
 
@@ -13,26 +13,12 @@ pub returns-in_default-clause-on : goal.returns-in_default-clause-on
 returns-in_default-clause-on g c =
     lacks_chrom c.self.inside.limit c.self.inside.cursor c.args.chrom.now (sym c.rank.ensures ∙ c.in_default.is)
 
-pub returns-in_default-clause-enters : goal.returns-in_default-clause-enters
-returns-in_default-clause-enters g c =
-    let cursor = c.self.inside.cursor in
-    rw (← c.self.view_is) (enters_here (complement_at c.self.inside.limit cursor) (cursor_reached cursor) c.args.out.now.output c.args.chrom.now 0)
-
-pub length-self-inside-requires : goal.length-self-inside-requires
-length-self-inside-requires g c =
-    (rank_placed c.self.inside.limit c.self.inside.cursor c.args.chrom.now c.in-Some.rank (sym c.in-Some.ensures)).within
-
 pub returns-then-eq-clause-on : goal.returns-then-eq-clause-on
 returns-then-eq-clause-on g c =
     let cursor = c.self.inside.cursor in
     let same = same_rank cursor.rank c.in-Some.rank c.eq.result c.eq.ensures c.if-eq.true in
     let size = length_read (entries cursor.genome.now) c.in-Some.rank c.length-self-inside.result c.length-self-inside.ensures.is in
     has_chrom c.self.inside.limit cursor c.args.chrom.now c.in-Some.rank (sym c.in-Some.ensures) cursor.end c.length-self-inside.result (seen cursor) (rw same refl) size
-
-pub returns-then-eq-clause-enters : goal.returns-then-eq-clause-enters
-returns-then-eq-clause-enters g c =
-    let cursor = c.self.inside.cursor in
-    rw (← c.self.view_is) (enters_here (complement_at c.self.inside.limit cursor) (cursor_reached cursor) c.args.out.now.output c.args.chrom.now c.length-self-inside.result)
 
 pub put_before-requires : goal.put_before-requires
 put_before-requires g c =
@@ -47,7 +33,7 @@ returns-in_err-put_before-clause-enters g c =
     let rank = c.in-Some.rank in
     let other = other_rank cursor.rank rank c.eq.result c.eq.ensures c.if-eq.false in
     rw (p.1, p.2, ← c.self.view_is)
-    (enters_cut (complement_at limit cursor) (cursor_reached cursor) c.args.out.now.output c.args.chrom.now (record { rank = rank; known = 0 })
+    (enters_failing (complement_at limit cursor) (cursor_reached cursor) c.args.chrom.now c.args.out.now.output (record { rank = rank; known = 0 })
     (left_before last_gap (bare_gap limit) (entries cursor.genome.now) (seen cursor) rank) (goes_other limit cursor c.args.chrom.now rank (sym c.in-Some.ensures) other)
     c.in_err-put_before.field-0.0 (complement_at limit cursor) c.put_before.new.out.output c.in_err-put_before.ensures)
 
@@ -77,6 +63,6 @@ returns-clause-enters g c =
     let rank = c.in-Some.rank in
     let other = other_rank cursor.rank rank c.eq.result c.eq.ensures c.if-eq.false in
     rw (← c.self.view_is)
-    (enters_next (complement_at limit cursor) (cursor_reached cursor) c.args.out.now.output c.args.chrom.now (record { rank = rank; known = 0 })
+    (enters_next (complement_at limit cursor) (cursor_reached cursor) c.args.chrom.now c.args.out.now.output (record { rank = rank; known = 0 })
     (left_before last_gap (bare_gap limit) (entries cursor.genome.now) (seen cursor) rank) (goes_other limit cursor c.args.chrom.now rank (sym c.in-Some.ensures) other)
     c.length.result c.put_before.new.out.output (on_found (entries cursor.genome.now) c.args.chrom.now rank (sym c.in-Some.ensures)) c.in_ok-put_before.ensures)

@@ -4,7 +4,7 @@ use Rattle.bt_bed.specs.calls.GenomeTable.{entries}
 use Rattle.bt_runs.specs.inside.coverage.CountSeen.{seen}
 use Rattle.bt_runs.specs.calls.Covering.{Covering}
 use Rattle.bt_runs.specs.inside.walk.Walk.{is_on}
-use Rattle.bt_runs.proofs.lemmas.coverage.DepthSteps.{enters_cut, enters_moved, enters_there, is_there}
+use Rattle.bt_runs.proofs.lemmas.coverage.DepthSteps.{enters_failing, enters_moved, enters_there, is_there}
 use Rattle.bt_runs.proofs.lemmas.order.GenomeRanks.{found_at, length_read, name_read}
 use Rattle.bt_runs.proofs.coverage.depth_rule.DepthRuleRule.enter.Goals as goal
 use Rattle.bt_runs.proofs.coverage.depth_rule.DepthRuleRule.enter.Goals.{in-Some+else-is_same_name, in_default}
@@ -33,7 +33,7 @@ returns-in_err-put_before-clause-enters g c =
       | in-Some+else-is_same_name w ↦ rw (w.in-Some.is, name_read old.entries w.in-Some.reached.rank w.name-name.result.now w.name-name.ensures) (sym w.is_same_name.ensures ∙ w.if-is_same_name.false)
       | in_default w ↦ rw (w.in_default.is) refl
     ] in
-    rw (p.1, p.2, ← c.self.view_is) (enters_cut old [] 0 c.args.chrom.now c.in-Some-rank.rank off c.in-Some-rank.ensures c.args.out.now.output c.in_err-put_before.field-0.0 _ c.put_before.new.out.output c.in_err-put_before.ensures)
+    rw (p.1, p.2, ← c.self.view_is) (enters_failing old [] 0 c.args.chrom.now c.in-Some-rank.rank off c.in-Some-rank.ensures c.args.out.now.output c.in_err-put_before.field-0.0 _ c.put_before.new.out.output c.in_err-put_before.ensures)
 
 pub returns-clause-on : goal.returns-clause-on
 returns-clause-on g c =

@@ -1,20 +1,15 @@
-use Rattle.std.proofs.Common.{Ok, Err, subst, sym}
+use Rattle.std.proofs.Common.{Err, subst, sym}
 use Rattle.bt_bed.specs.calls.GenomeTable.{entries}
 use Rattle.bt_bed.specs.declared.parse.bounds.Bounds.{Bounds}
 use Rattle.bt_runs.specs.inside.coverage.CountSeen.{seen}
-use Rattle.bt_runs.specs.calls.Covering.{CountsDepths, Covering, IsOnChrom, with_chrom}
-use Rattle.bt_runs.proofs.lemmas.coverage.DepthCounts.{off_here, step_err, step_ok}
-use Rattle.bt_runs.proofs.lemmas.coverage.DepthSteps.{counts_none, feeds_by, memory_by}
+use Rattle.bt_runs.specs.calls.Covering.{CountsRecord, Covering, IsOnChrom, next_lines, wants_memory, with_chrom}
+use Rattle.bt_runs.specs.inside.walk.Rule.{Does}
+use Rattle.bt_runs.proofs.lemmas.coverage.DepthCounts.{step_err}
+use Rattle.bt_runs.proofs.lemmas.coverage.DepthSteps.{fits}
 use Rattle.bt_runs.proofs.coverage.depth_rule.DepthRuleRule.step.Goals as goal
 
-pub returns-then-not-on-clause-does : goal.returns-then-not-on-clause-does
-returns-then-not-on-clause-does g c =
-    let old = with_chrom c.args.self.now c.args.on.now in
-    let r = g.R.Record.feature c.args.record.now in
-    counts_none old r c.args.out.now.output (off_here old.entries old.current old.name old.length r.chrom old.is_known c.if-not-on.true c.requires)
-
-pub returns-then-not-on-clause-feeds : goal.returns-then-not-on-clause-feeds
-returns-then-not-on-clause-feeds g c = feeds_by (with_chrom c.args.self.now c.args.on.now) (g.R.Record.feature c.args.record.now) c.args.out.now.output (Ok tt) (with_chrom c.args.self.now c.args.on.now) c.args.out.now.output (returns-then-not-on-clause-does g c)
+pub returns-then-not-on-clause-fits : goal.returns-then-not-on-clause-fits
+returns-then-not-on-clause-fits g c = fits (with_chrom c.args.self.now c.args.on.now) (g.R.Record.feature c.args.record.now)
 
 pub returns-in-Err-clause-does : goal.returns-in-Err-clause-does
 returns-in-Err-clause-does g c =
@@ -25,39 +20,12 @@ returns-in-Err-clause-does g c =
     let table = entries m.chroms.genome.now in
     let view : Covering = record { entries = table; zeros = m.chroms.zeros; strand = m.strand; current = seen m.current m.held; is_known = m.is_known; name = m.name.now; length = m.length } in
     let lies : IsOnChrom (with_chrom view on) r.chrom = subst (λ (v : Covering). IsOnChrom (with_chrom v on) r.chrom) (sym c.self.view_is) c.requires in
-    subst (λ (v : Covering). CountsDepths (with_chrom v on) r c.args.out.now.output (Err c.fault.result) view c.count_next-counted.new.out.output) c.self.view_is
+    subst (λ (v : Covering). Does next_lines CountsRecord wants_memory (with_chrom v on) r c.args.out.now.output (Err c.fault.result) view c.count_next-counted.new.out.output) c.self.view_is
     (step_err table m.chroms.zeros m.strand m.is_known m.name.now m.length on c.if-not-on.false r bounds (sym c.start.ensures) (sym c.stop.ensures.is) c.is_counted.result (sym c.is_counted.ensures) c.args.out.now.output c.count_next-counted.new.out.output
     m.current m.held c.self.invariant lies c.in-Err.failure c.fault.result view c.count_next-counted.new.held c.fault.ensures c.in-Err.ensures.counts c.in-Err.ensures.memory)
 
-pub returns-in-Err-clause-feeds : goal.returns-in-Err-clause-feeds
-returns-in-Err-clause-feeds g c = feeds_by (with_chrom c.args.self.now c.args.on.now) (g.R.Record.feature c.args.record.now) c.args.out.now.output (Err c.fault.result) _ c.count_next-counted.new.out.output (returns-in-Err-clause-does g c)
+pub returns-in-Err-clause-fits : goal.returns-in-Err-clause-fits
+returns-in-Err-clause-fits g c = fits (with_chrom c.args.self.now c.args.on.now) (g.R.Record.feature c.args.record.now)
 
-pub returns-in-Err-clause-memory : goal.returns-in-Err-clause-memory
-returns-in-Err-clause-memory g c = memory_by (with_chrom c.args.self.now c.args.on.now) (g.R.Record.feature c.args.record.now) c.args.out.now.output (Err c.fault.result) c.args.self.now c.count_next-counted.new.out.output (returns-in-Err-clause-does g c)
-
-pub returns-clause-does : goal.returns-clause-does
-returns-clause-does g c =
-    let m = c.self.inside in
-    let r = g.R.Record.feature c.args.record.now in
-    let on = c.args.on.now in
-    let bounds : Bounds = record { start = c.start.result; stop = c.stop.result } in
-    let table = entries m.chroms.genome.now in
-    let view : Covering = record { entries = table; zeros = m.chroms.zeros; strand = m.strand; current = seen m.current m.held; is_known = m.is_known; name = m.name.now; length = m.length } in
-    let lies : IsOnChrom (with_chrom view on) r.chrom = subst (λ (v : Covering). IsOnChrom (with_chrom v on) r.chrom) (sym c.self.view_is) c.requires in
-    rw (← c.self.view_is) (step_ok table m.chroms.zeros m.strand m.is_known m.name.now m.length on c.if-not-on.false r bounds (sym c.start.ensures) (sym c.stop.ensures.is) c.is_counted.result (sym c.is_counted.ensures) c.args.out.now.output c.count_next-counted.new.out.output
-    m.current m.held c.self.invariant lies c.in-Ok.begun c.count_next-counted.new.held c.in-Ok.ensures.counts).0
-
-pub returns-clause-on : goal.returns-clause-on
-returns-clause-on g c =
-    let m = c.self.inside in
-    let r = g.R.Record.feature c.args.record.now in
-    let on = c.args.on.now in
-    let bounds : Bounds = record { start = c.start.result; stop = c.stop.result } in
-    let table = entries m.chroms.genome.now in
-    let view : Covering = record { entries = table; zeros = m.chroms.zeros; strand = m.strand; current = seen m.current m.held; is_known = m.is_known; name = m.name.now; length = m.length } in
-    let lies : IsOnChrom (with_chrom view on) r.chrom = subst (λ (v : Covering). IsOnChrom (with_chrom v on) r.chrom) (sym c.self.view_is) c.requires in
-    (step_ok table m.chroms.zeros m.strand m.is_known m.name.now m.length on c.if-not-on.false r bounds (sym c.start.ensures) (sym c.stop.ensures.is) c.is_counted.result (sym c.is_counted.ensures) c.args.out.now.output c.count_next-counted.new.out.output
-    m.current m.held c.self.invariant lies c.in-Ok.begun c.count_next-counted.new.held c.in-Ok.ensures.counts).1
-
-pub returns-clause-feeds : goal.returns-clause-feeds
-returns-clause-feeds g c = feeds_by (with_chrom c.args.self.now c.args.on.now) (g.R.Record.feature c.args.record.now) c.args.out.now.output (Ok tt) _ c.count_next-counted.new.out.output (returns-clause-does g c)
+pub returns-clause-fits : goal.returns-clause-fits
+returns-clause-fits g c = fits (with_chrom c.args.self.now c.args.on.now) (g.R.Record.feature c.args.record.now)

@@ -1,17 +1,10 @@
-use Rattle.std.proofs.Common.{◌≡◌, ◌∙◌, List, arith, length, sym, ap, subst}
+use Rattle.std.proofs.Common.{◌≡◌, List, arith, length, sym, ap, subst}
 use Rattle.std.proofs.lemmas.List.{length-map}
 use Rattle.bt_bed.specs.model.feature.Interval.{Span}
 use Rattle.bt_runs.specs.inside.coverage.DepthStep.{still_open}
 use Rattle.bt_runs.specs.inside.coverage.OpenRecords.{KeepsOpen, OpenAt, span_open, spans_open}
 use Rattle.bt_runs.proofs.lemmas.coverage.OpenLemmas.{all_stay, keeps_same, open_count}
 use Rattle.bt_runs.proofs.coverage.open_records.OpenRecords.settle.Goals as goal
-
-pub drop_ended-requires : goal.drop_ended-requires
-drop_ended-requires c =
-    let m = c.self.inside in
-    let spans = spans_open m.spans.items in
-    let later = rw (← c.self.view_is) at c.requires in
-    rw c.max-self-inside.ensures (c.len-left.ensures ∙ open_count m.at c.args.position spans m.ends c.self.invariant later)
 
 pub invariant_of-self : goal.invariant_of-self
 invariant_of-self c =

@@ -4,7 +4,8 @@ use Rattle.bt_bed.proofs.lemmas.order.ResultLemmas.{passed_on}
 use Rattle.bt_runs.specs.inside.merge.PerStrand.{kept_in}
 use Rattle.bt_runs.specs.inside.merge.PendingRuns.{placed_runs}
 use Rattle.bt_runs.specs.calls.Stranding.{Stranding}
-use Rattle.bt_runs.proofs.lemmas.merge.PerStrandLemmas.{Enters, does_taken, enter_fails, enter_runs_out, entered, holding, kept_nowhere, kept_placed, pending_in}
+use Rattle.bt_runs.proofs.lemmas.engine.EnterLemmas.{stays_on}
+use Rattle.bt_runs.proofs.lemmas.merge.PerStrandLemmas.{Enters, enter_fails, enter_runs_out, entered, fits, holding, kept_nowhere, kept_placed, pending_in}
 use Rattle.bt_runs.proofs.merge.per_strand_merge.PerStrandMergeRule.enter.Goals as goal
 use Rattle.bt_runs.proofs.merge.per_strand_merge.PerStrandMergeRule.enter.Goals.{in-Ok, in-Err}
 
@@ -30,9 +31,9 @@ returns-clause-enters g c =
     let listed = placed_runs name c.self-2.inside.runs in
     let new = holding c.self-2.inside.gap name (kept_in name c.self-2.inside.only listed) listed in
     elim c.match-extend_from_slice.branch [
-      | in-Ok w ↦ rw (w.result-is) (entered old c.args.out.now.output runs kept c.args.chrom.now other _ new c.close.new.out.output (ap (λ (m : Stranding). m.gap) closed) none c.in_ok-close.ensures.adds)
+      | in-Ok w ↦ rw (w.result-is) (entered old c.args.out.now.output runs kept c.args.chrom.now other new c.close.new.out.output (ap (λ (m : Stranding). m.gap) closed) none c.in_ok-close.ensures.adds)
       | in-Err w ↦ rw (w.result-is) (enter_runs_out old c.args.out.now.output runs kept c.args.chrom.now other w.no_memory.result new c.close.new.out.output w.no_memory.ensures c.in_ok-close.ensures.adds)
     ]
 
 pub returns-then-is_same_name-clause-enters : goal.returns-then-is_same_name-clause-enters
-returns-then-is_same_name-clause-enters g c = λ r at result next later does. does_taken c.args.self.now c.args.out.now.output r result next later does
+returns-then-is_same_name-clause-enters g c = stays_on (fits c.args.self.now) c.args.chrom.now c.args.out.now.output

@@ -1,20 +1,21 @@
 use Rattle.std.proofs.Common.{rules, ◌≡◌, false}
 use Rattle.std.specs.Prelude.{bytes_eq}
 use Rattle.bt_bed.proofs.lemmas.parse.NameLemmas.{other_name}
-use Rattle.bt_runs.proofs.lemmas.merge.UnstrandedLemmas.{does_taken, enters_cut, enters_other, enters_short}
+use Rattle.bt_runs.proofs.lemmas.engine.EnterLemmas.{stays_on}
+use Rattle.bt_runs.proofs.lemmas.merge.UnstrandedLemmas.{enters_failing, enters_other, enters_unnamed, fits}
 use Rattle.bt_runs.proofs.merge.unstranded_merge.UnstrandedMergeRule.enter.Goals as goal
 
 pub returns-then-is_same_name-clause-enters : goal.returns-then-is_same_name-clause-enters
-returns-then-is_same_name-clause-enters g c = λ r same result next later d. does_taken c.args.self.now c.args.out.now.output r result next later d
+returns-then-is_same_name-clause-enters g c = stays_on (fits c.args.self.now) c.args.chrom.now c.args.out.now.output
 
 pub returns-in-Err-clause-enters : goal.returns-in-Err-clause-enters
 returns-in-Err-clause-enters g c =
-    enters_cut c.args.self.now c.self.inside.run (search rules) c.args.out.now.output c.args.chrom.now (search rules) c.in-Err.fault _ _ (search rules)
+    enters_failing c.args.self.now c.self.inside.run (search rules) c.args.out.now.output c.args.chrom.now (search rules) c.in-Err.fault _ _ (search rules)
 
 pub returns-then-is_err-clause-enters : goal.returns-then-is_err-clause-enters
 returns-then-is_err-clause-enters g c =
     let apart : bytes_eq c.args.self.now.chrom c.args.chrom.now ≡ false = search rules in
-    enters_short c.args.self.now c.self.inside.run (search rules) c.args.out.now.output c.args.chrom.now apart (other_name _ _ apart) c.no_memory.result _ _ (search rules) (search rules)
+    enters_unnamed c.args.self.now c.self.inside.run (search rules) c.args.out.now.output c.args.chrom.now apart (other_name _ _ apart) c.no_memory.result _ _ (search rules) (search rules)
 
 pub returns-clause-enters : goal.returns-clause-enters
 returns-clause-enters g c =
