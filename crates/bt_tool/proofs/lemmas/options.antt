@@ -4,4 +4,3 @@ pub mod FractionLemmas
 pub mod GivenLemmas
 pub mod NamedLemmas
 pub mod Reading
-pub mod ReportWords

@@ -1,6 +1,6 @@
 -- What a list of words means, from the parts of it that the code finds one after another.
-use Rattle.std.proofs.Common.{◌≡◌, ℕ, ◌+◌, ◌<◌, ◌≤◌, Bool, true, false, List, [], ◌∷◌, length, Option, Some, None, Err, drop, refl, sym, ap, ◌∙◌, arith, length-drop}
-use Rattle.std.specs.Prelude.{IsTrue, is_some, if◌then◌else◌}
+use Rattle.std.proofs.Common.{◌≡◌, ℕ, ◌+◌, ◌<◌, ◌≤◌, Bool, true, false, List, [], ◌∷◌, length, Option, Some, None, Err, drop, refl, sym, ap, ◌∙◌, arith, length-drop, Result, Ok}
+use Rattle.std.specs.Prelude.{IsTrue, is_some, if◌then◌else◌, IfOk, IfErr}
 use Rattle.std.proofs.lemmas.Bool.Decides.{nat_tests}
 use Rattle.bt_tool.specs.declared.planning.tool.Tool.{Tool}
 use Rattle.bt_tool.specs.declared.options.usage.Usage.{Usage}
@@ -8,6 +8,12 @@ use Rattle.bt_tool.specs.model.usage.Items.{Item, items_of, spelled}
 use Rattle.bt_tool.specs.model.usage.Options.{asked, checked, command_of, fault_at, fault_together, options, word_fault}
 use Rattle.bt_tool.specs.model.usage.Table.{Word, Table, table_of, takes}
 use Rattle.bt_tool.specs.model.usage.Usage.{IsTellable, names_word, no_command, unknown_option, value_missing, bad_value, required_missing, options_exclusive, input_named_twice}
+use Rattle.bt_tool.specs.calls.words.Plan.{plan_seen}
+use Rattle.bt_tool.specs.calls.words.Refusal.{IsRefusalOf}
+use Rattle.bt_tool.specs.model.report.Report.{ReportsPlan, ReportsRefusal, report, answer_of}
+use Rattle.bt_tool.specs.declared.planning.plan_type.Plan.{Plan}
+use Rattle.bt_tool.specs.declared.options.usage.Refusal.{Refusal}
+use Rattle.bt_tool.specs.declared.options.usage.Refusal.TheVariants.{Usage as InWords, NoMemory}
 
 module _ (words : List Word) where
   pub options-no_command : command_of words ≡ None → options words ≡ Err no_command
@@ -152,3 +158,17 @@ named-tellable words (Some command) usage n e =
 pub options-tellable : (words : List Word) (usage : Usage) → options words ≡ Err usage
     → IsTellable usage (length words)
 options-tellable words usage e = named-tellable words (command_of words) usage refl e
+
+pub reports_plan : {E : Type 0} (words : List Word) (result : Result Plan E) → IfOk result (λ plan. options words ≡ Ok (plan_seen plan)) → IfOk result (λ plan. ReportsPlan words (plan_seen plan))
+unfolding report
+reports_plan words (Ok plan) h = λ genome first second. ap (λ answer. answer_of words answer genome first second) h
+reports_plan words (Err e) h = tt
+
+refusal_reports : (words : List Word) (refusal : Refusal) → IsRefusalOf words refusal → ReportsRefusal words refusal
+unfolding report
+refusal_reports words (InWords usage) h = λ genome first second. ap (λ answer. answer_of words answer genome first second) h
+refusal_reports words NoMemory h = tt
+
+pub reports_refusal : {T : Type 0} (words : List Word) (result : Result T Refusal) → IfErr result (IsRefusalOf words) → IfErr result (ReportsRefusal words)
+reports_refusal words (Ok plan) h = tt
+reports_refusal words (Err refusal) h = refusal_reports words refusal h

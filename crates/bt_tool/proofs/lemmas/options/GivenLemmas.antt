@@ -7,6 +7,7 @@ use Rattle.std.specs.Str.Parse.{digits_value}
 use Rattle.std.proofs.lemmas.Bool.{le-leb, and_parts}
 use Rattle.std.specs.Option.{option_or}
 use Rattle.std.specs.declared.alloc.Global.{Global}
+use Rattle.std.proofs.lemmas.Option.{cond_some}
 use Rattle.std.proofs.lemmas.List.{length-map}
 use Rattle.std.proofs.lemmas.List.Elements.{All-head, All-tail}
 use Rattle.std.proofs.lemmas.Slice.Eq.{bytes_eq-Decides}
@@ -24,6 +25,7 @@ use Rattle.bt_tool.specs.declared.options.usage.Usage.{Usage}
 use Rattle.bt_tool.specs.declared.options.takes.Takes.TheVariants.{FileName}
 use Rattle.bt_tool.specs.declared.planning.tool.Tool.{Tool}
 use Rattle.bt_tool.specs.model.usage.Usage.{IsTellable}
+use Rattle.bt_tool.proofs.lemmas.options.FractionLemmas.{limit-or}
 use Rattle.bt_tool.proofs.lemmas.options.Asked.{options-checked, options-fault, options-tellable}
 use Rattle.bt_tool.proofs.lemmas.laws.Division.{allowed}
 
@@ -117,23 +119,15 @@ valued given option file e =
     valued-last table option (last_item option items) file
     (λ item f. last-is table option items item (allowed table (drop 1 (words_seen given.words.now))) f) e
 
-some-of : (b : Bool) (v n : ℕ) → (b ≡ true → v ≤ max_number) → cond b (Some v) None ≡ Some n → n ≤ max_number
-some-of true v n h e = let same : v ≡ n = cc in subst (λ k. k ≤ max_number) same (h refl)
-some-of false v n h e = cc
-
 -- a number that a text denotes has at most twelve digits
 pub number-limit : (text : List ℕ) (n : ℕ) → number_of text ≡ Some n → n ≤ max_number
 unfolding number_of
 number-limit text n e =
-    some-of (is_number text) (digits_value 10 text) n
-    (λ yes. leb-true (digits_value 10 text) max_number ((and_parts (ltb 0 (length text) && list_all is_ascii_digit text) (leb (digits_value 10 text) max_number) yes).1)) e
-
-either : (o : Option ℕ) → ((n : ℕ) → o ≡ Some n → n ≤ max_number) → unwrap_or o 0 ≤ max_number
-either None h = omega arith
-either (Some n) h = h n refl
+    let is = cond_some (is_number text) (digits_value 10 text) n e in
+    subst (λ k. k ≤ max_number) is.1 (leb-true (digits_value 10 text) max_number ((and_parts (ltb 0 (length text) && list_all is_ascii_digit text) (leb (digits_value 10 text) max_number) is.0).1))
 
 pub number-limit-or : (text : List ℕ) → unwrap_or (number_of text) 0 ≤ max_number
-number-limit-or text = either (number_of text) (number-limit text)
+number-limit-or text = limit-or max_number (number_of text) (number-limit text)
 
 limits : (o : Option ℕ) → ((n : ℕ) → o ≡ Some n → n ≤ max_number) → is_limit o ≡ true
 limits None h = refl

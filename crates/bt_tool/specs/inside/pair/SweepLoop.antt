@@ -100,12 +100,6 @@ module _ {A B O : Type 0} {g : Ghosts O} (source_a : Source A) (source_b : Sourc
 module _ {A B O : Type 0} {g : Ghosts O} (source_a : Source A) (source_b : Source B)
     (order : Order) (config : SweepConfig) (old_first : Records A O g)
     (old_second : Records B O g) (out : Output) where
-  abbrev pub SweepEnds : Option FaultValue → Records A O g → Records B O g → Output → Type 0
-  SweepEnds fault first second grown =
-      PairEnds (sweep_join order config)
-      (records_pair source_a source_b old_first old_second) out fault
-      (view_of first) (view_of second) grown
-
   -- the records so far were given
   pub record Sweeps (first : Records A O g) (second : Records B O g) (sweep : Sweeping)
       (grown : Output) : Type 0 where

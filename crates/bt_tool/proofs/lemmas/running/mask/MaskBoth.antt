@@ -41,7 +41,7 @@ use Rattle.bt_tool.specs.inside.pair.MaskLoop.{AdvancesMask, IsMaskReady, MaskEn
 use Rattle.bt_tool.specs.inside.pair.Pair.{SettlesPair, item_ahead}
 use Rattle.bt_tool.specs.inside.pair.Progress.{PairStage}
 use Rattle.bt_tool.specs.inside.feed.Passed.{HasTaken}
-use Rattle.bt_tool.proofs.lemmas.running.members.MemberLemmas.{items_from}
+use Rattle.bt_tool.proofs.lemmas.running.members.MemberLemmas.{items_from, some_map}
 use Rattle.bt_tool.proofs.lemmas.running.mask.MaskAdvanced.{come_on, fails_write, lacks_room, refuses_line, settled}
 use Rattle.bt_tool.proofs.lemmas.running.pair.PairTurns.{none_new}
 use Rattle.bt_tool.proofs.lemmas.running.mask.MaskGiven.{ahead_first, first_of}
@@ -69,12 +69,8 @@ module _ {S State : Type 0} (second second_now : MemberReader S Feature State) (
 
 -- ---- how much is still wanted
 
-some_kept : (o : Option SequenceLine) → is_some (option_map kept_line o) ≡ is_some o
-some_kept None = refl
-some_kept (Some line) = refl
-
 pub waits_is : {stage : MaskStage} {mask : Masking} → MaskStandsAt stage mask → is_some mask.waiting ≡ is_some stage.waiting
-waits_is {stage} {mask} stands = ap is_some stands.waiting_is ∙ some_kept stage.waiting
+waits_is {stage} {mask} stands = ap is_some stands.waiting_is ∙ some_map kept_line stage.waiting
 
 pub rounds_most : (waits : Bool) (want : MaskWant) → mask_rounds waits want ≤ 3
 rounds_most waits WantLine = omega arith

@@ -24,6 +24,7 @@ use Rattle.bt_bed.specs.calls.Reading.{MemberReader, ahead_in, first_from, good_
 use Rattle.bt_seq.proofs.lemmas.laws.MaskPrefixLemmas.{decided_stays}
 use Rattle.bt_seq.specs.calls.MaskAdvance.{FailsAtRecord}
 use Rattle.bt_seq.specs.calls.MaskPrefixes.{LineBefore}
+use Rattle.bt_seq.proofs.lemmas.mask.steps.StandLemmas.{last_more}
 use Rattle.bt_seq.proofs.lemmas.laws.MaskMetLemmas.{first_is_told, lack_none}
 use Rattle.bt_seq.specs.calls.MaskStage.{MaskStage, given, line_given_last, reached, reached_by, want_of, with_bed_ended, with_lines_ended}
 use Rattle.bt_seq.specs.calls.MaskStanding.{IsOpen, MaskMovesTo}
@@ -200,15 +201,10 @@ module _ {A B : Type 0} (source_a : Source A) (source_b : Source B) (start : Mas
     undecided_by line named (inl none) = ap (decided line) none ∙ named_open line named
     undecided_by line named (inr is) = is
 
-    last_waits : (written : List SequenceLine) (line : SequenceLine) → line_given_last (written ++ line ∷ []) ≡ Some line
-    last_waits [] line = refl
-    last_waits (x ∷ []) line = refl
-    last_waits (x ∷ y ∷ written) line = last_waits (y ∷ written) line
-
     pub undecided : (line : SequenceLine) → stage.waiting ≡ Some line → decided line stage.taken ≡ false
     undecided line waits =
         let w = s.stands.waits line waits in
-        let last : line_given_last (given stage) ≡ Some line = ap (λ (o : Option SequenceLine). line_given_last (stage.written ++ option_to_list o)) waits ∙ last_waits stage.written line in
+        let last : line_given_last (given stage) ≡ Some line = ap (λ (o : Option SequenceLine). line_given_last (stage.written ++ option_to_list o)) waits ∙ last_more stage.written line in
         undecided_by line w.named (subst (λ (o : Option SequenceLine). IsOpen o stage.taken) last (s.stands.is_open w.lines))
 
     -- a line is wanted

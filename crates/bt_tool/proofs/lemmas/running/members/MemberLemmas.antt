@@ -1,7 +1,7 @@
 -- Lemmas on what a reader of members has consumed.
 use Rattle.std.proofs.lemmas.Option.{IfSome_then}
 use Rattle.std.proofs.Common.{◌≡◌, ℕ, suc, ◌+◌, ◌-◌, ◌≤◌, ◌<◌, Bool, true, false, List, [], ◌∷◌, ◌++◌, length, take, drop, Option, None, Some, Err, refl, sym, ap, ◌∙◌, subst, append_assoc, arith, inl, inr}
-use Rattle.std.specs.Prelude.{◌⊎◌, All, IfSome, IsSome, option_map}
+use Rattle.std.specs.Prelude.{is_some, ◌⊎◌, All, IfSome, IsSome, option_map}
 use Rattle.std.proofs.lemmas.List.{drop-drop, length-append, length-drop, map-append, take-append-drop}
 use Rattle.std.proofs.lemmas.List.Elements.{All-append, All-cons, All-nil}
 use Rattle.bt_lines.specs.declared.device.Source.{Ghosts as Source}
@@ -99,21 +99,13 @@ come_same (Some o) (Some n) None past c r = absurd r
 come_same (Some o) (Some n) (Some p) past c r = (c.0 ∙ ap (λ g. past ++ g.members) (sym r), c.1 ∙ ap (λ g. g.fault) (sym r))
 
 -- what is known stays known
-map_known : {A B : Type 0} (f : A → B) (o : Option A) → IsSome o → IsSome (option_map f o)
-map_known f None k = absurd (false≢true k)
-map_known f (Some x) k = refl
+pub some_map : {A B : Type 0} (f : A → B) (o : Option A) → is_some (option_map f o) ≡ is_some o
+some_map f None = refl
+some_map f (Some x) = refl
 
-known_map : {A B : Type 0} (f : A → B) (o : Option A) → IsSome (option_map f o) → IsSome o
-known_map f None k = absurd (false≢true k)
-known_map f (Some x) k = refl
-
-left_known : (told : Bool) (bytes : List ℕ) (left : Option (List ℕ)) → IsSome left → IsSome (left_at told bytes left)
-left_known true bytes left k = map_known (λ (rest : List ℕ). bytes) left k
-left_known false bytes left k = map_known (λ (rest : List ℕ). bytes ++ rest) left k
-
-known_left : (told : Bool) (bytes : List ℕ) (left : Option (List ℕ)) → IsSome (left_at told bytes left) → IsSome left
-known_left true bytes left k = known_map (λ (rest : List ℕ). bytes) left k
-known_left false bytes left k = known_map (λ (rest : List ℕ). bytes ++ rest) left k
+some_left : (told : Bool) (bytes : List ℕ) (left : Option (List ℕ)) → is_some (left_at told bytes left) ≡ is_some left
+some_left true bytes left = some_map (λ (rest : List ℕ). bytes) left
+some_left false bytes left = some_map (λ (rest : List ℕ). bytes ++ rest) left
 
 consumes_known : (a b : Option (List ℕ)) (bytes : List ℕ) → Consumes a b bytes → IsSome a → IsSome b
 consumes_known None b bytes c k = absurd (false≢true k)
@@ -124,15 +116,15 @@ coming_known : {S A State : Type 0} (left : S → Option (List ℕ)) (old new : 
     → IsSome (good_coming left old) → IsSome (good_coming left new)
 unfolding good_coming bytes_left
 coming_known left old new bytes hands k =
-    map_known _ _ (map_known _ _ (left_known (end_told new.below) (held new.below) (left (source_of new.below))
-    (consumes_known (left (source_of old.below)) (left (source_of new.below)) bytes hands.left_over
-    (known_left (end_told old.below) (held old.below) (left (source_of old.below)) (known_map _ _ (known_map _ _ k))))))
+    some_map _ _ ∙ some_map _ _ ∙ some_left (end_told new.below) (held new.below) (left (source_of new.below))
+    ∙ consumes_known (left (source_of old.below)) (left (source_of new.below)) bytes hands.left_over
+    (sym (some_left (end_told old.below) (held old.below) (left (source_of old.below))) ∙ sym (some_map _ _) ∙ sym (some_map _ _) ∙ k)
 
 bytes_known : {S : Type 0} (left : S → Option (List ℕ)) (old new : LineReader S) (bytes : List ℕ) → Hands left old bytes new → IsSome (lines_left left old) → IsSome (left (source_of new))
 unfolding bytes_left
 bytes_known left old new bytes hands k =
     consumes_known (left (source_of old)) (left (source_of new)) bytes hands.left_over
-    (known_left (end_told old) (held old) (left (source_of old)) (known_map _ _ k))
+    (sym (some_left (end_told old) (held old) (left (source_of old))) ∙ sym (some_map _ _) ∙ k)
 
 -- after the last line nothing is held
 none_held : (is_open : Bool) (complete rest : List ℕ) → is_open ≡ false → complete ≡ [] → rest ≡ [] → held_at is_open complete rest ≡ []

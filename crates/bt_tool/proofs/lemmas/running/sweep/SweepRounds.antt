@@ -6,7 +6,7 @@ use Rattle.bt_lines.specs.calls.Output.{HoldsBlock, Output}
 use Rattle.bt_sweep.specs.calls.Standing.{first_stage, IsInOrder, MovesTo, Stage, StandsAt, with_a_ended}
 use Rattle.bt_tool.specs.inside.feed.Feeding.{IsFresh}
 use Rattle.bt_tool.specs.declared.loops.sweeping.SweepConfig.{SweepConfig}
-use Rattle.bt_tool.specs.inside.pair.SweepLoop.{sweep_join, ReadsRest, SweepComes, SweepEnds, SweepIsOver, Sweeps, config_of, is_sweep_ready, left_to_sweep, records_pair, sweep_rounds}
+use Rattle.bt_tool.specs.inside.pair.SweepLoop.{sweep_join, ReadsRest, SweepComes, SweepIsOver, Sweeps, config_of, is_sweep_ready, left_to_sweep, records_pair, sweep_rounds}
 use Rattle.bt_tool.proofs.lemmas.running.members.MemberLemmas.{passes_start}
 use Rattle.bt_tool.proofs.lemmas.running.pair.PairTurns.{comes_start}
 use Rattle.bt_tool.proofs.lemmas.running.members.PassedLemmas.{line_going, taken_reads}
@@ -34,7 +34,7 @@ use Rattle.bt_sweep.specs.declared.sweep.want.Want.TheVariants.{A as WantA, B as
 use Rattle.bt_tool.specs.declared.loops.sweeping.SweepRun.{SweepRun}
 use Rattle.bt_tool.specs.calls.run.OwnReads.{AnswersNoRead, TellsNoRead}
 use Rattle.bt_tool.specs.inside.feed.Passed.{KeepsOwnFault}
-use Rattle.bt_tool.specs.inside.pair.Endings.{HaveRead}
+use Rattle.bt_tool.specs.inside.pair.Endings.{HaveRead, PairEnds}
 use Rattle.bt_tool.specs.inside.pair.Rounds.{IsBuffered, IsLessIfReady, IsLessOrReady, LeadsTo}
 use Rattle.bt_bed.specs.calls.SortedReader.{fault_in}
 use Rattle.bt_tool.specs.inside.feed.FeedsBuffered.{ConsumesGiven}
@@ -139,7 +139,7 @@ module _ {A B O : Type 0} {g : Ghosts O} (source_a : Source A) (source_b : Sourc
 
   -- it has ended with these
   abbrev ends_with : (fault : Fault) (new : SweepRun A B O g) (later : Output)
-      → SweepEnds source_a source_b (order_in start.first) (config_of (state_of start.sweep)) start.first start.second out (Some (fault_value fault)) new.first new.second later
+      → PairEnds (sweep_join (order_in start.first) (config_of (state_of start.sweep))) (records_pair source_a source_b start.first start.second) out (Some (fault_value fault)) (view_of new.first) (view_of new.second) later
       → (TellsNoRead (Some (fault_value fault)) → HaveRead (records_pair source_a source_b old.first old.second) (view_of new.first) (view_of new.second))
       → KeepsOwnFault source_a.is_read (below old.first) (view_of new.first) → KeepsOwnFault source_b.is_read (below old.second) (view_of new.second) → Ends fault new later
   ends_with fault new later ends read own own_second = record {

@@ -50,9 +50,9 @@ use Rattle.bt_tool.specs.declared.loops.sweeping.SweepRun.{SweepRun}
 use Rattle.bt_tool.specs.inside.feed.Feeding.{member_items}
 use Rattle.bt_tool.specs.inside.pair.Pair.{JoinDef, Pair, SettlesPair, item_ahead}
 use Rattle.bt_tool.specs.inside.pair.Progress.{Comes, TakesFurther}
-use Rattle.bt_tool.specs.inside.pair.Endings.{AsksFor, IsKnown}
+use Rattle.bt_tool.specs.inside.pair.Endings.{AsksFor, IsKnown, PairEnds}
 use Rattle.bt_bed.specs.calls.SortedReader.{fault_in}
-use Rattle.bt_tool.specs.inside.pair.SweepLoop.{AreBegun, AreWithin, ReadsRest, SweepEnds, Sweeps, config_of, records_pair, stage_of, sweep_join, sweep_rounds}
+use Rattle.bt_tool.specs.inside.pair.SweepLoop.{AreBegun, AreWithin, ReadsRest, Sweeps, config_of, records_pair, stage_of, sweep_join, sweep_rounds}
 use Rattle.bt_tool.specs.inside.feed.FeedsBuffered.{ConsumesGiven}
 use Rattle.bt_tool.specs.inside.feed.Passed.{Passes, StopsAfter}
 use Rattle.bt_tool.proofs.lemmas.running.sweep.AdvanceLemmas.{TakesBoth, ahead_placed, seen_then}
@@ -126,18 +126,6 @@ module _ {A B O : Type 0} {g : Ghosts O} (source_a : Source A) (source_b : Sourc
   abbrev old_second : Records B O g
   old_second = start.second
 
-  abbrev total : IsTotal (order_in start.first)
-  total = begun.total
-
-  abbrev same_order : order_in start.second ≡ order_in start.first
-  same_order = begun.same_order
-
-  abbrev is_bed : (view_of start.first).format ≡ bed_format (sorting_of (order_in start.first))
-  is_bed = begun.is_bed
-
-  abbrev is_bed_second : (view_of start.second).format ≡ bed_format (sorting_of (order_in start.second))
-  is_bed_second = begun.is_bed_second
-
   abbrev order : Order
   order = order_in old_first
 
@@ -151,13 +139,13 @@ module _ {A B O : Type 0} {g : Ghosts O} (source_a : Source A) (source_b : Sourc
   Going = Sweeps source_a source_b order config old_first old_second out
 
   abbrev Ends : Option FaultValue → Records A O g → Records B O g → Output → Type 0
-  Ends = SweepEnds source_a source_b order config old_first old_second out
+  Ends fault first second grown = PairEnds join pair out fault (view_of first) (view_of second) grown
 
   wrong : (state : Option Locus) (line : TextLine) (kind : Kind) → (view_of old_first).format.says state line ≡ Err kind → IsBedKind order kind
-  wrong = says_bed order (view_of old_first).format is_bed
+  wrong = says_bed order (view_of old_first).format begun.is_bed
 
   wrong_bed : (state : Option Locus) (line : TextLine) (kind : Kind) → (view_of old_second).format.says state line ≡ Err kind → IsBedKind order kind
-  wrong_bed state line kind e = subst (λ (o : Order). IsBedKind o kind) same_order (says_bed (order_in old_second) (view_of old_second).format is_bed_second state line kind e)
+  wrong_bed state line kind e = subst (λ (o : Order). IsBedKind o kind) begun.same_order (says_bed (order_in old_second) (view_of old_second).format begun.is_bed_second state line kind e)
 
   wrong_second : (state : Option Locus) (line : TextLine) (kind : Kind) → (view_of old_second).format.says state line ≡ Err kind → join.second_kinds kind
   wrong_second state line kind e = inl (wrong_bed state line kind e)
@@ -165,13 +153,13 @@ module _ {A B O : Type 0} {g : Ghosts O} (source_a : Source A) (source_b : Sourc
   -- what was passed of either is in order
   first_placed : (past : List (Member Feature)) (now : MemberReader A Feature (Option Locus)) → Passes source_a (view_of old_first) past now → ArePlaced order (intervals_of (member_items past))
   first_placed past now p =
-      (said_in_order order (member_items past) total
-      (subst (λ (f : Format Feature (Option Locus)). AreSaid f None (member_items past)) is_bed (subst (λ (s : Option Locus). AreSaid (view_of old_first).format s (member_items past)) begun.none_last p.said))).0
+      (said_in_order order (member_items past) begun.total
+      (subst (λ (f : Format Feature (Option Locus)). AreSaid f None (member_items past)) begun.is_bed (subst (λ (s : Option Locus). AreSaid (view_of old_first).format s (member_items past)) begun.none_last p.said))).0
 
   second_placed : (past : List (Member Feature)) (now : MemberReader B Feature (Option Locus)) → Passes source_b (view_of old_second) past now → ArePlaced order (intervals_of (member_items past))
   second_placed past now p =
-      (said_in_order order (member_items past) total
-      (subst (λ (f : Format Feature (Option Locus)). AreSaid f None (member_items past)) (is_bed_second ∙ ap (λ (o : Order). bed_format (sorting_of o)) same_order)
+      (said_in_order order (member_items past) begun.total
+      (subst (λ (f : Format Feature (Option Locus)). AreSaid f None (member_items past)) (begun.is_bed_second ∙ ap (λ (o : Order). bed_format (sorting_of o)) begun.same_order)
       (subst (λ (s : Option Locus). AreSaid (view_of old_second).format s (member_items past)) begun.none_last_second p.said))).0
 
   -- with the member ahead too many would be held
@@ -183,12 +171,12 @@ module _ {A B O : Type 0} {g : Ghosts O} (source_a : Source A) (source_b : Sourc
   limit_case fault first_now second_now is_order later last waits going past_first past_second grown comes asks fits m ahead on starts ends known full is =
       let placed = second_placed past_second (view_of second_now) comes.second_passes in
       let state : (view_of second_now).state ≡ state_behind (bed_format (sorting_of order)) None (member_items past_second) =
-      comes.second_passes.state ∙ ap (λ (f : Format Feature (Option Locus)). state_behind f (view_of old_second).state (member_items past_second)) (is_bed_second ∙ ap (λ (o : Order). bed_format (sorting_of o)) same_order)
+      comes.second_passes.state ∙ ap (λ (f : Format Feature (Option Locus)). state_behind f (view_of old_second).state (member_items past_second)) (begun.is_bed_second ∙ ap (λ (o : Order). bed_format (sorting_of o)) begun.same_order)
       ∙ ap (λ (s : Option Locus). state_behind (bed_format (sorting_of order)) s (member_items past_second)) begun.none_last_second in
-      let with_m = ahead_placed second_now order is_order (member_items past_second) m total state ahead placed in
+      let with_m = ahead_placed second_now order is_order (member_items past_second) m begun.total state ahead placed in
       let items : member_items (past_second ++ m ∷ []) ≡ member_items past_second ++ m.item ∷ [] = map-append (λ m. m.item) past_second (m ∷ []) in
       let undecided : decided order last (member_items (past_second ++ m ∷ [])) ≡ false =
-      ap (decided order last) items ∙ none_before order last (member_items past_second) m.item total known with_m (undecided_beside order total last m.item known on starts) in
+      ap (decided order last) items ∙ none_before order last (member_items past_second) m.item begun.total known with_m (undecided_beside order begun.total last m.item known on starts) in
       let parts : given later ≡ later.written ++ last ∷ [] = ap (λ (o : Option Feature). later.written ++ option_to_list o) waits in
       let held : is_held last m.item ≡ true = and_from (bytes_eq last.chrom m.item.chrom) (ltb last.start m.item.stop) (name_eq last.chrom m.item.chrom (sym on)) (lt-ltb last.start m.item.stop ends) in
       stop.passes_limit join pair out (stage_of later) past_first past_second (view_of first_now) (view_of second_now) grown comes asks fits last waits m ahead TooManyHeld
@@ -317,7 +305,7 @@ module _ {A B O : Type 0} {g : Ghosts O} (source_a : Source A) (source_b : Sourc
           let seen = turned.seen_alone stage.taken (view_of second) none in
           let all = ((s.comes.settles known).whatever stage.taken (Some no_memory) placed_taken (record { begins = ([], sym (append-nil stage.taken) ∙ ap (λ (l : List Feature). l ++ []) (sym seen)); all = λ e. absurd (false≢true (sym goes ∙ e)) })).0 in
           let parts : given stage ≡ stage.written ++ a ∷ [] = ap (λ (o : Option Feature). stage.written ++ option_to_list o) waiting.1 in
-          open_last order total stage.taken stage.written a placed_taken (subst (λ (l : List Feature). ArePlaced order (intervals_of l)) parts placed_given) all
+          open_last order begun.total stage.taken stage.written a placed_taken (subst (λ (l : List Feature). ArePlaced order (intervals_of l)) parts placed_given) all
           (subst (λ (l : List Feature). IsTrue (list_all (leaves_some order l) stage.taken)) parts asked)
 
       pub stops_second : (fault : Fault) (second_now : Records B O g) → FillsRecords source_b second (Err fault) second_now → Ends (Some (fault_value fault)) first second_now grown
@@ -415,7 +403,7 @@ module _ {A B O : Type 0} {g : Ghosts O} (source_a : Source A) (source_b : Sourc
           → SettlesPair join written bytes ((stage.taken ++ ss) ++ option_to_list (item_ahead (view_of second_now))) stage.b_ended
           → SettlesPair join (written ++ newly) (bytes ++ intersect config.shape config.rule newly (stage.taken ++ ss)) ((stage.taken ++ ss) ++ option_to_list (item_ahead (view_of second_now))) stage.b_ended
       settled_more written newly bytes placed each settles =
-          settles_newly order total config written newly bytes (stage.taken ++ ss) (item_ahead (view_of second_now)) stage.b_ended sweep.phase settles placed ends_then ss stage.taken refl each
+          settles_newly order begun.total config written newly bytes (stage.taken ++ ss) (item_ahead (view_of second_now)) stage.b_ended sweep.phase settles placed ends_then ss stage.taken refl each
 
       -- the limit lies as far
       decided_first : IsKnown pair → (b : Feature) (more : List Feature) → ss ≡ b ∷ more → AreDecided order stage.written (stage.taken ++ b ∷ [])
@@ -445,7 +433,7 @@ module _ {A B O : Type 0} {g : Ghosts O} (source_a : Source A) (source_b : Sourc
         fits_later each known =
             let whole : stage.written ++ (option_to_list stage.waiting ++ fs) ≡ given stage ++ fs = sym (append_assoc stage.written (option_to_list stage.waiting) fs) in
             subst (λ (l : List Feature). AreWithin order config.limit l (s.past_second ++ more_second)) (whole ∙ sym given_later)
-            (fits_each order total config.limit stage.written (option_to_list stage.waiting ++ fs) (subst (λ (l : List Feature). ArePlaced order (intervals_of l)) (sym whole) placed_first) (suc (lines_given (below second))) ss stage.taken s.past_second
+            (fits_each order begun.total config.limit stage.written (option_to_list stage.waiting ++ fs) (subst (λ (l : List Feature). ArePlaced order (intervals_of l)) (sym whole) placed_first) (suc (lines_given (below second))) ss stage.taken s.past_second
             (sym s.comes.all_taken) placed_second (decided_first known) (subst (λ (o : Option Feature). TakenEach order config.limit (option_to_list o ++ fs) stage.taken ss) s.stands.current_is each)
             (subst (λ (l : List Feature). AreWithin order config.limit l s.past_second) (sym whole) (within_given order config.limit (given stage) fs s.past_second (s.fits known))))
 
@@ -531,7 +519,7 @@ module _ {A B O : Type 0} {g : Ghosts O} (source_a : Source A) (source_b : Sourc
                   let lacks = subst (λ (n : ℕ). CannotBeHeld sweep.limit last (stage.taken ++ ss) n fault) (line_then source_b second second_now seconds last_seconds consumes_second lack.b lack.after lack.gives) (lack.lacks stage s.stands placed placed_taken) in
                   elim (by_config (λ c. CannotBeHeld c.limit last (stage.taken ++ ss) m.line fault) lacks) [
                     | inl full ↦
-                        limit_case fault first_now second_now (takes.second_order ∙ s.second_order ∙ same_order) (stage_after stage fails.newly (Some last) ss) last refl
+                        limit_case fault first_now second_now (takes.second_order ∙ s.second_order ∙ begun.same_order) (stage_after stage fails.newly (Some last) ss) last refl
                         (not_ended_with first_now second_now fs ss takes m ahead stage.b_ended refl) past_first past_second now comes asks fits m ahead lack.chrom lack.starts lack.ends placed_last.0 full.0 full.1
                     | inr ran ↦ stop.lacks_memory join pair out (stage_of (stage_after stage fails.newly (Some last) ss)) past_first past_second (view_of first_now) (view_of second_now) now comes asks fits fault ran.1
                   ]
@@ -552,11 +540,11 @@ module _ {A B O : Type 0} {g : Ghosts O} (source_a : Source A) (source_b : Sourc
       pub finishes_both : {T : Type 0} (result : Result T Fault) (second_now : Records B O g) → ReadsRest source_b (IsBedKind (order_in second)) (view_of second) result (view_of second_now)
           → Ends (fault_in result) first second_now grown
       finishes_both {T} (Ok unit) second_now reads =
-          let checks = subst (λ (o : Order). ReadsRest {T = T} source_b (IsBedKind o) (view_of second) (Ok unit) (view_of second_now)) (s.second_order ∙ same_order) reads (view_of old_second) s.past_second s.comes.second_passes wrong_bed in
+          let checks = subst (λ (o : Order). ReadsRest {T = T} source_b (IsBedKind o) (view_of second) (Ok unit) (view_of second_now)) (s.second_order ∙ begun.same_order) reads (view_of old_second) s.past_second s.comes.second_passes wrong_bed in
           stop.ends_rest join pair out (stage_of stage) s.past_first s.past_second (view_of first) (view_of second) grown s.comes asks_here s.fits done (view_of second_now) (λ some. absurd (false≢true (ap is_some (sym checks.passes.going) ∙ some))) checks.passes.bytes (s.past_second ++ checks.more) None
           (inl (refl, checks.all, record { served = checks.passes.served; within = checks.passes.kept.within checks.passes.clear }, refl))
       finishes_both {T} (Err fault) second_now reads =
-          let checks = subst (λ (o : Order). ReadsRest {T = T} source_b (IsBedKind o) (view_of second) (Err fault) (view_of second_now)) (s.second_order ∙ same_order) reads (view_of old_second) s.past_second s.comes.second_passes wrong_bed in
+          let checks = subst (λ (o : Order). ReadsRest {T = T} source_b (IsBedKind o) (view_of second) (Err fault) (view_of second_now)) (s.second_order ∙ begun.same_order) reads (view_of old_second) s.past_second s.comes.second_passes wrong_bed in
           stop.stops_rest join pair out (stage_of stage) s.past_first s.past_second (view_of first) (view_of second) grown s.comes asks_here s.fits done (view_of second_now) (λ some. checks.low) (s.past_second ++ checks.more) (fault_value fault)
           (stops_wider source_b (view_of old_second) (IsBedKind order) join.second_kinds (λ kind of_bed. inl of_bed) (s.past_second ++ checks.more) (fault_value fault) (view_of second_now) checks.stops)
           (λ e. checks.before_end (s.comes.second_all e).2) refl
