@@ -1,5 +1,5 @@
 -- Lemmas on the items of a command line.
-use Rattle.std.proofs.Common.{◌≡◌, ℕ, ◌≤◌, ◌&&◌, Bool, true, false, cond, List, [], ◌∷◌, length, Option, Some, None, Ok, Err, drop, refl, sym, ap, subst, ◌∙◌, arith, ltb, leb, leb-true}
+use Rattle.std.proofs.Common.{◌≡◌, ℕ, ◌≤◌, ◌&&◌, Bool, true, false, cond, List, [], ◌∷◌, length, Option, Some, None, Ok, Err, drop, refl, sym, ap, subst, ◌∙◌, ltb, leb, leb-true}
 use Rattle.std.specs.Prelude.{All, String, bytes_eq, option_and_then, string_bytes, unwrap_or}
 use Rattle.std.specs.Char.{is_ascii_digit}
 use Rattle.std.specs.List.{list_all}

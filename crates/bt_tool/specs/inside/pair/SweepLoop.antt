@@ -34,7 +34,7 @@ use Rattle.bt_tool.specs.declared.loops.sweeping.SweepRun.{SweepRun}
 use Rattle.bt_tool.specs.model.report.SweepReport.{IsSweptKind, bytes_up_to, decider}
 use Rattle.bt_tool.specs.inside.pair.Pair.{JoinDef, Pair}
 use Rattle.bt_tool.specs.inside.pair.Progress.{Comes, PairStage}
-use Rattle.bt_tool.specs.inside.pair.Endings.{HaveRead, IsKnown, IsOverWith, PairEnds}
+use Rattle.bt_tool.specs.inside.pair.Endings.{HaveRead, IsKnown, IsOverWith}
 use Rattle.bt_tool.specs.inside.pair.Rounds.{IsBuffered}
 use Rattle.bt_tool.specs.inside.feed.Passed.{AreAll, Passes, StopsAfter}
 

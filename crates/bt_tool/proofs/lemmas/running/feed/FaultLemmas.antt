@@ -1,5 +1,5 @@
 -- Lemmas that tell faults apart.
-use Rattle.std.proofs.Common.{◌≡◌, ℕ, true, None, Some, ap, inl, inr, subst, sym}
+use Rattle.std.proofs.Common.{◌≡◌, ℕ, true, ap, inl, inr, subst, sym}
 use Rattle.std.proofs.lemmas.Bool.{false≢true}
 use Rattle.std.proofs.lemmas.Option.{none-some}
 use Rattle.bt_lines.specs.declared.device.Source.{Ghosts as Source}
@@ -7,7 +7,6 @@ use Rattle.bt_lines.specs.model.Fault.{FaultValue, write_failed, no_memory, read
 use Rattle.bt_lines.specs.declared.fault.Input.{Input}
 use Rattle.bt_lines.specs.declared.fault.Kind.{Kind}
 use Rattle.bt_lines.specs.declared.fault.Kind.TheVariants.{ReadFailed, WriteFailed, NoMemory}
-use Rattle.bt_lines.specs.declared.fault.Place.{Place}
 use Rattle.bt_bed.specs.model.feature.LineKind.{fault_at_line, is_of_line}
 use Rattle.bt_tool.specs.calls.run.FaultSource.{TellsInput}
 

@@ -18,7 +18,8 @@ use Rattle.bt_seq.specs.calls.MaskState.{Masking}
 use Rattle.bt_seq.specs.calls.MaskSteps.{EndsCheck, EndsRecords}
 use Rattle.bt_seq.specs.model.Sequences.{SequenceLine, Reached}
 use Rattle.bt_seq.specs.declared.mask.mask_want.MaskWant.{MaskWant}
-use Rattle.bt_seq.specs.declared.mask.mask_want.MaskWant.TheVariants.{Line, Bed, Nothing, Line as WantLine, Bed as WantBed}
+use Rattle.bt_seq.specs.declared.mask.mask_want.MaskWant.TheVariants.{Nothing, Line as WantLine, Bed as WantBed}
+use Rattle.bt_sweep.specs.declared.sweep.want.Want.{Want}
 use Rattle.bt_sweep.specs.declared.sweep.want.Want.TheVariants.{A as WantA, B as WantB, Nothing as WantNothing}
 use Rattle.bt_tool.specs.declared.loops.masking.MaskRun.{MaskRun}
 use Rattle.bt_tool.specs.calls.run.OwnReads.{TellsNoRead}
@@ -147,20 +148,16 @@ module _ {A B : Type 0} (source_a : Source A) (source_b : Source B) (start : Mas
           → (s.stage.waiting ≡ None → EndsCheck {A = Unit {0}} mask.how mask.full s.stage out (Err fault) masked now) → MaskEnds source_a source_b start before (Some (fault_value fault)) lines second_now now
       records_unended fault waits none = unended_by s.stage.waiting refl fault waits none
 
-pub is_line : (want : MaskWant) → wanted_by want ≡ WantA → want ≡ Line
-is_line Line e = refl
-is_line Bed e = absurd (let apart : WantB ≡ WantA = e in cc)
-is_line Nothing e = absurd (let apart : WantNothing ≡ WantA = e in cc)
+-- what the engine wants, by what is wanted of two inputs
+abbrev wanted_of : Want → MaskWant
+wanted_of WantA = WantLine
+wanted_of WantB = WantBed
+wanted_of WantNothing = Nothing
 
-pub is_bed : (want : MaskWant) → wanted_by want ≡ WantB → want ≡ Bed
-is_bed Line e = absurd (let apart : WantA ≡ WantB = e in cc)
-is_bed Bed e = refl
-is_bed Nothing e = absurd (let apart : WantNothing ≡ WantB = e in cc)
-
-pub is_nothing : (want : MaskWant) → wanted_by want ≡ WantNothing → want ≡ Nothing
-is_nothing Line e = absurd (let apart : WantA ≡ WantNothing = e in cc)
-is_nothing Bed e = absurd (let apart : WantB ≡ WantNothing = e in cc)
-is_nothing Nothing e = refl
+is_wanted : (want : MaskWant) (of_two : Want) → wanted_by want ≡ of_two → want ≡ wanted_of of_two
+is_wanted WantLine of_two e = ap wanted_of e
+is_wanted WantBed of_two e = ap wanted_of e
+is_wanted Nothing of_two e = ap wanted_of e
 
 module _ {A B : Type 0} (source_a : Source A) (source_b : Source B) (start : MaskRun A B) (out : Output) (old : MaskRun A B) (grown : Output) (s : MaskComes source_a source_b start out old grown) where
   pub none_first : line_fault old.lines ≡ None
@@ -224,14 +221,14 @@ module _ {A B : Type 0} (source_a : Source A) (source_b : Source B) (start : Mas
 
     pub lines_filled : FillsLines source_a old.lines (Ok true) lines_now → HasRead source_a.is_read old.lines lines_now → MaskComes source_a source_b start out with_lines grown × Filled with_lines
     lines_filled fills read =
-        let f = line_filled source_a source_b start out s.goes.0 old.lines (view_of old.records) old.mask grown s.goes.1 (is_line old.mask.want wants) lines_now fills.kept fills.answers in
+        let f = line_filled source_a source_b start out s.goes.0 old.lines (view_of old.records) old.mask grown s.goes.1 (is_wanted old.mask.want WantA wants) lines_now fills.kept fills.answers in
         (came with_lines grown f.0 read same_second, f.1)
 
     pub lines_over : FillsLines source_a old.lines (Ok false) lines_now → HasRead source_a.is_read old.lines lines_now → (masked : Masking)
         → ((stage : MaskStage) → MaskStandsAt stage old.mask → MaskMovesTo old.mask.how old.mask.full (with_lines_ended stage) masked)
         → MaskComes source_a source_b start out (record old { lines = lines_now; mask = masked }) grown × Filled (record old { lines = lines_now; mask = masked })
     lines_over fills read masked stands =
-        let f = lines_ended source_a source_b start out s.goes.0 old.lines (view_of old.records) old.mask grown s.goes.1 (is_line old.mask.want wants) lines_now fills.kept fills.answers masked (stands s.goes.1.stage s.goes.1.stands) in
+        let f = lines_ended source_a source_b start out s.goes.0 old.lines (view_of old.records) old.mask grown s.goes.1 (is_wanted old.mask.want WantA wants) lines_now fills.kept fills.answers masked (stands s.goes.1.stage s.goes.1.stands) in
         (came (record old { lines = lines_now; mask = masked }) grown f.0 read same_second, f.1)
 
     pub lines_stopped : {T : Type 0} (fault : Fault) (result : Result T Fault) → IsErrAnd result (λ e. e ≡ fault) → FillsLines source_a old.lines (Err fault) lines_now
@@ -239,7 +236,7 @@ module _ {A B : Type 0} (source_a : Source A) (source_b : Source B) (start : Mas
     lines_stopped {T} fault result is fills own =
         passed_on (λ (r : Result T Fault). Leads Filled r with_lines grown) result fault is
         (ended (Some (fault_value fault)) with_lines grown
-        (stops_lines source_a source_b start out s.goes.0 old.lines (view_of old.records) old.mask grown s.goes.1 (is_line old.mask.want wants) (fault_value fault) lines_now fills.answers fills.kept)
+        (stops_lines source_a source_b start out s.goes.0 old.lines (view_of old.records) old.mask grown s.goes.1 (is_wanted old.mask.want WantA wants) (fault_value fault) lines_now fills.answers fills.kept)
         (λ never. ((own none_first).read never, same_second)) (line_told_kept source_a.is_read old.lines lines_now fault fills.answers.kept none_first own) own_second)
 
   -- ---- the records are
@@ -250,14 +247,14 @@ module _ {A B : Type 0} (source_a : Source A) (source_b : Source B) (start : Mas
 
     pub records_filled : FillsBlocks source_b old.records (Ok true) records_now → MaskComes source_a source_b start out with_records grown × Filled with_records
     records_filled fills =
-        let f = record_filled source_a source_b start out s.goes.0 old.lines (view_of old.records) old.mask grown s.goes.1 (is_bed old.mask.want wants) (view_of records_now) (block_filled source_b old.records records_now fills) in
+        let f = record_filled source_a source_b start out s.goes.0 old.lines (view_of old.records) old.mask grown s.goes.1 (is_wanted old.mask.want WantB wants) (view_of records_now) (block_filled source_b old.records records_now fills) in
         (came with_records grown f.0 same_first fills.own_failure, f.1)
 
     pub records_stopped : {T : Type 0} (fault : Fault) (result : Result T Fault) → IsErrAnd result (λ e. e ≡ fault) → FillsBlocks source_b old.records (Err fault) records_now → Leads Filled result with_records grown
     records_stopped {T} fault result is fills =
         passed_on (λ (r : Result T Fault). Leads Filled r with_records grown) result fault is
         (ended (Some (fault_value fault)) with_records grown
-        (stops_records source_a source_b start out s.goes.0 old.lines (view_of old.records) old.mask grown s.goes.1 (is_bed old.mask.want wants) (fault_value fault) (view_of records_now) (block_stopped source_b old.records records_now fault fills))
+        (stops_records source_a source_b start out s.goes.0 old.lines (view_of old.records) old.mask grown s.goes.1 (is_wanted old.mask.want WantB wants) (fault_value fault) (view_of records_now) (block_stopped source_b old.records records_now fault fills))
         (λ never. (same_first, (fills.own_failure none_second).read never))
         own_first (told_kept source_b.is_read (fault_kept old.records) (view_of records_now).fault (below old.records) (below records_now) fault fills.answers.kept none_second fills.own_failure))
 
@@ -268,12 +265,12 @@ module _ {A B : Type 0} (source_a : Source A) (source_b : Source B) (start : Mas
       pub records_over : {T : Type 0} (answer : Result T Fault) → ((stage : MaskStage) (waiting : SequenceLine) → MaskStandsAt stage old.mask → stage.waiting ≡ Some waiting → EndsRecords old.mask.how old.mask.full stage waiting grown answer masked later)
           → ((stage : MaskStage) → MaskStandsAt stage old.mask → stage.waiting ≡ None → EndsCheck old.mask.how old.mask.full stage grown answer masked later) → Leads Filled answer with_end later
       records_over (Ok done) waits none =
-          let f = records_ended source_a source_b start out s.goes.0 old.lines (view_of old.records) old.mask grown s.goes.1 (is_bed old.mask.want wants) (view_of records_now) (block_over source_b old.records records_now fills) masked later done
+          let f = records_ended source_a source_b start out s.goes.0 old.lines (view_of old.records) old.mask grown s.goes.1 (is_wanted old.mask.want WantB wants) (view_of records_now) (block_over source_b old.records records_now fills) masked later done
           (λ waiting e. waits s.goes.1.stage waiting s.goes.1.stands e) (λ e. none s.goes.1.stage s.goes.1.stands e) in
           (came with_end later f.0 same_first fills.own_failure, f.1)
       records_over (Err fault) waits none =
           ended (Some (fault_value fault)) with_end later
-          (records_unended source_a source_b start out s.goes.0 old.lines (view_of old.records) old.mask grown s.goes.1 (is_bed old.mask.want wants) (view_of records_now) (block_over source_b old.records records_now fills) masked later fault
+          (records_unended source_a source_b start out s.goes.0 old.lines (view_of old.records) old.mask grown s.goes.1 (is_wanted old.mask.want WantB wants) (view_of records_now) (block_over source_b old.records records_now fills) masked later fault
           (λ waiting e. waits s.goes.1.stage waiting s.goes.1.stands e) (λ e. none s.goes.1.stage s.goes.1.stands e))
           (λ never. (same_first, fills.own_failure)) own_first
           (none_kept source_b.is_read (below old.records) (view_of records_now).fault (below records_now) fills.answers.goes)
@@ -297,7 +294,7 @@ module _ {A B : Type 0} (source_a : Source A) (source_b : Source B) (start : Mas
   -- both inputs have ended
   pub finished : wanted_by old.mask.want ≡ WantNothing → MaskIsOver source_a source_b start out None old grown
   finished wants =
-      ended None old grown (finishes source_a source_b start out s.goes.0 old.lines (view_of old.records) old.mask grown s.goes.1 (is_nothing old.mask.want wants)) (λ never. (same_first, same_second)) own_first own_second
+      ended None old grown (finishes source_a source_b start out s.goes.0 old.lines (view_of old.records) old.mask grown s.goes.1 (is_wanted old.mask.want WantNothing wants)) (λ never. (same_first, same_second)) own_first own_second
 
 blocks_format : {S : Type 0} (records : Blocks S) → (view_of records).format ≡ block_format
 unfolding view_of view_with

@@ -11,7 +11,6 @@ use Rattle.bt_lines.specs.calls.Output.{block_size}
 use Rattle.bt_lines.specs.calls.Reader.{IsKept, held, input_of, lines_given, lines_left, source_of, fault_kept as line_fault}
 use Rattle.bt_lines.specs.declared.fault.Input.{Input}
 use Rattle.bt_lines.specs.declared.fault.Kind.{Kind}
-use Rattle.bt_lines.specs.declared.fault.Place.{Place}
 use Rattle.bt_lines.specs.declared.reader.line_reader.LineReader.{LineReader}
 use Rattle.bt_lines.proofs.lemmas.reader.lines.ReaderLemmas.{sound_near}
 use Rattle.bt_lines.proofs.lemmas.reader.lines.TextLemmas.{lines_are_numbered}
@@ -34,14 +33,8 @@ pub record StopsBehind {S A State : Type 0} (left : S → Option (List ℕ)) (ol
 abbrev FaultBeyond : ℕ → Option FaultValue → Type 0
 FaultBeyond count fault = IfSome fault (IsFaultBeyond count)
 
-placed_less : (less more : ℕ) (place : Option Place) → less ≤ more → IfSome place (λ p. more < p.line)
-    → IfSome place (λ p. less < p.line)
-placed_less less more None h f = tt
-placed_less less more (Some place) h f = omega arith
-
 fault_less : (less more : ℕ) (fault : Option FaultValue) → less ≤ more → FaultBeyond more fault → FaultBeyond less fault
-fault_less less more None h f = tt
-fault_less less more (Some fault) h f = placed_less less more fault.place h f
+fault_less less more fault h f = IfSome_then fault f (λ fault f. IfSome_then fault.place f (λ p up. omega (arith, h, up)))
 
 module _ {A State : Type 0} (format : Format A State) (input : Input) where
   fault_with : (count line : ℕ) (state : State) (said : Result (Option A) Kind) (rest : State → Good A)

@@ -23,7 +23,7 @@ use Rattle.bt_bed.specs.model.input.Good.{Format, Member}
 use Rattle.bt_bed.specs.model.input.GoodBed.{bed_format}
 use Rattle.bt_bed.specs.model.feature.LineKind.{IsBedKind, fault_at_line}
 use Rattle.bt_bed.specs.model.order.Locus.{ArePlaced, Locus}
-use Rattle.bt_bed.specs.model.order.Order.{Order, IsTotal}
+use Rattle.bt_bed.specs.model.order.Order.{Order}
 use Rattle.bt_bed.specs.calls.Reading.{AreSaid, MemberReader, ahead_in, first_from, members_from, state_behind}
 use Rattle.bt_bed.specs.calls.Records.{FillsRecords, below, order_in, view_of}
 use Rattle.bt_bed.specs.model.order.Sorting.{sorting_of}
