@@ -56,10 +56,6 @@ needed_from lines before (m ∷ ms) rest (inr some) =
     ∙ needed_from lines (before ++ m.item ∷ []) ms rest (inr more)
     ∙ ap (λ (l : List Feature). last_needed lines l rest) parts
 
-needed_behind : (lines : List SequenceLine) (past rest : List (Member Feature)) → (past ≡ []) ⊎ IsTrue (leaves_some lines (member_items past))
-    → last_needed lines [] (past ++ rest) ≡ last_needed lines (member_items past) rest
-needed_behind lines past rest h = needed_from lines [] past rest h
-
 -- who leave one of some lines undecided, leave one of more
 pub asked_of : (given extra : List SequenceLine) (records : List Feature) → IsTrue (leaves_some given records) → IsTrue (leaves_some (given ++ extra) records)
 asked_of given extra records some =
@@ -85,7 +81,7 @@ reaches_least on before (m ∷ ms) lines count high =
 -- what lines need lies after the records that were taken for them
 pub mask_needs : (how : MaskHow) → AreNeeded (mask_join how)
 mask_needs how given extra past rest lines count asked high =
-    subst (λ o. bytes_in (take (suc count) lines) ≤ bytes_up_to lines o) (sym (needed_behind (given ++ extra) past rest (asked_by given extra past asked)))
+    subst (λ o. bytes_in (take (suc count) lines) ≤ bytes_up_to lines o) (sym (needed_from (given ++ extra) [] past rest (asked_by given extra past asked)))
     (reaches_least (given ++ extra) (member_items past) rest lines count high)
 
 -- masking has no limit on what is held

@@ -19,11 +19,6 @@ use Rattle.bt_lines.specs.calls.Reader.{CutsOff, Hands, source_of, bytes_taken, 
 use Rattle.bt_lines.specs.declared.reader.line_reader.LineReader.{LineReader}
 use Rattle.bt_tool.specs.calls.run.FaultSource.{PassesBound}
 
-take_and_drop : {A : Type 0} (n : ℕ) (xs : List A) → take n xs ++ drop n xs ≡ xs
-take_and_drop zero xs = refl
-take_and_drop (suc n) [] = refl
-take_and_drop (suc n) (x ∷ xs) = ap (λ l. x ∷ l) (take_and_drop n xs)
-
 -- if all but a block of what follows some lines is left, at most these lines and a block were handed over
 pub handed_near : (count : ℕ) (text handed rest : List ℕ) → handed ++ rest ≡ text
     → bytes_in (drop count (text_lines text)) ≤ length rest + block_size
@@ -31,15 +26,11 @@ pub handed_near : (count : ℕ) (text handed rest : List ℕ) → handed ++ rest
 handed_near count text handed rest parts near =
     let lines = text_lines text in
     let both = bytes_in-append (take count lines) (drop count lines) in
-    let whole = ap bytes_in (take_and_drop count lines) in
+    let whole = ap bytes_in (take-append-drop count lines) in
     let all = bytes_in-lines 1 text in
     let long = ap length parts in
     let two = length-append handed rest in
     omega arith
-
--- the lines of a text that was cut off are the first of the whole text
-cut_lines : (cut more : List ℕ) → whole_lines cut ≡ take (line_feeds cut) (text_lines (cut ++ more))
-cut_lines cut more = sym (whole_front 1 cut more)
 
 module _ {A State : Type 0} (format : Format A State) (input : Input) where
   -- what is good of a text that was cut off after these lines: the members of the lines, and then
@@ -57,7 +48,7 @@ module _ {A State : Type 0} (format : Format A State) (input : Input) where
       first_from format input count count 1 format.begin (text_lines (cut ++ more)) past rest fault (omega arith)
       (lines_are_numbered 1 (cut ++ more)) members at up beyond in
       let lines : good format input (whole_lines cut) ≡ record { members = past; fault = None } =
-      ap (good format input) (cut_lines cut more) ∙ front in
+      ap (good format input) (sym (whole_front 1 cut more)) ∙ front in
       rw (lines, whole_count 1 cut) refl
 
 -- what a source handed over is its whole text, if it worked and passed no bound
@@ -99,9 +90,6 @@ below_bound n h = grind (arith, nat_tests)
 past_bound : (n : ℕ) → 2 ^ 63 ≤ n → nat_le (2 ^ 63) n ≡ true
 past_bound n h = grind (arith, nat_tests)
 
-zero_first : (n : ℕ) → 0 + n ≡ n
-zero_first n = omega arith
-
 -- a reader that had taken nothing, and what it has become; its source before and after
 module _ {S : Type 0} (device : Source S) (first last : S) (old new : LineReader S) (source : source_of old ≡ first) (ended : source_of new ≡ last) (fresh : bytes_taken old ≡ 0) where
   pub consumed_by : (bytes : List ℕ) → Hands device.left old bytes new → Consumes (device.left first) (device.left last) bytes
@@ -114,7 +102,7 @@ module _ {S : Type 0} (device : Source S) (first last : S) (old new : LineReader
   pub taken_by : (handed : Handed) (reads : Reads device first last handed) (bytes : List ℕ) → Hands device.left old bytes new → (reads.bytes ≡ bytes) × (length reads.bytes ≡ bytes_taken new)
   taken_by handed reads bytes hands =
       let same = consumes_same (device.left first) (device.left last) reads.bytes bytes reads.text reads.known reads.consumed (consumed_by bytes hands) in
-      (same, ap length same ∙ sym (hands.counted ∙ ap (λ n. n + length bytes) fresh ∙ zero_first (length bytes)))
+      (same, omega (arith, ap length same, hands.counted, fresh))
 
   -- an input that worked and passed no bound was handed over completely
   pub handed_all : (handed : Handed) (reads : Reads device first last handed) → (bytes : List ℕ) × Hands device.left old bytes new

@@ -39,7 +39,7 @@ use Rattle.bt_sweep.proofs.lemmas.laws.DecidingLemmas.{none_before, placed_back}
 use Rattle.bt_sweep.proofs.lemmas.sweep.KeepLemmas.{decided_before, decided_behind, decided_both, lines_stay_so}
 use Rattle.bt_sweep.proofs.lemmas.laws.PlacedLemmas.{front_placed}
 use Rattle.bt_tool.specs.inside.pair.Pair.{JoinDef, SettlesPair}
-use Rattle.bt_tool.proofs.lemmas.running.pair.PairSettles.{settles_list}
+use Rattle.bt_tool.proofs.lemmas.running.pair.PairSettles.{all_or, settles_list}
 use Rattle.bt_tool.proofs.lemmas.running.pair.PairTurns as turned
 
 -- it goes by the same shape, rule and limit
@@ -276,12 +276,6 @@ module _ (order : Order) (total : IsTotal order) where
       ∙ lines_stay_so order total shape rule taken b rest (subst (λ (l : List Feature). ArePlaced order (intervals_of l)) parts placed) newly known
       (decided_before order newly taken (b ∷ []) (subst (λ (l : List Feature). AreDecided order newly l) (append-nil taken) all))
 
-  each_true : (fault : Option FaultValue) (newly second : List Feature) → list_all (λ x. decided order x second) newly ≡ true → list_all (λ x. is_none fault || decided order x second) newly ≡ true
-  each_true fault [] second all = refl
-  each_true fault (x ∷ newly) second all =
-      let parts = and_parts (decided order x second) (list_all (λ x. decided order x second) newly) all in
-      and_from (is_none fault || decided order x second) (list_all (λ x. is_none fault || decided order x second) newly) (or_right (is_none fault) (decided order x second) parts.0) (each_true fault newly second parts.1)
-
   none_true : (newly second : List Feature) → list_all (λ x. is_none {T = FaultValue} None || decided order x second) newly ≡ true
   none_true [] second = refl
   none_true (x ∷ newly) second = none_true newly second
@@ -307,7 +301,7 @@ module _ (order : Order) (total : IsTotal order) where
         subst (λ (l : List Feature). AreDecided order newly l) (sym (append_assoc before ss (option_to_list o)) ∙ ap (λ (l : List Feature). l ++ option_to_list o) (sym parts)) (decided_behind order newly before (ss ++ option_to_list o) each) in
         settles_list join_of written newly bytes (intersect config.shape config.rule newly taken) (taken ++ option_to_list o) ended s
         (λ second fault ordered may. (
-          each_true fault newly second (subst (λ (l : List Feature). AreDecided order newly l) (sym may.begins.1) (decided_before order newly (taken ++ option_to_list o) may.begins.0 all)),
+          all_or (λ x. decided order x second) (is_none fault) newly (or_right (is_none fault) _ (subst (λ (l : List Feature). AreDecided order newly l) (sym may.begins.1) (decided_before order newly (taken ++ option_to_list o) may.begins.0 all))),
           ap (intersect config.shape config.rule newly) may.begins.1 ∙ lines_then config.shape config.rule newly taken o may.begins.0 known all (subst (λ (l : List Feature). ArePlaced order (intervals_of l)) may.begins.1 ordered),
         ))
 
