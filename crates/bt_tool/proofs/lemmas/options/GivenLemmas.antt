@@ -13,12 +13,12 @@ use Rattle.std.proofs.lemmas.List.Elements.{All-head, All-tail}
 use Rattle.std.proofs.lemmas.Slice.Eq.{bytes_eq-Decides}
 use Rattle.bt_lines.specs.model.Number.{is_number, max_number, value_of as number_of}
 use Rattle.bt_tool.specs.calls.words.Given.{items_in}
+use Rattle.bt_tool.specs.calls.words.Lent.{table_lent}
 use Rattle.bt_tool.specs.calls.words.Limits.{is_limit}
 use Rattle.bt_tool.specs.model.usage.Items.{Item, IsItem, items_of}
 use Rattle.bt_tool.specs.model.usage.Options.{checked, command_of, fault_together, last_item, options, plan_of, value_of, word_fault}
 use Rattle.bt_tool.specs.calls.words.Plan.{words_seen}
 use Rattle.bt_tool.specs.model.usage.Table.{Word, Table, fits, table_of, takes}
-use Rattle.bt_tool.specs.calls.words.TableLent.{table_lent}
 use Rattle.bt_tool.specs.declared.options.given.Given.{Given}
 use Rattle.bt_tool.specs.declared.options.table.Table.{Table as Lent}
 use Rattle.bt_tool.specs.declared.options.usage.Usage.{Usage}
