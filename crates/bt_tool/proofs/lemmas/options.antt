@@ -5,4 +5,3 @@ pub mod FractionLemmas
 pub mod GivenLemmas
 pub mod NamedLemmas
 pub mod Reading
-pub mod ReportWords

@@ -56,7 +56,7 @@ fn feed_buffered<S: Source, O: ChromOrder, E: Engine, K: Sink>(
     engine: &mut E,
     out: &mut Out<K>,
 ) -> Result<(), Fault>
-    ensures { FeedsBuffered S.Source E.takes E.is_after E.fault E.settled E.quiet
+    ensures { FeedsBuffered S.Source E.takes E.is_after E.fault E.settled E.quiet E.wants
         records.old engine.old out.old.output result records.new engine.new out.new.output }
 {
     let mut batch = records.buffered();

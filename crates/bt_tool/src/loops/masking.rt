@@ -2,11 +2,11 @@
 
 ghost use Rattle.std.specs.Prelude.{◌≡◌, Some, option_map};
 ghost use Rattle.bt_lines.specs.calls.Names.{fault_value};
-ghost use Rattle.bt_lines.specs.calls.Output.{HoldsBlock};
+ghost use Rattle.bt_lines.specs.calls.Output.{HoldsBlock, Output};
 ghost use Rattle.bt_lines.specs.calls.Reader.{HasRead, fault_kept as line_fault};
 ghost use Rattle.bt_bed.specs.calls.Blocks.{below, fault_kept, view_of};
 ghost use Rattle.bt_tool.specs.model.report.Behaviour.{of_maskfasta};
-ghost use Rattle.bt_tool.specs.inside.pair.MaskLoop.{AdvancesMask, GoesOn, MaskBegun};
+ghost use Rattle.bt_tool.specs.inside.pair.MaskLoop.{AdvancesMask, GoesOn};
 ghost use Rattle.bt_tool.specs.inside.feed.RunsBy.{RunsBy};
 
 use crate::loops::sources::Sources;
@@ -24,9 +24,9 @@ fn advance_buffered<A: Source, B: Source, K: Sink>(
     mask: &mut Mask,
     out: &mut Out<K>,
 ) -> Result<(), Fault>
-    ensures gives { (run : MaskBegun A B) → GoesOn A.Source B.Source run
+    ensures gives { (start : MaskRun A B) (before : Output) → GoesOn A.Source B.Source start before
         lines.old (view_of records.old) mask.old out.old.output
-        → AdvancesMask A.Source B.Source run
+        → AdvancesMask A.Source B.Source start before
         lines.old (view_of records.old) mask.old result lines.new (view_of records.new) mask.new out.new.output }
     ensures reads_first { HasRead A.is_read lines.old lines.new }
     ensures reads_second { HasRead B.is_read (below records.old) (below records.new) }
@@ -51,7 +51,7 @@ struct MaskRun<A, B> {
 }
 
 impl<A: Source, B: Source> TwoInputEngine for MaskRun<A, B> {
-    ghost use Rattle.bt_tool.specs.inside.pair.MaskRun.{MaskComes, MaskIsOver, is_mask_ready, left_to_mask, mask_wanted};
+    ghost use Rattle.bt_tool.specs.inside.pair.MaskLoop.{MaskComes, MaskIsOver, is_mask_ready, left_to_mask, mask_wanted};
 
     ghost comes = { MaskComes A.Source B.Source };
 

@@ -85,7 +85,7 @@ struct SweepRun<'o, A, B, O: ChromOrder> {
 }
 
 impl<'o, A: Source, B: Source, O: ChromOrder> TwoInputEngine for SweepRun<'o, A, B, O> {
-    ghost use Rattle.bt_tool.specs.inside.pair.SweepRun.{SweepComes, SweepIsOver, is_sweep_ready, left_to_sweep, wanted_of};
+    ghost use Rattle.bt_tool.specs.inside.pair.SweepLoop.{SweepComes, SweepIsOver, is_sweep_ready, left_to_sweep, wanted_of};
 
     ghost comes = { SweepComes A.Source B.Source };
 

@@ -5,7 +5,8 @@ ghost use Rattle.bt_lines.specs.calls.Names.{fault_value};
 ghost use Rattle.bt_lines.specs.calls.Output.{Output};
 ghost use Rattle.bt_lines.specs.model.Fault.{FaultValue};
 ghost use Rattle.bt_sweep.specs.declared.sweep.want.Want.{Want};
-ghost use Rattle.bt_tool.specs.inside.pair.Rounds.{FillsWanted, Finishes, Gives, Wants, fault_of};
+ghost use Rattle.bt_tool.specs.inside.pair.Rounds.{FillsWanted, Finishes, Gives, Wants};
+ghost use Rattle.bt_bed.specs.calls.SortedReader.{fault_in};
 
 use bt_lines::{Fault, Out, Sink};
 use bt_sweep::Want;
@@ -72,7 +73,7 @@ fn fill_wanted<E: TwoInputEngine, K: Sink>(engine: &mut E, out: &mut Out<K>) -> 
 // Gives an engine all that it wants.
 fn give_all<E: TwoInputEngine, K: Sink>(engine: &mut E, out: &mut Out<K>) -> Result<(), Fault>
     requires { E.comes engine.old out.old.output engine.old out.old.output }
-    ensures { E.ends engine.old out.old.output (fault_of result) engine.new out.new.output }
+    ensures { E.ends engine.old out.old.output (fault_in result) engine.new out.new.output }
 {
     while fill_wanted(engine, out)? {
         engine.give_buffered(out)?;

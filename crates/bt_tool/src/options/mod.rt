@@ -14,12 +14,12 @@ ghost use Rattle.bt_tool.specs.model.usage.Character.{is_printable};
 ghost use Rattle.bt_tool.specs.calls.words.Limits.{is_limit, is_shown_as, is_within_limits};
 ghost use Rattle.bt_tool.specs.model.usage.Fraction.{one_in_billionths};
 ghost use Rattle.bt_tool.specs.calls.words.Given.{items_in};
+ghost use Rattle.bt_tool.specs.calls.words.Lent.{table_lent};
 ghost use Rattle.bt_tool.specs.model.usage.Options.{billionths_by, command_by, command_of, counted_strand_by, fault_together, hit_shape, limit_by, mask_by, mask_how_by, number_by, options, plan_of, rule_by, shape_by, strand_by};
 ghost use Rattle.bt_tool.specs.calls.words.Plan.{plan_seen, words_seen};
 ghost use Rattle.bt_tool.specs.calls.words.Refusal.{CanBeTold, IsRefusalOf};
 ghost use Rattle.bt_tool.specs.model.report.Report.{ReportsPlan, ReportsRefusal};
 ghost use Rattle.bt_tool.specs.model.usage.Table.{table_of};
-ghost use Rattle.bt_tool.specs.calls.words.TableLent.{table_lent};
 ghost use Rattle.bt_tool.specs.model.usage.Usage.{no_command};
 ghost use Rattle.bt_lines.specs.model.Number.{max_number};
 

@@ -2,9 +2,8 @@
 
 ghost use Rattle.std.specs.Prelude.{◌≡◌, option_map};
 ghost use Rattle.bt_tool.specs.calls.words.Given.{items_in};
-ghost use Rattle.bt_tool.specs.calls.words.NamesLent.{names_lent};
+ghost use Rattle.bt_tool.specs.calls.words.Lent.{names_lent, table_lent};
 ghost use Rattle.bt_tool.specs.model.usage.Options.{named_by, output_by, value_if_any};
-ghost use Rattle.bt_tool.specs.calls.words.TableLent.{table_lent};
 
 use crate::options::given::Given;
 

@@ -305,7 +305,7 @@ pub(crate) const MASK_FASTA: Table = Table {
 impl Table {
     ghost use Rattle.std.specs.Prelude.{◌≡◌, bytes_eq, find, option_map};
     ghost use Rattle.bt_tool.specs.model.usage.Table.{takes};
-    ghost use Rattle.bt_tool.specs.calls.words.TableLent.{table_lent};
+    ghost use Rattle.bt_tool.specs.calls.words.Lent.{table_lent};
 
     /// What the option of this word takes, if there is one.
     #[tactic(auto, using(crate::proofs::lemmas::planning::TableLemmas::takes_lent))]

@@ -4,9 +4,8 @@ ghost use Rattle.std.specs.Prelude.{◌≡◌, Some, None, false, not, ◌&&◌,
 ghost use Rattle.std.specs.List.{list_any};
 ghost use Rattle.std.specs.Option.{option_map_or};
 ghost use Rattle.bt_tool.specs.calls.words.Given.{items_in};
-ghost use Rattle.bt_tool.specs.calls.words.NamesLent.{names_lent};
+ghost use Rattle.bt_tool.specs.calls.words.Lent.{names_lent, table_lent};
 ghost use Rattle.bt_tool.specs.model.usage.Options.{fault_together, has_exclusive, is_given, is_standard_input, lacks_option, overwrites, reads_twice};
-ghost use Rattle.bt_tool.specs.calls.words.TableLent.{table_lent};
 
 use crate::options::given::Given;
 use crate::options::names::{NamedFiles, names_of};

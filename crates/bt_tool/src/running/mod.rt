@@ -189,19 +189,13 @@ fn write_records<A: Source, B: Source, K: Sink>(
             let (fault, first) = cover(setup, zeros, strand, first, out);
             (fault, Sources { first, second })
         }
-        Command::Intersect {
-            shape,
-            rule,
-            held: limit,
-        } => {
+        Command::Intersect { shape, rule, held } => {
+            let limit = held;
             let config = SweepConfig { shape, rule, limit };
             sweep_both(setup, config, Sources { first, second }, out)
         }
-        Command::Subtract {
-            whole,
-            rule,
-            held: limit,
-        } => {
+        Command::Subtract { whole, rule, held } => {
+            let limit = held;
             let shape = shape_left(whole);
             let config = SweepConfig { shape, rule, limit };
             sweep_both(setup, config, Sources { first, second }, out)

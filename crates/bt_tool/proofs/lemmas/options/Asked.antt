@@ -1,13 +1,19 @@
 -- What a list of words means, from the parts of it that the code finds one after another.
-use Rattle.std.proofs.Common.{◌≡◌, ℕ, ◌+◌, ◌<◌, ◌≤◌, Bool, true, false, List, [], ◌∷◌, length, Option, Some, None, Err, drop, refl, sym, ap, ◌∙◌, arith, length-drop}
-use Rattle.std.specs.Prelude.{IsTrue, is_some, if◌then◌else◌}
+use Rattle.std.proofs.Common.{◌≡◌, ℕ, ◌+◌, ◌<◌, ◌≤◌, Bool, true, false, List, [], ◌∷◌, length, Option, Some, None, Err, drop, refl, sym, ap, ◌∙◌, arith, length-drop, Result, Ok}
+use Rattle.std.specs.Prelude.{IsTrue, is_some, if◌then◌else◌, IfOk, IfErr}
 use Rattle.std.proofs.lemmas.Bool.Decides.{nat_tests}
 use Rattle.bt_tool.specs.declared.planning.tool.Tool.{Tool}
 use Rattle.bt_tool.specs.declared.options.usage.Usage.{Usage}
 use Rattle.bt_tool.specs.model.usage.Items.{Item, items_of, spelled}
 use Rattle.bt_tool.specs.model.usage.Options.{asked, checked, command_of, fault_at, fault_together, options, word_fault}
 use Rattle.bt_tool.specs.model.usage.Table.{Word, Table, table_of, takes}
-use Rattle.bt_tool.specs.model.usage.Usage.{IsTellable, names_word, no_command, unknown_option, value_missing, bad_value, required_missing, options_exclusive, input_named_twice}
+use Rattle.bt_tool.specs.model.usage.Usage.{IsTellable, names_word, no_command, unknown_option, required_missing, options_exclusive, input_named_twice}
+use Rattle.bt_tool.specs.calls.words.Plan.{plan_seen}
+use Rattle.bt_tool.specs.calls.words.Refusal.{IsRefusalOf}
+use Rattle.bt_tool.specs.model.report.Report.{ReportsPlan, ReportsRefusal, report, answer_of}
+use Rattle.bt_tool.specs.declared.planning.plan_type.Plan.{Plan}
+use Rattle.bt_tool.specs.declared.options.usage.Refusal.{Refusal}
+use Rattle.bt_tool.specs.declared.options.usage.Refusal.TheVariants.{Usage as InWords, NoMemory}
 
 module _ (words : List Word) where
   pub options-no_command : command_of words ≡ None → options words ≡ Err no_command
@@ -35,33 +41,18 @@ record IsOfWord (usage : Usage) (at count : ℕ) : Type 0 where
   word : usage.word ≡ at
   some : 0 < count
 
-IsOfWord-either : (b : Bool) (one two usage : Usage) (at count : ℕ)
-    → IsOfWord one at count → IsOfWord two at count
-    → (if b then one else two) ≡ usage → IsOfWord usage at count
-IsOfWord-either true one two usage at count h g e = rw (← e) h
-IsOfWord-either false one two usage at count h g e = rw (← e) g
-
-IsOfWord-number : (number at count : ℕ) → 1 ≤ number → number ≤ 7 → 0 < count
-    → IsOfWord (record { number = number; word = at }) at count
-IsOfWord-number number at count low high some =
-    record { at_least = low; at_most = high; word = refl; some = some }
+of_word : (b : Bool) (number at count : ℕ) (usage : Usage) → 1 ≤ number → number ≤ 7 → 0 < count
+    → (if b then record { number = number; word = at } else unknown_option at) ≡ usage → IsOfWord usage at count
+of_word true number at count usage low high some e = rw (← e) (record { at_least = low; at_most = high; word = refl; some = some })
+of_word false number at count usage low high some e = rw (← e) (record { at_least = omega arith; at_most = omega arith; word = refl; some = some })
 
 fault_at-word : (table : Table) (at : ℕ) (words : List Word) (usage : Usage)
     → fault_at table at words ≡ Some usage → IsOfWord usage at (length words)
 fault_at-word table at [] usage e = cc
 fault_at-word table at (option ∷ []) usage e =
-    IsOfWord-either (is_some (takes table option)) (value_missing at) (unknown_option at)
-    usage at 1
-    (IsOfWord-number 3 at 1 (omega arith) (omega arith) (omega arith))
-    (IsOfWord-number 2 at 1 (omega arith) (omega arith) (omega arith))
-    (cc)
+    of_word (is_some (takes table option)) 3 at 1 usage (omega arith) (omega arith) (omega arith) (cc)
 fault_at-word table at (option ∷ value ∷ rest) usage e =
-    let count = length (option ∷ value ∷ rest) in
-    IsOfWord-either (is_some (takes table option)) (bad_value at) (unknown_option at)
-    usage at count
-    (IsOfWord-number 4 at count (omega arith) (omega arith) (omega arith))
-    (IsOfWord-number 2 at count (omega arith) (omega arith) (omega arith))
-    (cc)
+    of_word (is_some (takes table option)) 4 at (length (option ∷ value ∷ rest)) usage (omega arith) (omega arith) (omega arith) (cc)
 
 word_fault-tellable : (table : Table) (at : ℕ) (words : List Word) (usage : Usage)
     → word_fault table at words ≡ Some usage → IsTellable usage (at + length words)
@@ -152,3 +143,17 @@ named-tellable words (Some command) usage n e =
 pub options-tellable : (words : List Word) (usage : Usage) → options words ≡ Err usage
     → IsTellable usage (length words)
 options-tellable words usage e = named-tellable words (command_of words) usage refl e
+
+pub reports_plan : {E : Type 0} (words : List Word) (result : Result Plan E) → IfOk result (λ plan. options words ≡ Ok (plan_seen plan)) → IfOk result (λ plan. ReportsPlan words (plan_seen plan))
+unfolding report
+reports_plan words (Ok plan) h = λ genome first second. ap (λ answer. answer_of words answer genome first second) h
+reports_plan words (Err e) h = tt
+
+refusal_reports : (words : List Word) (refusal : Refusal) → IsRefusalOf words refusal → ReportsRefusal words refusal
+unfolding report
+refusal_reports words (InWords usage) h = λ genome first second. ap (λ answer. answer_of words answer genome first second) h
+refusal_reports words NoMemory h = tt
+
+pub reports_refusal : {T : Type 0} (words : List Word) (result : Result T Refusal) → IfErr result (IsRefusalOf words) → IfErr result (ReportsRefusal words)
+reports_refusal words (Ok plan) h = tt
+reports_refusal words (Err refusal) h = refusal_reports words refusal h

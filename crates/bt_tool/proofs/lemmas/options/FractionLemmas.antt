@@ -4,6 +4,7 @@ use Rattle.std.proofs.Math.ListN.{get_or-append, get_or-eq_default}
 use Rattle.std.proofs.Math.Seq.{get_or-append_right}
 use Rattle.std.proofs.lemmas.Grind.{get_or_default_zero}
 use Rattle.std.proofs.lemmas.Bool.{false≢true, and_right, and_parts, and_left}
+use Rattle.std.proofs.lemmas.Option.{cond_some}
 use Rattle.std.proofs.lemmas.Bool.Decides.{nat_tests}
 use Rattle.std.proofs.lemmas.List.{get_or-replicate, length-append, length-replicate, take_all}
 use Rattle.std.proofs.lemmas.List.Folds.{list_all-append, list_all_at}
@@ -17,10 +18,6 @@ use Rattle.bt_tool.specs.model.usage.Fraction.{are_digits_of_fraction, billionth
 pub if_none : (b : Bool) (v : ℕ) → cond b (Some v) None ≡ None → b ≡ false
 if_none true v e = cc
 if_none false v e = refl
-
-pub if_some : (b : Bool) (v n : ℕ) → cond b (Some v) None ≡ Some n → (b ≡ true) × (v ≡ n)
-if_some true v n e = (refl, cc)
-if_some false v n e = cc
 
 none_if : (b : Bool) (v : ℕ) → b ≡ false → None ≡ cond b (Some v) None
 none_if b v e = rw e refl
@@ -38,11 +35,6 @@ ones_false true true v e h = grind (arith, nat_tests)
 ones_false true false v e h = refl
 ones_false false b v e h = absurd (false≢true e)
 
-digits_true : (a b c : Bool) → ((a && b) && c) ≡ true → b ≡ true
-digits_true true true c e = refl
-digits_true true false c e = absurd (false≢true e)
-digits_true false b c e = absurd (false≢true e)
-
 module _ (text : List ℕ) where
   pub no_ones : 0 < length text → number_of text ≡ None → None ≡ cond (list_all is_ascii_digit text && leb (digits_value 10 text) 1) (Some (digits_value 10 text)) None
   unfolding number_of
@@ -53,8 +45,8 @@ module _ (text : List ℕ) where
   number_is : (n : ℕ) → number_of text ≡ Some n → (list_all is_ascii_digit text ≡ true) × (digits_value 10 text ≡ n)
   unfolding number_of
   number_is n e =
-      let is = if_some _ (digits_value 10 text) n e in
-      (digits_true (ltb 0 (length text)) (list_all is_ascii_digit text) (leb (digits_value 10 text) 999999999999) is.0, is.1)
+      let is = cond_some _ (digits_value 10 text) n e in
+      ((and_parts (ltb 0 (length text)) (list_all is_ascii_digit text) (and_parts (ltb 0 (length text) && list_all is_ascii_digit text) (leb (digits_value 10 text) 999999999999) is.0).0).1, is.1)
 
   pub many_ones : (n : ℕ) → number_of text ≡ Some n → 1 < n → None ≡ cond (list_all is_ascii_digit text && leb (digits_value 10 text) 1) (Some (digits_value 10 text)) None
   many_ones n e h =
@@ -161,8 +153,8 @@ module _ (whole decimals : List ℕ) where
       (are_decimals : Some billionths ≡ cond (list_all is_ascii_digit decimals) (Some (digits_value 10 (nine_decimals decimals))) None) where
     billionths_are : billionths_in whole decimals ≡ ones * 1000000000 + billionths
     billionths_are =
-        let one = (if_some _ (digits_value 10 whole) ones (sym is_whole)).1 in
-        let behind = (if_some _ (digits_value 10 (nine_decimals decimals)) billionths (sym are_decimals)).1 in
+        let one = (cond_some _ (digits_value 10 whole) ones (sym is_whole)).1 in
+        let behind = (cond_some _ (digits_value 10 (nine_decimals decimals)) billionths (sym are_decimals)).1 in
         rw (one, behind) refl
 
     pub above_one : 1000000000 < ones * 1000000000 + billionths → None ≡ fraction_in whole decimals
@@ -176,30 +168,24 @@ module _ (whole decimals : List ℕ) where
     is_fraction some few h =
         let is = billionths_are in
         let here : (some_digit whole decimals) ≡ true = grind (arith, nat_tests) in
-        let digits : (whole_digits whole decimals) ≡ true = (and_parts (whole_digits whole decimals) _ (if_some _ (digits_value 10 whole) ones (sym is_whole)).0).0 in
-        let behind : (decimal_digits whole decimals) ≡ true = (if_some _ (digits_value 10 (nine_decimals decimals)) billionths (sym are_decimals)).0 in
+        let digits : (whole_digits whole decimals) ≡ true = (and_parts (whole_digits whole decimals) _ (cond_some _ (digits_value 10 whole) ones (sym is_whole)).0).0 in
+        let behind : (decimal_digits whole decimals) ≡ true = (cond_some _ (digits_value 10 (nine_decimals decimals)) billionths (sym are_decimals)).0 in
         let nine : (few_decimals whole decimals) ≡ true = grind (arith, nat_tests) in
         let within : (within_one whole decimals) ≡ true = grind (arith, nat_tests) in
         some_if (are_digits_of_fraction whole decimals) (billionths_in whole decimals) _ (rw (here, digits, behind, nine, within) refl) is
 
-last_of_five : (a b c d e : Bool) → (a && (b && (c && (d && e)))) ≡ true → e ≡ true
-last_of_five true true true true e h = h
-last_of_five true true true false e h = absurd (false≢true h)
-last_of_five true true false d e h = absurd (false≢true h)
-last_of_five true false c d e h = absurd (false≢true h)
-last_of_five false b c d e h = absurd (false≢true h)
-
 fraction-limit : (whole decimals : List ℕ) (n : ℕ) → fraction_in whole decimals ≡ Some n → n ≤ one_in_billionths
 unfolding fraction_in
 fraction-limit whole decimals n e =
-    let is = if_some (are_digits_of_fraction whole decimals) (billionths_in whole decimals) n e in
-    let within = last_of_five (some_digit whole decimals) (whole_digits whole decimals) (decimal_digits whole decimals) (few_decimals whole decimals) (within_one whole decimals) is.0 in
+    let is = cond_some (are_digits_of_fraction whole decimals) (billionths_in whole decimals) n e in
+    let within = (and_parts (few_decimals whole decimals) (within_one whole decimals) (and_parts (decimal_digits whole decimals) _ (and_parts (whole_digits whole decimals) _ (and_parts (some_digit whole decimals) _ is.0).1).1).1).1 in
     subst (λ k. k ≤ one_in_billionths) is.1 (leb-true (billionths_in whole decimals) one_in_billionths within)
 
-limit-or : (o : Option ℕ) → ((n : ℕ) → o ≡ Some n → n ≤ one_in_billionths) → unwrap_or o 0 ≤ one_in_billionths
-limit-or None h = omega arith
-limit-or (Some n) h = h n refl
+-- a number that is at most so many, or 0
+pub limit-or : (most : ℕ) (o : Option ℕ) → ((n : ℕ) → o ≡ Some n → n ≤ most) → unwrap_or o 0 ≤ most
+limit-or most None h = omega arith
+limit-or most (Some n) h = h n refl
 
 -- the fraction that a word denotes is at most one
 pub fraction-limit-or : (word : List ℕ) → unwrap_or (fraction_of word) 0 ≤ one_in_billionths
-fraction-limit-or word = limit-or (fraction_of word) (fraction-limit _ _)
+fraction-limit-or word = limit-or one_in_billionths (fraction_of word) (fraction-limit _ _)

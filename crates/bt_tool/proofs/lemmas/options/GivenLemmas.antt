@@ -1,28 +1,32 @@
 -- Lemmas on the items of a command line.
-use Rattle.std.proofs.Common.{◌≡◌, ℕ, ◌≤◌, ◌&&◌, Bool, true, false, cond, List, [], ◌∷◌, length, Option, Some, None, Ok, Err, drop, refl, sym, ap, subst, ◌∙◌, arith, ltb, leb, leb-true}
-use Rattle.std.specs.Prelude.{All, String, bytes_eq, option_and_then, unwrap_or}
+use Rattle.std.proofs.Common.{◌≡◌, ℕ, ◌≤◌, ◌&&◌, Bool, true, false, cond, List, [], ◌∷◌, length, Option, Some, None, Ok, Err, drop, refl, sym, ap, subst, ◌∙◌, ltb, leb, leb-true}
+use Rattle.std.specs.Prelude.{All, String, bytes_eq, option_and_then, string_bytes, unwrap_or}
 use Rattle.std.specs.Char.{is_ascii_digit}
 use Rattle.std.specs.List.{list_all}
 use Rattle.std.specs.Str.Parse.{digits_value}
 use Rattle.std.proofs.lemmas.Bool.{le-leb, and_parts}
 use Rattle.std.specs.Option.{option_or}
 use Rattle.std.specs.declared.alloc.Global.{Global}
+use Rattle.std.proofs.lemmas.Option.{cond_some}
+use Rattle.std.proofs.lemmas.List.{length-map}
 use Rattle.std.proofs.lemmas.List.Elements.{All-head, All-tail}
 use Rattle.std.proofs.lemmas.Slice.Eq.{bytes_eq-Decides}
 use Rattle.bt_lines.specs.model.Number.{is_number, max_number, value_of as number_of}
 use Rattle.bt_tool.specs.calls.words.Given.{items_in}
+use Rattle.bt_tool.specs.calls.words.Lent.{table_lent}
 use Rattle.bt_tool.specs.calls.words.Limits.{is_limit}
 use Rattle.bt_tool.specs.model.usage.Items.{Item, IsItem, items_of}
 use Rattle.bt_tool.specs.model.usage.Options.{checked, command_of, fault_together, last_item, options, plan_of, value_of, word_fault}
 use Rattle.bt_tool.specs.calls.words.Plan.{words_seen}
 use Rattle.bt_tool.specs.model.usage.Table.{Word, Table, fits, table_of, takes}
-use Rattle.bt_tool.specs.calls.words.TableLent.{table_lent}
 use Rattle.bt_tool.specs.declared.options.given.Given.{Given}
 use Rattle.bt_tool.specs.declared.options.table.Table.{Table as Lent}
 use Rattle.bt_tool.specs.declared.options.usage.Usage.{Usage}
 use Rattle.bt_tool.specs.declared.options.takes.Takes.TheVariants.{FileName}
 use Rattle.bt_tool.specs.declared.planning.tool.Tool.{Tool}
-use Rattle.bt_tool.proofs.lemmas.options.Asked.{options-checked}
+use Rattle.bt_tool.specs.model.usage.Usage.{IsTellable}
+use Rattle.bt_tool.proofs.lemmas.options.FractionLemmas.{limit-or}
+use Rattle.bt_tool.proofs.lemmas.options.Asked.{options-checked, options-fault, options-tellable}
 use Rattle.bt_tool.proofs.lemmas.options.Division.{allowed}
 
 -- what the words mean, once they divide into items
@@ -45,26 +49,34 @@ pub same_table : (mine given : Lent) (table : Table) → mine ≡ given → tabl
     → table_lent mine ≡ table
 same_table mine given table same is = ap table_lent same ∙ is
 
--- the fault of a word, by that table
-pub at_table : (words : List Word) (given : Lent) (table : Table) (fault : Option Usage)
-    → table_lent given ≡ table → word_fault (table_lent given) 1 (drop 1 words) ≡ fault
-    → word_fault table 1 (drop 1 words) ≡ fault
-at_table words given table fault same e =
-    ap (λ t. word_fault t 1 (drop 1 words)) (sym same) ∙ e
-
 -- and of the items together
 pub together_at : (items : List Item) (given : Lent) (table : Table) (fault : Option Usage)
     → table_lent given ≡ table → fault_together (table_lent given) items ≡ fault
     → fault_together table items ≡ fault
 together_at items given table fault same e = ap (λ t. fault_together t items) (sym same) ∙ e
 
-pub checked-fault : (tool : Tool) (items : List Item) (usage : Usage)
-    → fault_together (table_of tool) items ≡ Some usage → checked tool items ≡ Err usage
-checked-fault tool items usage e = rw (e, checked) refl
+module _ (words : List (String Global)) (tool : Tool) (named : command_of (words_seen words) ≡ Some tool) (table : Lent) (is : table_lent table ≡ table_of tool) where
+  -- a word is at fault by that table
+  pub fault-word : (usage : Usage) → word_fault (table_lent table) 1 (drop 1 (words_seen words)) ≡ Some usage → options (words_seen words) ≡ Err usage
+  fault-word usage e = options-fault (words_seen words) tool usage named (ap (λ t. word_fault t 1 (drop 1 (words_seen words))) (sym is) ∙ e)
 
-pub checked-plan : (tool : Tool) (items : List Item)
-    → fault_together (table_of tool) items ≡ None → checked tool items ≡ Ok (plan_of tool items)
-checked-plan tool items e = rw (e, checked) refl
+  -- or the items together are, or the words mean a plan
+  module _ (given : Given) (mine : given.table.now ≡ table) (same : given.words.now ≡ words) where
+    checked-by : (fault : Option Usage) → fault_together (table_lent given.table.now) (items_in given) ≡ fault
+        → (options (words_seen words) ≡ checked tool (items_in given)) × (fault_together (table_of tool) (items_in given) ≡ fault)
+    checked-by fault e =
+        let table_is = same_table given.table.now table (table_of tool) mine is in
+        (options-given words given tool table_is same named, together_at (items_in given) given.table.now (table_of tool) fault table_is e)
+
+    pub fault-items : (usage : Usage) → fault_together (table_lent given.table.now) (items_in given) ≡ Some usage → options (words_seen words) ≡ Err usage
+    fault-items usage e = let by = checked-by (Some usage) e in by.0 ∙ rw (by.1, checked) refl
+
+    pub plan-items : fault_together (table_lent given.table.now) (items_in given) ≡ None → options (words_seen words) ≡ Ok (plan_of tool (items_in given))
+    plan-items e = let by = checked-by None e in by.0 ∙ rw (by.1, checked) refl
+
+-- a fault that the words mean can be reported of them
+pub fault-tellable : (words : List (String Global)) (usage : Usage) → options (words_seen words) ≡ Err usage → IsTellable usage (length words)
+fault-tellable words usage e = subst (IsTellable usage) (length-map words string_bytes) (options-tellable (words_seen words) usage e)
 
 -- the last item of an option is an item of that option
 record IsLast (table : Table) (option : Word) (item : Item) : Type 0 where
@@ -107,23 +119,15 @@ valued given option file e =
     valued-last table option (last_item option items) file
     (λ item f. last-is table option items item (allowed table (drop 1 (words_seen given.words.now))) f) e
 
-some-of : (b : Bool) (v n : ℕ) → (b ≡ true → v ≤ max_number) → cond b (Some v) None ≡ Some n → n ≤ max_number
-some-of true v n h e = let same : v ≡ n = cc in subst (λ k. k ≤ max_number) same (h refl)
-some-of false v n h e = cc
-
 -- a number that a text denotes has at most twelve digits
 pub number-limit : (text : List ℕ) (n : ℕ) → number_of text ≡ Some n → n ≤ max_number
 unfolding number_of
 number-limit text n e =
-    some-of (is_number text) (digits_value 10 text) n
-    (λ yes. leb-true (digits_value 10 text) max_number ((and_parts (ltb 0 (length text) && list_all is_ascii_digit text) (leb (digits_value 10 text) max_number) yes).1)) e
-
-either : (o : Option ℕ) → ((n : ℕ) → o ≡ Some n → n ≤ max_number) → unwrap_or o 0 ≤ max_number
-either None h = omega arith
-either (Some n) h = h n refl
+    let is = cond_some (is_number text) (digits_value 10 text) n e in
+    subst (λ k. k ≤ max_number) is.1 (leb-true (digits_value 10 text) max_number ((and_parts (ltb 0 (length text) && list_all is_ascii_digit text) (leb (digits_value 10 text) max_number) is.0).1))
 
 pub number-limit-or : (text : List ℕ) → unwrap_or (number_of text) 0 ≤ max_number
-number-limit-or text = either (number_of text) (number-limit text)
+number-limit-or text = limit-or max_number (number_of text) (number-limit text)
 
 limits : (o : Option ℕ) → ((n : ℕ) → o ≡ Some n → n ≤ max_number) → is_limit o ≡ true
 limits None h = refl

@@ -6,10 +6,10 @@ use Rattle.std.specs.declared.alloc.Global.{Global}
 use Rattle.std.proofs.lemmas.Bool.{false≢true, not-false, or_parts}
 use Rattle.std.proofs.lemmas.Slice.Eq.{bytes_eq-Decides}
 use Rattle.bt_tool.specs.calls.words.Given.{items_in}
+use Rattle.bt_tool.specs.calls.words.Lent.{table_lent}
 use Rattle.bt_tool.specs.model.usage.Items.{Item}
 use Rattle.bt_tool.specs.model.usage.Options.{command_by, fault_together, has_exclusive, is_given, lacks_one_of, lacks_option, last_item, named_by, output_by, overwrites, reads_twice, value_if_any, value_of}
 use Rattle.bt_tool.specs.model.usage.Table.{IsNamedBy, Table, Word, table_of, takes, tool_of}
-use Rattle.bt_tool.specs.calls.words.TableLent.{table_lent}
 use Rattle.bt_tool.specs.model.usage.Usage.{input_named_twice, options_exclusive, required_missing}
 use Rattle.bt_tool.specs.declared.options.given.Given.{Given}
 use Rattle.bt_tool.specs.declared.options.takes.Takes.TheVariants.{FileName}

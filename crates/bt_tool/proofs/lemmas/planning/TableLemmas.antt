@@ -7,7 +7,7 @@ use Rattle.bt_tool.specs.model.usage.Items.{Item}
 use Rattle.bt_tool.specs.model.usage.Options.{fault_together, has_exclusive, is_given, lacks_one_of, lacks_option, named_by, overwrites, reads_twice}
 use Rattle.bt_tool.specs.model.usage.Usage.{input_named_twice, options_exclusive}
 use Rattle.bt_tool.specs.model.usage.Table.{Row, Table, Word, takes}
-use Rattle.bt_tool.specs.calls.words.TableLent.{row_lent, table_lent}
+use Rattle.bt_tool.specs.calls.words.Lent.{row_lent, table_lent}
 use Rattle.bt_tool.specs.declared.options.table.Table.{Table as Lent}
 use Rattle.std.proofs.lemmas.Bool.{false≢true}
 use Rattle.std.proofs.lemmas.Bool.Decides.{nat_tests}

@@ -1,7 +1,6 @@
 -- Lemmas on running, feed.
 pub mod ComeLemmas
 pub mod ConvertLemmas
-pub mod CoverageWrites
 pub mod DrivingLemmas
 pub mod FaultLemmas
 pub mod FeedLemmas

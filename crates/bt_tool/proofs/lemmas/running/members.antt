@@ -3,7 +3,6 @@ pub mod BlockMembers
 pub mod CameMembers
 pub mod CursorLemmas
 pub mod HandedLemmas
-pub mod HandedReader
 pub mod LineMembers
 pub mod LinePassing
 pub mod MemberLemmas

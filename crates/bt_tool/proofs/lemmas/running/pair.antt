@@ -1,6 +1,5 @@
 -- Lemmas on running, pair.
 pub mod BufferedLemmas
-pub mod PairLimits
 pub mod PairMet
 pub mod PairNear
 pub mod PairSettles

@@ -36,5 +36,5 @@ pub returns-in-Subtract-clause-runs : goal.returns-in-Subtract-clause-runs
 returns-in-Subtract-clause-runs g c =
     let swept = c.sweep_both-in-Subtract in
     rw c.in-Subtract.is
-    (subtract_runs g.A.Source g.B.Source (order_of (option_map entries c.args.setup.now.genome.now)) c.in-Subtract.whole c.in-Subtract.rule c.in-Subtract.limit c.args.sources.first c.args.sources.second c.args.out.now.output
+    (subtract_runs g.A.Source g.B.Source (order_of (option_map entries c.args.setup.now.genome.now)) c.in-Subtract.whole c.in-Subtract.rule c.in-Subtract.held c.args.sources.first c.args.sources.second c.args.out.now.output
     (option_map fault_value swept.result.0) swept.result.1.first swept.result.1.second swept.new.out.output (rw c.shape_left-shape.ensures at swept.ensures.runs))

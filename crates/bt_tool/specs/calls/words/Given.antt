@@ -3,7 +3,7 @@ use Rattle.std.specs.Prelude.{List, drop}
 use Rattle.bt_tool.specs.declared.options.given.Given.{Given}
 use Rattle.bt_tool.specs.model.usage.Items.{Item, items_of}
 use Rattle.bt_tool.specs.calls.words.Plan.{words_seen}
-use Rattle.bt_tool.specs.calls.words.TableLent.{table_lent}
+use Rattle.bt_tool.specs.calls.words.Lent.{table_lent}
 
 -- the items into which the words after the first divide
 abbrev pub items_in : Given → List Item

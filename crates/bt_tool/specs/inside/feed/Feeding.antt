@@ -4,7 +4,7 @@ use Rattle.std.specs.Prelude.{length, Some, None, Result, Ok, Err, IfSome}
 use Rattle.bt_lines.specs.declared.device.Source.{Ghosts as Source}
 use Rattle.bt_lines.specs.model.Fault.{FaultValue, write_failed}
 use Rattle.bt_lines.specs.calls.Names.{fault_value}
-use Rattle.bt_lines.specs.calls.Output.{Output, IsPrefixOf, Grows, block_size}
+use Rattle.bt_lines.specs.calls.Output.{Output, IsPrefixOf, Grows, HoldsBlock, block_size}
 use Rattle.bt_lines.specs.calls.Putting.{WorksAsBefore}
 use Rattle.bt_lines.specs.calls.Reader.{Hands, IsSound, source_of, bytes_taken}
 use Rattle.bt_lines.specs.calls.Reader.{feeds_taken, lines_given}
@@ -42,6 +42,13 @@ pub record CutsLines (old : Output) (lines : List ℕ) (new : Output) : Type 0 w
       → IsPrefixOf new.took (Some (before ++ lines)) []
   pub failed : new.has_failed ≡ true
   pub sink_failed : new.sink_has_failed ≡ true
+
+-- they were, and the sink took all but a block of what was put
+pub record HasPut (old : Output) (lines : List ℕ) (new : Output) : Type 0 where
+  pub puts : PutsLines old lines new
+  pub works : WorksAsBefore old new
+  pub block : HoldsBlock new.took new.put
+  pub grows : Grows old.took new.took
 
 -- an output later on: the sink took no less, and unless a write failed no less was put
 pub record GoesOn (old new : Output) : Type 0 where

@@ -1,4 +1,5 @@
--- How far masking the lines of a reader by the records of another has come, and how it ends.
+-- How far masking the lines of a reader by the records of another has come, and how it ends, as a run
+-- over two inputs.
 use Rattle.std.specs.Prelude.{◌≡◌, ◌⊎◌, ⊤, ℕ, ◌+◌, ◌*◌, ◌<◌, ◌≤◌, Bool, true, false, not, List, []}
 use Rattle.std.specs.Prelude.{Option, Some, IsTrue, is_some, length, Result, Ok, Err}
 use Rattle.std.specs.List.{list_any}
@@ -14,6 +15,7 @@ use Rattle.bt_bed.specs.model.feature.Feature.{Feature}
 use Rattle.bt_bed.specs.model.input.Good.{Member}
 use Rattle.bt_bed.specs.model.input.GoodBlocks.{AreInBlocks, block_format}
 use Rattle.bt_bed.specs.model.order.Locus.{Locus}
+use Rattle.bt_bed.specs.calls.Blocks.{view_of}
 use Rattle.bt_bed.specs.calls.Reading.{MemberReader, room}
 use Rattle.bt_seq.specs.calls.MaskStage.{MaskStage}
 use Rattle.bt_seq.specs.calls.MaskStanding.{MaskStandsAt}
@@ -26,12 +28,13 @@ use Rattle.bt_seq.specs.declared.mask.mask_want.MaskWant.{MaskWant}
 use Rattle.bt_seq.specs.declared.mask.mask_want.MaskWant.TheVariants.{Line as WantLine, Bed as WantBed, Nothing}
 use Rattle.bt_sweep.specs.declared.sweep.want.Want.{Want}
 use Rattle.bt_sweep.specs.declared.sweep.want.Want.TheVariants.{A as WantA, B as WantB, Nothing as WantNothing}
+use Rattle.bt_tool.specs.declared.loops.masking.MaskRun.{MaskRun}
 use Rattle.bt_tool.specs.model.usage.Kinds.{IsOneOf}
 use Rattle.bt_tool.specs.model.report.SweepReport.{bytes_up_to}
 use Rattle.bt_tool.specs.model.report.MaskReport.{is_fasta_kind, is_mask_kind, last_needed}
 use Rattle.bt_tool.specs.inside.pair.Pair.{JoinDef, Pair, item_ahead}
 use Rattle.bt_tool.specs.inside.pair.Progress.{Comes, PairStage}
-use Rattle.bt_tool.specs.inside.pair.Endings.{PairEnds}
+use Rattle.bt_tool.specs.inside.pair.Endings.{HaveRead, IsOverWith, PairEnds}
 use Rattle.bt_tool.specs.inside.pair.Rounds.{IsBuffered}
 use Rattle.bt_tool.specs.inside.feed.Passed.{IsKeptBelow, lines_read}
 
@@ -79,16 +82,6 @@ stage_of stage = record {
 abbrev pub nothing_reached : Reached
 nothing_reached = record { names = []; bases = 0 }
 
--- where masking began
-pub record MaskBegun (A B : Type 0) : Type 0 where
-  pub how : MaskHow
-  pub full : Bool
-  pub lines : LineReader A
-  pub records : MemberReader B Feature (Option Locus)
-  pub out : Output
-  pub first : input_of lines ≡ First
-  pub blocks : records.format ≡ block_format
-
 -- what an engine that masks wants, as of two inputs
 abbrev pub wanted_by : MaskWant → Want
 wanted_by WantLine = WantA
@@ -114,6 +107,16 @@ module _ {A B : Type 0} (lines : LineReader A) (second : MemberReader B Feature 
   IsMaskReady want =
       IsBuffered (wanted_by want) (length (buffered_bytes lines)) (length second.buffered)
 
+module _ {A B : Type 0} where
+  abbrev pub mask_wanted : MaskRun A B → Want
+  mask_wanted now = wanted_by now.mask.want
+
+  abbrev pub is_mask_ready : MaskRun A B → Type 0
+  is_mask_ready now = IsMaskReady now.lines (view_of now.records) now.mask.want
+
+  abbrev pub left_to_mask : MaskRun A B → ℕ
+  left_to_mask now = mask_left now.lines (view_of now.records) now.mask
+
 module _ {A B : Type 0} (source_a : Source A) (source_b : Source B) where
   abbrev pub mask_pair : Bool → LineReader A → MemberReader B Feature (Option Locus)
       → Pair A B SequenceLine Feature Reached (Option Locus)
@@ -124,9 +127,10 @@ module _ {A B : Type 0} (source_a : Source A) (source_b : Source B) where
     second = records;
   }
 
-module _ {A B : Type 0} (source_a : Source A) (source_b : Source B) (run : MaskBegun A B) where
+module _ {A B : Type 0} (source_a : Source A) (source_b : Source B) (start : MaskRun A B)
+    (out : Output) where
   abbrev pub begun_pair : Pair A B SequenceLine Feature Reached (Option Locus)
-  begun_pair = mask_pair source_a source_b run.full run.lines run.records
+  begun_pair = mask_pair source_a source_b start.mask.full start.lines (view_of start.records)
 
   -- lines and records so far were given, and the lines have come so far
   pub record Masks (reached : Reached) (lines : LineReader A)
@@ -135,10 +139,12 @@ module _ {A B : Type 0} (source_a : Source A) (source_b : Source B) (run : MaskB
     pub past_second : List (Member Feature)
     pub stage : MaskStage
     pub stands : MaskStandsAt stage mask
-    pub how_is : mask.how ≡ run.how
-    pub full_is : mask.full ≡ run.full
-    pub comes : Comes (mask_join run.how) begun_pair run.out (stage_of stage) past_first past_second
-        (line_members run.full reached lines) second grown
+    pub first_is : input_of start.lines ≡ First
+    pub blocks_is : (view_of start.records).format ≡ block_format
+    pub how_is : mask.how ≡ start.mask.how
+    pub full_is : mask.full ≡ start.mask.full
+    pub comes : Comes (mask_join start.mask.how) begun_pair out (stage_of stage) past_first past_second
+        (line_members start.mask.full reached lines) second grown
     -- the record ahead, if one is known to be, is the next one
     pub kept_ahead : (r : Feature) → stage.ahead ≡ Some r → item_ahead second ≡ Some r
     pub lines_over : stage.lines_ended ≡ true → has_ended lines ≡ true
@@ -152,7 +158,7 @@ module _ {A B : Type 0} (source_a : Source A) (source_b : Source B) (run : MaskB
       → Output → Type 0
   MaskEnds fault lines second grown = (members : MemberReader A SequenceLine Reached)
       × (members.below ≡ lines)
-      × PairEnds (mask_join run.how) begun_pair run.out fault members second grown
+      × PairEnds (mask_join start.mask.how) begun_pair out fault members second grown
       × IsKeptBelow members lines
 
   -- what is buffered was given, as far as it is wanted
@@ -166,3 +172,15 @@ module _ {A B : Type 0} (source_a : Source A) (source_b : Source B) (run : MaskB
       → mask_left lines second mask < mask_left old old_second old_mask)
   AdvancesMask old old_second old_mask (Err fault) lines second mask grown =
       MaskEnds (Some (fault_value fault)) lines second grown
+
+  -- the lines and the records so far were given, and all reads served
+  pub record MaskComes (now : MaskRun A B) (grown : Output) : Type 0 where
+    pub goes : GoesOn now.lines (view_of now.records) now.mask grown
+    pub reads : HaveRead begun_pair
+        (line_members start.mask.full goes.0 now.lines) (view_of now.records)
+
+  abbrev pub MaskIsOver : Option FaultValue → MaskRun A B → Output → Type 0
+  MaskIsOver fault now grown = (members : MemberReader A SequenceLine Reached)
+      × (members.below ≡ now.lines)
+      × IsOverWith begun_pair (mask_join start.mask.how) out fault
+      members (view_of now.records) grown

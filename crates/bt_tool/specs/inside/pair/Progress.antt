@@ -2,12 +2,11 @@
 use Rattle.std.specs.Prelude.{◌≡◌, ℕ, Bool, true, List, [], ◌∷◌, ◌++◌, Option, None}
 use Rattle.std.specs.Option.{option_to_list}
 use Rattle.bt_lines.specs.declared.device.Source.{Ghosts as Source}
-use Rattle.bt_lines.specs.calls.Output.{Output, HoldsBlock, Grows}
-use Rattle.bt_lines.specs.calls.Putting.{WorksAsBefore}
+use Rattle.bt_lines.specs.calls.Output.{Output}
 use Rattle.bt_lines.specs.calls.Reader.{end_told, source_of}
 use Rattle.bt_bed.specs.model.input.Good.{Member}
 use Rattle.bt_bed.specs.calls.Reading.{MemberReader}
-use Rattle.bt_tool.specs.inside.feed.Feeding.{PutsLines, member_items}
+use Rattle.bt_tool.specs.inside.feed.Feeding.{HasPut, member_items}
 use Rattle.bt_tool.specs.inside.pair.Pair.{JoinDef, Pair, SettlesPair, item_ahead}
 use Rattle.bt_tool.specs.inside.pair.Endings.{HasNoMore, IsKnown}
 use Rattle.bt_tool.specs.inside.feed.Passed.{AreAll, IsReadFor, Passes}
@@ -64,10 +63,7 @@ module _ {A B X Y U V : Type 0} (join : JoinDef X Y) (pair : Pair A B X Y U V) (
     pub second_all : stage.second_ended ≡ true
         → AreAll pair.source_b pair.second past_second
         × (second.buffered ≡ []) × (end_told second.below ≡ true)
-    pub puts : PutsLines out bytes grown
-    pub works : WorksAsBefore out grown
-    pub block : HoldsBlock grown.took grown.put
-    pub grows : Grows out.took grown.took
+    pub put : HasPut out bytes grown
     -- the first input was read as far as the members written need
     pub near_first : (past : List (Member X)) × (member_items past ≡ stage.written)
         × (read : IsReadFor pair.source_a pair.first past past_first first)

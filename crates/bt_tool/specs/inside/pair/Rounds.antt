@@ -1,16 +1,12 @@
 -- What the calls of a run over two inputs do.
-use Rattle.std.specs.Prelude.{◌≡◌, ◌⊎◌, ◌<◌, ◌≤◌, ℕ, Bool, true, false, Option, Some, None, Result, Ok, Err}
+use Rattle.std.specs.Prelude.{◌≡◌, ◌⊎◌, ◌<◌, ◌≤◌, ℕ, Bool, true, false, Option, Some, Result, Ok, Err}
 use Rattle.bt_lines.specs.model.Fault.{FaultValue}
 use Rattle.bt_lines.specs.calls.Names.{fault_value}
 use Rattle.bt_lines.specs.calls.Output.{Output}
 use Rattle.bt_lines.specs.declared.fault.Fault.{Fault}
+use Rattle.bt_bed.specs.calls.SortedReader.{fault_in}
 use Rattle.bt_sweep.specs.declared.sweep.want.Want.{Want}
 use Rattle.bt_sweep.specs.declared.sweep.want.Want.TheVariants.{A, B, Nothing}
-
--- the fault that is returned, if one is
-abbrev pub fault_of : {T : Type 0} → Result T Fault → Option FaultValue
-fault_of (Ok done) = None
-fault_of (Err fault) = Some (fault_value fault)
 
 -- something of what is wanted is buffered, if so much of each input is
 abbrev pub IsBuffered : Want → ℕ → ℕ → Type 0
@@ -38,7 +34,7 @@ module _ {E : Type 0} (comes : E → Output → E → Output → Type 0)
   -- the run has ended
   abbrev pub Finishes : {T : Type 0} → E → Output → Result T Fault → E → Type 0
   Finishes old grown result new = (start : E) (out : Output) → comes start out old grown
-      → ends start out (fault_of result) new grown
+      → ends start out (fault_in result) new grown
 
   module _ (is_ready : E → Type 0) (left : E → ℕ) where
     -- the input that is wanted was read on

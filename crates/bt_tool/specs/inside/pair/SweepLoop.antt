@@ -1,6 +1,6 @@
--- How far a sweep over two readers has come, and how it ends.
+-- How far a sweep over two readers has come, and how it ends, as a run over two inputs.
 use Rattle.std.specs.Prelude.{◌≡◌, ◌⊎◌, ℕ, ◌≤◌, ◌<◌, All, true, List, ◌++◌, Option, Some, None, Result, Ok, Err}
-use Rattle.std.specs.Prelude.{⊤, [], IsTrue, option_to_list}
+use Rattle.std.specs.Prelude.{⊤, ◌+◌, ◌*◌, [], Bool, false, IsTrue, is_some, length, option_to_list}
 use Rattle.std.specs.List.{list_all}
 use Rattle.bt_lines.specs.declared.device.Source.{Ghosts as Source}
 use Rattle.bt_lines.specs.model.Fault.{FaultValue, read_failed}
@@ -19,19 +19,23 @@ use Rattle.bt_bed.specs.model.input.GoodBed.{bed_format}
 use Rattle.bt_bed.specs.model.order.Order.{IsTotal, Order}
 use Rattle.bt_bed.specs.model.order.Sorting.{sorting_of}
 use Rattle.bt_bed.specs.calls.Reading.{MemberReader, ahead_in}
-use Rattle.bt_bed.specs.calls.Records.{last_locus, order_in, view_of}
+use Rattle.bt_bed.specs.calls.Records.{last_locus, order_in, room, view_of}
 use Rattle.bt_bed.specs.declared.order.ChromOrder.{Ghosts}
 use Rattle.bt_bed.specs.declared.read.records.Records.{Records}
 use Rattle.bt_sweep.specs.model.Deciding.{decided}
 use Rattle.bt_sweep.specs.model.IntersectLines.{lines_for}
 use Rattle.bt_sweep.specs.model.Limit.{are_too_many, cut_behind, limited}
 use Rattle.bt_sweep.specs.calls.Standing.{Stage, StandsAt, given, leaves_some}
-use Rattle.bt_sweep.specs.calls.SweepState.{Sweeping}
+use Rattle.bt_sweep.specs.calls.SweepState.{Sweeping, is_over, want_in}
+use Rattle.bt_sweep.specs.calls.SweepView.{order_of as sweep_order, state_of}
+use Rattle.bt_sweep.specs.declared.sweep.want.Want.{Want}
 use Rattle.bt_tool.specs.declared.loops.sweeping.SweepConfig.{SweepConfig}
+use Rattle.bt_tool.specs.declared.loops.sweeping.SweepRun.{SweepRun}
 use Rattle.bt_tool.specs.model.report.SweepReport.{IsSweptKind, bytes_up_to, decider}
 use Rattle.bt_tool.specs.inside.pair.Pair.{JoinDef, Pair}
 use Rattle.bt_tool.specs.inside.pair.Progress.{Comes, PairStage}
-use Rattle.bt_tool.specs.inside.pair.Endings.{PairEnds, IsKnown}
+use Rattle.bt_tool.specs.inside.pair.Endings.{HaveRead, IsKnown, IsOverWith}
+use Rattle.bt_tool.specs.inside.pair.Rounds.{IsBuffered}
 use Rattle.bt_tool.specs.inside.feed.Passed.{AreAll, Passes, StopsAfter}
 
 -- Whatever comes after them of either input, by these records of the first the limit doesn't lie
@@ -96,12 +100,6 @@ module _ {A B O : Type 0} {g : Ghosts O} (source_a : Source A) (source_b : Sourc
 module _ {A B O : Type 0} {g : Ghosts O} (source_a : Source A) (source_b : Source B)
     (order : Order) (config : SweepConfig) (old_first : Records A O g)
     (old_second : Records B O g) (out : Output) where
-  abbrev pub SweepEnds : Option FaultValue → Records A O g → Records B O g → Output → Type 0
-  SweepEnds fault first second grown =
-      PairEnds (sweep_join order config)
-      (records_pair source_a source_b old_first old_second) out fault
-      (view_of first) (view_of second) grown
-
   -- the records so far were given
   pub record Sweeps (first : Records A O g) (second : Records B O g) (sweep : Sweeping)
       (grown : Output) : Type 0 where
@@ -118,6 +116,43 @@ module _ {A B O : Type 0} {g : Ghosts O} (source_a : Source A) (source_b : Sourc
     pub second_order : order_in second ≡ order_in old_second
     pub fits : IsKnown (records_pair source_a source_b old_first old_second)
         → AreWithin order config.limit (given stage) past_second
+
+-- how many rounds are wanted beside those that consume: 2 while a record waits, 1 until the first
+-- input ends
+abbrev pub sweep_rounds : Bool → Bool → ℕ
+sweep_rounds true done = 2
+sweep_rounds false true = 0
+sweep_rounds false false = 1
+
+module _ {A B O : Type 0} {g : Ghosts O} where
+  abbrev pub wanted_of : SweepRun A B O g → Want
+  wanted_of now = want_in (state_of now.sweep)
+
+  abbrev pub is_sweep_ready : SweepRun A B O g → Type 0
+  is_sweep_ready now =
+      IsBuffered (wanted_of now) (length (view_of now.first).buffered)
+      (length (view_of now.second).buffered)
+
+  abbrev pub left_to_sweep : SweepRun A B O g → ℕ
+  left_to_sweep now = 2 * (room now.first + room now.second)
+      + sweep_rounds (is_some (state_of now.sweep).current) (is_over (state_of now.sweep).phase)
+
+  module _ (source_a : Source A) (source_b : Source B) (start : SweepRun A B O g)
+      (out : Output) where
+    -- the records so far were given
+    pub record SweepComes (now : SweepRun A B O g) (grown : Output) : Type 0 where
+      pub begun : AreBegun start.first start.second
+      pub sweeps : Sweeps source_a source_b (order_in start.first) (config_of (state_of start.sweep))
+          start.first start.second out now.first now.second (state_of now.sweep) grown
+      pub order_is : sweep_order now.sweep ≡ order_in start.first
+      pub reads : HaveRead (records_pair source_a source_b start.first start.second)
+          (view_of now.first) (view_of now.second)
+
+    abbrev pub SweepIsOver : Option FaultValue → SweepRun A B O g → Output → Type 0
+    SweepIsOver fault now grown =
+        IsOverWith (records_pair source_a source_b start.first start.second)
+        (sweep_join (order_in start.first) (config_of (state_of start.sweep))) out fault
+        (view_of now.first) (view_of now.second) grown
 
 module _ {S A State : Type 0} (device : Source S)
     (old : MemberReader S A State) (past : List (Member A)) (before : MemberReader S A State) where

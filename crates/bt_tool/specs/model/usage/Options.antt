@@ -17,13 +17,7 @@ use Rattle.bt_sweep.specs.declared.output.shape.Shape.{Shape}
 use Rattle.bt_sweep.specs.declared.output.shape.Shape.TheVariants.{Cut, OrigA, CutAndB, OrigBoth, Overlap}
 use Rattle.bt_sweep.specs.declared.output.shape.Shape.TheVariants.{Once, Missing, Count}
 use Rattle.bt_tool.specs.declared.planning.plan_type.Command.{Command}
-use Rattle.bt_tool.specs.declared.planning.plan_type.Command.TheVariants.{Merge as MergeWith}
-use Rattle.bt_tool.specs.declared.planning.plan_type.Command.TheVariants.{Complement as ComplementWith}
-use Rattle.bt_tool.specs.declared.planning.plan_type.Command.TheVariants.{Intersect as IntersectWith}
-use Rattle.bt_tool.specs.declared.planning.plan_type.Command.TheVariants.{Subtract as SubtractWith}
-use Rattle.bt_tool.specs.declared.planning.plan_type.Command.TheVariants.{Coverage as CoverageWith}
-use Rattle.bt_tool.specs.declared.planning.plan_type.Command.TheVariants.{BamToBed as BamToBedWith}
-use Rattle.bt_tool.specs.declared.planning.plan_type.Command.TheVariants.{MaskFasta as MaskFastaWith}
+use Rattle.bt_tool.specs.declared.planning.plan_type.Command.TheVariants as does
 use Rattle.bt_tool.specs.declared.planning.tool.Tool.{Tool}
 use Rattle.bt_tool.specs.declared.planning.tool.Tool.TheVariants.{Merge, Complement, Intersect, Subtract}
 use Rattle.bt_tool.specs.declared.planning.tool.Tool.TheVariants.{Coverage, BamToBed, MaskFasta}
@@ -151,22 +145,22 @@ mask_how_by items =
 -- the command that the items mean
 abbrev pub command_by : Tool → List Item → Command
 command_by Merge items =
-    MergeWith (number_by (value_of items (codes "-d")))
+    does.Merge (number_by (value_of items (codes "-d")))
     (strand_by (is_given items (codes "-s")) (value_of items (codes "-S")))
-command_by Complement items = ComplementWith (is_given items (codes "-L"))
+command_by Complement items = does.Complement (is_given items (codes "-L"))
 command_by Intersect items =
-    IntersectWith (shape_by items) (rule_by items (is_given items (codes "-r")))
+    does.Intersect (shape_by items) (rule_by items (is_given items (codes "-r")))
     (limit_by (value_of items (codes "-held")))
 command_by Subtract items =
-    SubtractWith (is_given items (codes "-A")) (rule_by items false)
+    does.Subtract (is_given items (codes "-A")) (rule_by items false)
     (limit_by (value_of items (codes "-held")))
 command_by Coverage items =
-    CoverageWith (is_given items (codes "-bga"))
+    does.Coverage (is_given items (codes "-bga"))
     (counted_strand_by (value_of items (codes "-strand")))
 command_by BamToBed items =
-    BamToBedWith (is_given items (codes "-split")) (is_given items (codes "-cigar"))
+    does.BamToBed (is_given items (codes "-split")) (is_given items (codes "-cigar"))
 command_by MaskFasta items =
-    MaskFastaWith (mask_how_by items) (is_given items (codes "-fullHeader"))
+    does.MaskFasta (mask_how_by items) (is_given items (codes "-fullHeader"))
 
 -- the names of the inputs and of the output, as the items give them
 pub record Named : Type 0 where

@@ -10,13 +10,7 @@ use Rattle.bt_lines.specs.model.Number.{value_of as number_of}
 use Rattle.bt_tool.specs.model.usage.Character.{character_of}
 use Rattle.bt_tool.specs.model.usage.Fraction.{fraction_of}
 use Rattle.bt_tool.specs.declared.planning.plan_type.Command.{Command}
-use Rattle.bt_tool.specs.declared.planning.plan_type.Command.TheVariants.{Merge as MergeWith}
-use Rattle.bt_tool.specs.declared.planning.plan_type.Command.TheVariants.{Complement as ComplementWith}
-use Rattle.bt_tool.specs.declared.planning.plan_type.Command.TheVariants.{Intersect as IntersectWith}
-use Rattle.bt_tool.specs.declared.planning.plan_type.Command.TheVariants.{Subtract as SubtractWith}
-use Rattle.bt_tool.specs.declared.planning.plan_type.Command.TheVariants.{Coverage as CoverageWith}
-use Rattle.bt_tool.specs.declared.planning.plan_type.Command.TheVariants.{BamToBed as BamToBedWith}
-use Rattle.bt_tool.specs.declared.planning.plan_type.Command.TheVariants.{MaskFasta as MaskFastaWith}
+use Rattle.bt_tool.specs.declared.planning.plan_type.Command.TheVariants as does
 use Rattle.bt_tool.specs.declared.options.takes.Takes.{Takes}
 use Rattle.bt_tool.specs.declared.options.takes.Takes.TheVariants.{Nothing, FileName, Number, Fraction}
 use Rattle.bt_tool.specs.declared.options.takes.Takes.TheVariants.{Strand, Character}
@@ -76,136 +70,121 @@ abbrev pub IsNamedBy : {A : Type 0} → Table → Option Word → Option A → T
 IsNamedBy table option name =
     (IsTrue (is_required table option) → IsSome name) × (IsNone option → IsNone name)
 
-abbrev pub merge_table : Table
-merge_table = record {
-  options = record { option = codes "-i"; takes = FileName }
-      ∷ record { option = codes "-g"; takes = FileName }
-      ∷ record { option = codes "-d"; takes = Number }
-      ∷ record { option = codes "-s"; takes = Nothing }
-      ∷ record { option = codes "-S"; takes = Strand }
-      ∷ [];
+abbrev pub row : Word → Takes → Row
+row option takes = record { option = option; takes = takes }
+
+-- no options yet; this one will name the first input
+abbrev pub plain_table : Word → Table
+plain_table first = record {
+  options = [];
   required = [];
   one_of = [];
-  exclusive = (codes "-s", codes "-S") ∷ [];
-  genome = Some (codes "-g");
-  first = codes "-i";
+  exclusive = [];
+  genome = None;
+  first = first;
   second = None;
   output = None;
 }
 
+abbrev pub merge_table : Table
+merge_table = record (plain_table (codes "-i")) {
+  options = row (codes "-i") FileName
+      ∷ row (codes "-g") FileName
+      ∷ row (codes "-d") Number
+      ∷ row (codes "-s") Nothing
+      ∷ row (codes "-S") Strand
+      ∷ [];
+  exclusive = (codes "-s", codes "-S") ∷ [];
+  genome = Some (codes "-g");
+}
+
 abbrev pub complement_table : Table
-complement_table = record {
-  options = record { option = codes "-i"; takes = FileName }
-      ∷ record { option = codes "-g"; takes = FileName }
-      ∷ record { option = codes "-L"; takes = Nothing }
+complement_table = record (plain_table (codes "-i")) {
+  options = row (codes "-i") FileName
+      ∷ row (codes "-g") FileName
+      ∷ row (codes "-L") Nothing
       ∷ [];
   required = codes "-g" ∷ [];
-  one_of = [];
-  exclusive = [];
   genome = Some (codes "-g");
-  first = codes "-i";
-  second = None;
-  output = None;
 }
 
 -- Two shapes of output exclude one another, except -wa beside -wb, and beside -u, -v and -c,
 -- where it changes nothing.
 abbrev pub intersect_table : Table
-intersect_table = record {
-  options = record { option = codes "-a"; takes = FileName }
-      ∷ record { option = codes "-b"; takes = FileName }
-      ∷ record { option = codes "-g"; takes = FileName }
-      ∷ record { option = codes "-wa"; takes = Nothing }
-      ∷ record { option = codes "-wb"; takes = Nothing }
-      ∷ record { option = codes "-wo"; takes = Nothing }
-      ∷ record { option = codes "-u"; takes = Nothing }
-      ∷ record { option = codes "-v"; takes = Nothing }
-      ∷ record { option = codes "-c"; takes = Nothing }
-      ∷ record { option = codes "-f"; takes = Fraction }
-      ∷ record { option = codes "-r"; takes = Nothing }
-      ∷ record { option = codes "-s"; takes = Nothing }
-      ∷ record { option = codes "-sorted"; takes = Nothing }
-      ∷ record { option = codes "-held"; takes = Number }
+intersect_table = record (plain_table (codes "-a")) {
+  options = row (codes "-a") FileName
+      ∷ row (codes "-b") FileName
+      ∷ row (codes "-g") FileName
+      ∷ row (codes "-wa") Nothing
+      ∷ row (codes "-wb") Nothing
+      ∷ row (codes "-wo") Nothing
+      ∷ row (codes "-u") Nothing
+      ∷ row (codes "-v") Nothing
+      ∷ row (codes "-c") Nothing
+      ∷ row (codes "-f") Fraction
+      ∷ row (codes "-r") Nothing
+      ∷ row (codes "-s") Nothing
+      ∷ row (codes "-sorted") Nothing
+      ∷ row (codes "-held") Number
       ∷ [];
   required = codes "-a" ∷ codes "-b" ∷ [];
-  one_of = [];
   exclusive = (codes "-wa", codes "-wo") ∷ (codes "-wb", codes "-wo") ∷ (codes "-wb", codes "-u")
       ∷ (codes "-wb", codes "-v") ∷ (codes "-wb", codes "-c") ∷ (codes "-wo", codes "-u")
       ∷ (codes "-wo", codes "-v") ∷ (codes "-wo", codes "-c") ∷ (codes "-u", codes "-v")
       ∷ (codes "-u", codes "-c") ∷ (codes "-v", codes "-c") ∷ [];
   genome = Some (codes "-g");
-  first = codes "-a";
   second = Some (codes "-b");
-  output = None;
 }
 
 -- The fraction of subtract is always that of the first record alone.
 abbrev pub subtract_table : Table
-subtract_table = record {
-  options = record { option = codes "-a"; takes = FileName }
-      ∷ record { option = codes "-b"; takes = FileName }
-      ∷ record { option = codes "-g"; takes = FileName }
-      ∷ record { option = codes "-A"; takes = Nothing }
-      ∷ record { option = codes "-f"; takes = Fraction }
-      ∷ record { option = codes "-s"; takes = Nothing }
-      ∷ record { option = codes "-held"; takes = Number }
+subtract_table = record (plain_table (codes "-a")) {
+  options = row (codes "-a") FileName
+      ∷ row (codes "-b") FileName
+      ∷ row (codes "-g") FileName
+      ∷ row (codes "-A") Nothing
+      ∷ row (codes "-f") Fraction
+      ∷ row (codes "-s") Nothing
+      ∷ row (codes "-held") Number
       ∷ [];
   required = codes "-a" ∷ codes "-b" ∷ [];
-  one_of = [];
-  exclusive = [];
   genome = Some (codes "-g");
-  first = codes "-a";
   second = Some (codes "-b");
-  output = None;
 }
 
 -- One of -bg and -bga has to be given, and both together are -bga.
 abbrev pub coverage_table : Table
-coverage_table = record {
-  options = record { option = codes "-i"; takes = FileName }
-      ∷ record { option = codes "-g"; takes = FileName }
-      ∷ record { option = codes "-bg"; takes = Nothing }
-      ∷ record { option = codes "-bga"; takes = Nothing }
-      ∷ record { option = codes "-strand"; takes = Strand }
+coverage_table = record (plain_table (codes "-i")) {
+  options = row (codes "-i") FileName
+      ∷ row (codes "-g") FileName
+      ∷ row (codes "-bg") Nothing
+      ∷ row (codes "-bga") Nothing
+      ∷ row (codes "-strand") Strand
       ∷ [];
   required = codes "-g" ∷ [];
   one_of = codes "-bg" ∷ codes "-bga" ∷ [];
-  exclusive = [];
   genome = Some (codes "-g");
-  first = codes "-i";
-  second = None;
-  output = None;
 }
 
 abbrev pub bamtobed_table : Table
-bamtobed_table = record {
-  options = record { option = codes "-i"; takes = FileName }
-      ∷ record { option = codes "-split"; takes = Nothing }
-      ∷ record { option = codes "-cigar"; takes = Nothing }
+bamtobed_table = record (plain_table (codes "-i")) {
+  options = row (codes "-i") FileName
+      ∷ row (codes "-split") Nothing
+      ∷ row (codes "-cigar") Nothing
       ∷ [];
-  required = [];
-  one_of = [];
-  exclusive = [];
-  genome = None;
-  first = codes "-i";
-  second = None;
-  output = None;
 }
 
 abbrev pub maskfasta_table : Table
-maskfasta_table = record {
-  options = record { option = codes "-fi"; takes = FileName }
-      ∷ record { option = codes "-bed"; takes = FileName }
-      ∷ record { option = codes "-fo"; takes = FileName }
-      ∷ record { option = codes "-soft"; takes = Nothing }
-      ∷ record { option = codes "-mc"; takes = Character }
-      ∷ record { option = codes "-fullHeader"; takes = Nothing }
+maskfasta_table = record (plain_table (codes "-fi")) {
+  options = row (codes "-fi") FileName
+      ∷ row (codes "-bed") FileName
+      ∷ row (codes "-fo") FileName
+      ∷ row (codes "-soft") Nothing
+      ∷ row (codes "-mc") Character
+      ∷ row (codes "-fullHeader") Nothing
       ∷ [];
   required = codes "-fi" ∷ codes "-bed" ∷ [];
-  one_of = [];
   exclusive = (codes "-soft", codes "-mc") ∷ [];
-  genome = None;
-  first = codes "-fi";
   second = Some (codes "-bed");
   output = Some (codes "-fo");
 }
@@ -241,10 +220,10 @@ tool_name MaskFasta = codes "maskfasta"
 
 -- the tool of a command
 abbrev pub tool_of : Command → Tool
-tool_of (MergeWith d strand) = Merge
-tool_of (ComplementWith limit) = Complement
-tool_of (IntersectWith shape rule held) = Intersect
-tool_of (SubtractWith whole rule held) = Subtract
-tool_of (CoverageWith zeros strand) = Coverage
-tool_of (BamToBedWith split cigar) = BamToBed
-tool_of (MaskFastaWith how full) = MaskFasta
+tool_of (does.Merge d strand) = Merge
+tool_of (does.Complement limit) = Complement
+tool_of (does.Intersect shape rule held) = Intersect
+tool_of (does.Subtract whole rule held) = Subtract
+tool_of (does.Coverage zeros strand) = Coverage
+tool_of (does.BamToBed split cigar) = BamToBed
+tool_of (does.MaskFasta how full) = MaskFasta

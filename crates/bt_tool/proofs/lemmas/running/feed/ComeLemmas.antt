@@ -1,7 +1,6 @@
 -- Lemmas on what was taken of a reader's members and lines, and on what is still to come of them.
 use Rattle.std.proofs.Common.{◌≡◌, ℕ, suc, ◌+◌, ◌-◌, ◌^◌, ◌<◌, ◌≤◌, false, List, [], ◌++◌, length, take, drop, Option, None, Some, refl, sym, ap, ◌∙◌, subst, append-nil, arith}
 use Rattle.std.specs.Prelude.{All, IfSome}
-use Rattle.std.proofs.lemmas.List.{drop-drop}
 use Rattle.std.proofs.Math.Seq.{take-append-add}
 use Rattle.bt_lines.specs.model.Fault.{FaultValue}
 use Rattle.bt_lines.specs.model.Lines.{TextLine, bytes_in, line_feeds}
@@ -11,6 +10,7 @@ use Rattle.bt_lines.specs.declared.reader.line_reader.LineReader.{LineReader}
 use Rattle.bt_lines.proofs.lemmas.reader.lines.ReaderLemmas.{hands_both}
 use Rattle.bt_lines.proofs.lemmas.reader.lines.TextLemmas.{line_feeds-append}
 use Rattle.bt_bed.specs.model.input.Good.{Good, Member, ends_with}
+use Rattle.bt_bed.proofs.lemmas.read.good.CameLemmas.{near_pass, pass_more}
 use Rattle.bt_bed.specs.model.input.GoodLines.{IsBeyond}
 use Rattle.bt_tool.specs.inside.feed.Passed.{ComeFirst}
 
@@ -48,26 +48,13 @@ begins_beyond (Some o) (Some n) past count c b =
 pub lines_on : (start now next : Option (List TextLine)) (given more : ℕ) → given ≤ more
     → IfSome start (λ lines. now ≡ Some (drop given lines)) → IfSome now (λ lines. next ≡ Some (drop (more - given) lines))
     → IfSome start (λ lines. next ≡ Some (drop more lines))
-lines_on None now next given more h e f = tt
-lines_on (Some start) None next given more h e f = cc
-lines_on (Some start) (Some now) next given more h e f =
-    let is : now ≡ drop given start = cc in
-    let size : given + (more - given) ≡ more = omega arith in
-    f ∙ ap (λ l. Some (drop (more - given) l)) is ∙ ap Some (drop-drop (more - given) given start ∙ ap (λ n. drop n start) size)
+lines_on start now next given more h e f = pass_more start now next given (more - given) more e f (omega arith)
 
 pub near_from_start : (start now : Option (List TextLine)) (rest : Option (List ℕ)) (given count : ℕ) → given ≤ count
     → IfSome start (λ lines. now ≡ Some (drop given lines))
     → IfSome now (λ lines. IfSome rest (λ rest. bytes_in (drop (suc count - given) lines) ≤ length rest + block_size))
     → IfSome start (λ lines. IfSome rest (λ rest. bytes_in (drop (suc count) lines) ≤ length rest + block_size))
-near_from_start None now rest given count h e n = tt
-near_from_start (Some start) None rest given count h e n = cc
-near_from_start (Some start) (Some now) rest given count h e n =
-    let is : now ≡ drop given start = cc in
-    let size : given + (suc count - given) ≡ suc count = omega arith in
-    let both : drop (suc count - given) (drop given start) ≡ drop (suc count) start =
-    drop-drop (suc count - given) given start ∙ ap (λ n. drop n start) size in
-    subst (λ lines. IfSome rest (λ rest. bytes_in lines ≤ length rest + block_size))
-    (ap (λ lines. drop (suc count - given) lines) is ∙ both) n
+near_from_start start now rest given count h e n = near_pass start now rest given (suc count - given) (suc count) e (omega arith) n
 
 -- line feeds among the bytes below the bound, of two pieces of which the first is below it
 feeds_below : (bound : ℕ) (front back : List ℕ) → length front ≤ bound

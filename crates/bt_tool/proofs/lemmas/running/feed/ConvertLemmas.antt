@@ -35,9 +35,8 @@ use Rattle.bt_tool.specs.model.report.RecordReport.{report_by}
 use Rattle.bt_tool.specs.calls.run.OwnReads.{IsOwnFailure, TellsOwnReads}
 use Rattle.bt_tool.specs.model.report.Written.{Written}
 use Rattle.bt_tool.proofs.lemmas.running.feed.DrivingLemmas.{drives_all, drives_fault}
-use Rattle.bt_tool.proofs.lemmas.running.feed.FeedLemmas.{Fed, fails_writing, fed_all, fed_none, fed_up_to, goes_same, text_grows, works_both}
+use Rattle.bt_tool.proofs.lemmas.running.feed.FeedLemmas.{Fed, fails_writing, fed_all, fed_none, fed_up_to, goes_same, put_more}
 use Rattle.bt_tool.proofs.lemmas.running.members.LinePassing.{came, passes_none, passes_some, read_line}
-use Rattle.bt_lines.proofs.lemmas.writer.OutputLemmas.{grows_both}
 use Rattle.bt_bed.proofs.lemmas.read.good.ReadingLemmas.{Going as Steps, going_end, going_start as steps_start, going_unread, going_wrong, good_at_first}
 use Rattle.bt_tool.proofs.lemmas.running.members.CameMembers.{BeginsAt, begins_over}
 use Rattle.bt_tool.proofs.lemmas.running.feed.FaultLemmas.{line_no_read}
@@ -133,7 +132,7 @@ module _ {S : Type 0} (split cigar : Bool) (device : Source S) where
             let is : lines ≡ bed_lines split cigar a = ap (λ s. bed_lines s converting.with_cigar a) same ∙ ap (λ c. bed_lines split c a) same_cigar in
             fails_writing lines_of (IsOneOf is_sam_kind) Any device (sam_reader old) out g.past (g.past ++ member_on line a ∷ []) a (map-append (λ m. m.item) g.past (member_on line a ∷ [])) (sam_reader new) (with_it a unwritten.says)
             (read_line device (sam_reader old) (sam_reader now) g.past g.fed.passes (sam_reader new) line gives kept refl refl gives.goes a unwritten.says refl)
-            grown g.fed.grows g.fed.puts g.fed.works g.fed.block tt fault later lines
+            grown g.fed.put tt fault later lines
             (pushed a ∙ ap (λ l. lines_of (member_items g.past) ++ l) (sym is)) fails.is fails.front fails.failed fails.sink_failed fails.grows
 
         -- what is settled with these members was put
@@ -141,13 +140,7 @@ module _ {S : Type 0} (split cigar : Bool) (device : Source S) where
             → Going old out new later
         goes_with past bytes later passes more writes = record {
           past = past;
-          fed = record {
-            passes = passes;
-            grows = grows_both out.took grown.took later.took g.fed.grows writes.grows;
-            puts = λ before e. text_grows grown.put later.put before (lines_of (member_items g.past)) bytes (lines_of (member_items past)) more writes.appends (g.fed.puts before e);
-            works = works_both out grown later g.fed.works (record { served = writes.served; sink_served = writes.sink_served; put = (bytes, writes.appends); block = writes.block });
-            block = writes.block g.fed.block;
-          };
+          fed = record { passes = passes; put = rw more (put_more out grown later (lines_of (member_items g.past)) bytes g.fed.put writes) };
           sound = sound g.sound;
         }
 

@@ -1,12 +1,12 @@
 -- Lemmas that tell faults apart.
-use Rattle.std.proofs.Common.{◌≡◌, ℕ, true, None, Some, ap, inl, inr, subst, sym}
+use Rattle.std.proofs.Common.{◌≡◌, ℕ, true, ap, inl, inr, subst, sym}
 use Rattle.std.proofs.lemmas.Bool.{false≢true}
+use Rattle.std.proofs.lemmas.Option.{none-some}
 use Rattle.bt_lines.specs.declared.device.Source.{Ghosts as Source}
 use Rattle.bt_lines.specs.model.Fault.{FaultValue, write_failed, no_memory, read_failed}
 use Rattle.bt_lines.specs.declared.fault.Input.{Input}
 use Rattle.bt_lines.specs.declared.fault.Kind.{Kind}
 use Rattle.bt_lines.specs.declared.fault.Kind.TheVariants.{ReadFailed, WriteFailed, NoMemory}
-use Rattle.bt_lines.specs.declared.fault.Place.{Place}
 use Rattle.bt_bed.specs.model.feature.LineKind.{fault_at_line, is_of_line}
 use Rattle.bt_tool.specs.calls.run.FaultSource.{TellsInput}
 
@@ -17,13 +17,9 @@ line_no_read input line kind other at of_line e =
     let same : kind ≡ ReadFailed = ap (λ (f : FaultValue). f.kind) e in
     false≢true (subst (λ k. is_of_line k ≡ true) same of_line)
 
-some_no_none : (place : Place) → Some place ≡ None → ⊥
-some_no_none place e = cc
-
 -- a fault with a place is no failed write
 pub placed_no_write : (input : Input) (line : ℕ) (kind : Kind) → fault_at_line input line kind ≡ write_failed → ⊥
-placed_no_write input line kind e =
-    some_no_none (record { input = input; line = line }) (ap (λ (f : FaultValue). f.place) e)
+placed_no_write input line kind e = none-some (record { input = input; line = line }) (sym (ap (λ (f : FaultValue). f.place) e))
 
 pub memory_no_write : no_memory ≡ write_failed → ⊥
 memory_no_write e = let apart : NoMemory ≡ WriteFailed = ap (λ (f : FaultValue). f.kind) e in cc

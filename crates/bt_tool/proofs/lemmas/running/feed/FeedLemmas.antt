@@ -5,12 +5,12 @@ use Rattle.std.proofs.lemmas.List.{map-append}
 use Rattle.std.proofs.lemmas.List.Elements.{All-cons, All-head, All-nil, All-tail}
 use Rattle.std.specs.Io.KnownBytes.{Appends}
 use Rattle.bt_lines.specs.declared.device.Source.{Ghosts as Source}
-use Rattle.bt_lines.proofs.lemmas.writer.PuttingLemmas.{grows_nothing}
+use Rattle.bt_lines.proofs.lemmas.writer.PuttingLemmas.{grown_works, grows_nothing}
 use Rattle.bt_lines.proofs.lemmas.writer.OutputLemmas.{grows_both}
 use Rattle.bt_lines.specs.model.Fault.{FaultValue, write_failed, no_memory}
 use Rattle.bt_lines.specs.model.Lines.{TextLine}
 use Rattle.bt_lines.specs.calls.Output.{Output, HoldsBlock, IsPrefixOf, Grows, block_size}
-use Rattle.bt_lines.specs.calls.Putting.{WorksAsBefore}
+use Rattle.bt_lines.specs.calls.Putting.{Grown, WorksAsBefore}
 use Rattle.bt_lines.specs.calls.Reader.{Hands, fault_kept as line_fault, lines_given}
 use Rattle.bt_lines.specs.declared.fault.Kind.{Kind}
 use Rattle.bt_lines.specs.declared.fault.Fault.{Fault}
@@ -26,14 +26,17 @@ use Rattle.bt_bed.specs.model.feature.Interval.{AreNonEmpty, Interval}
 use Rattle.bt_bed.specs.model.order.Order.{IsTotal, Order}
 use Rattle.bt_bed.specs.model.order.Locus.{ArePlaced, Locus}
 use Rattle.bt_bed.specs.calls.Reading.{AreSaid, MemberReader, good_coming, members_from}
-use Rattle.bt_bed.specs.calls.Records.{below, buffered_in, last_locus, order_in, view_of}
+use Rattle.bt_bed.specs.calls.Records.{below, last_locus, order_in, view_of}
 use Rattle.bt_bed.specs.declared.order.ChromOrder.{Ghosts}
 use Rattle.bt_bed.specs.declared.read.records.Records.{Records}
-use Rattle.bt_runs.specs.calls.Engine.{NotTaken, TakesEach}
+use Rattle.bt_bed.specs.calls.Batch.{HasEnded, Passes as PassesBatch}
+use Rattle.bt_bed.specs.calls.CursorLaws.{batch_gives_more}
+use Rattle.bt_bed.specs.declared.read.batch.Batch.{Batch}
+use Rattle.bt_runs.specs.calls.Engine.{FailsAtGiven, FeedsBatch, NotTaken, TakesEach}
 use Rattle.bt_tool.specs.calls.run.FaultSource.{IsPutTo}
-use Rattle.bt_tool.specs.inside.feed.Feeding.{AreInOrder, GoesOn, IsFresh, PutsLines, Took, TookButBlock, FeedsAll, FeedsUpTo}
-use Rattle.bt_tool.specs.inside.feed.FeedsBuffered.{FailsAmong, FeedsBuffered, TakesBuffered}
-use Rattle.bt_tool.specs.inside.feed.Passed.{IsFilled, IsOver, IsReadFor, IsStopped, Passes, member_items}
+use Rattle.bt_tool.specs.inside.feed.Feeding.{HasPut, AreInOrder, GoesOn, IsFresh, Took, TookButBlock, FeedsAll, FeedsUpTo}
+use Rattle.bt_tool.specs.inside.feed.FeedsBuffered.{ConsumesGiven}
+use Rattle.bt_tool.specs.inside.feed.Passed.{HasTaken, IsFilled, IsOver, IsReadFor, IsStopped, Passes, member_items}
 use Rattle.bt_tool.proofs.lemmas.running.feed.ComeLemmas.{begins_with}
 use Rattle.bt_tool.proofs.lemmas.running.members.MemberLemmas.{bytes_more, items_take, passes_all, passes_end, passes_fill, passes_start, passes_stop, passes_take, read_alone, read_at_stop, read_before, read_here}
 use Rattle.bt_tool.proofs.lemmas.running.members.PassedLemmas.{line_going, said_in_order}
@@ -118,30 +121,41 @@ took_later out grown later bytes f goes h = record {
 }
 
 -- of lines that were put, the sink took all but a block
-pub took_lines : (out grown : Output) (lines : List ℕ) → PutsLines out lines grown → HoldsBlock grown.took grown.put
-    → TookButBlock out lines grown
-took_lines out grown lines puts block = record {
-  took = λ before taken e t. took_held grown.took grown.put (before ++ lines) block (puts before e);
-  put = inr (λ before e. (before ++ lines, puts before e, omega arith));
+pub took_lines : (out grown : Output) (lines : List ℕ) → HasPut out lines grown → TookButBlock out lines grown
+took_lines out grown lines put = record {
+  took = λ before taken e t. took_held grown.took grown.put (before ++ lines) put.block (put.puts before e);
+  put = inr (λ before e. (before ++ lines, put.puts before e, omega arith));
+}
+
+-- nothing was put yet
+pub put_none : (out : Output) → HoldsBlock out.took out.put → HasPut out [] out
+put_none out block = record {
+  puts = λ before e. e ∙ ap Some (sym (append-nil before));
+  works = record { served = refl; sink_served = refl; put = grows_nothing out.put; block = λ h. h };
+  block = block;
+  grows = grows_nothing out.took;
+}
+
+-- the output grew by more bytes
+pub put_more : (out old new : Output) (bytes more : List ℕ) → HasPut out bytes old → Grown old more new → HasPut out (bytes ++ more) new
+put_more out old new bytes more put grown = record {
+  puts = λ before e. text_grows old.put new.put before bytes more (bytes ++ more) refl grown.appends (put.puts before e);
+  works = works_both out old new put.works (grown_works old new more grown);
+  block = grown.block put.block;
+  grows = grows_both out.took old.took new.took put.grows grown.grows;
 }
 
 -- members of a reader were taken, and what they settle was written
 pub record Fed {S A State : Type 0} (settled : List A → List ℕ) (device : Source S) (old : MemberReader S A State) (out : Output) (past : List (Member A)) (now : MemberReader S A State) (grown : Output) : Type 0 where
   pub passes : Passes device old past now
-  pub grows : Grows out.took grown.took
-  pub puts : PutsLines out (settled (member_items past)) grown
-  pub works : WorksAsBefore out grown
-  pub block : HoldsBlock grown.took grown.put
+  pub put : HasPut out (settled (member_items past)) grown
 
 -- none yet
 pub fed_none : {S A State : Type 0} (settled : List A → List ℕ) (device : Source S) (old : MemberReader S A State) (out : Output) → IsFresh device old → line_fault old.below ≡ None → settled [] ≡ [] → HoldsBlock out.took out.put
     → Fed settled device old out [] old out
 fed_none settled device old out fresh clear nothing block = record {
   passes = passes_start device old fresh clear;
-  grows = grows_nothing out.took;
-  puts = λ before e. e ∙ ap Some (sym (ap (λ l. before ++ l) nothing ∙ append-nil before));
-  works = record { served = refl; sink_served = refl; put = grows_nothing out.put; block = λ h. h };
-  block = block;
+  put = rw nothing (put_none out block);
 }
 
 module _ {S A State : Type 0} (settled : List A → List ℕ) (Kinds : Kind → Type 0) (Sorted : List A → Type 0) (device : Source S) (old : MemberReader S A State) (out : Output)
@@ -151,7 +165,7 @@ module _ {S A State : Type 0} (settled : List A → List ℕ) (Kinds : Kind → 
 
   -- one more member is buffered
   pub fed_fill : (new : MemberReader S A State) → IsFilled device now new → Fed settled device old out past new grown
-  fed_fill new fills = record { passes = passes_fill device old past now g.passes new fills; grows = g.grows; puts = g.puts; works = g.works; block = g.block }
+  fed_fill new fills = record { passes = passes_fill device old past now g.passes new fills; put = g.put }
 
   -- these members were taken when the reading stops
   taken : (new : MemberReader S A State) → (bytes : List ℕ) × Hands device.left now.below bytes new.below → Sorted (member_items past) → IsReadFor device old past past new
@@ -159,10 +173,10 @@ module _ {S A State : Type 0} (settled : List A → List ℕ) (Kinds : Kind → 
   taken new hands sorted read = record {
     bytes = bytes_more device old past now g.passes new hands;
     sorted = sorted;
-    grows = g.grows;
+    grows = g.put.grows;
     before = past;
     read = read;
-    kept = took_lines out grown (settled (member_items past)) g.puts g.block;
+    kept = took_lines out grown (settled (member_items past)) g.put;
   }
 
   -- the reading stops: at the end of the input
@@ -173,8 +187,8 @@ module _ {S A State : Type 0} (settled : List A → List ℕ) (Kinds : Kind → 
     took = taken new over.ends.stays.bytes sorted (read_here device old past new (passes_end device old past now g.passes new over));
     whole = passes_all device old past now g.passes new over;
     stands = stands;
-    puts = g.puts;
-    works = g.works;
+    puts = g.put.puts;
+    works = g.put.works;
     served = over.ends.served ∙ g.passes.served;
     within = (over.kept g.passes.kept).within (over.clear over.ends.goes);
   }
@@ -189,14 +203,14 @@ module _ {S A State : Type 0} (settled : List A → List ℕ) (Kinds : Kind → 
         past = past;
         took = taken new stopped.answers.stays.bytes sorted (read_at_stop device old past now g.passes new fault stopped);
         begins = begins_with (good_coming device.left old) (good_coming device.left now) past g.passes.come;
-        cause = inl (record { cause = stops.cause; puts = g.puts; works = g.works });
-        exact = λ other. g.puts;
+        cause = inl (record { cause = stops.cause; puts = g.put.puts; works = g.put.works });
+        exact = λ other. g.put.puts;
       }
 
 -- members were taken, what those before the last one settle was written, and the last one failed
 module _ {S A State : Type 0} (settled : List A → List ℕ) (Kinds : Kind → Type 0) (Sorted : List A → Type 0) (device : Source S) (old : MemberReader S A State) (out : Output)
     (before given : List (Member A)) (a : A) (items : member_items given ≡ member_items before ++ a ∷ []) (new : MemberReader S A State) (passes : Passes device old given new) (read : IsReadFor device old before given new)
-    (through : Output) (grows_through : Grows out.took through.took) (puts_through : PutsLines out (settled (member_items before)) through) (works_through : WorksAsBefore out through) (block : HoldsBlock through.took through.put)
+    (through : Output) (put : HasPut out (settled (member_items before)) through)
     (sorted : Sorted (member_items before ++ a ∷ [])) where
   begins_given : IfSome (good_coming device.left old) (λ good. (rest : List (Member A)) × (good.members ≡ given ++ rest))
   begins_given = begins_with (good_coming device.left old) (good_coming device.left new) given passes.come
@@ -209,16 +223,16 @@ module _ {S A State : Type 0} (settled : List A → List ℕ) (Kinds : Kind → 
     took = record {
       bytes = passes.bytes;
       sorted = rw items sorted;
-      grows = grows_both out.took through.took later.took grows_through grows;
+      grows = grows_both out.took through.took later.took put.grows grows;
       before = before;
       read = read_alone read;
-      kept = took_later out through later (settled (member_items before)) grows_through (goes_failed through later grows fails) (took_lines out through (settled (member_items before)) puts_through block);
+      kept = took_later out through later (settled (member_items before)) put.grows (goes_failed through later grows fails) (took_lines out through (settled (member_items before)) put);
     };
     begins = begins_given;
     cause = inr (record {
       is = is;
       cuts = record {
-        front = λ bytes e. front_all later.took through.put bytes (settled (member_items before)) lines (settled (member_items given)) (ap settled items ∙ more) (puts_through bytes e) front;
+        front = λ bytes e. front_all later.took through.put bytes (settled (member_items before)) lines (settled (member_items given)) (ap settled items ∙ more) (put.puts bytes e) front;
         failed = fails;
         sink_failed = sink;
       };
@@ -231,25 +245,29 @@ module _ {S A State : Type 0} (settled : List A → List ℕ) (Kinds : Kind → 
   pub fails_growing : (fault : FaultValue) (later : Output) (lines : List ℕ) → settled (member_items before ++ a ∷ []) ≡ settled (member_items before) ++ lines → fault ≡ no_memory
       → Appends through.put later.put lines → WorksAsBefore through later → Grows through.took later.took → FeedsUpTo settled Kinds Sorted device old out fault new later
   fails_growing fault later lines more is appends works grows =
-      let puts : PutsLines out (settled (member_items given)) later =
-      λ bytes e. text_grows through.put later.put bytes (settled (member_items before)) lines (settled (member_items given)) (ap settled items ∙ more) appends (puts_through bytes e) in
+      let now : HasPut out (settled (member_items given)) later = record {
+        puts = λ bytes e. text_grows through.put later.put bytes (settled (member_items before)) lines (settled (member_items given)) (ap settled items ∙ more) appends (put.puts bytes e);
+        works = works_both out through later put.works works;
+        block = works.block put.block;
+        grows = grows_both out.took through.took later.took put.grows grows;
+      } in
       record {
         past = given;
         took = record {
           bytes = passes.bytes;
           sorted = rw items sorted;
-          grows = grows_both out.took through.took later.took grows_through grows;
+          grows = now.grows;
           before = given;
           read = read_here device old given new passes;
-          kept = took_lines out later (settled (member_items given)) puts (works.block block);
+          kept = took_lines out later (settled (member_items given)) now;
         };
         begins = begins_given;
         cause = inl (record {
           cause = inr (record { is = is; served = passes.served });
-          puts = puts;
-          works = works_both out through later works_through works;
+          puts = now.puts;
+          works = now.works;
         });
-        exact = λ other. puts;
+        exact = λ other. now.puts;
       }
 
 -- ---- an engine that is given records one after another
@@ -257,10 +275,7 @@ module _ {S A State : Type 0} (settled : List A → List ℕ) (Kinds : Kind → 
 -- it is after these, and the lines that they settle were put
 pub record EngineAt {E : Type 0} (Stands : E → List Feature → E → Type 0) (settled : E → List Feature → List ℕ) (first : E) (out : Output) (past : List Feature) (engine : E) (grown : Output) : Type 0 where
   pub stands : Stands first past engine
-  pub grows : Grows out.took grown.took
-  pub puts : PutsLines out (settled first past) grown
-  pub works : WorksAsBefore out grown
-  pub block : HoldsBlock grown.took grown.put
+  pub put : HasPut out (settled first past) grown
 
 full_front : (front rest : List Interval) → AreNonEmpty (front ++ rest) → AreNonEmpty front
 full_front [] rest full = All-nil (λ (r : Interval). r.start < r.stop)
@@ -296,10 +311,12 @@ module _ {E : Type 0} (MayTake : E → List Feature → Type 0) (Stands : E → 
       (at_each (past ++ r ∷ []) records t.0 fed t.1 later (subst (AreInOrder order) (sym (append_assoc past (r ∷ []) records)) sorted)
       (record {
         stands = fed_one.answers.stands first past at.stands may;
-        grows = grows_both out.took grown.took (t.1).took at.grows fed_one.grows;
-        puts = λ before e. text_grows grown.put (t.1).put before (settled first past) puts.bytes (settled first (past ++ r ∷ [])) puts.goes_on puts.appends (at.puts before e);
-        works = works_both out grown t.1 at.works fed_one.answers.works;
-        block = fed_one.answers.works.block at.block;
+        put = record {
+          puts = λ before e. text_grows grown.put (t.1).put before (settled first past) puts.bytes (settled first (past ++ r ∷ [])) puts.goes_on puts.appends (at.put.puts before e);
+          works = works_both out grown t.1 at.put.works fed_one.answers.works;
+          block = fed_one.answers.works.block at.put.block;
+          grows = grows_both out.took grown.took (t.1).took at.put.grows fed_one.grows;
+        };
       })
       t.3)
 
@@ -358,41 +375,49 @@ module _ {S O E : Type 0} {ghosts : Ghosts O} (MayTake : E → List Feature → 
         (view_of new) fault stopped (in_order g.past (view_of now) g.fed.passes)
 
     at_now : EngineAt Stands settled first out (member_items g.past) engine grown
-    at_now = record { stands = g.stands; grows = g.fed.grows; puts = g.fed.puts; works = g.fed.works; block = g.fed.block }
+    at_now = record { stands = g.stands; put = g.fed.put }
 
-    -- the records that were buffered were taken
-    pub going_taken : (Quiet : E → List Feature → Feature → Type 0) (new : Records S O ghosts) (fed : E) (later : Output) → TakesBuffered device MayTake Stands engine_fault settled Quiet now engine grown new fed later → Going new fed later
-    going_taken Quiet new fed later t =
-        let passes = passes_take device (view_of old) g.past (view_of now) g.fed.passes (buffered_in now) (view_of new) t.takes in
-        let items = items_take g.past (suc (lines_given (below now))) (buffered_in now) in
-        let at = at_each MayTake Stands engine_fault settled Quiet first out (order_in old) takes (member_items g.past) (buffered_in now) engine fed grown later
-        (subst (AreInOrder (order_in old)) items (in_order (g.past ++ members_from (suc (lines_given (below now))) (buffered_in now)) (view_of new) passes)) at_now t.taken in
+    -- records that were buffered were taken
+    pub going_taken : (Quiet : E → List Feature → Feature → Type 0) (new : Records S O ghosts) (fed : E) (later : Output) (records : List Feature) → HasTaken device (view_of now) records (view_of new) → order_in new ≡ order_in now
+        → TakesEach MayTake Stands engine_fault settled Quiet engine grown records fed later → Going new fed later
+    going_taken Quiet new fed later records has same taken =
+        let more = members_from (suc (lines_given (below now))) records in
+        let passes = passes_take device (view_of old) g.past (view_of now) g.fed.passes records (view_of new) has in
+        let items = items_take g.past (suc (lines_given (below now))) records in
+        let at = at_each MayTake Stands engine_fault settled Quiet first out (order_in old) takes (member_items g.past) records engine fed grown later (subst (AreInOrder (order_in old)) items (in_order (g.past ++ more) (view_of new) passes)) at_now taken in
         record {
-          past = g.past ++ members_from (suc (lines_given (below now))) (buffered_in now);
-          fed = record { passes = passes; grows = at.grows; puts = rw items at.puts; works = at.works; block = at.block };
-          order = t.order ∙ g.order;
+          past = g.past ++ more;
+          fed = record { passes = passes; put = rw items at.put };
+          order = same ∙ g.order;
           stands = rw items at.stands;
         }
 
     -- one of them wasn't
-    module _ (Quiet : E → List Feature → Feature → Type 0) (fault : Fault) (new : Records S O ghosts) (fed : E) (later : Output) (f : FailsAmong device MayTake Stands engine_fault settled Quiet now engine grown fault new fed later) where
+    module _ (Quiet : E → List Feature → Feature → Type 0) (wants : E → Feature → Type 0) (fault : Fault) (new : Records S O ghosts) (fed : E) (later : Output) (first_batch last_batch : Batch) (consumes : ConsumesGiven device now first_batch last_batch new)
+        (f : FailsAtGiven MayTake Stands engine_fault settled Quiet wants PassesBatch HasEnded engine first_batch grown fault fed last_batch later) where
+      abbrev records : List Feature
+      records = f.takes.records
+
+      has : HasTaken device (view_of now) (records ++ f.r ∷ []) (view_of new)
+      has = consumes.takes (records ++ f.r ∷ []) (batch_gives_more first_batch f.before last_batch records (f.r ∷ []) f.takes.given f.given)
+
       abbrev from : ℕ
       from = suc (lines_given (below now))
 
       abbrev before : List (Member Feature)
-      before = g.past ++ members_from from f.records
+      before = g.past ++ members_from from records
 
       abbrev given : List (Member Feature)
-      given = g.past ++ members_from from (f.records ++ f.r ∷ [])
+      given = g.past ++ members_from from (records ++ f.r ∷ [])
 
-      before_items : member_items before ≡ member_items g.past ++ f.records
-      before_items = items_take g.past from f.records
+      before_items : member_items before ≡ member_items g.past ++ records
+      before_items = items_take g.past from records
 
       given_items : member_items given ≡ member_items before ++ f.r ∷ []
-      given_items = items_take g.past from (f.records ++ f.r ∷ []) ∙ sym (append_assoc (member_items g.past) f.records (f.r ∷ [])) ∙ ap (λ (l : List Feature). l ++ f.r ∷ []) (sym before_items)
+      given_items = items_take g.past from (records ++ f.r ∷ []) ∙ sym (append_assoc (member_items g.past) records (f.r ∷ [])) ∙ ap (λ (l : List Feature). l ++ f.r ∷ []) (sym before_items)
 
       passes : Passes device (view_of old) given (view_of new)
-      passes = passes_take device (view_of old) g.past (view_of now) g.fed.passes (f.records ++ f.r ∷ []) (view_of new) f.takes
+      passes = passes_take device (view_of old) g.past (view_of now) g.fed.passes (records ++ f.r ∷ []) (view_of new) has
 
       sorted_given : AreInOrder (order_in old) (member_items before ++ f.r ∷ [])
       sorted_given = subst (AreInOrder (order_in old)) given_items (in_order given (view_of new) passes)
@@ -400,31 +425,31 @@ module _ {S O E : Type 0} {ghosts : Ghosts O} (MayTake : E → List Feature → 
       at_mid : EngineAt Stands settled first out (member_items before) f.mid f.through
       at_mid =
           subst (λ (l : List Feature). EngineAt Stands settled first out l f.mid f.through) (sym before_items)
-          (at_each MayTake Stands engine_fault settled Quiet first out (order_in old) takes (member_items g.past) f.records engine f.mid grown f.through
-          (subst (AreInOrder (order_in old)) before_items (order_front (order_in old) (member_items before) (f.r ∷ []) sorted_given)) at_now f.taken)
+          (at_each MayTake Stands engine_fault settled Quiet first out (order_in old) takes (member_items g.past) records engine f.mid grown f.through
+          (subst (AreInOrder (order_in old)) before_items (order_front (order_in old) (member_items before) (f.r ∷ []) sorted_given)) at_now f.takes.taken)
 
       read : IsReadFor device (view_of old) before given (view_of new)
-      read = read_before device (view_of old) g.past (view_of now) g.fed.passes f.records f.r (view_of new) f.takes
+      read = read_before device (view_of old) g.past (view_of now) g.fed.passes records f.r (view_of new) has
 
       not_taken : MayTake first (member_items before ++ f.r ∷ []) → engine_fault f.mid ≡ None → Grows (f.through).took later.took → NotTaken MayTake Stands engine_fault settled f.mid f.r f.through (fault_value fault) fed later → StopsUpTo (fault_value fault) new later
       not_taken may going grows (inl again) = absurd (let apart : None ≡ Some (fault_value fault) = sym going ∙ again.is in cc)
       not_taken may going grows (inr (inl fails)) =
           let cuts = fails.cuts first (member_items before) at_mid.stands may in
           fails_writing (settled first) (IsBedKind (order_in old)) (AreInOrder (order_in old)) device (view_of old) out before given f.r given_items (view_of new) passes read
-          f.through at_mid.grows at_mid.puts at_mid.works at_mid.block sorted_given (fault_value fault) later cuts.bytes cuts.goes_on fails.is cuts.front fails.failed fails.sink_failed grows
+          f.through at_mid.put sorted_given (fault_value fault) later cuts.bytes cuts.goes_on fails.is cuts.front fails.failed fails.sink_failed grows
       not_taken may going grows (inr (inr out_of)) =
           let puts = out_of.puts first (member_items before) at_mid.stands may in
           fails_growing (settled first) (IsBedKind (order_in old)) (AreInOrder (order_in old)) device (view_of old) out before given f.r given_items (view_of new) passes read
-          f.through at_mid.grows at_mid.puts at_mid.works at_mid.block sorted_given (fault_value fault) later puts.bytes puts.goes_on out_of.is puts.appends out_of.works grows
+          f.through at_mid.put sorted_given (fault_value fault) later puts.bytes puts.goes_on out_of.is puts.appends out_of.works grows
 
       pub stops_feeding : StopsUpTo (fault_value fault) new later
       stops_feeding =
           not_taken (takes (member_items before ++ f.r ∷ []) sorted_given.0 sorted_given.1) (f.fails.going first (member_items before) at_mid.stands) f.fails.grows f.fails.answers
 
 -- an engine that is after some records has failed at one
-pub failed_among : {S O E : Type 0} {g : Ghosts O} {device : Source S} {MayTake : E → List Feature → Type 0} {Stands : E → List Feature → E → Type 0}
-    {engine_fault : E → Option FaultValue} {settled : E → List Feature → List ℕ} {Quiet : E → List Feature → Feature → Type 0} {old : Records S O g} {engine : E} {out : Output} {fault : Fault} {new : Records S O g} {fed : E} {grown : Output}
-    → FeedsBuffered device MayTake Stands engine_fault settled Quiet old engine out {A = Unit {0}} (Err fault) new fed grown → (first : E) (past : List Feature) → Stands first past engine
-    → FailsAmong device MayTake Stands engine_fault settled Quiet old engine out fault new fed grown
-failed_among (inl f) first past stands = f
-failed_among (inr spent) first past stands = absurd (spent first past stands)
+pub failed_at : {E : Type 0} {MayTake : E → List Feature → Type 0} {Stands : E → List Feature → E → Type 0} {engine_fault : E → Option FaultValue} {settled : E → List Feature → List ℕ} {Quiet : E → List Feature → Feature → Type 0} {wants : E → Feature → Type 0}
+    {engine : E} {batch : Batch} {out : Output} {fault : Fault} {fed : E} {last : Batch} {grown : Output}
+    → FeedsBatch MayTake Stands engine_fault settled Quiet wants PassesBatch HasEnded engine batch out {A = Unit {0}} (Err fault) fed last grown → (first : E) (past : List Feature) → Stands first past engine
+    → FailsAtGiven MayTake Stands engine_fault settled Quiet wants PassesBatch HasEnded engine batch out fault fed last grown
+failed_at (inl f) first past stands = let none = f.going first past stands in let some = f.is in absurd (cc)
+failed_at (inr f) first past stands = f

@@ -18,7 +18,7 @@ use Rattle.bt_bed.specs.model.order.Order.{IsTotal, Order}
 use Rattle.bt_bed.specs.model.order.Locus.{ArePlaced}
 use Rattle.bt_bed.specs.model.order.Sorting.{sorting_of}
 use Rattle.bt_bed.proofs.lemmas.laws.GoodBedLemmas.{placed_good, placed_lines}
-use Rattle.bt_runs.specs.model.Gaps.{settled_gaps}
+use Rattle.bt_runs.specs.model.Gaps.{settled_gaps, AreTaken as AreTakenBy}
 use Rattle.bt_runs.specs.model.MergedRuns.{AreTaken, merged_runs, passed_by, settled_runs}
 use Rattle.bt_runs.specs.calls.Merging.{Merging, Unstranded, PerStrand, merge_begun, settled_lines, whole_output}
 use Rattle.bt_runs.specs.model.StrandRuns.{places_of, settled_strand_runs, strand_runs}
@@ -32,7 +32,11 @@ use Rattle.bt_tool.specs.model.report.Behaviour.{of_records}
 use Rattle.bt_tool.specs.inside.feed.RunsBy.{RunsAlone}
 use Rattle.bt_tool.proofs.lemmas.running.feed.WritingLemmas.{alone_writes}
 use Rattle.bt_tool.specs.model.report.RecordReport.{records_report, records_settle, report_by}
-use Rattle.bt_tool.specs.model.report.Written.{Written, merge_written, pooled_written}
+use Rattle.bt_tool.specs.model.report.Written.{Written, merge_written, pooled_written, coverage_written}
+use Rattle.bt_bed.specs.declared.record.strand.Strand.{Strand}
+use Rattle.bt_runs.specs.model.Depth.{coverage, depth_line, depth_lines, settled_depths}
+use Rattle.bt_runs.proofs.lemmas.coverage.DepthSteps.{settles_depths}
+use Rattle.bt_runs.proofs.lemmas.laws.SettlingLemmas.{begins, stays}
 
 -- intervals that stay give lines that stay
 pub lines_stay : (settled : List Feature → List Interval) (Taken : List Feature → Type 0) → SettledStays settled Taken → SettledStays (λ records. interval_lines (settled records)) Taken
@@ -135,3 +139,21 @@ module _ (order : Order) (total : IsTotal order) where
     reads = runs.reads;
     own_failure = runs.own_failure;
   }
+
+module _ (entries : List Entry) (zeros : Bool) (strand : Option Strand) where
+  -- a coverage that has taken no record has settled nothing
+  pub coverage_begins : (coverage_written entries zeros strand).settled [] ≡ []
+  unfolding settled_depths
+  coverage_begins = refl
+
+  -- the lines of settled intervals stay
+  pub depths_stay : SettledStays (coverage_written entries zeros strand).settled (AreTakenBy entries)
+  depths_stay past more taken =
+      let s = stays (settled_depths zeros strand entries) (coverage zeros strand entries) (AreTakenBy entries) (settles_depths zeros strand entries) past more taken in
+      (depth_lines s.0, ap depth_lines s.1 ∙ flat_map-append depth_line (settled_depths zeros strand entries past) s.0)
+
+  -- and begin the lines of all
+  pub depths_begin : SettledBegins (coverage_written entries zeros strand).settled (coverage_written entries zeros strand).whole (AreTakenBy entries)
+  depths_begin past more taken =
+      let s = begins (settled_depths zeros strand entries) (coverage zeros strand entries) (AreTakenBy entries) (settles_depths zeros strand entries) past more taken in
+      (depth_lines s.0, ap depth_lines s.1 ∙ flat_map-append depth_line (settled_depths zeros strand entries past) s.0)

@@ -13,6 +13,7 @@ use Rattle.bt_lines.specs.declared.fault.Input.{Input}
 use Rattle.bt_lines.specs.declared.fault.Input.TheVariants.{First}
 use Rattle.bt_lines.specs.declared.fault.Kind.{Kind}
 use Rattle.bt_lines.specs.declared.reader.line_reader.LineReader.{LineReader}
+use Rattle.bt_bed.specs.calls.Blocks.{view_of}
 use Rattle.bt_bed.specs.model.feature.Feature.{Feature}
 use Rattle.bt_bed.specs.model.input.Good.{Member}
 use Rattle.bt_bed.specs.model.feature.LineKind.{fault_at_line, is_of_line}
@@ -26,7 +27,8 @@ use Rattle.bt_seq.specs.calls.MaskState.{Masking}
 use Rattle.bt_seq.specs.model.Sequences.{Reached, SequenceLine, line_says, sequence_format}
 use Rattle.bt_tool.specs.inside.feed.Feeding.{member_items}
 use Rattle.bt_tool.specs.model.report.MaskReport.{is_fasta_kind}
-use Rattle.bt_tool.specs.inside.pair.MaskLoop.{MaskBegun, MaskEnds, Masks, leaves_some, line_members, nothing_reached, stage_of}
+use Rattle.bt_tool.specs.declared.loops.masking.MaskRun.{MaskRun}
+use Rattle.bt_tool.specs.inside.pair.MaskLoop.{MaskEnds, Masks, leaves_some, line_members, nothing_reached, stage_of}
 use Rattle.bt_tool.specs.inside.pair.Pair.{JoinDef, Pair, SettlesPair, item_ahead}
 use Rattle.bt_tool.specs.inside.pair.Progress.{Follows, PairStage, TakesFurther}
 use Rattle.bt_tool.specs.inside.pair.Endings.{AsksFor, IsKnown}
@@ -48,21 +50,21 @@ asked_more : (lines more : List SequenceLine) (records : List Feature) → (reco
 asked_more lines more records (inl none) = inl none
 asked_more lines more records (inr some) = inr (asked_of lines more records some)
 
-module _ {A B : Type 0} (source_a : Source A) (source_b : Source B) (run : MaskBegun A B) where
+module _ {A B : Type 0} (source_a : Source A) (source_b : Source B) (start : MaskRun A B) (before : Output) where
   abbrev Going : Reached → LineReader A → MemberReader B Feature (Option Locus) → Masking → Output → Type 0
-  Going = Masks source_a source_b run
+  Going = Masks source_a source_b start before
 
   abbrev EndsAt : Option FaultValue → LineReader A → MemberReader B Feature (Option Locus) → Output → Type 0
-  EndsAt = MaskEnds source_a source_b run
+  EndsAt = MaskEnds source_a source_b start before
 
   abbrev rule : JoinDef SequenceLine Feature
-  rule = join source_a source_b run
+  rule = join source_a source_b start before
 
   abbrev both : Pair A B SequenceLine Feature Reached (Option Locus)
-  both = pair source_a source_b run
+  both = pair source_a source_b start before
 
   abbrev old_first : MemberReader A SequenceLine Reached
-  old_first = line_members run.full nothing_reached run.lines
+  old_first = line_members start.mask.full nothing_reached start.lines
 
   module _ (at : Reached) (lines : LineReader A) (second : MemberReader B Feature (Option Locus)) (mask : Masking) (grown : Output) (s : Going at lines second mask grown)
       (new : LineReader A) (over : has_ended lines ≡ true → buffered_in lines ≡ []) (consumed : ConsumedLines) (takes : TakesLines source_a lines consumed new)
@@ -84,30 +86,30 @@ module _ {A B : Type 0} (source_a : Source A) (source_b : Source B) (run : MaskB
     settled_now known =
         subst (λ (o : Option Feature). SettlesPair rule stage.written s.comes.bytes (stage.taken ++ option_to_list o) stage.bed_ended) (ahead_first second ∙ ap first_of has.takes.buffered) (s.comes.settles known)
 
-    takes_second : TakesFurther source_b run.records s.past_second more_second second second_now
-    takes_second = turned.takes_further source_b run.records s.past_second second s.comes.second_passes taken second_now has
+    takes_second : TakesFurther source_b (view_of start.records) s.past_second more_second second second_now
+    takes_second = turned.takes_further source_b (view_of start.records) s.past_second second s.comes.second_passes taken second_now has
 
-    asks_here : stage.lines_ended ≡ false → AsksFor rule both run.out s.past_first second
-    asks_here = asks_for source_a source_b run at lines second mask grown s
+    asks_here : stage.lines_ended ≡ false → AsksFor rule both before s.past_first second
+    asks_here = asks_for source_a source_b start before at lines second mask grown s
 
     asked_here : stage.lines_ended ≡ false → rule.Asks (given stage) stage.taken
-    asked_here = asked source_a source_b run at lines second mask grown s
+    asked_here = asked source_a source_b start before at lines second mask grown s
 
     -- some lines and these records led to a stage, and the record ahead is the next one
-    module _ (texts : List TextLine) (final : MaskStage) (bytes : List ℕ) (goes : GoesOn run.how run.full stage texts taken final bytes) (kept : (r : Feature) → final.ahead ≡ Some r → item_ahead second_now ≡ Some r) where
+    module _ (texts : List TextLine) (final : MaskStage) (bytes : List ℕ) (goes : GoesOn start.mask.how start.mask.full stage texts taken final bytes) (kept : (r : Feature) → final.ahead ≡ Some r → item_ahead second_now ≡ Some r) where
       abbrev items : List SequenceLine
       items = goes.items
 
       abbrev more_first : List (Member SequenceLine)
       more_first = members_from (suc (lines_given lines)) items
 
-      say_here : SayEach run.full at texts items
-      say_here = subst (λ (r : Reached). SayEach run.full r texts items) (sym (come_so_far source_a source_b run at lines second mask grown s)) goes.say
+      say_here : SayEach start.mask.full at texts items
+      say_here = subst (λ (r : Reached). SayEach start.mask.full r texts items) (sym (come_so_far source_a source_b start before at lines second mask grown s)) goes.say
 
-      reached_now : state_behind (sequence_format run.full) at items ≡ reached final
+      reached_now : state_behind (sequence_format start.mask.full) at items ≡ reached final
       reached_now =
-          ap (λ (r : Reached). state_behind (sequence_format run.full) r items) (come_so_far source_a source_b run at lines second mask grown s ∙ sym (reached_behind run.full (given stage)))
-          ∙ sym (state_more (sequence_format run.full) nothing_reached (given stage) items) ∙ ap (state_behind (sequence_format run.full) nothing_reached) (sym goes.given_is) ∙ reached_behind run.full (given final)
+          ap (λ (r : Reached). state_behind (sequence_format start.mask.full) r items) (come_so_far source_a source_b start before at lines second mask grown s ∙ sym (reached_behind start.mask.full (given stage)))
+          ∙ sym (state_more (sequence_format start.mask.full) nothing_reached (given stage) items) ∙ ap (state_behind (sequence_format start.mask.full) nothing_reached) (sym goes.given_is) ∙ reached_behind start.mask.full (given final)
 
       given_now : given final ≡ given stage ++ member_items more_first
       given_now = goes.given_is ∙ ap (λ l. given stage ++ l) (sym (items_from (suc (lines_given lines)) items))
@@ -118,38 +120,40 @@ module _ {A B : Type 0} (source_a : Source A) (source_b : Source B) (run : MaskB
       pub settled : IsKnown both → SettlesPair rule final.written (s.comes.bytes ++ bytes) (final.taken ++ option_to_list (item_ahead second_now)) stage.bed_ended
       settled known =
           rw (goes.written_is, goes.taken_is, ahead_first second_now)
-          (settles_given run.how run.full stage.written s.comes.bytes bytes stage final texts taken second_now.buffered (settled_now known) goes none_more (λ r e. sym (ahead_first second_now) ∙ kept r e))
+          (settles_given start.mask.how start.mask.full stage.written s.comes.bytes bytes stage final texts taken second_now.buffered (settled_now known) goes none_more (λ r e. sym (ahead_first second_now) ∙ kept r e))
 
       -- they were taken, and no more
       module _ (more : List TextLine) (parts : buffered_in lines ≡ texts ++ more) (numbered : AreNumbered (suc (lines_given lines)) texts) (are : TakenLines lines consumed (length texts)) where
         abbrev pub first_now : MemberReader A SequenceLine Reached
-        first_now = line_members run.full (state_behind (sequence_format run.full) at items) new
+        first_now = line_members start.mask.full (state_behind (sequence_format start.mask.full) at items) new
 
-        has_first : HasTaken source_a (known_members source_a run.full at items lines) items first_now
-        has_first = has_taken source_a run.full at lines new s.comes.first_passes.clear texts more items say_here parts numbered consumed (length texts) are takes (say_count run.full at texts items say_here)
+        has_first : HasTaken source_a (known_members source_a start.mask.full at items lines) items first_now
+        has_first = has_taken source_a start.mask.full at lines new s.comes.first_passes.clear texts more items say_here parts numbered consumed (length texts) are takes (say_count start.mask.full at texts items say_here)
 
-        takes_first : TakesFurther source_a old_first s.past_first more_first (line_members run.full at lines) first_now
+        takes_first : TakesFurther source_a old_first s.past_first more_first (line_members start.mask.full at lines) first_now
         takes_first =
-            let known = passes_known source_a run.full at lines new s.comes.first_passes.clear texts more items say_here parts numbered consumed (length texts) are takes (say_count run.full at texts items say_here) old_first s.past_first s.comes.first_passes in
-            let t = turned.takes_further source_a old_first s.past_first (known_members source_a run.full at items lines) known items first_now has_first in
+            let known = passes_known source_a start.mask.full at lines new s.comes.first_passes.clear texts more items say_here parts numbered consumed (length texts) are takes (say_count start.mask.full at texts items say_here) old_first s.past_first s.comes.first_passes in
+            let t = turned.takes_further source_a old_first s.past_first (known_members source_a start.mask.full at items lines) known items first_now has_first in
             record { passes = t.passes; last = t.last; source = t.source; told = t.told }
 
         ended_first : stage.lines_ended ≡ true → (more_first ≡ []) × (first_now.buffered ≡ [])
         ended_first e =
             let none : texts ≡ [] = (turned.both_none texts more (sym parts ∙ over (s.lines_over e))).0 in
-            (ap (members_from (suc (lines_given lines))) (nil_from_length items (omega (arith, say_count run.full at texts items say_here, ap length none))), refl)
+            (ap (members_from (suc (lines_given lines))) (nil_from_length items (omega (arith, say_count start.mask.full at texts items say_here, ap length none))), refl)
 
         -- the engine is at the final stage
-        pub come_on : (masked : Masking) (now : Output) → MaskMovesTo run.how run.full final masked → Grown grown bytes now → (going : Going (state_behind (sequence_format run.full) at items) new second_now masked now) × (going.stage ≡ final)
+        pub come_on : (masked : Masking) (now : Output) → MaskMovesTo start.mask.how start.mask.full final masked → Grown grown bytes now → (going : Going (state_behind (sequence_format start.mask.full) at items) new second_now masked now) × (going.stage ≡ final)
         come_on masked now stands puts = (
           record {
             past_first = s.past_first ++ more_first;
             past_second = s.past_second ++ more_second;
             stage = final;
             stands = stands.stands;
+            first_is = s.first_is;
+            blocks_is = s.blocks_is;
             how_is = stands.how_is;
             full_is = stands.full_is;
-            comes = turned.goes_on rule both run.out (stage_of stage) s.past_first s.past_second (line_members run.full at lines) second grown s.comes more_first more_second first_now second_now takes_first takes_second ended_first ended_second goes.newly (stage_of final)
+            comes = turned.goes_on rule both before (stage_of stage) s.past_first s.past_second (line_members start.mask.full at lines) second grown s.comes more_first more_second first_now second_now takes_first takes_second ended_first ended_second goes.newly (stage_of final)
                 (record { given_is = given_now; written_is = goes.written_is; taken_is = taken_now; first_is = goes.lines_ended_is; second_is = goes.bed_ended_is })
                 bytes now (λ known. subst (λ (b : Bool). SettlesPair rule final.written (s.comes.bytes ++ bytes) (final.taken ++ option_to_list (item_ahead second_now)) b) (sym goes.bed_ended_is) (settled known)) puts;
             kept_ahead = kept;
@@ -163,7 +167,7 @@ module _ {A B : Type 0} (source_a : Source A) (source_b : Source B) (run : MaskB
         fails_write puts rest is through now fault adds fails = (
           first_now,
           refl,
-          stop.fails_to_write rule both run.out (stage_of stage) s.past_first s.past_second (line_members run.full at lines) second grown s.comes asks_here (λ known. tt) more_first more_second first_now second_now takes_first takes_second
+          stop.fails_to_write rule both before (stage_of stage) s.past_first s.past_second (line_members start.mask.full at lines) second grown s.comes asks_here (λ known. tt) more_first more_second first_now second_now takes_first takes_second
               final.written (option_to_list final.waiting) given_now (λ known. tt) ended_second puts rest (λ known. rw (← taken_now, ← is) (settled known)) through now fault adds fails,
           λ input line e. e,
         )
@@ -175,21 +179,21 @@ module _ {A B : Type 0} (source_a : Source A) (source_b : Source B) (run : MaskB
         lacks_room mid newly follows put now settles adds fault is = (
           first_now,
           refl,
-          stop.lacks_memory rule both run.out mid (s.past_first ++ more_first) (s.past_second ++ more_second) first_now second_now now
-              (turned.goes_on rule both run.out (stage_of stage) s.past_first s.past_second (line_members run.full at lines) second grown s.comes more_first more_second first_now second_now takes_first takes_second ended_first ended_second newly mid follows put now settles adds)
-              (λ e. stop.asks_then rule both run.out (stage_of stage) s.past_first s.past_second (line_members run.full at lines) second grown s.comes (asked_here (sym follows.first_is ∙ e)) (λ extra asks. asked_more (given stage) extra stage.taken asks) more_first more_second second_now takes_second)
+          stop.lacks_memory rule both before mid (s.past_first ++ more_first) (s.past_second ++ more_second) first_now second_now now
+              (turned.goes_on rule both before (stage_of stage) s.past_first s.past_second (line_members start.mask.full at lines) second grown s.comes more_first more_second first_now second_now takes_first takes_second ended_first ended_second newly mid follows put now settles adds)
+              (λ e. stop.asks_then rule both before (stage_of stage) s.past_first s.past_second (line_members start.mask.full at lines) second grown s.comes (asked_here (sym follows.first_is ∙ e)) (λ extra asks. asked_more (given stage) extra stage.taken asks) more_first more_second second_now takes_second)
               (λ known. tt) fault is,
           λ input line e. e,
         )
 
       -- they were taken, and one more line, which is at fault
       module _ (line : TextLine) (more : List TextLine) (parts : buffered_in lines ≡ (texts ++ line ∷ []) ++ more) (numbered : AreNumbered (suc (lines_given lines)) (texts ++ line ∷ [])) (are : TakenLines lines consumed (length (texts ++ line ∷ [])))
-          (none : final.waiting ≡ None) (kind : Kind) (says : line_says run.full (reached final) line ≡ Err kind) (fault : FaultValue) (is : fault ≡ fault_at_line First line.number kind) where
-        says_now : line_says run.full (state_behind (sequence_format run.full) at items) line ≡ Err kind
-        says_now = ap (λ (r : Reached). line_says run.full r line) reached_now ∙ says
+          (none : final.waiting ≡ None) (kind : Kind) (says : line_says start.mask.full (reached final) line ≡ Err kind) (fault : FaultValue) (is : fault ≡ fault_at_line First line.number kind) where
+        says_now : line_says start.mask.full (state_behind (sequence_format start.mask.full) at items) line ≡ Err kind
+        says_now = ap (λ (r : Reached). line_says start.mask.full r line) reached_now ∙ says
 
-        is_now : fault ≡ fault_at_line (input_of run.lines) line.number kind
-        is_now = is ∙ ap (λ (i : Input). fault_at_line i line.number kind) (sym run.first)
+        is_now : fault ≡ fault_at_line (input_of start.lines) line.number kind
+        is_now = is ∙ ap (λ (i : Input). fault_at_line i line.number kind) (sym s.first_is)
 
         no_end : (xs : List TextLine) → (xs ++ line ∷ []) ++ more ≡ [] → ⊥
         no_end [] e = cc
@@ -207,19 +211,19 @@ module _ {A B : Type 0} (source_a : Source A) (source_b : Source B) (run : MaskB
 
         never_read : (input : Input) (number : ℕ) → Some fault ≡ Some (read_failed input number) → ⊥
         never_read input number e =
-            line_no_read First line.number kind input number (subst (λ (k : Kind). is_of_line k ≡ true) (sym (wrong_is_text run.full (reached final) line kind says)) refl) (sym is ∙ some_is fault (read_failed input number) e)
+            line_no_read First line.number kind input number (subst (λ (k : Kind). is_of_line k ≡ true) (sym (wrong_is_text start.mask.full (reached final) line kind says)) refl) (sym is ∙ some_is fault (read_failed input number) e)
 
         pub refuses_line : (through : Output) → Grown grown bytes through → EndsAt (Some fault) new second_now through
         refuses_line through adds = (
-          refused source_a run.full old_first s.past_first at lines new s.comes.first_passes texts line more items say_here kind says_now parts numbered consumed are takes fault is_now,
+          refused source_a start.mask.full old_first s.past_first at lines new s.comes.first_passes texts line more items say_here kind says_now parts numbered consumed are takes fault is_now,
           refl,
-          stop.first_fails rule both run.out (stage_of stage) s.past_first s.past_second (line_members run.full at lines) second grown s.comes asks_here (λ known. tt) going more_first more_second second_now takes_second ended_second bytes
+          stop.first_fails rule both before (stage_of stage) s.past_first s.past_second (line_members start.mask.full at lines) second grown s.comes asks_here (λ known. tt) going more_first more_second second_now takes_second ended_second bytes
               (λ known. rw (← all_written, ← taken_now) (settled known)) (λ known. tt)
-              (stop.asks_then rule both run.out (stage_of stage) s.past_first s.past_second (line_members run.full at lines) second grown s.comes (asked_here going) (λ extra asks. asked_more (given stage) extra stage.taken asks) more_first more_second second_now takes_second)
-              fault (refused source_a run.full old_first s.past_first at lines new s.comes.first_passes texts line more items say_here kind says_now parts numbered consumed are takes fault is_now)
-              (refuses source_a run.full old_first s.past_first at lines new s.comes.first_passes texts line more items say_here kind says_now parts numbered consumed are takes fault is_now (λ k. is_fasta_kind k ≡ true)
-              (subst (λ (k : Kind). is_fasta_kind k ≡ true) (sym (wrong_is_text run.full (reached final) line kind says)) refl))
-              (refuses_read source_a run.full old_first s.past_first at lines new s.comes.first_passes texts line more items say_here kind says_now parts numbered consumed are takes fault is_now)
+              (stop.asks_then rule both before (stage_of stage) s.past_first s.past_second (line_members start.mask.full at lines) second grown s.comes (asked_here going) (λ extra asks. asked_more (given stage) extra stage.taken asks) more_first more_second second_now takes_second)
+              fault (refused source_a start.mask.full old_first s.past_first at lines new s.comes.first_passes texts line more items say_here kind says_now parts numbered consumed are takes fault is_now)
+              (refuses source_a start.mask.full old_first s.past_first at lines new s.comes.first_passes texts line more items say_here kind says_now parts numbered consumed are takes fault is_now (λ k. is_fasta_kind k ≡ true)
+              (subst (λ (k : Kind). is_fasta_kind k ≡ true) (sym (wrong_is_text start.mask.full (reached final) line kind says)) refl))
+              (refuses_read source_a start.mask.full old_first s.past_first at lines new s.comes.first_passes texts line more items say_here kind says_now parts numbered consumed are takes fault is_now)
               through adds,
           λ input number e. absurd (never_read input number e),
         )

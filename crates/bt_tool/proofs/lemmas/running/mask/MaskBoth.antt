@@ -1,7 +1,7 @@
 -- Lemmas on a round of masking in which lines and records were given together.
 use Rattle.std.proofs.Common.{◌≡◌, ℕ, zero, suc, ◌-◌, drop, length-take, ◌+◌, ◌≤◌, ◌<◌, Bool, true, false, List, [], ◌∷◌, ◌++◌, length, take, Option, None, Some, Result, Ok, Err, refl, sym, ap, ◌∙◌, subst, append-nil, append_assoc, option_to_list, arith, inl, inr}
 use Rattle.std.proofs.lemmas.List.{append_cancel_left, nil_from_length}
-use Rattle.std.specs.Prelude.{◌⊎◌, OnOk, is_some, nat_eq, option_map}
+use Rattle.std.specs.Prelude.{◌⊎◌, OnOk, is_some, nat_eq}
 use Rattle.std.proofs.lemmas.Bool.{false≢true}
 use Rattle.bt_lines.specs.declared.device.Source.{Ghosts as Source}
 use Rattle.bt_lines.proofs.lemmas.reader.block.BufferLemmas.{fed_none}
@@ -36,11 +36,12 @@ use Rattle.bt_seq.specs.model.Sequences.{Reached, SequenceLine, sequence_format}
 use Rattle.bt_seq.specs.declared.mask.mask_how.MaskHow.{MaskHow}
 use Rattle.bt_seq.specs.declared.mask.mask_want.MaskWant.{MaskWant}
 use Rattle.bt_seq.specs.declared.mask.mask_want.MaskWant.TheVariants.{Line as WantLine, Bed as WantBed, Nothing}
-use Rattle.bt_tool.specs.inside.pair.MaskLoop.{AdvancesMask, IsMaskReady, MaskBegun, MaskEnds, Masks, mask_join, mask_left, mask_rounds}
+use Rattle.bt_tool.specs.declared.loops.masking.MaskRun.{MaskRun}
+use Rattle.bt_tool.specs.inside.pair.MaskLoop.{AdvancesMask, IsMaskReady, MaskEnds, Masks, mask_join, mask_left, mask_rounds}
 use Rattle.bt_tool.specs.inside.pair.Pair.{SettlesPair, item_ahead}
 use Rattle.bt_tool.specs.inside.pair.Progress.{PairStage}
 use Rattle.bt_tool.specs.inside.feed.Passed.{HasTaken}
-use Rattle.bt_tool.proofs.lemmas.running.members.MemberLemmas.{items_from}
+use Rattle.bt_tool.proofs.lemmas.running.members.MemberLemmas.{items_from, some_map}
 use Rattle.bt_tool.proofs.lemmas.running.mask.MaskAdvanced.{come_on, fails_write, lacks_room, refuses_line, settled}
 use Rattle.bt_tool.proofs.lemmas.running.pair.PairTurns.{none_new}
 use Rattle.bt_tool.proofs.lemmas.running.mask.MaskGiven.{ahead_first, first_of}
@@ -68,12 +69,8 @@ module _ {S State : Type 0} (second second_now : MemberReader S Feature State) (
 
 -- ---- how much is still wanted
 
-some_kept : (o : Option SequenceLine) → is_some (option_map kept_line o) ≡ is_some o
-some_kept None = refl
-some_kept (Some line) = refl
-
 pub waits_is : {stage : MaskStage} {mask : Masking} → MaskStandsAt stage mask → is_some mask.waiting ≡ is_some stage.waiting
-waits_is {stage} {mask} stands = ap is_some stands.waiting_is ∙ some_kept stage.waiting
+waits_is {stage} {mask} stands = ap is_some stands.waiting_is ∙ some_map kept_line stage.waiting
 
 pub rounds_most : (waits : Bool) (want : MaskWant) → mask_rounds waits want ≤ 3
 rounds_most waits WantLine = omega arith
@@ -124,14 +121,14 @@ some_buffered reader first begins none some =
     subst (λ (b : Bool). IsLast b b (buffered_bytes reader) []) begins.open_is (subst (λ (l : List ℕ). IsLast first.is_open first.is_open l []) whole first.last) in
     absurd (omega (arith, some, no_bytes (is_open reader) (lines_given reader) (buffered_bytes reader) fed last none))
 
-module _ {A B : Type 0} (source_a : Source A) (source_b : Source B) (run : MaskBegun A B) (at : Reached) (lines : LineReader A)
-    (second : MemberReader B Feature (Option Locus)) (mask : Masking) (out : Output) (s : Masks source_a source_b run at lines second mask out)
+module _ {A B : Type 0} (source_a : Source A) (source_b : Source B) (start : MaskRun A B) (before : Output) (at : Reached) (lines : LineReader A)
+    (second : MemberReader B Feature (Option Locus)) (mask : Masking) (out : Output) (s : Masks source_a source_b start before at lines second mask out)
     (first_lines last_lines : BufferedLines) (begins : BeginsLines (buffered_bytes lines) (lines_given lines) (is_open lines) first_lines) (texts : List TextLine) (parts : buffered_in lines ≡ texts ++ lines_in last_lines)
     (numbered : AreNumbered (suc (lines_given lines)) texts) (first_beds last_beds : Batch) (lent : left first_beds ≡ second.buffered) (lent_at : (cursor_in first_beds).lines ≡ lines_given second.below)
     (taken : List Feature) (gave : Passes first_beds taken last_beds) (new : LineReader A) (over : has_ended lines ≡ true → buffered_in lines ≡ []) (consumed : ConsumedLines) (are : TakenLines lines consumed (length texts)) (takes : TakesLines source_a lines consumed new)
     (second_now : MemberReader B Feature (Option Locus)) (has : HasTaken source_b second taken second_now) where
   abbrev EndsAt : Option FaultValue → Output → Type 0
-  EndsAt fault grown = MaskEnds source_a source_b run fault new second_now grown
+  EndsAt fault grown = MaskEnds source_a source_b start before fault new second_now grown
 
   -- the record ahead is the next one that is given
   comes_next : ComesNext Passes line_in HasEnded s.stage.ahead first_beds
@@ -144,7 +141,7 @@ module _ {A B : Type 0} (source_a : Source A) (source_b : Source B) (run : MaskB
   left_then = append_cancel_left taken (left last_beds) second_now.buffered (sym gave.left_is ∙ lent ∙ has.takes.buffered)
 
   -- after what was given, something else is wanted
-  module _ (masked : Masking) (now : Output) (comes : HasCome run.how run.full s.stage texts taken out masked now) (stops : StopsAt Passes line_in HasEnded masked.want last_lines last_beds) where
+  module _ (masked : Masking) (now : Output) (comes : HasCome start.mask.how start.mask.full s.stage texts taken out masked now) (stops : StopsAt Passes line_in HasEnded masked.want last_lines last_beds) where
     abbrev final : MaskStage
     final = comes.stage
 
@@ -157,7 +154,7 @@ module _ {A B : Type 0} (source_a : Source A) (source_b : Source B) (run : MaskB
         no_more_by s.stage.waiting final.waiting comes.goes_on.newly s.stage.written waits
         (ap (λ (l : List SequenceLine). l ++ option_to_list final.waiting) (sym comes.goes_on.written_is) ∙ comes.goes_on.given_is ∙ ap (λ (l : List SequenceLine). given s.stage ++ l) items ∙ append-nil (given s.stage))
       where
-        no_items : (texts : List TextLine) (items : List SequenceLine) → texts ≡ [] → SayEach run.full (reached s.stage) texts items → items ≡ []
+        no_items : (texts : List TextLine) (items : List SequenceLine) → texts ≡ [] → SayEach start.mask.full (reached s.stage) texts items → items ≡ []
         no_items [] items e say = say
         no_items (x ∷ xs) items e say = cc
 
@@ -194,39 +191,39 @@ module _ {A B : Type 0} (source_a : Source A) (source_b : Source B) (run : MaskB
         let less : mask_left new second_now masked < mask_left lines second mask = omega (arith, less_room, has.takes.shrinks, most, e) in
         (omega (arith, less), λ there. less)
 
-    gave_both : ComesAfter Passes line_in HasEnded s.stage.ahead first_beds taken final.ahead → {T : Type 0} (done : T) → AdvancesMask source_a source_b run lines second mask (Ok done) new second_now masked now
+    gave_both : ComesAfter Passes line_in HasEnded s.stage.ahead first_beds taken final.ahead → {T : Type 0} (done : T) → AdvancesMask source_a source_b start before lines second mask (Ok done) new second_now masked now
     gave_both after done =
         let few = few_by (length texts + length taken) refl in (
           (
-            state_behind (sequence_format run.full) at comes.goes_on.items,
-            (come_on source_a source_b run at lines second mask out s new over consumed takes taken second_now has texts final comes.bytes comes.goes_on (kept_then final.ahead after) (lines_in last_lines) parts numbered are masked now comes.stands comes.puts).0,
+            state_behind (sequence_format start.mask.full) at comes.goes_on.items,
+            (come_on source_a source_b start before at lines second mask out s new over consumed takes taken second_now has texts final comes.bytes comes.goes_on (kept_then final.ahead after) (lines_in last_lines) parts numbered are masked now comes.stands comes.puts).0,
           ),
           few.0,
           few.1,
         )
 
   -- the last of what was given failed
-  module _ (fault : FaultValue) (now : Output) (behind : FailsBehind Passes line_in HasEnded run.how run.full s.stage texts taken out first_beds fault last_beds now) where
-    abbrev comes : HasCome run.how run.full s.stage behind.before taken out behind.mask behind.through
+  module _ (fault : FaultValue) (now : Output) (behind : FailsBehind Passes line_in HasEnded start.mask.how start.mask.full s.stage texts taken out first_beds fault last_beds now) where
+    abbrev comes : HasCome start.mask.how start.mask.full s.stage behind.before taken out behind.mask behind.through
     comes = behind.comes
 
     kept : (r : Feature) → comes.stage.ahead ≡ Some r → item_ahead second_now ≡ Some r
     kept = kept_then comes.stage.ahead behind.fails.1
 
     -- lines that are settled weren't all written
-    module _ (final : MaskStage) (bytes : List ℕ) (goes : GoesOn run.how run.full comes.stage behind.failing [] final bytes) (ahead_is : final.ahead ≡ comes.stage.ahead) where
-      all_go : GoesOn run.how run.full s.stage texts taken final (comes.bytes ++ bytes)
+    module _ (final : MaskStage) (bytes : List ℕ) (goes : GoesOn start.mask.how start.mask.full comes.stage behind.failing [] final bytes) (ahead_is : final.ahead ≡ comes.stage.ahead) where
+      all_go : GoesOn start.mask.how start.mask.full s.stage texts taken final (comes.bytes ++ bytes)
       all_go =
-          subst (λ (t : List TextLine). GoesOn run.how run.full s.stage t taken final (comes.bytes ++ bytes)) (sym behind.parts)
-          (subst (λ (l : List Feature). GoesOn run.how run.full s.stage (behind.before ++ behind.failing) l final (comes.bytes ++ bytes)) (append-nil taken)
-          (goes_more run.how run.full s.stage comes.stage final behind.before behind.failing taken [] comes.bytes bytes comes.goes_on goes))
+          subst (λ (t : List TextLine). GoesOn start.mask.how start.mask.full s.stage t taken final (comes.bytes ++ bytes)) (sym behind.parts)
+          (subst (λ (l : List Feature). GoesOn start.mask.how start.mask.full s.stage (behind.before ++ behind.failing) l final (comes.bytes ++ bytes)) (append-nil taken)
+          (goes_more start.mask.how start.mask.full s.stage comes.stage final behind.before behind.failing taken [] comes.bytes bytes comes.goes_on goes))
 
       kept_final : (r : Feature) → final.ahead ≡ Some r → item_ahead second_now ≡ Some r
       kept_final r e = kept r (sym ahead_is ∙ e)
 
       fails_copying : FailsToAdd behind.through bytes fault now → EndsAt (Some fault) now
       fails_copying fails =
-          fails_write source_a source_b run at lines second mask out s new over consumed takes taken second_now has texts final (comes.bytes ++ bytes) all_go kept_final (lines_in last_lines) parts numbered are comes.bytes bytes refl
+          fails_write source_a source_b start before at lines second mask out s new over consumed takes taken second_now has texts final (comes.bytes ++ bytes) all_go kept_final (lines_in last_lines) parts numbered are comes.bytes bytes refl
           behind.through now fault comes.puts fails
 
     -- a line failed
@@ -238,18 +235,18 @@ module _ {A B : Type 0} (source_a : Source A) (source_b : Source B) (run : MaskB
         texts_are : texts ≡ behind.before ++ line ∷ []
         texts_are = behind.parts ∙ ap (λ l. behind.before ++ l) one
 
-        refuses_one : RefusesLine run.how run.full comes.stage line behind.through fault now → EndsAt (Some fault) now
+        refuses_one : RefusesLine start.mask.how start.mask.full comes.stage line behind.through fault now → EndsAt (Some fault) now
         refuses_one refuses =
             rw refuses.same_output
-            (refuses_line source_a source_b run at lines second mask out s new over consumed takes taken second_now has behind.before comes.stage comes.bytes comes.goes_on kept line (lines_in last_lines)
+            (refuses_line source_a source_b start before at lines second mask out s new over consumed takes taken second_now has behind.before comes.stage comes.bytes comes.goes_on kept line (lines_in last_lines)
             (parts ∙ ap (λ l. l ++ lines_in last_lines) texts_are) (subst (AreNumbered (suc (lines_given lines))) texts_are numbered) (subst (λ (l : List TextLine). TakenLines lines consumed (length l)) texts_are are)
             none_waits refuses.kind refuses.says fault refuses.is behind.through comes.puts)
 
-        module _ (fails : FailsWithLine run.how run.full comes.stage line behind.through fault now) where
-          with_it : GoesOn run.how run.full comes.stage behind.failing [] (with_line comes.stage fails.item) (bytes_with run.how comes.stage fails.item)
+        module _ (fails : FailsWithLine start.mask.how start.mask.full comes.stage line behind.through fault now) where
+          with_it : GoesOn start.mask.how start.mask.full comes.stage behind.failing [] (with_line comes.stage fails.item) (bytes_with start.mask.how comes.stage fails.item)
           with_it =
-              subst (λ (l : List TextLine). GoesOn run.how run.full comes.stage l [] (with_line comes.stage fails.item) (bytes_with run.how comes.stage fails.item)) (sym one)
-              (line_goes run.how run.full comes.stage line fails.item none_waits fails.says)
+              subst (λ (l : List TextLine). GoesOn start.mask.how start.mask.full comes.stage l [] (with_line comes.stage fails.item) (bytes_with start.mask.how comes.stage fails.item)) (sym one)
+              (line_goes start.mask.how start.mask.full comes.stage line fails.item none_waits fails.says)
 
           ahead_same : (b : Bool) → is_written_at_once comes.stage fails.item ≡ b → (with_line comes.stage fails.item).ahead ≡ comes.stage.ahead
           ahead_same true e = rw e refl
@@ -272,15 +269,15 @@ module _ {A B : Type 0} (source_a : Source A) (source_b : Source B) (run : MaskB
           with_given true e = rw e (ap (λ (o : Option SequenceLine). (comes.stage.written ++ fails.item ∷ []) ++ option_to_list o) none_waits ∙ append-nil (comes.stage.written ++ fails.item ∷ []))
           with_given false e = rw e refl
 
-          whole : GoesOn run.how run.full s.stage texts taken (with_line comes.stage fails.item) (comes.bytes ++ bytes_with run.how comes.stage fails.item)
-          whole = all_go (with_line comes.stage fails.item) (bytes_with run.how comes.stage fails.item) with_it same_ahead
+          whole : GoesOn start.mask.how start.mask.full s.stage texts taken (with_line comes.stage fails.item) (comes.bytes ++ bytes_with start.mask.how comes.stage fails.item)
+          whole = all_go (with_line comes.stage fails.item) (bytes_with start.mask.how comes.stage fails.item) with_it same_ahead
 
           kept_whole : (r : Feature) → (with_line comes.stage fails.item).ahead ≡ Some r → item_ahead second_now ≡ Some r
           kept_whole r e = kept r (sym same_ahead ∙ e)
 
           lacks_one : fault ≡ no_memory → EndsAt (Some fault) behind.through
           lacks_one is =
-              lacks_room source_a source_b run at lines second mask out s new over consumed takes taken second_now has texts (with_line comes.stage fails.item) (comes.bytes ++ bytes_with run.how comes.stage fails.item) whole kept_whole
+              lacks_room source_a source_b start before at lines second mask out s new over consumed takes taken second_now has texts (with_line comes.stage fails.item) (comes.bytes ++ bytes_with start.mask.how comes.stage fails.item) whole kept_whole
               (lines_in last_lines) parts numbered are mid comes.goes_on.newly
               (record {
                 given_is = sym (with_given (is_written_at_once comes.stage fails.item) refl) ∙ whole.given_is ∙ ap (λ l. given s.stage ++ l) (sym (items_from (suc (lines_given lines)) whole.items));
@@ -290,16 +287,16 @@ module _ {A B : Type 0} (source_a : Source A) (source_b : Source B) (run : MaskB
                 second_is = comes.goes_on.bed_ended_is;
               })
               comes.bytes behind.through
-              (λ known. subst (λ (b : Bool). SettlesPair (mask_join run.how) comes.stage.written (s.comes.bytes ++ comes.bytes) (comes.stage.taken ++ option_to_list (item_ahead second_now)) b) (sym comes.goes_on.bed_ended_is)
-              (settled source_a source_b run at lines second mask out s new over consumed takes taken second_now has behind.before comes.stage comes.bytes comes.goes_on kept known)) comes.puts fault is
+              (λ known. subst (λ (b : Bool). SettlesPair (mask_join start.mask.how) comes.stage.written (s.comes.bytes ++ comes.bytes) (comes.stage.taken ++ option_to_list (item_ahead second_now)) b) (sym comes.goes_on.bed_ended_is)
+              (settled source_a source_b start before at lines second mask out s new over consumed takes taken second_now has behind.before comes.stage comes.bytes comes.goes_on kept known)) comes.puts fault is
 
           fails_one : EndsAt (Some fault) now
           fails_one = elim fails.fails [
-            | inl adds ↦ fails_copying (with_line comes.stage fails.item) (bytes_with run.how comes.stage fails.item) with_it same_ahead adds
+            | inl adds ↦ fails_copying (with_line comes.stage fails.item) (bytes_with start.mask.how comes.stage fails.item) with_it same_ahead adds
             | inr ran ↦ rw ran.1 (lacks_one ran.0)
           ]
 
-      fails_lines : FailsAtLines run.how run.full comes.stage behind.failing behind.through fault now → EndsAt (Some fault) now
+      fails_lines : FailsAtLines start.mask.how start.mask.full comes.stage behind.failing behind.through fault now → EndsAt (Some fault) now
       fails_lines (inl (line, one, inl refuses)) = refuses_one line one refuses
       fails_lines (inl (line, one, inr fails)) = fails_one line one fails
       fails_lines (inr copies) = fails_copying copies.stage copies.bytes copies.goes_on copies.ahead_is copies.fails
@@ -313,18 +310,18 @@ module _ {A B : Type 0} (source_a : Source A) (source_b : Source B) (run : MaskB
       unfolding line_in cursor_in
       number_is = omega (arith, passes.lines.given, gave.lines.given, lent_at, has.takes.given)
 
-      fails_next : FailsAtRecord run.how run.full comes.stage.waiting comes.stage r (line_in later) behind.through fault now → EndsAt (Some fault) now
+      fails_next : FailsAtRecord start.mask.how start.mask.full comes.stage.waiting comes.stage r (line_in later) behind.through fault now → EndsAt (Some fault) now
       fails_next fails =
           let here =
-          come_on source_a source_b run at lines second mask out s new over consumed takes taken second_now has behind.before comes.stage comes.bytes comes.goes_on kept (lines_in last_lines)
+          come_on source_a source_b start before at lines second mask out s new over consumed takes taken second_now has behind.before comes.stage comes.bytes comes.goes_on kept (lines_in last_lines)
           (parts ∙ ap (λ l. l ++ lines_in last_lines) before_is) (subst (AreNumbered (suc (lines_given lines))) before_is numbered) (subst (λ (l : List TextLine). TakenLines lines consumed (length l)) before_is are) behind.mask behind.through comes.stands comes.puts in
-          fails_record source_a source_b run (state_behind (sequence_format run.full) at comes.goes_on.items) new second_now behind.mask behind.through here.0 (comes.stands.stands.want_is ∙ wants) r (left later)
+          fails_record source_a source_b start before (state_behind (sequence_format start.mask.full) at comes.goes_on.items) new second_now behind.mask behind.through here.0 (comes.stands.stands.want_is ∙ wants) r (left later)
           (sym left_then ∙ passes.left_is) fault now
-          (subst (λ (n : ℕ). FailsAtRecord run.how run.full here.0.stage.waiting here.0.stage r n behind.through fault now) number_is
-          (subst (λ (stage : MaskStage). FailsAtRecord run.how run.full stage.waiting stage r (line_in later) behind.through fault now) (sym here.1) fails))
+          (subst (λ (n : ℕ). FailsAtRecord start.mask.how start.mask.full here.0.stage.waiting here.0.stage r n behind.through fault now) number_is
+          (subst (λ (stage : MaskStage). FailsAtRecord start.mask.how start.mask.full stage.waiting stage r (line_in later) behind.through fault now) (sym here.1) fails))
 
-    fails_both : ((want_at comes.stage ≡ WantLine) × FailsAtLines run.how run.full comes.stage behind.failing behind.through fault now)
-        ⊎ ((r : Feature) × (later : Batch) × (behind.failing ≡ []) × (want_at comes.stage ≡ WantBed) × Passes last_beds (r ∷ []) later × FailsAtRecord run.how run.full comes.stage.waiting comes.stage r (line_in later) behind.through fault now)
+    fails_both : ((want_at comes.stage ≡ WantLine) × FailsAtLines start.mask.how start.mask.full comes.stage behind.failing behind.through fault now)
+        ⊎ ((r : Feature) × (later : Batch) × (behind.failing ≡ []) × (want_at comes.stage ≡ WantBed) × Passes last_beds (r ∷ []) later × FailsAtRecord start.mask.how start.mask.full comes.stage.waiting comes.stage r (line_in later) behind.through fault now)
         → EndsAt (Some fault) now
     fails_both (inl at_lines) = fails_lines at_lines.0 at_lines.1
     fails_both (inr at_record) = fails_next at_record.0 at_record.1 at_record.2 at_record.3 at_record.4 at_record.5
@@ -334,13 +331,13 @@ module _ {A B : Type 0} (source_a : Source A) (source_b : Source B) (run : MaskB
 
   -- the engine masks as the run says
   as_run : {T : Type 0} (answer : Result T Fault) (masked : Masking) (now : Output) → BothCome Passes line_in HasEnded mask.how mask.full s.stage texts taken out first_beds answer masked last_beds now
-      → BothCome Passes line_in HasEnded run.how run.full s.stage texts taken out first_beds answer masked last_beds now
+      → BothCome Passes line_in HasEnded start.mask.how start.mask.full s.stage texts taken out first_beds answer masked last_beds now
   as_run answer masked now both =
-      subst (λ (h : MaskHow). BothCome Passes line_in HasEnded h run.full s.stage texts taken out first_beds answer masked last_beds now) s.how_is
+      subst (λ (h : MaskHow). BothCome Passes line_in HasEnded h start.mask.full s.stage texts taken out first_beds answer masked last_beds now) s.how_is
       (subst (λ (b : Bool). BothCome Passes line_in HasEnded mask.how b s.stage texts taken out first_beds answer masked last_beds now) s.full_is both)
 
   -- what the result says
   pub gives_both : {T : Type 0} (answer : Result T Fault) (masked : Masking) (now : Output) → (ComesNext Passes line_in HasEnded s.stage.ahead first_beds → BothCome Passes line_in HasEnded mask.how mask.full s.stage texts taken out first_beds answer masked last_beds now)
-      → OnOk answer (StopsAt Passes line_in HasEnded masked.want last_lines last_beds) → AdvancesMask source_a source_b run lines second mask answer new second_now masked now
+      → OnOk answer (StopsAt Passes line_in HasEnded masked.want last_lines last_beds) → AdvancesMask source_a source_b start before lines second mask answer new second_now masked now
   gives_both (Ok done) masked now come stops = let both = as_run (Ok done) masked now (come comes_next) in gave_both masked now both.0 stops both.2 done
   gives_both {T} (Err fault) masked now come stops = let both = as_run {T = T} (Err fault) masked now (come comes_next) in failed_both (fault_value fault) now both.1

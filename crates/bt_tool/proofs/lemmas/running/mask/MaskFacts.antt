@@ -1,5 +1,5 @@
 -- The facts of masking that its report and its reading rest on.
-use Rattle.std.proofs.Common.{◌≡◌, ℕ, suc, ◌<◌, ◌≤◌, Bool, true, false, not, List, [], ◌∷◌, ◌++◌, take, refl, sym, ap, ◌∙◌, subst, append-nil, append_assoc, inl, inr}
+use Rattle.std.proofs.Common.{◌≡◌, ℕ, suc, ◌<◌, ◌≤◌, Bool, true, false, not, List, [], ◌∷◌, ◌++◌, take, refl, sym, ap, ◌∙◌, subst, append-nil, append_assoc, inl, inr, Option, Some, None, Result, Ok, Err, cond}
 use Rattle.std.specs.Prelude.{◌⊎◌, ◌||◌, All, IsTrue}
 use Rattle.std.specs.List.{list_all}
 use Rattle.std.proofs.lemmas.Bool.{false≢true, or_left, or_right}
@@ -14,10 +14,18 @@ use Rattle.bt_seq.specs.declared.mask.mask_how.MaskHow.{MaskHow}
 use Rattle.bt_seq.proofs.lemmas.laws.MaskPrefixLemmas.{decided_stays}
 use Rattle.bt_tool.specs.model.report.SweepReport.{bytes_up_to}
 use Rattle.bt_tool.specs.inside.feed.Feeding.{member_items}
-use Rattle.bt_tool.specs.model.report.MaskReport.{last_needed}
+use Rattle.bt_tool.specs.model.report.MaskReport.{last_needed, is_mask_kind}
 use Rattle.bt_tool.specs.inside.pair.MaskLoop.{leaves_some, mask_join}
-use Rattle.bt_tool.proofs.lemmas.running.pair.PairLimits.{AreLimits}
+use Rattle.bt_tool.proofs.lemmas.running.pair.PairMet.{AreLimits}
 use Rattle.bt_tool.proofs.lemmas.running.pair.PairNear.{AreNeeded, least_by, not_all, skip_by, take_whole}
+use Rattle.bt_lines.specs.declared.fault.Kind.{Kind}
+use Rattle.bt_lines.specs.declared.fault.Kind.TheVariants.{TooFewColumns, EmptyName, BadStart, BadStop, EmptyFeature, OutOfOrder}
+use Rattle.bt_bed.specs.model.input.GoodBed.{line_says, locus_at, said_after}
+use Rattle.bt_bed.specs.model.feature.LineKind.{is_record_kind}
+use Rattle.bt_bed.specs.model.order.Locus.{Locus}
+use Rattle.bt_bed.specs.model.feature.Record.{record_of}
+use Rattle.bt_bed.specs.model.order.Sorting.{block_sorting, falls_in}
+use Rattle.bt_bed.proofs.lemmas.read.good.SaidLemmas.{wrong_is_of_record}
 
 -- a line that more records leave undecided, fewer do too
 undecided_by : (b c : Bool) → (b ≡ true → c ≡ true) → not c ≡ true → not b ≡ true
@@ -48,10 +56,6 @@ needed_from lines before (m ∷ ms) rest (inr some) =
     ∙ needed_from lines (before ++ m.item ∷ []) ms rest (inr more)
     ∙ ap (λ (l : List Feature). last_needed lines l rest) parts
 
-needed_behind : (lines : List SequenceLine) (past rest : List (Member Feature)) → (past ≡ []) ⊎ IsTrue (leaves_some lines (member_items past))
-    → last_needed lines [] (past ++ rest) ≡ last_needed lines (member_items past) rest
-needed_behind lines past rest h = needed_from lines [] past rest h
-
 -- who leave one of some lines undecided, leave one of more
 pub asked_of : (given extra : List SequenceLine) (records : List Feature) → IsTrue (leaves_some given records) → IsTrue (leaves_some (given ++ extra) records)
 asked_of given extra records some =
@@ -77,7 +81,7 @@ reaches_least on before (m ∷ ms) lines count high =
 -- what lines need lies after the records that were taken for them
 pub mask_needs : (how : MaskHow) → AreNeeded (mask_join how)
 mask_needs how given extra past rest lines count asked high =
-    subst (λ o. bytes_in (take (suc count) lines) ≤ bytes_up_to lines o) (sym (needed_behind (given ++ extra) past rest (asked_by given extra past asked)))
+    subst (λ o. bytes_in (take (suc count) lines) ≤ bytes_up_to lines o) (sym (needed_from (given ++ extra) [] past rest (asked_by given extra past asked)))
     (reaches_least (given ++ extra) (member_items past) rest lines count high)
 
 -- masking has no limit on what is held
@@ -89,3 +93,25 @@ mask_limits how = record {
   done = λ first past ahead rest fault fits ordered all. refl;
   ordered = λ first second ordered. ordered;
 }
+
+-- what is wrong with a record on its own
+of_record : (kind : Kind) → is_record_kind kind ≡ true → is_mask_kind kind ≡ true
+of_record TooFewColumns e = refl
+of_record EmptyName e = refl
+of_record BadStart e = refl
+of_record BadStop e = refl
+of_record EmptyFeature e = refl
+of_record _ e = absurd (false≢true e)
+
+of_place : (falls : Bool) (r : Feature) (kind : Kind) → cond falls (Err OutOfOrder) (Ok (Some r)) ≡ Err kind → is_mask_kind kind ≡ true
+of_place true r kind e = let is : OutOfOrder ≡ kind = cc in subst (λ (k : Kind). is_mask_kind k ≡ true) is refl
+of_place false r kind e = cc
+
+of_said : (last : Option Locus) (said : Result (Option Feature) Kind) (kind : Kind) → said_after block_sorting last said ≡ Err kind → ((k : Kind) → said ≡ Err k → is_mask_kind k ≡ true) → is_mask_kind kind ≡ true
+of_said last (Ok None) kind e h = cc
+of_said last (Ok (Some r)) kind e h = of_place (falls_in block_sorting last (locus_at r)) r kind e
+of_said last (Err k) kind e h = let is : k ≡ kind = cc in subst (λ (x : Kind). is_mask_kind x ≡ true) is (h k refl)
+
+pub says_of_blocks : (last : Option Locus) (text : List ℕ) (kind : Kind) → line_says block_sorting last text ≡ Err kind → is_mask_kind kind ≡ true
+unfolding line_says
+says_of_blocks last text kind e = of_said last (record_of text) kind e (λ k said. of_record k (wrong_is_of_record text k (sym said)))

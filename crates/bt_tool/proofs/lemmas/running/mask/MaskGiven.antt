@@ -16,6 +16,7 @@ use Rattle.bt_seq.specs.model.Masked.{decided, masked_line}
 use Rattle.bt_seq.specs.model.Sequences.{SequenceLine}
 use Rattle.bt_seq.specs.declared.mask.mask_how.MaskHow.{MaskHow}
 use Rattle.bt_tool.specs.inside.pair.MaskLoop.{mask_join}
+use Rattle.bt_tool.proofs.lemmas.running.pair.PairSettles.{all_or}
 use Rattle.bt_tool.specs.inside.pair.Pair.{MayCome, SettlesPair, item_ahead}
 
 -- the first of some records
@@ -29,18 +30,6 @@ first_by line (r ∷ records) = refl
 
 pub ahead_first : {S State : Type 0} (reader : MemberReader S Feature State) → item_ahead reader ≡ first_of reader.buffered
 ahead_first reader = first_by _ reader.buffered
-
--- each of these is decided
-all_faultless : (fault : Option FaultValue) (records : List Feature) (lines : List SequenceLine) → is_none fault ≡ true → list_all (λ x. is_none fault || decided x records) lines ≡ true
-all_faultless fault records [] e = refl
-all_faultless fault records (line ∷ lines) e =
-    and_from (is_none fault || decided line records) (list_all (λ x. is_none fault || decided x records) lines) (or_left (is_none fault) (decided line records) e) (all_faultless fault records lines e)
-
-all_decided : (fault : Option FaultValue) (records : List Feature) (lines : List SequenceLine) → list_all (λ line. decided line records) lines ≡ true → list_all (λ x. is_none fault || decided x records) lines ≡ true
-all_decided fault records [] e = refl
-all_decided fault records (line ∷ lines) e =
-    let both = and_parts (decided line records) (list_all (λ line. decided line records) lines) e in
-    and_from (is_none fault || decided line records) (list_all (λ x. is_none fault || decided x records) lines) (or_right (is_none fault) (decided line records) both.0) (all_decided fault records lines both.1)
 
 -- what may come after those that a reader has taken and the one ahead, follows what the engine has seen
 module _ (stage : MaskStage) (next : Option Feature) (kept : (r : Feature) → stage.ahead ≡ Some r → next ≡ Some r) (over : stage.bed_ended ≡ true → next ≡ None)
@@ -108,5 +97,5 @@ module _ (how : MaskHow) (full : Bool) where
     where
       newly_by : (b : Bool) → new.bed_ended ≡ b → (records : List Feature) (fault : Option FaultValue) → MayCome (new.taken ++ option_to_list (first_of buffered)) new.bed_ended records fault → MayFollow new records
           → list_all (λ x. is_none fault || decided x records) goes.newly ≡ true
-      newly_by true e records fault may follow = all_faultless fault records goes.newly (ap is_none (may.all e).1)
-      newly_by false e records fault may follow = all_decided fault records goes.newly (goes.settles.are_decided records follow e)
+      newly_by true e records fault may follow = all_or (λ x. decided x records) (is_none fault) goes.newly (or_left (is_none fault) _ (ap is_none (may.all e).1))
+      newly_by false e records fault may follow = all_or (λ x. decided x records) (is_none fault) goes.newly (or_right (is_none fault) _ (goes.settles.are_decided records follow e))

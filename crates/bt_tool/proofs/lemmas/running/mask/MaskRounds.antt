@@ -1,55 +1,165 @@
 -- Lemmas on the rounds of masking over two readers.
-use Rattle.std.proofs.Common.{◌≡◌, Bool, true, false, Option, None, Some, Result, Ok, Err, refl, sym, ◌∙◌, subst}
-use Rattle.std.specs.Prelude.{IsErrAnd}
+use Rattle.std.proofs.Common.{◌≡◌, Bool, true, false, Option, None, Some, Result, Ok, Err, refl, sym, ◌∙◌, subst, ℕ, ◌≤◌, ◌<◌, List, [], ◌∷◌, length, ap, arith, inl, inr}
+use Rattle.std.specs.Prelude.{IsErrAnd, ◌⊎◌, is_some}
 use Rattle.bt_lines.specs.declared.device.Source.{Ghosts as Source}
 use Rattle.bt_lines.proofs.lemmas.reader.block.ReadsLemmas.{has_read_then, reads_same}
 use Rattle.bt_lines.specs.model.Fault.{FaultValue}
 use Rattle.bt_lines.specs.calls.Names.{fault_value}
-use Rattle.bt_lines.specs.calls.Output.{Output}
-use Rattle.bt_lines.specs.calls.Reader.{FillsLines, HasRead, TellsOwnFailure, fault_kept as line_fault}
+use Rattle.bt_lines.specs.calls.Output.{Output, HoldsBlock}
+use Rattle.bt_lines.specs.calls.Reader.{FillsLines, HasRead, TellsOwnFailure, fault_kept as line_fault, GivesEnd, IsKept, MakesLine, input_of}
 use Rattle.bt_lines.specs.declared.fault.Fault.{Fault}
 use Rattle.bt_lines.specs.declared.reader.line_reader.LineReader.{LineReader}
 use Rattle.bt_bed.specs.calls.Blocks.{FillsBlocks, below, fault_kept, view_of}
 use Rattle.bt_bed.specs.declared.read.blocks.Blocks.{Blocks}
 use Rattle.bt_bed.proofs.lemmas.order.ResultLemmas.{passed_on}
-use Rattle.bt_seq.specs.calls.MaskStage.{MaskStage, with_lines_ended}
+use Rattle.bt_seq.specs.calls.MaskStage.{MaskStage, with_lines_ended, want_of, first_stage}
 use Rattle.bt_seq.specs.calls.MaskStanding.{MaskMovesTo, MaskStandsAt}
 use Rattle.bt_seq.specs.calls.MaskState.{Masking}
 use Rattle.bt_seq.specs.calls.MaskSteps.{EndsCheck, EndsRecords}
-use Rattle.bt_seq.specs.model.Sequences.{SequenceLine}
+use Rattle.bt_seq.specs.model.Sequences.{SequenceLine, Reached}
 use Rattle.bt_seq.specs.declared.mask.mask_want.MaskWant.{MaskWant}
-use Rattle.bt_seq.specs.declared.mask.mask_want.MaskWant.TheVariants.{Line, Bed, Nothing}
+use Rattle.bt_seq.specs.declared.mask.mask_want.MaskWant.TheVariants.{Nothing, Line as WantLine, Bed as WantBed}
+use Rattle.bt_sweep.specs.declared.sweep.want.Want.{Want}
 use Rattle.bt_sweep.specs.declared.sweep.want.Want.TheVariants.{A as WantA, B as WantB, Nothing as WantNothing}
 use Rattle.bt_tool.specs.declared.loops.masking.MaskRun.{MaskRun}
 use Rattle.bt_tool.specs.calls.run.OwnReads.{TellsNoRead}
-use Rattle.bt_tool.specs.inside.feed.Passed.{IsOwnFault, KeepsOwnFault}
-use Rattle.bt_tool.specs.inside.pair.MaskLoop.{AdvancesMask, GoesOn, MaskBegun, MaskEnds, wanted_by}
-use Rattle.bt_tool.specs.inside.pair.MaskRun.{MaskComes, MaskIsOver, is_mask_ready, left_to_mask, run_from}
+use Rattle.bt_tool.specs.inside.feed.Passed.{IsOwnFault, KeepsOwnFault, IsFilled, IsOver}
+use Rattle.bt_tool.specs.inside.pair.MaskLoop.{AdvancesMask, GoesOn, MaskComes, MaskEnds, MaskIsOver, is_mask_ready, left_to_mask, wanted_by, IsMaskReady, Masks, mask_left, mask_rounds, line_members, mask_join, mask_pair, nothing_reached}
 use Rattle.bt_tool.specs.inside.pair.Rounds.{IsLessOrReady, IsLessIfReady, LeadsTo}
-use Rattle.bt_tool.proofs.lemmas.running.members.BlockMembers.{block_filled, block_over, block_stopped}
-use Rattle.bt_tool.proofs.lemmas.running.mask.MaskFills.{line_filled, lines_ended, record_filled, records_ended, records_unended}
-use Rattle.bt_tool.proofs.lemmas.running.mask.MaskedLemmas.{finishes, stops_lines, stops_records}
+use Rattle.bt_tool.proofs.lemmas.running.members.BlockMembers.{block_filled, block_over, block_stopped, blocks_going}
+use Rattle.bt_tool.proofs.lemmas.running.mask.MaskedLemmas.{finishes, stops_lines, stops_records, ends_alone, ends_lines, ends_waiting, fails_at_end, line_made, lines_done, none_waits, record_made}
 use Rattle.bt_tool.proofs.lemmas.running.whole.OwnFailureLemmas.{kept_below, line_told_kept, none_kept, own_then, told_kept}
+use Rattle.bt_bed.proofs.lemmas.read.good.CameLemmas.{same_room}
+use Rattle.bt_bed.specs.model.feature.Feature.{Feature}
+use Rattle.bt_bed.specs.model.input.Good.{Member}
+use Rattle.bt_bed.specs.model.order.Locus.{Locus}
+use Rattle.bt_bed.specs.calls.Reading.{MemberReader, first_from}
+use Rattle.bt_tool.proofs.lemmas.running.members.LineMembers.{gives_over}
+use Rattle.bt_tool.proofs.lemmas.running.mask.MaskBoth.{rounds_few, waits_is}
+use Rattle.std.proofs.lemmas.Bool.{false≢true}
+use Rattle.bt_lines.specs.declared.fault.Input.TheVariants.{First}
+use Rattle.bt_bed.specs.calls.SortedReader.{view_with}
+use Rattle.bt_bed.specs.model.input.GoodBlocks.{block_format}
+use Rattle.bt_seq.specs.declared.mask.mask_how.MaskHow.{MaskHow}
+use Rattle.bt_tool.specs.inside.feed.Feeding.{IsFresh}
+use Rattle.bt_tool.specs.inside.pair.Endings.{IsOverWith}
+use Rattle.bt_tool.proofs.lemmas.running.members.MemberLemmas.{passes_start}
+use Rattle.bt_tool.proofs.lemmas.running.pair.PairTurns.{comes_start}
 
-pub is_line : (want : MaskWant) → wanted_by want ≡ WantA → want ≡ Line
-is_line Line e = refl
-is_line Bed e = absurd (let apart : WantB ≡ WantA = e in cc)
-is_line Nothing e = absurd (let apart : WantNothing ≡ WantA = e in cc)
+-- what is wanted at some points
+at_line : (waits : Bool) (want : MaskWant) → want ≡ WantLine → mask_rounds waits want ≡ 2
+at_line waits want e = ap (mask_rounds waits) e
 
-pub is_bed : (want : MaskWant) → wanted_by want ≡ WantB → want ≡ Bed
-is_bed Line e = absurd (let apart : WantA ≡ WantB = e in cc)
-is_bed Bed e = refl
-is_bed Nothing e = absurd (let apart : WantNothing ≡ WantB = e in cc)
+at_waiting : (waits : Bool) (want : MaskWant) → waits ≡ true → want ≡ WantBed → mask_rounds waits want ≡ 3
+at_waiting waits want e w = ap (λ b. mask_rounds b want) e ∙ ap (mask_rounds true) w
 
-pub is_nothing : (want : MaskWant) → wanted_by want ≡ WantNothing → want ≡ Nothing
-is_nothing Line e = absurd (let apart : WantA ≡ WantNothing = e in cc)
-is_nothing Bed e = absurd (let apart : WantB ≡ WantNothing = e in cc)
-is_nothing Nothing e = refl
+at_records : (waits : Bool) (want : MaskWant) → waits ≡ false → want ≡ WantBed → mask_rounds waits want ≡ 1
+at_records waits want e w = ap (λ b. mask_rounds b want) e ∙ ap (mask_rounds false) w
+
+at_last : (waits bed_ended : Bool) (want : MaskWant) → waits ≡ false → want ≡ want_of false true bed_ended → mask_rounds waits want ≤ 1
+at_last waits true want e w = omega (arith, ap (λ b. mask_rounds b want) e, ap (mask_rounds false) w)
+at_last waits false want e w = omega (arith, ap (λ b. mask_rounds b want) e, ap (mask_rounds false) w)
+
+at_end : (waits : Bool) (want : MaskWant) → want ≡ Nothing → mask_rounds waits want ≡ 0
+at_end waits want e = ap (mask_rounds waits) e
+
+some_there : (line : ℕ) (records : List Feature) (m : Member Feature) → first_from line records ≡ Some m → 0 < length records
+some_there line [] m e = absurd (let apart : None ≡ Some m = e in cc)
+some_there line (r ∷ records) m e = omega arith
+
+module _ {A B : Type 0} (source_a : Source A) (source_b : Source B) (start : MaskRun A B) (before : Output) (at : Reached) (lines : LineReader A)
+    (second : MemberReader B Feature (Option Locus)) (mask : Masking) (out : Output) (s : Masks source_a source_b start before at lines second mask out) where
+  -- what is wanted was made buffered, or the end of that input was given
+  abbrev Fills : LineReader A → MemberReader B Feature (Option Locus) → Masking → Output → Type 0
+  Fills new second_now masked grown =
+      GoesOn source_a source_b start before new second_now masked grown
+      × ((mask_left new second_now masked < mask_left lines second mask) ⊎ ((mask_left new second_now masked ≤ mask_left lines second mask) × IsMaskReady new second_now masked.want))
+
+  module _ (wants : mask.want ≡ WantLine) (new : LineReader A) (kept : IsKept source_a lines → IsKept source_a new) where
+    pub line_filled : MakesLine source_a lines new → Fills new second mask out
+    line_filled makes = (
+      (at, line_made source_a source_b start before at lines second mask out s wants new makes kept),
+      inr (
+        omega (arith, same_room source_a lines new new makes),
+        subst (λ (w : MaskWant). IsMaskReady new second w) (sym wants) makes.some,
+      ),
+    )
+
+    pub lines_ended : GivesEnd source_a lines new → (masked : Masking) → MaskMovesTo mask.how mask.full (with_lines_ended s.stage) masked → Fills new second masked out
+    lines_ended ends masked stands =
+        let over = gives_over source_a start.mask.full at lines new kept ends in
+        let none = ap is_some (none_waits source_a source_b start before at lines second mask out s wants) in (
+          (at, ends_lines source_a source_b start before at lines second mask out s wants new masked ends kept stands),
+          inl (omega (
+            arith,
+            over.ends.shrinks,
+            at_line (is_some mask.waiting) mask.want wants,
+            at_last (is_some masked.waiting) s.stage.bed_ended masked.want (waits_is stands.stands ∙ none) (stands.stands.want_is ∙ ap (λ w. want_of w true s.stage.bed_ended) none),
+          )),
+        )
+
+  module _ (wants : mask.want ≡ WantBed) (second_now : MemberReader B Feature (Option Locus)) where
+    pub record_filled : IsFilled source_b second second_now → Fills lines second_now mask out
+    record_filled filled = (
+      (at, record_made source_a source_b start before at lines second mask out s wants second_now filled),
+      inr (
+        omega (arith, filled.gives.shrinks),
+        subst (λ (w : MaskWant). IsMaskReady lines second_now w) (sym wants) (some_there _ second_now.buffered filled.m filled.gives.ahead),
+      ),
+    )
+
+    module _ (over : IsOver source_b second second_now) (masked : Masking) (now : Output) where
+      ends_by : (o : Option SequenceLine) → s.stage.waiting ≡ o → {T : Type 0} (done : T)
+          → ((waiting : SequenceLine) → s.stage.waiting ≡ Some waiting → EndsRecords mask.how mask.full s.stage waiting out (Ok done) masked now) → (s.stage.waiting ≡ None → EndsCheck mask.how mask.full s.stage out (Ok done) masked now)
+          → Fills lines second_now masked now
+      ends_by (Some a) e done waits none =
+          let ends = waits a e in (
+            (at, ends_waiting source_a source_b start before at lines second mask out s wants second_now over a e masked now ends.0 ends.1),
+            inl (omega (
+              arith,
+              over.ends.shrinks,
+              at_waiting (is_some mask.waiting) mask.want (waits_is s.stands ∙ ap is_some e) wants,
+              rounds_few (is_some masked.waiting) masked.want (waits_is ends.0.stands),
+            )),
+          )
+      ends_by None e done waits none =
+          let ends = none e in
+          let finished = lines_done source_a source_b start before at lines second mask out s wants e in (
+            (at, rw ends.1 (ends_alone source_a source_b start before at lines second mask out s wants second_now over e masked ends.0)),
+            inl (omega (
+              arith,
+              over.ends.shrinks,
+              at_records (is_some mask.waiting) mask.want (waits_is s.stands ∙ ap is_some e) wants,
+              at_end (is_some masked.waiting) masked.want (ends.0.stands.want_is ∙ ap (λ b. want_of false b true) finished),
+            )),
+          )
+
+      pub records_ended : {T : Type 0} (done : T) → ((waiting : SequenceLine) → s.stage.waiting ≡ Some waiting → EndsRecords mask.how mask.full s.stage waiting out (Ok done) masked now) → (s.stage.waiting ≡ None → EndsCheck mask.how mask.full s.stage out (Ok done) masked now)
+          → Fills lines second_now masked now
+      records_ended done waits none = ends_by s.stage.waiting refl done waits none
+
+      unended_by : (o : Option SequenceLine) → s.stage.waiting ≡ o → (fault : Fault)
+          → ((waiting : SequenceLine) → s.stage.waiting ≡ Some waiting → EndsRecords {A = Unit {0}} mask.how mask.full s.stage waiting out (Err fault) masked now) → (s.stage.waiting ≡ None → EndsCheck {A = Unit {0}} mask.how mask.full s.stage out (Err fault) masked now)
+          → MaskEnds source_a source_b start before (Some (fault_value fault)) lines second_now now
+      unended_by (Some a) e fault waits none = fails_at_end source_a source_b start before at lines second mask out s wants second_now over a e (fault_value fault) now (waits a e).1
+      unended_by None e fault waits none = absurd (none e)
+
+      pub records_unended : (fault : Fault) → ((waiting : SequenceLine) → s.stage.waiting ≡ Some waiting → EndsRecords {A = Unit {0}} mask.how mask.full s.stage waiting out (Err fault) masked now)
+          → (s.stage.waiting ≡ None → EndsCheck {A = Unit {0}} mask.how mask.full s.stage out (Err fault) masked now) → MaskEnds source_a source_b start before (Some (fault_value fault)) lines second_now now
+      records_unended fault waits none = unended_by s.stage.waiting refl fault waits none
+
+-- what the engine wants, by what is wanted of two inputs
+abbrev wanted_of : Want → MaskWant
+wanted_of WantA = WantLine
+wanted_of WantB = WantBed
+wanted_of WantNothing = Nothing
+
+is_wanted : (want : MaskWant) (of_two : Want) → wanted_by want ≡ of_two → want ≡ wanted_of of_two
+is_wanted WantLine of_two e = ap wanted_of e
+is_wanted WantBed of_two e = ap wanted_of e
+is_wanted Nothing of_two e = ap wanted_of e
 
 module _ {A B : Type 0} (source_a : Source A) (source_b : Source B) (start : MaskRun A B) (out : Output) (old : MaskRun A B) (grown : Output) (s : MaskComes source_a source_b start out old grown) where
-  abbrev run : MaskBegun A B
-  run = run_from start out s.first s.blocks
-
   pub none_first : line_fault old.lines ≡ None
   none_first = s.goes.1.comes.first_passes.clear
 
@@ -69,11 +179,9 @@ module _ {A B : Type 0} (source_a : Source A) (source_b : Source B) (start : Mas
   own_second = none_kept source_b.is_read (below old.records) (view_of old.records).fault (below old.records) none_second
 
   -- it has come to these
-  abbrev pub came : (new : MaskRun A B) (later : Output) → GoesOn source_a source_b run new.lines (view_of new.records) new.mask later → HasRead source_a.is_read old.lines new.lines
+  abbrev pub came : (new : MaskRun A B) (later : Output) → GoesOn source_a source_b start out new.lines (view_of new.records) new.mask later → HasRead source_a.is_read old.lines new.lines
       → HasRead source_b.is_read (below old.records) (below new.records) → MaskComes source_a source_b start out new later
   came new later goes read read_second = record {
-    first = s.first;
-    blocks = s.blocks;
     goes = goes;
     reads = (
       has_read_then source_a.is_read start.lines old.lines new.lines s.reads.0 read,
@@ -82,7 +190,7 @@ module _ {A B : Type 0} (source_a : Source A) (source_b : Source B) (start : Mas
   }
 
   -- it has ended with these
-  abbrev pub ended : (fault : Option FaultValue) (new : MaskRun A B) (later : Output) → MaskEnds source_a source_b run fault new.lines (view_of new.records) later
+  abbrev pub ended : (fault : Option FaultValue) (new : MaskRun A B) (later : Output) → MaskEnds source_a source_b start out fault new.lines (view_of new.records) later
       → (TellsNoRead fault → HasRead source_a.is_read old.lines new.lines × HasRead source_b.is_read (below old.records) (below new.records))
       → IsOwnFault source_a.is_read old.lines (line_fault new.lines) new.lines → KeepsOwnFault source_b.is_read (below old.records) (view_of new.records) → MaskIsOver source_a source_b start out fault new later
   ended fault new later ends read own own_now = (
@@ -113,14 +221,14 @@ module _ {A B : Type 0} (source_a : Source A) (source_b : Source B) (start : Mas
 
     pub lines_filled : FillsLines source_a old.lines (Ok true) lines_now → HasRead source_a.is_read old.lines lines_now → MaskComes source_a source_b start out with_lines grown × Filled with_lines
     lines_filled fills read =
-        let f = line_filled source_a source_b run s.goes.0 old.lines (view_of old.records) old.mask grown s.goes.1 (is_line old.mask.want wants) lines_now fills.kept fills.answers in
+        let f = line_filled source_a source_b start out s.goes.0 old.lines (view_of old.records) old.mask grown s.goes.1 (is_wanted old.mask.want WantA wants) lines_now fills.kept fills.answers in
         (came with_lines grown f.0 read same_second, f.1)
 
     pub lines_over : FillsLines source_a old.lines (Ok false) lines_now → HasRead source_a.is_read old.lines lines_now → (masked : Masking)
         → ((stage : MaskStage) → MaskStandsAt stage old.mask → MaskMovesTo old.mask.how old.mask.full (with_lines_ended stage) masked)
         → MaskComes source_a source_b start out (record old { lines = lines_now; mask = masked }) grown × Filled (record old { lines = lines_now; mask = masked })
     lines_over fills read masked stands =
-        let f = lines_ended source_a source_b run s.goes.0 old.lines (view_of old.records) old.mask grown s.goes.1 (is_line old.mask.want wants) lines_now fills.kept fills.answers masked (stands s.goes.1.stage s.goes.1.stands) in
+        let f = lines_ended source_a source_b start out s.goes.0 old.lines (view_of old.records) old.mask grown s.goes.1 (is_wanted old.mask.want WantA wants) lines_now fills.kept fills.answers masked (stands s.goes.1.stage s.goes.1.stands) in
         (came (record old { lines = lines_now; mask = masked }) grown f.0 read same_second, f.1)
 
     pub lines_stopped : {T : Type 0} (fault : Fault) (result : Result T Fault) → IsErrAnd result (λ e. e ≡ fault) → FillsLines source_a old.lines (Err fault) lines_now
@@ -128,7 +236,7 @@ module _ {A B : Type 0} (source_a : Source A) (source_b : Source B) (start : Mas
     lines_stopped {T} fault result is fills own =
         passed_on (λ (r : Result T Fault). Leads Filled r with_lines grown) result fault is
         (ended (Some (fault_value fault)) with_lines grown
-        (stops_lines source_a source_b run s.goes.0 old.lines (view_of old.records) old.mask grown s.goes.1 (is_line old.mask.want wants) (fault_value fault) lines_now fills.answers fills.kept)
+        (stops_lines source_a source_b start out s.goes.0 old.lines (view_of old.records) old.mask grown s.goes.1 (is_wanted old.mask.want WantA wants) (fault_value fault) lines_now fills.answers fills.kept)
         (λ never. ((own none_first).read never, same_second)) (line_told_kept source_a.is_read old.lines lines_now fault fills.answers.kept none_first own) own_second)
 
   -- ---- the records are
@@ -139,14 +247,14 @@ module _ {A B : Type 0} (source_a : Source A) (source_b : Source B) (start : Mas
 
     pub records_filled : FillsBlocks source_b old.records (Ok true) records_now → MaskComes source_a source_b start out with_records grown × Filled with_records
     records_filled fills =
-        let f = record_filled source_a source_b run s.goes.0 old.lines (view_of old.records) old.mask grown s.goes.1 (is_bed old.mask.want wants) (view_of records_now) (block_filled source_b old.records records_now fills) in
+        let f = record_filled source_a source_b start out s.goes.0 old.lines (view_of old.records) old.mask grown s.goes.1 (is_wanted old.mask.want WantB wants) (view_of records_now) (block_filled source_b old.records records_now fills) in
         (came with_records grown f.0 same_first fills.own_failure, f.1)
 
     pub records_stopped : {T : Type 0} (fault : Fault) (result : Result T Fault) → IsErrAnd result (λ e. e ≡ fault) → FillsBlocks source_b old.records (Err fault) records_now → Leads Filled result with_records grown
     records_stopped {T} fault result is fills =
         passed_on (λ (r : Result T Fault). Leads Filled r with_records grown) result fault is
         (ended (Some (fault_value fault)) with_records grown
-        (stops_records source_a source_b run s.goes.0 old.lines (view_of old.records) old.mask grown s.goes.1 (is_bed old.mask.want wants) (fault_value fault) (view_of records_now) (block_stopped source_b old.records records_now fault fills))
+        (stops_records source_a source_b start out s.goes.0 old.lines (view_of old.records) old.mask grown s.goes.1 (is_wanted old.mask.want WantB wants) (fault_value fault) (view_of records_now) (block_stopped source_b old.records records_now fault fills))
         (λ never. (same_first, (fills.own_failure none_second).read never))
         own_first (told_kept source_b.is_read (fault_kept old.records) (view_of records_now).fault (below old.records) (below records_now) fault fills.answers.kept none_second fills.own_failure))
 
@@ -157,12 +265,12 @@ module _ {A B : Type 0} (source_a : Source A) (source_b : Source B) (start : Mas
       pub records_over : {T : Type 0} (answer : Result T Fault) → ((stage : MaskStage) (waiting : SequenceLine) → MaskStandsAt stage old.mask → stage.waiting ≡ Some waiting → EndsRecords old.mask.how old.mask.full stage waiting grown answer masked later)
           → ((stage : MaskStage) → MaskStandsAt stage old.mask → stage.waiting ≡ None → EndsCheck old.mask.how old.mask.full stage grown answer masked later) → Leads Filled answer with_end later
       records_over (Ok done) waits none =
-          let f = records_ended source_a source_b run s.goes.0 old.lines (view_of old.records) old.mask grown s.goes.1 (is_bed old.mask.want wants) (view_of records_now) (block_over source_b old.records records_now fills) masked later done
+          let f = records_ended source_a source_b start out s.goes.0 old.lines (view_of old.records) old.mask grown s.goes.1 (is_wanted old.mask.want WantB wants) (view_of records_now) (block_over source_b old.records records_now fills) masked later done
           (λ waiting e. waits s.goes.1.stage waiting s.goes.1.stands e) (λ e. none s.goes.1.stage s.goes.1.stands e) in
           (came with_end later f.0 same_first fills.own_failure, f.1)
       records_over (Err fault) waits none =
           ended (Some (fault_value fault)) with_end later
-          (records_unended source_a source_b run s.goes.0 old.lines (view_of old.records) old.mask grown s.goes.1 (is_bed old.mask.want wants) (view_of records_now) (block_over source_b old.records records_now fills) masked later fault
+          (records_unended source_a source_b start out s.goes.0 old.lines (view_of old.records) old.mask grown s.goes.1 (is_wanted old.mask.want WantB wants) (view_of records_now) (block_over source_b old.records records_now fills) masked later fault
           (λ waiting e. waits s.goes.1.stage waiting s.goes.1.stands e) (λ e. none s.goes.1.stage s.goes.1.stands e))
           (λ never. (same_first, fills.own_failure)) own_first
           (none_kept source_b.is_read (below old.records) (view_of records_now).fault (below records_now) fills.answers.goes)
@@ -171,7 +279,7 @@ module _ {A B : Type 0} (source_a : Source A) (source_b : Source B) (start : Mas
 
   module _ (new : MaskRun A B) (later : Output) (read : HasRead source_a.is_read old.lines new.lines) (read_second : HasRead source_b.is_read (below old.records) (below new.records))
       (keeps : line_fault new.lines ≡ line_fault old.lines) (keeps_second : fault_kept new.records ≡ fault_kept old.records) where
-    gave_by : {T : Type 0} (answer : Result T Fault) → AdvancesMask source_a source_b run old.lines (view_of old.records) old.mask answer new.lines (view_of new.records) new.mask later → Leads (IsLessIfReady is_mask_ready left_to_mask old) answer new later
+    gave_by : {T : Type 0} (answer : Result T Fault) → AdvancesMask source_a source_b start out old.lines (view_of old.records) old.mask answer new.lines (view_of new.records) new.mask later → Leads (IsLessIfReady is_mask_ready left_to_mask old) answer new later
     gave_by (Ok done) gives = (came new later gives.0 read read_second, (gives.1, gives.2))
     gave_by (Err fault) ends =
         ended (Some (fault_value fault)) new later ends (λ never. (read, read_second))
@@ -179,11 +287,53 @@ module _ {A B : Type 0} (source_a : Source A) (source_b : Source B) (start : Mas
         (none_kept source_b.is_read (below old.records) (view_of new.records).fault (below new.records) (keeps_second ∙ none_second))
 
     pub gave_both : {T : Type 0} (answer : Result T Fault)
-        → ((run : MaskBegun A B) → GoesOn source_a source_b run old.lines (view_of old.records) old.mask grown → AdvancesMask source_a source_b run old.lines (view_of old.records) old.mask answer new.lines (view_of new.records) new.mask later)
+        → ((start : MaskRun A B) (out : Output) → GoesOn source_a source_b start out old.lines (view_of old.records) old.mask grown → AdvancesMask source_a source_b start out old.lines (view_of old.records) old.mask answer new.lines (view_of new.records) new.mask later)
         → Leads (IsLessIfReady is_mask_ready left_to_mask old) answer new later
-    gave_both answer gives = gave_by answer (gives run s.goes)
+    gave_both answer gives = gave_by answer (gives start out s.goes)
 
   -- both inputs have ended
   pub finished : wanted_by old.mask.want ≡ WantNothing → MaskIsOver source_a source_b start out None old grown
   finished wants =
-      ended None old grown (finishes source_a source_b run s.goes.0 old.lines (view_of old.records) old.mask grown s.goes.1 (is_nothing old.mask.want wants)) (λ never. (same_first, same_second)) own_first own_second
+      ended None old grown (finishes source_a source_b start out s.goes.0 old.lines (view_of old.records) old.mask grown s.goes.1 (is_wanted old.mask.want WantNothing wants)) (λ never. (same_first, same_second)) own_first own_second
+
+blocks_format : {S : Type 0} (records : Blocks S) → (view_of records).format ≡ block_format
+unfolding view_of view_with
+blocks_format records = refl
+
+module _ {A B : Type 0} (source_a : Source A) (source_b : Source B) where
+  -- nothing was given yet
+  pub masks_start : (start : MaskRun A B) (out : Output) → input_of start.lines ≡ First
+      → IsFresh source_a (line_members start.mask.full nothing_reached start.lines) → line_fault start.lines ≡ None → IsFresh source_b (view_of start.records) → fault_kept start.records ≡ None
+      → HoldsBlock out.took out.put → MaskStandsAt first_stage start.mask → MaskComes source_a source_b start out start out
+  masks_start start out first fresh going fresh_second kept block stands = record {
+    goes = (
+      nothing_reached,
+      record {
+        past_first = [];
+        past_second = [];
+        stage = first_stage;
+        stands = stands;
+        first_is = first;
+        blocks_is = blocks_format start.records;
+        how_is = refl;
+        full_is = refl;
+        comes = comes_start (mask_join start.mask.how) (mask_pair source_a source_b start.mask.full start.lines (view_of start.records)) out
+            (passes_start source_a (line_members start.mask.full nothing_reached start.lines) fresh going)
+            (passes_start source_b (view_of start.records) fresh_second (blocks_going start.records kept)) block;
+        kept_ahead = λ r e. absurd (let apart : None ≡ Some r = e in cc);
+        lines_over = λ e. absurd (false≢true e);
+      },
+    );
+    reads = (reads_same source_a.is_read start.lines start.lines refl, reads_same source_b.is_read (below start.records) (below start.records) refl);
+  }
+
+  -- and how it ends
+  abbrev Over : LineReader A → MemberReader B Feature (Option Locus) → Output → Option FaultValue → LineReader A → MemberReader B Feature (Option Locus) → Output → MaskHow → Bool → Type 0
+  Over lines second out fault new second_now grown how full = (members : MemberReader A SequenceLine Reached) × (members.below ≡ new)
+      × IsOverWith (mask_pair source_a source_b full lines second) (mask_join how) out fault members second_now grown
+
+  pub as_asked : (lines : LineReader A) (second : MemberReader B Feature (Option Locus)) (out : Output) (fault : Option FaultValue) (new : LineReader A) (second_now : MemberReader B Feature (Option Locus)) (grown : Output)
+      (own : MaskHow) (own_full : Bool) (how : MaskHow) (full : Bool) → own ≡ how → own_full ≡ full
+      → Over lines second out fault new second_now grown own own_full → Over lines second out fault new second_now grown how full
+  as_asked lines second out fault new second_now grown own own_full how full same same_full ends =
+      subst (λ (h : MaskHow). Over lines second out fault new second_now grown h full) same (subst (λ (f : Bool). Over lines second out fault new second_now grown own f) same_full ends)

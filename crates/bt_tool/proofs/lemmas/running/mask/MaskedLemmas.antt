@@ -3,6 +3,7 @@ use Rattle.std.proofs.Common.{◌≡◌, ℕ, suc, Bool, true, false, not, ◌||
 use Rattle.std.specs.Prelude.{◌⊎◌, IfSome, IsSome, IsTrue, is_some, option_map}
 use Rattle.std.proofs.lemmas.Bool.{false≢true, or_left, or_right}
 use Rattle.std.proofs.lemmas.List.{map-append}
+use Rattle.std.proofs.lemmas.Option.{IfSome_then}
 use Rattle.bt_lines.specs.declared.device.Source.{Ghosts as Source}
 use Rattle.bt_lines.specs.model.Fault.{FaultValue}
 use Rattle.bt_lines.specs.model.Lines.{TextLine}
@@ -13,6 +14,7 @@ use Rattle.bt_lines.specs.declared.fault.Input.TheVariants.{Second}
 use Rattle.bt_lines.specs.declared.fault.Kind.{Kind}
 use Rattle.bt_lines.specs.declared.fault.Kind.TheVariants.{NoSequence}
 use Rattle.bt_lines.specs.declared.reader.line_reader.LineReader.{LineReader}
+use Rattle.bt_bed.specs.calls.Blocks.{view_of}
 use Rattle.bt_bed.specs.model.feature.Feature.{Feature}
 use Rattle.bt_bed.specs.model.input.Good.{Format, Good, Member}
 use Rattle.bt_bed.specs.model.input.GoodBlocks.{AreInBlocks}
@@ -22,6 +24,7 @@ use Rattle.bt_bed.specs.calls.Reading.{MemberReader, ahead_in, first_from, good_
 use Rattle.bt_seq.proofs.lemmas.laws.MaskPrefixLemmas.{decided_stays}
 use Rattle.bt_seq.specs.calls.MaskAdvance.{FailsAtRecord}
 use Rattle.bt_seq.specs.calls.MaskPrefixes.{LineBefore}
+use Rattle.bt_seq.proofs.lemmas.mask.steps.StandLemmas.{last_more}
 use Rattle.bt_seq.proofs.lemmas.laws.MaskMetLemmas.{first_is_told, lack_none}
 use Rattle.bt_seq.specs.calls.MaskStage.{MaskStage, given, line_given_last, reached, reached_by, want_of, with_bed_ended, with_lines_ended}
 use Rattle.bt_seq.specs.calls.MaskStanding.{IsOpen, MaskMovesTo}
@@ -33,14 +36,15 @@ use Rattle.bt_seq.specs.declared.mask.mask_how.MaskHow.{MaskHow}
 use Rattle.bt_seq.specs.declared.mask.mask_want.MaskWant.TheVariants.{Line as WantLine, Bed as WantBed, Nothing}
 use Rattle.bt_tool.specs.inside.feed.Feeding.{member_items}
 use Rattle.bt_tool.specs.model.report.MaskReport.{is_fasta_kind, is_mask_kind}
-use Rattle.bt_tool.specs.inside.pair.MaskLoop.{AreOwned, MaskBegun, MaskEnds, Masks, begun_pair, leaves_some, line_members, mask_join, nothing_reached, stage_of}
+use Rattle.bt_tool.specs.declared.loops.masking.MaskRun.{MaskRun}
+use Rattle.bt_tool.specs.inside.pair.MaskLoop.{AreOwned, MaskEnds, Masks, begun_pair, leaves_some, line_members, mask_join, nothing_reached, stage_of}
 use Rattle.bt_tool.specs.inside.pair.Pair.{JoinDef, Pair, SettlesPair, item_ahead}
 use Rattle.bt_tool.specs.inside.pair.Endings.{AsksFor, IsKnown}
 use Rattle.bt_tool.specs.inside.pair.Progress.{Comes}
 use Rattle.bt_tool.specs.inside.feed.Passed.{IsFilled, IsOver, IsStopped}
 use Rattle.bt_tool.proofs.lemmas.running.members.LineMembers.{gives_over, gives_unread, passes_made, wrong_is_text}
 use Rattle.bt_tool.proofs.lemmas.running.mask.MaskGiven.{ahead_first, first_of}
-use Rattle.bt_tool.proofs.lemmas.running.mask.MaskKinds.{says_of_blocks}
+use Rattle.bt_tool.proofs.lemmas.running.mask.MaskFacts.{says_of_blocks}
 use Rattle.bt_tool.proofs.lemmas.running.pair.PairSettles.{settles_with}
 use Rattle.bt_tool.proofs.lemmas.running.pair.PairStops as stop
 use Rattle.bt_tool.proofs.lemmas.running.pair.PairTurns as turned
@@ -102,16 +106,11 @@ open_leaves lines (Some line) records e (inl none) = inl none
 open_leaves lines (Some line) records e (inr open_at) = inr (last_leaves lines line records e open_at)
 
 -- the first record without a sequence
-lacks_told : (names : List (List ℕ)) (members past : List (Member Feature)) (m : Member Feature) → is_some (left_after names (member_items past)) ≡ true → left_after names (member_items (past ++ m ∷ [])) ≡ None
-    → (rest : List (Member Feature)) × (members ≡ (past ++ m ∷ []) ++ rest) → no_sequence names members ≡ Some (fault_at_line Second m.line NoSequence)
-lacks_told names members past m owned unowned parts =
-    ap (no_sequence names) (parts.1 ∙ append_assoc past (m ∷ []) parts.0) ∙ first_is_told names past parts.0 m owned unowned
-
 told_by : (names : List (List ℕ)) (good : Option (Good Feature)) (past : List (Member Feature)) (m : Member Feature) (fault : FaultValue) → fault ≡ fault_at_line Second m.line NoSequence
     → is_some (left_after names (member_items past)) ≡ true → left_after names (member_items (past ++ m ∷ [])) ≡ None
     → IfSome good (λ good. (rest : List (Member Feature)) × (good.members ≡ (past ++ m ∷ []) ++ rest)) → IfSome good (λ good. no_sequence names good.members ≡ Some fault)
-told_by names None past m fault is owned unowned begins = tt
-told_by names (Some good) past m fault is owned unowned begins = lacks_told names good.members past m owned unowned begins ∙ ap Some (sym is)
+told_by names good past m fault is owned unowned begins =
+    IfSome_then good begins (λ good parts. ap (no_sequence names) (parts.1 ∙ append_assoc past (m ∷ []) parts.0) ∙ first_is_told names past parts.0 m owned unowned ∙ ap Some (sym is))
 
 -- a record that was ahead still is
 kept_filled : {S State : Type 0} (device : Source S) (now new : MemberReader S Feature State) (r : Feature) → item_ahead now ≡ Some r → IsFilled device now new → item_ahead new ≡ Some r
@@ -125,55 +124,57 @@ kept_filled {S} {State} device now new r was filled = ap (λ (x : MemberReader S
 none_ahead : {S State : Type 0} (now : MemberReader S Feature State) (r : Feature) → now.buffered ≡ [] → item_ahead now ≡ Some r → ⊥
 none_ahead now r none was = let apart : None ≡ Some r = sym (ahead_first now ∙ ap first_of none) ∙ was in cc
 
-module _ {A B : Type 0} (source_a : Source A) (source_b : Source B) (run : MaskBegun A B) where
+module _ {A B : Type 0} (source_a : Source A) (source_b : Source B) (start : MaskRun A B) (before : Output) where
   abbrev pub join : JoinDef SequenceLine Feature
-  join = mask_join run.how
+  join = mask_join start.mask.how
 
   abbrev pub pair : Pair A B SequenceLine Feature Reached (Option Locus)
-  pair = begun_pair source_a source_b run
+  pair = begun_pair source_a source_b start before
 
   abbrev Going : Reached → LineReader A → MemberReader B Feature (Option Locus) → Masking → Output → Type 0
-  Going = Masks source_a source_b run
+  Going = Masks source_a source_b start before
 
   abbrev EndsAt : Option FaultValue → LineReader A → MemberReader B Feature (Option Locus) → Output → Type 0
-  EndsAt = MaskEnds source_a source_b run
+  EndsAt = MaskEnds source_a source_b start before
 
-  wrong_first : (state : Reached) (line : TextLine) (kind : Kind) → line_says run.full state line ≡ Err kind → is_fasta_kind kind ≡ true
-  wrong_first state line kind e = subst (λ (k : Kind). is_fasta_kind k ≡ true) (sym (wrong_is_text run.full state line kind e)) refl
-
-  wrong_second : (state : Option Locus) (line : TextLine) (kind : Kind) → run.records.format.says state line ≡ Err kind → is_mask_kind kind ≡ true
-  wrong_second state line kind e = says_of_blocks state line.text kind (ap (λ (f : Format Feature (Option Locus)). f.says state line) (sym run.blocks) ∙ e)
+  wrong_first : (state : Reached) (line : TextLine) (kind : Kind) → line_says start.mask.full state line ≡ Err kind → is_fasta_kind kind ≡ true
+  wrong_first state line kind e = subst (λ (k : Kind). is_fasta_kind k ≡ true) (sym (wrong_is_text start.mask.full state line kind e)) refl
 
   module _ (at : Reached) (lines : LineReader A) (second : MemberReader B Feature (Option Locus)) (mask : Masking) (grown : Output) (s : Going at lines second mask grown) where
+    wrong_second : (state : Option Locus) (line : TextLine) (kind : Kind) → (view_of start.records).format.says state line ≡ Err kind → is_mask_kind kind ≡ true
+    wrong_second state line kind e = says_of_blocks state line.text kind (ap (λ (f : Format Feature (Option Locus)). f.says state line) (sym s.blocks_is) ∙ e)
+
     abbrev stage : MaskStage
     stage = s.stage
 
     abbrev pub first : MemberReader A SequenceLine Reached
-    first = line_members run.full at lines
+    first = line_members start.mask.full at lines
 
     -- the lines given have come as far as is known
     pub come_so_far : at ≡ reached stage
     come_so_far =
-        s.comes.first_passes.state ∙ reached_behind run.full (member_items s.past_first) ∙ ap (λ (l : List SequenceLine). reached_by (line_given_last l)) (sym s.comes.all_given)
+        s.comes.first_passes.state ∙ reached_behind start.mask.full (member_items s.past_first) ∙ ap (λ (l : List SequenceLine). reached_by (line_given_last l)) (sym s.comes.all_given)
 
     pub asked : stage.lines_ended ≡ false → join.Asks (given stage) stage.taken
     asked going = open_leaves (given stage) (line_given_last (given stage)) stage.taken refl (s.stands.is_open going)
 
-    pub asks_for : stage.lines_ended ≡ false → AsksFor join pair run.out s.past_first second
-    asks_for going = stop.asks_now join pair run.out (stage_of stage) s.past_first s.past_second first second grown s.comes (asked going)
+    pub asks_for : stage.lines_ended ≡ false → AsksFor join pair before s.past_first second
+    asks_for going = stop.asks_now join pair before (stage_of stage) s.past_first s.past_second first second grown s.comes (asked going)
 
     as_it_is : MaskMovesTo mask.how mask.full stage mask
     as_it_is = record { stands = s.stands; how_is = refl; full_is = refl }
 
     -- no more was given, and the engine is at another stage
     goes_on : (at : Reached) (new : LineReader A) (second_now : MemberReader B Feature (Option Locus)) (masked : Masking) (now : Output) (next : MaskStage) → MaskMovesTo mask.how mask.full next masked
-        → Comes join pair run.out (stage_of next) s.past_first s.past_second (line_members run.full at new) second_now now
+        → Comes join pair before (stage_of next) s.past_first s.past_second (line_members start.mask.full at new) second_now now
         → ((r : Feature) → next.ahead ≡ Some r → item_ahead second_now ≡ Some r) → (next.lines_ended ≡ true → has_ended new ≡ true) → Going at new second_now masked now
     goes_on at new second_now masked now next moves comes kept_ahead lines_over = record {
       past_first = s.past_first;
       past_second = s.past_second;
       stage = next;
       stands = moves.stands;
+      first_is = s.first_is;
+      blocks_is = s.blocks_is;
       how_is = moves.how_is ∙ s.how_is;
       full_is = moves.full_is ∙ s.full_is;
       comes = comes;
@@ -200,15 +201,10 @@ module _ {A B : Type 0} (source_a : Source A) (source_b : Source B) (run : MaskB
     undecided_by line named (inl none) = ap (decided line) none ∙ named_open line named
     undecided_by line named (inr is) = is
 
-    last_waits : (written : List SequenceLine) (line : SequenceLine) → line_given_last (written ++ line ∷ []) ≡ Some line
-    last_waits [] line = refl
-    last_waits (x ∷ []) line = refl
-    last_waits (x ∷ y ∷ written) line = last_waits (y ∷ written) line
-
     pub undecided : (line : SequenceLine) → stage.waiting ≡ Some line → decided line stage.taken ≡ false
     undecided line waits =
         let w = s.stands.waits line waits in
-        let last : line_given_last (given stage) ≡ Some line = ap (λ (o : Option SequenceLine). line_given_last (stage.written ++ option_to_list o)) waits ∙ last_waits stage.written line in
+        let last : line_given_last (given stage) ≡ Some line = ap (λ (o : Option SequenceLine). line_given_last (stage.written ++ option_to_list o)) waits ∙ last_more stage.written line in
         undecided_by line w.named (subst (λ (o : Option SequenceLine). IsOpen o stage.taken) last (s.stands.is_open w.lines))
 
     -- a line is wanted
@@ -226,24 +222,24 @@ module _ {A B : Type 0} (source_a : Source A) (source_b : Source B) (run : MaskB
       pub line_made : (new : LineReader A) → MakesLine source_a lines new → (IsKept source_a lines → IsKept source_a new) → Going at new second mask grown
       line_made new makes kept =
           goes_on at new second mask grown stage as_it_is
-          (turned.reads_first join pair run.out (stage_of stage) s.past_first s.past_second first second grown s.comes none_waits no_line.1 (line_members run.full at new)
-          (passes_made source_a run.full (line_members run.full nothing_reached run.lines) s.past_first at lines new s.comes.first_passes makes kept))
+          (turned.reads_first join pair before (stage_of stage) s.past_first s.past_second first second grown s.comes none_waits no_line.1 (line_members start.mask.full at new)
+          (passes_made source_a start.mask.full (line_members start.mask.full nothing_reached start.lines) s.past_first at lines new s.comes.first_passes makes kept))
           s.kept_ahead (λ e. absurd (false≢true (sym no_line.1 ∙ e)))
 
       -- the end of the lines was given
       pub ends_lines : (new : LineReader A) (masked : Masking) → GivesEnd source_a lines new → (IsKept source_a lines → IsKept source_a new) → MaskMovesTo mask.how mask.full (with_lines_ended stage) masked → Going at new second masked grown
       ends_lines new masked ends kept stands =
-          let over = gives_over source_a run.full at lines new kept ends in
+          let over = gives_over source_a start.mask.full at lines new kept ends in
           goes_on at new second masked grown (with_lines_ended stage) stands
-          (turned.ends_first join pair run.out (stage_of stage) s.past_first s.past_second first second grown s.comes none_waits no_line.1 (line_members run.full at new) over) s.kept_ahead (λ e. over.ends.ends)
+          (turned.ends_first join pair before (stage_of stage) s.past_first s.past_second first second grown s.comes none_waits no_line.1 (line_members start.mask.full at new) over) s.kept_ahead (λ e. over.ends.ends)
 
       -- a line couldn't be read
       pub stops_lines : (fault : FaultValue) (new : LineReader A) → GivesFault source_a lines fault new → (IsKept source_a lines → IsKept source_a new) → EndsAt (Some fault) new second grown
       stops_lines fault new gives kept = (
-        line_members run.full at new,
+        line_members start.mask.full at new,
         refl,
-        stop.stops_first join pair run.out (stage_of stage) s.past_first s.past_second first second grown s.comes asks_for (λ known. tt) wrong_first none_waits no_line.1 fault (line_members run.full at new)
-            (gives_unread source_a run.full at lines new kept fault gives),
+        stop.stops_first join pair before (stage_of stage) s.past_first s.past_second first second grown s.comes asks_for (λ known. tt) wrong_first none_waits no_line.1 fault (line_members start.mask.full at new)
+            (gives_unread source_a start.mask.full at lines new kept fault gives),
         λ input line e. e,
       )
 
@@ -266,7 +262,7 @@ module _ {A B : Type 0} (source_a : Source A) (source_b : Source B) (run : MaskB
       pub record_made : (second_now : MemberReader B Feature (Option Locus)) → IsFilled source_b second second_now → Going at lines second_now mask grown
       record_made second_now filled =
           goes_on at lines second_now mask grown stage as_it_is
-          (turned.fills_second join pair run.out (stage_of stage) s.past_first s.past_second first second grown s.comes goes second_now filled) (λ r e. kept_filled source_b second second_now r (s.kept_ahead r e) filled) s.lines_over
+          (turned.fills_second join pair before (stage_of stage) s.past_first s.past_second first second grown s.comes goes second_now filled) (λ r e. kept_filled source_b second second_now r (s.kept_ahead r e) filled) s.lines_over
 
       -- the end of the records was given
       module _ (second_now : MemberReader B Feature (Option Locus)) (over : IsOver source_b second second_now) where
@@ -275,21 +271,21 @@ module _ {A B : Type 0} (source_a : Source A) (source_b : Source B) (run : MaskB
             → Going at lines second_now masked now
         ends_waiting a waits masked now stands adds =
             goes_on at lines second_now masked now (with_bed_ended stage) stands
-            (turned.ends_waiting join pair run.out (stage_of stage) s.past_first s.past_second first second grown s.comes goes second_now over a waits now (subst (λ (h : MaskHow). Grown grown (masked_line h stage.taken a) now) s.how_is adds))
+            (turned.ends_waiting join pair before (stage_of stage) s.past_first s.past_second first second grown s.comes goes second_now over a waits now (subst (λ (h : MaskHow). Grown grown (masked_line h stage.taken a) now) s.how_is adds))
             (λ r e. absurd (none_ahead second r over.ends.was_none (s.kept_ahead r e))) s.lines_over
 
         -- or none waited
         pub ends_alone : stage.waiting ≡ None → (masked : Masking) → MaskMovesTo mask.how mask.full (with_bed_ended stage) masked → Going at lines second_now masked grown
         ends_alone none masked stands =
             goes_on at lines second_now masked grown (with_bed_ended stage) stands
-            (turned.ends_alone join pair run.out (stage_of stage) s.past_first s.past_second first second grown s.comes goes second_now over none) (λ r e. absurd (none_ahead second r over.ends.was_none (s.kept_ahead r e))) s.lines_over
+            (turned.ends_alone join pair before (stage_of stage) s.past_first s.past_second first second grown s.comes goes second_now over none) (λ r e. absurd (none_ahead second r over.ends.was_none (s.kept_ahead r e))) s.lines_over
 
         -- the waiting line wasn't written
         pub fails_at_end : (a : SequenceLine) → stage.waiting ≡ Some a → (fault : FaultValue) (now : Output) → FailsToAdd grown (masked_line mask.how stage.taken a) fault now → EndsAt (Some fault) lines second_now now
         fails_at_end a waits fault now fails = (
           first,
           refl,
-          stop.fails_at_end join pair run.out (stage_of stage) s.past_first s.past_second first second grown s.comes asks_for (λ known. tt) a waits (asked (s.stands.waits a waits).lines) goes fault second_now now over (subst (λ (h : MaskHow). FailsToAdd grown (masked_line h stage.taken a) fault now) s.how_is fails),
+          stop.fails_at_end join pair before (stage_of stage) s.past_first s.past_second first second grown s.comes asks_for (λ known. tt) a waits (asked (s.stands.waits a waits).lines) goes fault second_now now over (subst (λ (h : MaskHow). FailsToAdd grown (masked_line h stage.taken a) fault now) s.how_is fails),
           λ input line e. e,
         )
 
@@ -298,13 +294,13 @@ module _ {A B : Type 0} (source_a : Source A) (source_b : Source B) (run : MaskB
       stops_by None e fault second_now stopped = (
         first,
         refl,
-        stop.stops_behind join pair run.out (stage_of stage) s.past_first s.past_second first second grown s.comes asks_for (λ known. tt) (lines_done e) wrong_second goes (none_lacks e) fault second_now stopped,
+        stop.stops_behind join pair before (stage_of stage) s.past_first s.past_second first second grown s.comes asks_for (λ known. tt) (lines_done e) wrong_second goes (none_lacks e) fault second_now stopped,
         λ input line e. e,
       )
       stops_by (Some a) e fault second_now stopped = (
         first,
         refl,
-        stop.stops_second join pair run.out (stage_of stage) s.past_first s.past_second first second grown s.comes asks_for (λ known. tt) a e wrong_second (asked (s.stands.waits a e).lines) goes (λ known none. undecided a e) fault second_now stopped,
+        stop.stops_second join pair before (stage_of stage) s.past_first s.past_second first second grown s.comes asks_for (λ known. tt) a e wrong_second (asked (s.stands.waits a e).lines) goes (λ known none. undecided a e) fault second_now stopped,
         λ input line e. e,
       )
 
@@ -326,15 +322,15 @@ module _ {A B : Type 0} (source_a : Source A) (source_b : Source B) (run : MaskB
       seen = ap (λ (o : Option Feature). stage.taken ++ option_to_list o) next
 
       -- if it decides the waiting line, that stays as it is
-      settles_decided : (a : SequenceLine) → decided a (stage.taken ++ r ∷ []) ≡ true → LineBefore run.how a stage.taken r → IsKnown pair
-          → SettlesPair join (stage.written ++ a ∷ []) (s.comes.bytes ++ masked_line run.how stage.taken a) (stage.taken ++ option_to_list (item_ahead second)) stage.bed_ended
+      settles_decided : (a : SequenceLine) → decided a (stage.taken ++ r ∷ []) ≡ true → LineBefore start.mask.how a stage.taken r → IsKnown pair
+          → SettlesPair join (stage.written ++ a ∷ []) (s.comes.bytes ++ masked_line start.mask.how stage.taken a) (stage.taken ++ option_to_list (item_ahead second)) stage.bed_ended
       settles_decided a decides settled known =
-          settles_with join stage.written s.comes.bytes (stage.taken ++ option_to_list (item_ahead second)) stage.bed_ended a (masked_line run.how stage.taken a) (s.comes.settles known)
+          settles_with join stage.written s.comes.bytes (stage.taken ++ option_to_list (item_ahead second)) stage.bed_ended a (masked_line start.mask.how stage.taken a) (s.comes.settles known)
           (λ rest ordered.
           let front : (stage.taken ++ option_to_list (item_ahead second)) ++ rest ≡ (stage.taken ++ r ∷ []) ++ rest = ap (λ (l : List Feature). l ++ rest) seen in
           let parts : (stage.taken ++ option_to_list (item_ahead second)) ++ rest ≡ stage.taken ++ r ∷ rest = front ∙ append_assoc stage.taken (r ∷ []) rest in (
             ap (decided a) front ∙ decided_stays a (stage.taken ++ r ∷ []) rest decides,
-            ap (λ (l : List Feature). masked_line run.how l a) parts ∙ settled rest (subst AreInBlocks parts ordered),
+            ap (λ (l : List Feature). masked_line start.mask.how l a) parts ∙ settled rest (subst AreInBlocks parts ordered),
           ))
 
       unowned_by : (none : stage.waiting ≡ None) → left_after (reached stage).names (stage.taken ++ r ∷ []) ≡ None → left_after (names_of stage.written) (member_items (s.past_second ++ m ∷ [])) ≡ None
@@ -342,12 +338,12 @@ module _ {A B : Type 0} (source_a : Source A) (source_b : Source B) (run : MaskB
           ap (λ (l : List (List ℕ)). left_after l (member_items (s.past_second ++ m ∷ []))) (names_alone none)
           ∙ ap (left_after (reached stage).names) (map-append (λ (x : Member Feature). x.item) s.past_second (m ∷ []) ∙ ap (λ (l : List Feature). l ++ r ∷ []) (sym s.comes.all_taken)) ∙ e
 
-      fails_by : (o : Option SequenceLine) → stage.waiting ≡ o → (fault : FaultValue) (now : Output) → FailsAtRecord run.how run.full o stage r (suc (lines_given second.below)) grown fault now → EndsAt (Some fault) lines second now
+      fails_by : (o : Option SequenceLine) → stage.waiting ≡ o → (fault : FaultValue) (now : Output) → FailsAtRecord start.mask.how start.mask.full o stage r (suc (lines_given second.below)) grown fault now → EndsAt (Some fault) lines second now
       fails_by None none fault now lacks = (
         first,
         refl,
         rw lacks.same_output
-            (stop.ends_rest join pair run.out (stage_of stage) s.past_first s.past_second first second grown s.comes asks_for (λ known. tt) (lines_done wants none) second
+            (stop.ends_rest join pair before (stage_of stage) s.past_first s.past_second first second grown s.comes asks_for (λ known. tt) (lines_done wants none) second
             (λ some. absurd (false≢true (ap is_some (sym s.comes.second_passes.going) ∙ some))) s.comes.second_passes.bytes s.past_second (Some fault)
             (inr (inr (
               fault,
@@ -357,8 +353,8 @@ module _ {A B : Type 0} (source_a : Source A) (source_b : Source B) (run : MaskB
                 kind = NoSequence;
                 is = lacks.is;
                 of_kind = refl;
-                told = told_by (names_of stage.written) (good_coming source_b.left run.records) s.past_second m fault lacks.is (owned_alone none) (unowned_by none lacks.unowned)
-                    (stop.seen_begins source_b.left (good_coming source_b.left run.records) second s.past_second (Some m) m_ahead s.comes.second_passes.come s.comes.second_passes.ahead);
+                told = told_by (names_of stage.written) (good_coming source_b.left (view_of start.records)) s.past_second m fault lacks.is (owned_alone none) (unowned_by none lacks.unowned)
+                    (stop.seen_begins source_b.left (good_coming source_b.left (view_of start.records)) second s.past_second (Some m) m_ahead s.comes.second_passes.come s.comes.second_passes.ahead);
                 serves = record { served = s.comes.second_passes.served; within = s.comes.second_passes.kept.within s.comes.second_passes.clear };
               },
             )))),
@@ -367,17 +363,17 @@ module _ {A B : Type 0} (source_a : Source A) (source_b : Source B) (run : MaskB
       fails_by (Some a) waits fault now (inl writes) = (
         first,
         refl,
-        stop.fails_waiting join pair run.out (stage_of stage) s.past_first s.past_second first second grown s.comes asks_for (λ known. tt) a waits (masked_line run.how stage.taken a) (settles_decided a writes.decides writes.settled) fault now writes.fails,
+        stop.fails_waiting join pair before (stage_of stage) s.past_first s.past_second first second grown s.comes asks_for (λ known. tt) a waits (masked_line start.mask.how stage.taken a) (settles_decided a writes.decides writes.settled) fault now writes.fails,
         λ input line e. e,
       )
       fails_by (Some a) waits fault now (inr holds) = (
         first,
         refl,
-        rw holds.same_output (stop.lacks_memory join pair run.out (stage_of stage) s.past_first s.past_second first second grown s.comes asks_for (λ known. tt) fault holds.is),
+        rw holds.same_output (stop.lacks_memory join pair before (stage_of stage) s.past_first s.past_second first second grown s.comes asks_for (λ known. tt) fault holds.is),
         λ input line e. e,
       )
 
-      pub fails_record : (fault : FaultValue) (now : Output) → FailsAtRecord run.how run.full stage.waiting stage r (suc (lines_given second.below)) grown fault now → EndsAt (Some fault) lines second now
+      pub fails_record : (fault : FaultValue) (now : Output) → FailsAtRecord start.mask.how start.mask.full stage.waiting stage r (suc (lines_given second.below)) grown fault now → EndsAt (Some fault) lines second now
       fails_record fault now fails = fails_by stage.waiting refl fault now fails
 
     -- both inputs have ended
@@ -386,6 +382,6 @@ module _ {A B : Type 0} (source_a : Source A) (source_b : Source B) (run : MaskB
         let ends = all_ended (is_some stage.waiting) stage.lines_ended stage.bed_ended (sym s.stands.want_is ∙ wants) in (
           first,
           refl,
-          stop.ends_all join pair run.out (stage_of stage) s.past_first s.past_second first second grown s.comes asks_for (λ known. tt) ends.1 ends.2 (none_lacks (none_by stage.waiting ends.0)),
+          stop.ends_all join pair before (stage_of stage) s.past_first s.past_second first second grown s.comes asks_for (λ known. tt) ends.1 ends.2 (none_lacks (none_by stage.waiting ends.0)),
           λ input line e. e,
         )

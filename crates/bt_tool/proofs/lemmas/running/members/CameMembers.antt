@@ -19,8 +19,7 @@ use Rattle.bt_tool.specs.calls.run.FaultSource.{TellsInput}
 use Rattle.bt_tool.specs.inside.feed.Feeding.{IsFresh}
 use Rattle.bt_lines.specs.declared.reader.line_reader.LineReader.{LineReader}
 use Rattle.bt_tool.specs.inside.feed.Passed.{HasFaultBehind, IsUnreadBehind}
-use Rattle.bt_tool.proofs.lemmas.running.members.HandedLemmas.{cut_good, handed_near}
-use Rattle.bt_tool.proofs.lemmas.running.members.HandedReader.{consumed_by, consumes_parts, cut_text, handed_all, handed_part, passes_by}
+use Rattle.bt_tool.proofs.lemmas.running.members.HandedLemmas.{cut_good, handed_near, consumed_by, consumes_parts, cut_text, handed_all, handed_part, passes_by}
 
 -- what holds of a known value
 pub some_of : {A : Type 0} (a : Option A) (value : A) (P : A → Type 0) → a ≡ Some value → IfSome a P → P value

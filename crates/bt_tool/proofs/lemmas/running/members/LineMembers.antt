@@ -1,21 +1,21 @@
 -- Lemmas on a reader of lines as one of lines of sequences.
+use Rattle.std.proofs.lemmas.Option.{IfSome_then}
 use Rattle.std.proofs.Common.{◌≡◌, ℕ, suc, ◌+◌, ◌-◌, ◌<◌, ◌≤◌, Bool, true, false, cond, List, [], ◌∷◌, ◌++◌, length, take, drop, Option, None, Some, Ok, Err, refl, sym, ap, ◌∙◌, subst, append_assoc, append-nil, length-append, arith, inl}
 use Rattle.std.specs.Prelude.{All, IfSome, option_map}
 use Rattle.std.proofs.Math.Seq.{drop-append_seam}
-use Rattle.std.proofs.lemmas.List.{drop-drop}
 use Rattle.std.proofs.lemmas.List.Elements.{All-append, All-nil}
 use Rattle.bt_lines.specs.declared.device.Source.{Ghosts as Source}
 use Rattle.bt_lines.proofs.lemmas.reader.lines.ReaderLemmas.{hands_both, sound_near}
 use Rattle.bt_lines.proofs.lemmas.reader.lines.TakingLemmas.{is_prefix, near_next}
 use Rattle.bt_lines.specs.model.Fault.{FaultValue}
-use Rattle.bt_lines.specs.model.Lines.{AreNumbered, TextLine, bytes_in, lines_from}
+use Rattle.bt_lines.specs.model.Lines.{AreNumbered, TextLine, lines_from}
 use Rattle.bt_lines.specs.calls.Output.{block_size}
 use Rattle.bt_lines.specs.calls.Reader.{DropsLines, GivesEnd, GivesFault, Hands, IsKept, MakesLine, SameLines, TakenLines, TakesLines, buffered_bytes, buffered_in, bytes_left, end_told, fault_kept as line_fault, held, input_of, left_at, lines_given, lines_left, source_of}
 use Rattle.bt_lines.specs.declared.reader.buffered_lines.ConsumedLines.{ConsumedLines}
 use Rattle.bt_lines.specs.declared.fault.Kind.{Kind}
 use Rattle.bt_lines.specs.declared.fault.Kind.TheVariants.{TextBeforeHeader}
 use Rattle.bt_lines.specs.declared.reader.line_reader.LineReader.{LineReader}
-use Rattle.bt_bed.proofs.lemmas.read.good.CameLemmas.{drops_pass, left_numbered, some_bytes}
+use Rattle.bt_bed.proofs.lemmas.read.good.CameLemmas.{near_pass, pass_more, drops_pass, left_numbered, some_bytes}
 use Rattle.bt_bed.proofs.lemmas.read.good.ReadingLemmas.{Going, going_end, going_start, going_unread}
 use Rattle.bt_bed.proofs.lemmas.read.good.SaidRuns.{LinesSay, good_said, say_front}
 use Rattle.bt_bed.specs.model.input.Good.{Good, Member, good_from}
@@ -68,29 +68,11 @@ front_of (x ∷ front) more (y ∷ all) e =
     (further.0, ap (λ l. l ∷ all) same ∙ ap (λ l. x ∷ l) further.1)
 
 lines_same : (start now new : Option (List TextLine)) (given later : ℕ) → later ≡ given → IfSome start (λ lines. now ≡ Some (drop given lines)) → SameLines now new → IfSome start (λ lines. new ≡ Some (drop later lines))
-lines_same None now new given later e p s = tt
-lines_same (Some lines) None new given later e p s = cc
-lines_same (Some lines) (Some here) new given later e p s = s ∙ p ∙ ap (λ n. Some (drop n lines)) (sym e)
-
-near_by : (start now : Option (List TextLine)) (rest : Option (List ℕ)) (given : ℕ) → IfSome start (λ lines. now ≡ Some (drop given lines))
-    → IfSome now (λ lines. IfSome rest (λ rest. bytes_in (drop 1 lines) ≤ length rest + block_size))
-    → IfSome start (λ lines. IfSome rest (λ rest. bytes_in (drop (suc given) lines) ≤ length rest + block_size))
-near_by None now rest given p n = tt
-near_by (Some lines) None rest given p n = cc
-near_by (Some lines) (Some here) rest given p n =
-    let is : here ≡ drop given lines = cc in
-    let one : given + 1 ≡ suc given = omega arith in
-    let same : drop 1 here ≡ drop (suc given) lines = ap (drop 1) is ∙ drop-drop 1 given lines ∙ ap (λ k. drop k lines) one in
-    subst (λ l. IfSome rest (λ rest. bytes_in l ≤ length rest + block_size)) same n
-
-near_all : (start now : Option (List TextLine)) (rest : Option (List ℕ)) (given count : ℕ) → given ≡ count → IfSome start (λ lines. now ≡ Some (drop given lines))
-    → IfSome now (λ lines. IfSome rest (λ rest. bytes_in lines ≤ length rest + block_size))
-    → IfSome start (λ lines. IfSome rest (λ rest. bytes_in (drop count lines) ≤ length rest + block_size))
-near_all None now rest given count e p n = tt
-near_all (Some lines) None rest given count e p n = cc
-near_all (Some lines) (Some here) rest given count e p n =
-    let is : here ≡ drop count lines = let same : here ≡ drop given lines = cc in same ∙ ap (λ k. drop k lines) e in
-    subst (λ l. IfSome rest (λ rest. bytes_in l ≤ length rest + block_size)) is n
+lines_same start now new given later e p s = pass_more start now new given 0 later p (same_drop now s) (omega (arith, e))
+  where
+    same_drop : (now : Option (List TextLine)) → SameLines now new → IfSome now (λ lines. new ≡ Some (drop 0 lines))
+    same_drop None s = tt
+    same_drop (Some lines) s = s
 
 none_by : (told : Bool) (held : List ℕ) (number : ℕ) → option_map (lines_from number) (left_at told held None) ≡ None
 none_by true held number = refl
@@ -153,7 +135,7 @@ module _ {S : Type 0} (device : Source S) (full : Bool) where
           kept = kept g.kept;
           served = makes.served ∙ g.served;
           ahead = λ known m is. absurd (let apart : None ≡ Some m = is in cc);
-          near = near_by (lines_left device.left old.below) (lines_left device.left new) (device.left (source_of new)) (lines_given new) lines_now (near_next device.left new);
+          near = near_pass (lines_left device.left old.below) (lines_left device.left new) (device.left (source_of new)) (lines_given new) 1 (suc (lines_given new)) lines_now (omega arith) (near_next device.left new);
         }
 
   -- the lines have ended
@@ -357,20 +339,14 @@ module _ {S : Type 0} (device : Source S) (full : Bool) where
 
     behind_by : (good : Option (Good SequenceLine)) → IfSome good (λ good. (good.members ≡ past ++ members) × (good.fault ≡ Some fault))
         → IfSome good (λ good. (rest : List (Member SequenceLine)) × (good.members ≡ (past ++ members) ++ rest) × IsBeyond count (record { members = rest; fault = good.fault }))
-    behind_by None w = tt
-    behind_by (Some good) w = (
+    behind_by good w = IfSome_then good w (λ good w. (
       [],
       w.0 ∙ sym (append-nil (past ++ members)),
       record {
         members = All-nil (λ (m : Member SequenceLine). count < m.line);
         fault = subst (λ o. IfSome o (IsFaultBeyond count)) (sym w.1) (subst (IsFaultBeyond count) (sym is) (let low : count < line.number = omega (arith, number_is) in low));
       },
-    )
-
-    begins_by : (good : Option (Good SequenceLine)) → IfSome good (λ good. (good.members ≡ past ++ members) × (good.fault ≡ Some fault))
-        → IfSome good (λ good. (rest : List (Member SequenceLine)) × (good.members ≡ (past ++ members) ++ rest))
-    begins_by None w = tt
-    begins_by (Some good) w = ([], w.0 ∙ sym (append-nil (past ++ members)))
+    ))
 
     low_then : All (λ m. m.line ≤ count) (past ++ members)
     low_then =
@@ -380,11 +356,11 @@ module _ {S : Type 0} (device : Source S) (full : Bool) where
     refuses_read = record {
       to = record {
         count = count;
-        near = near_all (lines_left device.left old.below) (lines_left device.left new) (device.left (source_of new)) (lines_given new) (suc count) given_is lines_then
+        near = near_pass (lines_left device.left old.below) (lines_left device.left new) (device.left (source_of new)) (lines_given new) 0 (suc count) lines_then (omega (arith, given_is))
             (sound_near device new (record { end = (takes.kept g.kept).end; within = (takes.kept g.kept).within; near = λ none. held_block }) clear);
         behind = behind_by (good_coming device.left old) whole;
       };
       low = low_then;
       high = up_to count (suc count) (past ++ members) (omega arith) low_then;
-      begins = begins_by (good_coming device.left old) whole;
+      begins = IfSome_then (good_coming device.left old) whole (λ good w. ([], w.0 ∙ sym (append-nil (past ++ members))));
     }

@@ -1,5 +1,5 @@
 -- Lemmas on a reader of members that is given the next line: it says a member, or none.
-use Rattle.std.proofs.Common.{◌≡◌, ℕ, suc, ◌+◌, ◌-◌, ◌≤◌, List, [], ◌∷◌, ◌++◌, length, drop, Option, None, Some, Ok, refl, sym, ap, ◌∙◌, subst, arith}
+use Rattle.std.proofs.Common.{◌≡◌, suc, ◌+◌, ◌-◌, ◌≤◌, List, [], ◌∷◌, ◌++◌, length, drop, Option, None, Some, Ok, refl, sym, ap, ◌∙◌, subst, arith}
 use Rattle.std.specs.Prelude.{All, IfSome, option_map}
 use Rattle.std.proofs.lemmas.List.{map-append}
 use Rattle.std.proofs.lemmas.List.Elements.{All-push}
@@ -56,14 +56,12 @@ module _ {A State : Type 0} (format : Format A State) (input : Input) (state : S
       let is : with_members (m ∷ []) (good_from format input (format.after state item) ys) ≡ good_from format input state xs = sym (ap (good_from format input state) g ∙ rw e refl) in
       come_taken (Some o) (Some (good_from format input state xs)) (Some (good_from format input (format.after state item) ys)) past (m ∷ []) c (ap Some is)
 
-one_given : (lines : Option (List TextLine)) (new : Option (List TextLine)) (given more : ℕ) → more ≡ suc given → IfSome lines (λ lines. new ≡ Some (drop 1 lines)) → IfSome lines (λ lines. new ≡ Some (drop (more - given) lines))
-one_given None new given more e h = tt
-one_given (Some lines) new given more e h = let one : more - given ≡ 1 = omega (arith, e) in rw one h
-
 module _ {S A State : Type 0} (device : Source S) (old now : MemberReader S A State) (past : List (Member A)) (g : Passes device old past now) (new : MemberReader S A State) (line : TextLine)
     (gives : GivesLine device now.below line new.below) (kept : IsKept device now.below → IsKept device new.below) (format : new.format ≡ now.format) (none : new.buffered ≡ []) (going : new.fault ≡ None) where
   lines_pass : LinesPass device.left now.below new.below
-  lines_pass = one_given (lines_left device.left now.below) (lines_left device.left new.below) (lines_given now.below) (lines_given new.below) gives.counted (given_drops (lines_left device.left now.below) line (lines_left device.left new.below) gives.first)
+  lines_pass =
+      let one : lines_given new.below - lines_given now.below ≡ 1 = omega (arith, gives.counted) in
+      rw one (given_drops (lines_left device.left now.below) line (lines_left device.left new.below) gives.first)
 
   rises : lines_given now.below ≤ lines_given new.below
   rises = omega (arith, gives.counted)
@@ -101,7 +99,7 @@ module _ {S A State : Type 0} (device : Source S) (old now : MemberReader S A St
     kept = kept g.kept;
     served = gives.served ∙ g.served;
     ahead = λ known m is. absurd (nothing_ahead new m none is);
-    near = let one : lines_given new.below + 1 ≡ suc (lines_given new.below) = omega arith in rw (← one) (near_more (lines_left device.left old.below) (device.left (source_of new.below)) (lines_given new.below) 1 near_line);
+    near = near_more (lines_left device.left old.below) (device.left (source_of new.below)) (lines_given new.below) (suc (lines_given new.below)) (omega arith) near_line;
   }
 
   -- the line says no member

@@ -1,6 +1,7 @@
 -- Lemmas on what a reader of members has consumed.
+use Rattle.std.proofs.lemmas.Option.{IfSome_then}
 use Rattle.std.proofs.Common.{◌≡◌, ℕ, suc, ◌+◌, ◌-◌, ◌≤◌, ◌<◌, Bool, true, false, List, [], ◌∷◌, ◌++◌, length, take, drop, Option, None, Some, Err, refl, sym, ap, ◌∙◌, subst, append_assoc, arith, inl, inr}
-use Rattle.std.specs.Prelude.{◌⊎◌, All, IfSome, IsSome, option_map}
+use Rattle.std.specs.Prelude.{is_some, ◌⊎◌, All, IfSome, IsSome, option_map}
 use Rattle.std.proofs.lemmas.List.{drop-drop, length-append, length-drop, map-append, take-append-drop}
 use Rattle.std.proofs.lemmas.List.Elements.{All-append, All-cons, All-nil}
 use Rattle.bt_lines.specs.declared.device.Source.{Ghosts as Source}
@@ -27,6 +28,7 @@ use Rattle.bt_bed.specs.model.feature.LineKind.{fault_at_line}
 use Rattle.bt_bed.specs.calls.Reading.{AnswersFault, AreSaid, Cause, MemberReader, Remains, ahead_in, first_from, good_coming, members_from, state_behind, with_members}
 use Rattle.bt_tool.specs.inside.feed.Feeding.{IsFresh}
 use Rattle.bt_tool.specs.inside.feed.Passed.{AreAll, ComeFirst, HasFaultBehind, HasTaken, IsFilled, IsOver, IsReadFor, IsStopped, LacksMemory, Passes, StopsAfter, member_items}
+use Rattle.bt_bed.proofs.lemmas.read.good.CameLemmas.{near_pass}
 use Rattle.bt_tool.proofs.lemmas.running.feed.FaultLemmas.{line_no_read}
 use Rattle.bt_tool.proofs.lemmas.running.feed.ComeLemmas.{begins_beyond, begins_with, come_none, cuts_both, lines_on, near_from_start, none_passed, up_to, whole_with}
 use Rattle.bt_tool.proofs.lemmas.running.pair.StopLemmas.{beyond_less, beyond_now, stops_faulty}
@@ -90,36 +92,20 @@ come_taken (Some o) (Some n) (Some x) past taken c e =
     (c.0 ∙ ap (λ g. past ++ g.members) (sym is) ∙ sym (append_assoc past taken x.members), c.1 ∙ ap (λ g. g.fault) (sym is))
 
 -- nothing of what was to come is lost
-come_same : {A : Type 0} (old now peeked : Option (Good A)) (past : List (Member A)) → ComeFirst old past now
-    → (IfSome now (λ good. peeked ≡ Some good)) → ComeFirst old past peeked
+come_same : {A : Type 0} (old now peeked : Option (Good A)) (past : List (Member A)) → ComeFirst old past now → Remains now peeked → ComeFirst old past peeked
 come_same None now peeked past c r = tt
 come_same (Some o) None peeked past c r = absurd c
-come_same (Some o) (Some n) None past c r = cc
-come_same (Some o) (Some n) (Some p) past c r =
-    let is : p ≡ n = cc in
-    (c.0 ∙ ap (λ g. past ++ g.members) (sym is), c.1 ∙ ap (λ g. g.fault) (sym is))
-
-some_remains : {A : Type 0} (now peeked : Option (Good A)) → Remains now peeked → IfSome now (λ good. peeked ≡ Some good)
-some_remains None peeked r = tt
-some_remains (Some n) None r = absurd r
-some_remains (Some n) (Some p) r = ap Some r
+come_same (Some o) (Some n) None past c r = absurd r
+come_same (Some o) (Some n) (Some p) past c r = (c.0 ∙ ap (λ g. past ++ g.members) (sym r), c.1 ∙ ap (λ g. g.fault) (sym r))
 
 -- what is known stays known
-map_known : {A B : Type 0} (f : A → B) (o : Option A) → IsSome o → IsSome (option_map f o)
-map_known f None k = absurd (false≢true k)
-map_known f (Some x) k = refl
+pub some_map : {A B : Type 0} (f : A → B) (o : Option A) → is_some (option_map f o) ≡ is_some o
+some_map f None = refl
+some_map f (Some x) = refl
 
-known_map : {A B : Type 0} (f : A → B) (o : Option A) → IsSome (option_map f o) → IsSome o
-known_map f None k = absurd (false≢true k)
-known_map f (Some x) k = refl
-
-left_known : (told : Bool) (bytes : List ℕ) (left : Option (List ℕ)) → IsSome left → IsSome (left_at told bytes left)
-left_known true bytes left k = map_known (λ (rest : List ℕ). bytes) left k
-left_known false bytes left k = map_known (λ (rest : List ℕ). bytes ++ rest) left k
-
-known_left : (told : Bool) (bytes : List ℕ) (left : Option (List ℕ)) → IsSome (left_at told bytes left) → IsSome left
-known_left true bytes left k = known_map (λ (rest : List ℕ). bytes) left k
-known_left false bytes left k = known_map (λ (rest : List ℕ). bytes ++ rest) left k
+some_left : (told : Bool) (bytes : List ℕ) (left : Option (List ℕ)) → is_some (left_at told bytes left) ≡ is_some left
+some_left true bytes left = some_map (λ (rest : List ℕ). bytes) left
+some_left false bytes left = some_map (λ (rest : List ℕ). bytes ++ rest) left
 
 consumes_known : (a b : Option (List ℕ)) (bytes : List ℕ) → Consumes a b bytes → IsSome a → IsSome b
 consumes_known None b bytes c k = absurd (false≢true k)
@@ -130,15 +116,15 @@ coming_known : {S A State : Type 0} (left : S → Option (List ℕ)) (old new : 
     → IsSome (good_coming left old) → IsSome (good_coming left new)
 unfolding good_coming bytes_left
 coming_known left old new bytes hands k =
-    map_known _ _ (map_known _ _ (left_known (end_told new.below) (held new.below) (left (source_of new.below))
-    (consumes_known (left (source_of old.below)) (left (source_of new.below)) bytes hands.left_over
-    (known_left (end_told old.below) (held old.below) (left (source_of old.below)) (known_map _ _ (known_map _ _ k))))))
+    some_map _ _ ∙ some_map _ _ ∙ some_left (end_told new.below) (held new.below) (left (source_of new.below))
+    ∙ consumes_known (left (source_of old.below)) (left (source_of new.below)) bytes hands.left_over
+    (sym (some_left (end_told old.below) (held old.below) (left (source_of old.below))) ∙ sym (some_map _ _) ∙ sym (some_map _ _) ∙ k)
 
 bytes_known : {S : Type 0} (left : S → Option (List ℕ)) (old new : LineReader S) (bytes : List ℕ) → Hands left old bytes new → IsSome (lines_left left old) → IsSome (left (source_of new))
 unfolding bytes_left
 bytes_known left old new bytes hands k =
     consumes_known (left (source_of old)) (left (source_of new)) bytes hands.left_over
-    (known_left (end_told old) (held old) (left (source_of old)) (known_map _ _ k))
+    (sym (some_left (end_told old) (held old) (left (source_of old))) ∙ sym (some_map _ _) ∙ k)
 
 -- after the last line nothing is held
 none_held : (is_open : Bool) (complete rest : List ℕ) → is_open ≡ false → complete ≡ [] → rest ≡ [] → held_at is_open complete rest ≡ []
@@ -209,49 +195,32 @@ none_taken (Some n) (Some x) (m ∷ taken) fault k e f =
     let gone : m ∷ (taken ++ x.members) ≡ [] = ap (λ g. g.members) (is ∙ f) in
     cc
 
-near_start : (lines : Option (List TextLine)) (rest : Option (List ℕ)) (given : ℕ) → given ≡ 0 → IfSome lines (λ lines. IfSome rest (λ rest. bytes_in lines ≤ length rest + block_size))
-    → IfSome lines (λ lines. IfSome rest (λ rest. bytes_in (drop (suc given) lines) ≤ length rest + block_size))
-near_start None rest given e h = tt
-near_start (Some lines) None given e h = tt
-near_start (Some lines) (Some rest) given e h =
-    let both = bytes_in-append (take (suc given) lines) (drop (suc given) lines) in
-    let whole = ap bytes_in (take-append-drop (suc given) lines) in
-    omega arith
-
 -- more lines leave no more
-pub near_more : (lines : Option (List TextLine)) (rest : Option (List ℕ)) (count more : ℕ) → IfSome lines (λ lines. IfSome rest (λ rest. bytes_in (drop count lines) ≤ length rest + block_size))
-    → IfSome lines (λ lines. IfSome rest (λ rest. bytes_in (drop (count + more) lines) ≤ length rest + block_size))
-near_more None rest count more h = tt
-near_more (Some lines) None count more h = tt
-near_more (Some lines) (Some rest) count more h =
-    let both = bytes_in-append (take more (drop count lines)) (drop more (drop count lines)) in
-    let whole = ap bytes_in (take-append-drop more (drop count lines)) in
-    let is = ap bytes_in (drop-drop more count lines) in
+pub near_more : (lines : Option (List TextLine)) (rest : Option (List ℕ)) (count more : ℕ) → count ≤ more → IfSome lines (λ lines. IfSome rest (λ rest. bytes_in (drop count lines) ≤ length rest + block_size))
+    → IfSome lines (λ lines. IfSome rest (λ rest. bytes_in (drop more lines) ≤ length rest + block_size))
+near_more None rest count more up h = tt
+near_more (Some lines) None count more up h = tt
+near_more (Some lines) (Some rest) count more up h =
+    let both = bytes_in-append (take (more - count) (drop count lines)) (drop (more - count) (drop count lines)) in
+    let whole = ap bytes_in (take-append-drop (more - count) (drop count lines)) in
+    let size : count + (more - count) ≡ more = omega arith in
+    let is = ap bytes_in (drop-drop (more - count) count lines ∙ ap (λ n. drop n lines) size) in
     omega arith
 
 near_none : (start now : Option (List TextLine)) (rest : Option (List ℕ)) (given count : ℕ) → given ≤ count → IfSome start (λ lines. now ≡ Some (drop given lines))
     → IfSome now (λ lines. drop (count - given) lines ≡ []) → IfSome start (λ lines. IfSome rest (λ rest. bytes_in (drop (suc count) lines) ≤ length rest + block_size))
-near_none None now rest given count h p e = tt
-near_none (Some start) None rest given count h p e = cc
-near_none (Some start) (Some now) None given count h p e = tt
-near_none (Some start) (Some now) (Some rest) given count h p e =
-    let is : now ≡ drop given start = cc in
-    let size : given + (count - given) ≡ count = omega arith in
-    let none : drop count start ≡ [] = ap (λ n. drop n start) (sym size) ∙ sym (drop-drop (count - given) given start) ∙ ap (drop (count - given)) (sym is) ∙ e in
-    let one : count + 1 ≡ suc count = omega arith in
-    let last : drop (suc count) start ≡ [] = ap (λ n. drop n start) (sym one) ∙ sym (drop-drop 1 count start) ∙ ap (drop 1) none in
-    omega (arith, ap bytes_in last)
+near_none start now rest given count h p e =
+    near_pass start now rest given (suc count - given) (suc count) p (omega arith) (IfSome_then now e (λ lines none. near_done lines rest (count - given) (suc count - given) (omega arith) none))
+  where
+    near_done : (lines : List TextLine) (rest : Option (List ℕ)) (count more : ℕ) → more ≡ count + 1 → drop count lines ≡ [] → IfSome rest (λ rest. bytes_in (drop more lines) ≤ length rest + block_size)
+    near_done lines None count more same none = tt
+    near_done lines (Some rest) count more same none = omega (arith, ap (λ n. bytes_in (drop n lines)) same, ap bytes_in (sym (drop-drop 1 count lines) ∙ ap (drop 1) none))
 
 -- of the lines after those given, at most a block was taken
 pub near_given : (start now : Option (List TextLine)) (rest : Option (List ℕ)) (given : ℕ) → IfSome start (λ lines. now ≡ Some (drop given lines))
     → IfSome now (λ lines. IfSome rest (λ rest. bytes_in lines ≤ length rest + block_size))
     → IfSome start (λ lines. IfSome rest (λ rest. bytes_in (drop given lines) ≤ length rest + block_size))
-near_given None now rest given p n = tt
-near_given (Some start) None rest given p n = cc
-near_given (Some start) (Some now) None given p n = tt
-near_given (Some start) (Some now) (Some rest) given p n =
-    let is : now ≡ drop given start = cc in
-    omega (arith, ap bytes_in is, n)
+near_given start now rest given p n = near_pass start now rest given 0 given p (omega arith) n
 
 -- the last of some members lies after those lines too, and so does what comes after it
 pub behind_last : {A : Type 0} (count : ℕ) (old : Option (Good A)) (past : List (Member A)) (m : Member A) → suc count ≡ m.line
@@ -281,7 +250,7 @@ module _ {S A State : Type 0} (device : Source S) (old : MemberReader S A State)
     kept = record { end = fresh.sound.end; within = fresh.sound.within };
     served = refl;
     ahead = λ known m is. absurd (nothing_ahead old m fresh.none_buffered is);
-    near = near_start (lines_left device.left old.below) (device.left (source_of old.below)) (lines_given old.below) fresh.none_given.0 (sound_near device old.below fresh.sound clear);
+    near = near_more (lines_left device.left old.below) (device.left (source_of old.below)) 0 (suc (lines_given old.below)) (omega arith) (sound_near device old.below fresh.sound clear);
   }
 
   module _ (past : List (Member A)) (now : MemberReader S A State) (g : Passes device old past now) where
@@ -296,7 +265,7 @@ module _ {S A State : Type 0} (device : Source S) (old : MemberReader S A State)
           format = gives.stays.format ∙ g.format;
           bytes = bytes_more new gives.stays.bytes;
           said = g.said;
-          come = come_same (good_coming device.left old) (good_coming device.left now) (good_coming device.left new) past g.come (some_remains (good_coming device.left now) (good_coming device.left new) gives.good);
+          come = come_same (good_coming device.left old) (good_coming device.left now) (good_coming device.left new) past g.come gives.good;
           behind = up_to (lines_given now.below) (lines_given new.below) past gives.rises g.behind;
           lines = lines_on (lines_left device.left old.below) (lines_left device.left now.below) (lines_left device.left new.below) (lines_given now.below) (lines_given new.below) gives.rises g.lines gives.lines;
           state = gives.state ∙ g.state;
@@ -316,7 +285,6 @@ module _ {S A State : Type 0} (device : Source S) (old : MemberReader S A State)
         let takes = has.takes in
         let items = items_take past (suc (lines_given now.below)) taken in
         let rises : lines_given now.below ≤ lines_given new.below = omega (arith, takes.given) in
-        let counted : suc (lines_given now.below) + length taken ≡ suc (lines_given new.below) = omega (arith, takes.given) in
         record {
           format = takes.format ∙ g.format;
           bytes = bytes_more new ([], takes.hands);
@@ -335,7 +303,7 @@ module _ {S A State : Type 0} (device : Source S) (old : MemberReader S A State)
           kept = takes.kept g.kept;
           served = ap device.has_failed takes.source ∙ g.served;
           ahead = λ known. has.ahead;
-          near = rw (takes.source, ← counted) (near_more (lines_left device.left old.below) (device.left (source_of now.below)) (suc (lines_given now.below)) (length taken) g.near);
+          near = rw takes.source (near_more (lines_left device.left old.below) (device.left (source_of now.below)) (suc (lines_given now.below)) (suc (lines_given new.below)) (omega (arith, takes.given)) g.near);
         }
 
     -- the input has ended
@@ -473,11 +441,6 @@ module _ {S A State : Type 0} (device : Source S) (old : MemberReader S A State)
           begins = begins_with (good_coming device.left old) (good_coming device.left new) (past ++ members_from from (xs ++ a ∷ [])) p.come;
         }
 
-begins_behind : {A : Type 0} (count : ℕ) (old : Option (Good A)) (past : List (Member A)) → IfSome old (λ good. (rest : List (Member A)) × (good.members ≡ past ++ rest) × IsBeyond count (record { members = rest; fault = good.fault }))
-    → IfSome old (λ good. (rest : List (Member A)) × (good.members ≡ past ++ rest))
-begins_behind count None past b = tt
-begins_behind count (Some good) past b = (b.0, b.1)
-
 -- how far the input was read beside some members, whatever else was given
 pub read_alone : {S A State : Type 0} {device : Source S} {old : MemberReader S A State} {past given : List (Member A)} {now : MemberReader S A State}
     → IsReadFor device old past given now → IsReadFor device old past past now
@@ -485,5 +448,5 @@ read_alone {S} {A} {State} {device} {old} {past} {given} {now} read = record {
   to = read.to;
   low = read.low;
   high = up_to read.to.count (suc read.to.count) past (omega arith) read.low;
-  begins = begins_behind read.to.count (good_coming device.left old) past read.to.behind;
+  begins = IfSome_then (good_coming device.left old) read.to.behind (λ good b. (b.0, b.1));
 }

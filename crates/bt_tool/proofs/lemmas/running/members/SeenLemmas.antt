@@ -2,6 +2,7 @@
 use Rattle.std.proofs.Common.{◌≡◌, ℕ, List, [], ◌∷◌, ◌++◌, Option, None, Some, refl, sym, ap, ◌∙◌, append-nil, append_assoc, option_to_list}
 use Rattle.std.specs.Prelude.{IfSome, IsSome, option_map}
 use Rattle.std.proofs.lemmas.List.{map-append}
+use Rattle.std.proofs.lemmas.Option.{IfSome_then}
 use Rattle.bt_lines.specs.model.Fault.{FaultValue}
 use Rattle.bt_lines.specs.calls.Output.{Output}
 use Rattle.bt_lines.specs.calls.Putting.{FailsToAdd}
@@ -13,16 +14,14 @@ use Rattle.bt_tool.proofs.lemmas.running.feed.FeedLemmas.{front_all}
 pub items_begin : {A : Type 0} (good : Option (Good A)) (past : List (Member A)) (written extra : List A) → member_items past ≡ written ++ extra
     → IfSome good (λ good. (rest : List (Member A)) × (good.members ≡ past ++ rest))
     → IfSome good (λ good. (rest : List A) × (items_in good ≡ written ++ (extra ++ rest)))
-items_begin None past written extra e b = tt
-items_begin (Some good) past written extra e b = (
+items_begin good past written extra e b = IfSome_then good b (λ good b. (
   member_items b.0,
   ap member_items b.1 ∙ map-append (λ m. m.item) past b.0 ∙ ap (λ l. l ++ member_items b.0) e ∙ append_assoc written extra (member_items b.0),
-)
+))
 
 pub items_first : {A : Type 0} (good : Option (Good A)) (written extra : List A) → IfSome good (λ good. (rest : List A) × (items_in good ≡ written ++ (extra ++ rest)))
     → IfSome good (λ good. (rest : List A) × (items_in good ≡ written ++ rest))
-items_first None written extra b = tt
-items_first (Some good) written extra b = (extra ++ b.0, b.1)
+items_first good written extra b = IfSome_then good b (λ good b. (extra ++ b.0, b.1))
 
 -- what holds if a value is known
 pub if_known : {T : Type 0} (o : Option T) (P : Type 0) → (IsSome o → P) → IfSome o (λ x. P)

@@ -1,6 +1,6 @@
 -- Lemmas from how a run over two readers of members ends to the report on how the inputs meet.
 use Rattle.std.proofs.Common.{◌≡◌, ℕ, suc, ◌+◌, ◌≤◌, ◌<◌, Bool, true, false, List, [], ◌∷◌, ◌++◌, Option, None, Some, refl, sym, ap, ◌∙◌, subst, append_assoc, append-nil, arith, flat_map, inl, inr}
-use Rattle.std.specs.Prelude.{◌⊎◌, ◌≢◌, ◌||◌, All, IfSome, IsSome, is_none, option_to_list, take}
+use Rattle.std.specs.Prelude.{◌⊎◌, ◌≢◌, ◌||◌, All, IfSome, IsSome, is_none, option_to_list, take, ◌≡◌, true, List, ◌++◌, Option}
 use Rattle.std.specs.List.{list_all}
 use Rattle.std.specs.Option.{option_or}
 use Rattle.std.proofs.lemmas.Bool.{false≢true, or_from}
@@ -30,9 +30,25 @@ use Rattle.bt_tool.specs.inside.pair.Pair.{JoinDef, MayCome, Pair, Serves, met_b
 use Rattle.bt_tool.specs.inside.pair.Endings.{PairEnds, FirstFails, FirstStops, InputsEnd, LimitStops, RestStops, SecondFails, SecondStops, Why}
 use Rattle.bt_tool.proofs.lemmas.running.members.CameMembers.{BeginsAt, at_whole, came_cut, came_whole, is_known, says_fault, tells_fault, text_known}
 use Rattle.bt_tool.proofs.lemmas.running.feed.FaultLemmas.{memory_no_write, tells_no_write}
-use Rattle.bt_tool.proofs.lemmas.running.pair.PairLimits.{AreLimits}
 use Rattle.bt_tool.proofs.lemmas.running.members.SeenLemmas.{puts_front}
 use Rattle.bt_tool.proofs.lemmas.running.feed.WritingLemmas.{is_whole}
+
+pub record AreLimits {X Y : Type 0} (join : JoinDef X Y) : Type 0 where
+  -- what fits, fits with more of the first input
+  pub more : (given later : List X) (past : List (Member Y)) → join.Fits given past → join.Fits (given ++ later) past
+  -- if all of the second fits, it isn't cut
+  pub whole : (first : List X) (past : List (Member Y)) (fault : Option FaultValue) → join.Fits first past
+      → join.limited first (record { members = past; fault = fault }) ≡ record { members = past; fault = fault }
+  -- what fits stays, and so does the one member after it
+  pub keeps : (first : List X) (past : List (Member Y)) (ahead : Option (Member Y)) (rest : List (Member Y)) (fault : Option FaultValue) → join.Fits first past
+      → (more : List (Member Y)) × ((join.limited first (record { members = (past ++ option_to_list ahead) ++ rest; fault = fault })).members ≡ (past ++ option_to_list ahead) ++ more)
+  -- if all of the first is decided, the second isn't cut
+  pub done : (first : List X) (past : List (Member Y)) (ahead : Option (Member Y)) (rest : List (Member Y)) (fault : Option FaultValue) → join.Fits first past
+      → join.InOrder (member_items ((past ++ option_to_list ahead) ++ rest))
+      → (join.InOrder (member_items (past ++ option_to_list ahead)) → list_all (λ x. join.decided x (member_items (past ++ option_to_list ahead))) first ≡ true)
+      → join.limited first (record { members = (past ++ option_to_list ahead) ++ rest; fault = fault }) ≡ record { members = (past ++ option_to_list ahead) ++ rest; fault = fault }
+  -- what is left of the second is in order
+  pub ordered : (first : List X) (second : Good Y) → join.InOrder (items_in second) → join.InOrder (items_in (join.limited first second))
 
 -- an input that is there
 module _ {S : Type 0} (device : Source S) where

@@ -19,6 +19,12 @@ one_more test write written a bytes more was here is = (
   flat_map-append write written (a ∷ []) ∙ ap (λ l. l ++ flat_map write (a ∷ [])) was.1 ∙ ap (λ l. bytes ++ l) (append-nil (write a) ∙ is),
 )
 
+-- if something is so, or a test holds of each, either is so of each
+pub all_or : {X : Type 0} (test : X → Bool) (b : Bool) (xs : List X) → (b || list_all test xs) ≡ true → list_all (λ x. b || test x) xs ≡ true
+all_or test b [] e = refl
+all_or test true (x ∷ xs) e = all_or test true xs refl
+all_or test false (x ∷ xs) e = e
+
 module _ {X Y : Type 0} (join : JoinDef X Y) where
   pub settles_nothing : (seen : List Y) (ended : Bool) → SettlesPair join [] [] seen ended
   settles_nothing seen ended = record { whatever = λ second fault ordered may. (refl, refl) }

@@ -5,7 +5,7 @@ use Rattle.std.proofs.lemmas.Bool.{false≢true}
 use Rattle.std.proofs.lemmas.List.{map-append}
 use Rattle.bt_lines.specs.declared.device.Source.{Ghosts as Source}
 use Rattle.bt_lines.proofs.lemmas.writer.OutputLemmas.{grows_both}
-use Rattle.bt_lines.proofs.lemmas.writer.PuttingLemmas.{grown_none, grown_works}
+use Rattle.bt_lines.proofs.lemmas.writer.PuttingLemmas.{grown_none}
 use Rattle.bt_lines.specs.model.Fault.{FaultValue, no_memory, read_failed}
 use Rattle.bt_lines.specs.model.Lines.{TextLine, bytes_in}
 use Rattle.bt_lines.specs.calls.Output.{Output, Grows, block_size}
@@ -17,16 +17,16 @@ use Rattle.bt_lines.specs.declared.fault.Kind.{Kind}
 use Rattle.bt_bed.specs.model.input.Good.{Good, Member, items_in}
 use Rattle.bt_bed.specs.model.feature.LineKind.{fault_at_line}
 use Rattle.bt_bed.specs.calls.Reading.{MemberReader, ahead_in, first_from, good_coming}
-use Rattle.bt_tool.specs.inside.feed.Feeding.{ComeFirst, CutsLines, GoesOn, PutsLines, member_items}
+use Rattle.bt_tool.specs.inside.feed.Feeding.{ComeFirst, CutsLines, GoesOn, HasPut, member_items}
 use Rattle.bt_tool.specs.inside.pair.Pair.{JoinDef, Pair, Serves, SettlesPair, item_ahead}
 use Rattle.bt_tool.specs.inside.pair.Progress.{Comes, PairStage, TakesFurther, firsts_given}
 use Rattle.bt_tool.specs.inside.pair.Endings.{AsksFor, PairEnds, IsKnown, LastTold, SecondFails, StaysNear, Why, Wrote}
 use Rattle.bt_tool.specs.inside.feed.Passed.{AreAll, IsOver, IsReadFor, IsReadTo, IsStopped, Passes, StopsAfter}
 use Rattle.bt_tool.proofs.lemmas.running.feed.ComeLemmas.{begins_with, up_to}
-use Rattle.bt_tool.proofs.lemmas.running.feed.FeedLemmas.{goes_failed, goes_same, took_later, took_lines, works_both}
+use Rattle.bt_tool.proofs.lemmas.running.feed.FeedLemmas.{goes_failed, goes_same, put_more, took_later, took_lines}
 use Rattle.bt_tool.proofs.lemmas.running.members.MemberLemmas.{passes_all, passes_end, passes_stop, read_at_stop, read_here}
 use Rattle.bt_tool.proofs.lemmas.running.pair.PairSettles.{settles_end}
-use Rattle.bt_tool.proofs.lemmas.running.pair.PairTurns.{all_written, grown_puts, none_pushed, read_same, seen_alone, settles_ended}
+use Rattle.bt_tool.proofs.lemmas.running.pair.PairTurns.{all_written, none_pushed, read_same, seen_alone, settles_ended}
 use Rattle.bt_tool.proofs.lemmas.running.members.SeenLemmas.{cuts_more, if_known, items_begin, items_first, seen_items}
 
 begins_more : {A : Type 0} (old : Good A) (now : Option (Good A)) (past : List (Member A)) (m : Member A) → ComeFirst (Some old) past now → IfSome now (λ good. (rest : List (Member A)) × (good.members ≡ m ∷ rest))
@@ -192,7 +192,7 @@ module _ {A B X Y U V : Type 0} (join : JoinDef X Y) (pair : Pair A B X Y U V) (
           → (IsSome second_now.fault → All (λ m. m.line ≤ lines_given second_now.below) (past_second ++ option_to_list (ahead_in second))) → HandsSecond second_now
           → Wrote join pair out stage.written s.bytes first_now second_now grown
       wrote_later first_now handed second_now low handed_second =
-          wrote_by past_second second second_now s.second_passes low handed_second first_now handed stage.written s.bytes stage.second_ended grown settled_now begins_now ended_now s.grows (firsts_given stage) given_now fits
+          wrote_by past_second second second_now s.second_passes low handed_second first_now handed stage.written s.bytes stage.second_ended grown settled_now begins_now ended_now s.put.grows (firsts_given stage) given_now fits
 
       -- the sink took all but a block of the bytes so far
       near_by : (first_now : MemberReader A X U) (second_now : MemberReader B Y V) (now : Output) → Wrote join pair out stage.written s.bytes first_now second_now grown → GoesOn grown now
@@ -203,7 +203,7 @@ module _ {A B X Y U V : Type 0} (join : JoinDef X Y) (pair : Pair A B X Y U V) (
         written = stage.written;
         bytes = s.bytes;
         wrote = wrote;
-        took = took_later out grown now s.bytes s.grows more (took_lines out grown s.bytes s.puts s.block);
+        took = took_later out grown now s.bytes s.put.grows more (took_lines out grown s.bytes s.put);
         past = s.near_first.0;
         given_first = past_first;
         items = s.near_first.1;
@@ -234,7 +234,7 @@ module _ {A B X Y U V : Type 0} (join : JoinDef X Y) (pair : Pair A B X Y U V) (
             wrote = wrote;
             why = why;
             near = near_by first second_now grown wrote no_more refl beside;
-            exact = λ stops. s.puts;
+            exact = λ stops. s.put.puts;
           }
 
       ends_here : (fault : Option FaultValue) → Why join pair out stage.written s.bytes (firsts_given stage) stage.second_ended first second fault grown → Ends fault first second grown
@@ -257,11 +257,8 @@ module _ {A B X Y U V : Type 0} (join : JoinDef X Y) (pair : Pair A B X Y U V) (
         serves_now : Serves pair.source_b.has_failed pair.second second_now
         serves_now = record { served = takes_second.passes.served; within = takes_second.passes.kept.within takes_second.passes.clear }
 
-        puts_now : PutsLines out (s.bytes ++ more) now
-        puts_now = grown_puts out grown now s.bytes more s.puts adds
-
-        grows_now : Grows out.took now.took
-        grows_now = grows_both out.took grown.took now.took s.grows adds.grows
+        put_now : HasPut out (s.bytes ++ more) now
+        put_now = put_more out grown now s.bytes more s.put adds
 
         wrote_first : Wrote join pair out written (s.bytes ++ more) first_now second_now now
         wrote_first =
@@ -269,14 +266,13 @@ module _ {A B X Y U V : Type 0} (join : JoinDef X Y) (pair : Pair A B X Y U V) (
             (λ known. subst (λ (l : List Y). SettlesPair join written (s.bytes ++ more) (l ++ option_to_list (item_ahead second_now)) stage.second_ended) (taken_with more_second) (settles known))
             (begins_items (past_first ++ more_first) written [] (sym all_written_now ∙ sym (append-nil written)) read.begins)
             (ended_with more_second second_now ended)
-            grows_now written (begins_items (past_first ++ more_first) written [] (sym all_written_now ∙ sym (append-nil written)) read.begins) fits_now
+            put_now.grows written (begins_items (past_first ++ more_first) written [] (sym all_written_now ∙ sym (append-nil written)) read.begins) fits_now
 
         stops_why : Why join pair out written (s.bytes ++ more) written stage.second_ended first_now second_now (Some fault) now
         stops_why =
-            let works = works_both out grown now s.works (grown_works grown now more adds) in
             elim stops.cause [
-              | inl fails ↦ inl (inl (fault, refl, record { past = past_first ++ more_first; all = all_written_now; all_given = all_written_now; cause = fails; serves = serves_now }), puts_now, works)
-              | inr ran ↦ inr (inl (ap Some ran.is, puts_now))
+              | inl fails ↦ inl (inl (fault, refl, record { past = past_first ++ more_first; all = all_written_now; all_given = all_written_now; cause = fails; serves = serves_now }), put_now.puts, put_now.works)
+              | inr ran ↦ inr (inl (ap Some ran.is, put_now.puts))
             ]
 
         pub first_fails : Ends (Some fault) first_now second_now now
@@ -291,14 +287,14 @@ module _ {A B X Y U V : Type 0} (join : JoinDef X Y) (pair : Pair A B X Y U V) (
             written = written;
             bytes = s.bytes ++ more;
             wrote = wrote_first;
-            took = took_lines out now (s.bytes ++ more) puts_now (adds.block s.block);
+            took = took_lines out now (s.bytes ++ more) put_now;
             past = past_first ++ more_first;
             given_first = past_first ++ more_first;
             items = sym all_written_now;
             first_near = read;
             beside = inr asks_first;
           };
-          exact = λ stops. puts_now;
+          exact = λ stops. put_now.puts;
         }
 
       -- the first input couldn't give a member
@@ -321,7 +317,7 @@ module _ {A B X Y U V : Type 0} (join : JoinDef X Y) (pair : Pair A B X Y U V) (
 
       -- memory ran out
       pub lacks_memory : (fault : FaultValue) → fault ≡ no_memory → Ends (Some fault) first second grown
-      lacks_memory fault is = ends_here (Some fault) (inr (inl (ap Some is, s.puts)))
+      lacks_memory fault is = ends_here (Some fault) (inr (inl (ap Some is, s.put.puts)))
 
       -- more members of both were taken, and some lines that are settled then weren't all written
       pub fails_to_write : (more_first : List (Member X)) (more_second : List (Member Y)) (first_now : MemberReader A X U) (second_now : MemberReader B Y V)
@@ -335,7 +331,7 @@ module _ {A B X Y U V : Type 0} (join : JoinDef X Y) (pair : Pair A B X Y U V) (
       fails_to_write more_first more_second first_now second_now takes takes_second written rest parts fits_now ended puts more settles through now fault adds fails =
           let all = given_with more_first in
           let begun = begins_with (good_coming pair.source_a.left pair.first) (good_coming pair.source_a.left first_now) (past_first ++ more_first) takes.passes.come in
-          let grows = grows_both out.took through.took now.took (grows_both out.took grown.took through.took s.grows adds.grows) fails.puts.grows in
+          let grows = grows_both out.took through.took now.took (grows_both out.took grown.took through.took s.put.grows adds.grows) fails.puts.grows in
           record {
             written = written;
             bytes = s.bytes ++ (puts ++ more);
@@ -348,7 +344,7 @@ module _ {A B X Y U V : Type 0} (join : JoinDef X Y) (pair : Pair A B X Y U V) (
                 fits_now;
             why = inr (inr (
               ap Some fails.puts.is,
-              subst (λ (l : List ℕ). CutsLines out l now) (append_assoc s.bytes puts more) (cuts_more out through now (s.bytes ++ puts) more fault (grown_puts out grown through s.bytes puts s.puts adds) fails),
+              subst (λ (l : List ℕ). CutsLines out l now) (append_assoc s.bytes puts more) (cuts_more out through now (s.bytes ++ puts) more fault (put_more out grown through s.bytes puts s.put adds).puts fails),
             ));
             near = near_by first_now second_now now (wrote_later first_now takes.passes.bytes second_now (none_low second_now takes_second.passes.going) takes_second.passes.bytes)
                 (goes_failed grown now (grows_both grown.took through.took now.took adds.grows fails.puts.grows) fails.puts.failed) takes.source (beside_if stage.first_ended refl second_now takes_second.source);
@@ -402,8 +398,8 @@ module _ {A B X Y U V : Type 0} (join : JoinDef X Y) (pair : Pair A B X Y U V) (
                   serves_second = second_serves;
                 },
               ))),
-              s.puts,
-              s.works,
+              s.put.puts,
+              s.put.works,
             ))
 
         -- the second input couldn't give a member
@@ -429,15 +425,15 @@ module _ {A B X Y U V : Type 0} (join : JoinDef X Y) (pair : Pair A B X Y U V) (
                     serves = first_serves;
                   },
                 )),
-                s.puts,
-                s.works,
+                s.put.puts,
+                s.put.works,
               )
 
           second_stops : StopsAfter pair.source_b pair.second join.second_kinds past_second fault second_now → Why join pair out stage.written s.bytes (firsts_given stage) stage.second_ended first second_now (Some fault) grown
           second_stops stops =
               elim stops.cause [
                 | inl fails ↦ second_why (record { cause = fails; before_end = λ e. absurd (false≢true (sym goes ∙ e)) })
-                | inr ran ↦ inr (inl (ap Some ran.is, s.puts))
+                | inr ran ↦ inr (inl (ap Some ran.is, s.put.puts))
               ]
 
           pub stops_second : Ends (Some fault) first second_now grown
@@ -464,8 +460,8 @@ module _ {A B X Y U V : Type 0} (join : JoinDef X Y) (pair : Pair A B X Y U V) (
                   (λ known. rw seen (settles_end join stage.written s.bytes stage.taken false a (settles_ended join pair out stage past_first past_second first second grown s goes second_now over known)))
                   (begins_items past_first (stage.written ++ a ∷ []) [] (sym s.all_given ∙ with_waiting ∙ sym (append-nil (stage.written ++ a ∷ []))) came_first)
                   (λ e. (passes_all pair.source_b pair.second past_second second s.second_passes second_now over, ap (λ (l : List Y). first_from (suc (lines_given second_now.below)) l) over.ends.none_buffered))
-                  (grows_both out.took grown.took now.took s.grows fails.puts.grows) (firsts_given stage) given_now fits;
-              why = inr (inr (ap Some fails.puts.is, cuts_more out grown now s.bytes more fault s.puts fails));
+                  (grows_both out.took grown.took now.took s.put.grows fails.puts.grows) (firsts_given stage) given_now fits;
+              why = inr (inr (ap Some fails.puts.is, cuts_more out grown now s.bytes more fault s.put.puts fails));
               near = near_by first second_now now (wrote_later first s.first_passes.bytes second_now (none_low second_now p.going) p.bytes) (goes_failed grown now fails.puts.grows fails.puts.failed) refl (inr (record {
                 past = past_second;
                 reached = reached_items past_first s.all_given reached;
@@ -494,12 +490,12 @@ module _ {A B X Y U V : Type 0} (join : JoinDef X Y) (pair : Pair A B X Y U V) (
                   serves = first_serves;
                   rest = rest;
                 }))),
-                s.puts,
-                s.works,
+                s.put.puts,
+                s.put.works,
               ))
 
           runs_out : (fault : FaultValue) → fault ≡ no_memory → Ends (Some fault) first second_now grown
-          runs_out fault is = ends_so (Some fault) second_now low handed (inl done) (inr (inl (ap Some is, s.puts)))
+          runs_out fault is = ends_so (Some fault) second_now low handed (inl done) (inr (inl (ap Some is, s.put.puts)))
 
         -- both inputs have ended
         pub ends_all : stage.second_ended ≡ true → join.last stage.written past_second ≡ None → Ends None first second grown

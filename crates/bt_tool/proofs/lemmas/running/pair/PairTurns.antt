@@ -1,45 +1,27 @@
 -- Lemmas on how a run over two readers of members goes on: as members are buffered and taken, and at the ends.
 use Rattle.std.proofs.Common.{◌≡◌, ℕ, suc, Bool, true, false, List, [], ◌∷◌, ◌++◌, ◌≤◌, length, Option, None, Some, refl, sym, ap, ◌∙◌, subst, append-nil, append_assoc, option_to_list, drop, ◌+◌, inl, inr}
 use Rattle.std.specs.Prelude.{◌⊎◌, All, IfSome, option_map}
-use Rattle.std.proofs.KnownBytes.{Appends-nil}
 use Rattle.std.proofs.lemmas.Bool.{false≢true}
-use Rattle.std.proofs.lemmas.List.{append_cancel_left, map-append}
+use Rattle.std.proofs.lemmas.List.{append_cancel_left, map-append, same_from_push}
 use Rattle.bt_lines.specs.declared.device.Source.{Ghosts as Source}
-use Rattle.bt_lines.proofs.lemmas.writer.PuttingLemmas.{grown_works}
-use Rattle.bt_lines.proofs.lemmas.writer.OutputLemmas.{grows_both}
 use Rattle.bt_lines.specs.model.Lines.{bytes_in}
 use Rattle.bt_lines.specs.calls.Reader.{end_told, lines_given, lines_left, source_of}
-use Rattle.bt_lines.specs.calls.Output.{Output, Grows, HoldsBlock, block_size}
-use Rattle.bt_lines.specs.calls.Putting.{Grown, WorksAsBefore}
+use Rattle.bt_lines.specs.calls.Output.{Output, HoldsBlock, block_size}
+use Rattle.bt_lines.specs.calls.Putting.{Grown}
 use Rattle.bt_bed.specs.model.input.Good.{Member}
 use Rattle.bt_bed.specs.calls.Reading.{MemberReader, first_from, good_coming, members_from}
-use Rattle.bt_tool.specs.inside.feed.Feeding.{PutsLines, member_items}
+use Rattle.bt_tool.specs.inside.feed.Feeding.{HasPut, member_items}
 use Rattle.bt_tool.specs.inside.pair.Pair.{JoinDef, Pair, SettlesPair, item_ahead}
 use Rattle.bt_tool.specs.inside.pair.Progress.{Comes, Follows, PairStage, TakesFurther, firsts_given}
 use Rattle.bt_tool.specs.inside.pair.Endings.{HasNoMore, IsKnown}
 use Rattle.bt_tool.specs.inside.feed.Passed.{AreAll, HasTaken, IsFilled, IsOver, IsReadFor, Passes}
-use Rattle.bt_tool.proofs.lemmas.running.feed.FeedLemmas.{text_grows, works_both}
+use Rattle.bt_tool.proofs.lemmas.running.feed.FeedLemmas.{put_more, put_none}
 use Rattle.bt_tool.proofs.lemmas.running.members.MemberLemmas.{ended_after_all, items_from, passes_all, passes_end, passes_fill, passes_take, read_before, read_here}
 use Rattle.bt_tool.proofs.lemmas.running.pair.PairSettles.{seen_by, settles_close, settles_end, settles_nothing}
-
--- the output grew by bytes
-pub grown_puts : (out old new : Output) (bytes more : List ℕ) → PutsLines out bytes old → Grown old more new → PutsLines out (bytes ++ more) new
-grown_puts out old new bytes more puts grown before e = text_grows old.put new.put before bytes more (bytes ++ more) refl grown.appends (puts before e)
 
 pub none_pushed : {A : Type 0} (front : List A) (x : A) → [] ≡ front ++ x ∷ [] → ⊥
 none_pushed [] x e = cc
 none_pushed (y ∷ front) x e = cc
-
--- lists that end with one more element each
-pub push_front : {A : Type 0} (a b : List A) (x y : A) → a ++ x ∷ [] ≡ b ++ y ∷ [] → a ≡ b
-push_front [] [] x y e = refl
-push_front [] (z ∷ b) x y e = absurd (none_pushed b y (let rest : [] ≡ b ++ y ∷ [] = cc in rest))
-push_front (z ∷ a) [] x y e = absurd (none_pushed a x (let rest : [] ≡ a ++ x ∷ [] = cc in rest))
-push_front (z ∷ a) (w ∷ b) x y e =
-    let heads : z ≡ w = cc in
-    let rest : a ++ x ∷ [] ≡ b ++ y ∷ [] = cc in
-    let same : a ≡ b = push_front a b x y rest in
-    cc
 
 from_push : {A : Type 0} (line : ℕ) (items : List A) (x : A) → (m : Member A) × (members_from line (items ++ x ∷ []) ≡ members_from line items ++ m ∷ [])
 from_push line [] x = (record { line = line; item = x }, refl)
@@ -64,7 +46,7 @@ module _ {S A State : Type 0} (device : Source S) (old : MemberReader S A State)
         let parts : taken ≡ xs ++ m.item ∷ [] = sym (items_from n taken) ∙ ap member_items e ∙ map-append (λ m. m.item) before (m ∷ []) in
         let push = from_push n xs m.item in
         let fronts : before ++ m ∷ [] ≡ members_from n xs ++ push.0 ∷ [] = sym e ∙ ap (members_from n) parts ∙ push.1 in
-        subst (λ (l : List (Member A)). IsReadFor device old (past ++ l) (past ++ members_from n taken) new) (sym (push_front before (members_from n xs) m push.0 fronts))
+        subst (λ (l : List (Member A)). IsReadFor device old (past ++ l) (past ++ members_from n taken) new) (sym (same_from_push before (members_from n xs) m push.0 fronts).0)
         (read_last taken xs m.item parts new has);
     source = has.takes.source;
     told = has.takes.hands.told_stays;
@@ -82,7 +64,7 @@ last_of {A} (x ∷ xs) =
 -- at most one waits
 few_waited : {A : Type 0} (newly : List A) (x : A) (o : Option A) → newly ++ x ∷ [] ≡ option_to_list o → newly ≡ []
 few_waited newly x None e = absurd (none_pushed newly x (sym e))
-few_waited newly x (Some y) e = push_front newly [] x y e
+few_waited newly x (Some y) e = (same_from_push newly [] x y e).0
 
 pub both_none : {A : Type 0} (xs ys : List A) → xs ++ ys ≡ [] → (xs ≡ []) × (ys ≡ [])
 both_none [] ys e = (refl, e)
@@ -128,10 +110,7 @@ module _ {A B X Y U V : Type 0} (join : JoinDef X Y) (pair : Pair A B X Y U V) (
     settles = λ known. settles_nothing join ([] ++ option_to_list (item_ahead pair.second)) false;
     first_all = λ e. absurd (false≢true e);
     second_all = λ e. absurd (false≢true e);
-    puts = λ before e. e ∙ ap Some (sym (append-nil before));
-    works = record { served = refl; sink_served = refl; put = ([], Appends-nil out.put); block = λ h. h };
-    block = block;
-    grows = ([], Appends-nil out.took);
+    put = put_none out block;
     near_first = ([], refl, read_here pair.source_a pair.first [] pair.first passes, λ e. absurd (false≢true e));
   }
 
@@ -154,10 +133,7 @@ module _ {A B X Y U V : Type 0} (join : JoinDef X Y) (pair : Pair A B X Y U V) (
       settles = s.settles;
       first_all = λ e. let over = all e in (over.0, none, over.1, over.2);
       second_all = s.second_all;
-      puts = s.puts;
-      works = s.works;
-      block = s.block;
-      grows = s.grows;
+      put = s.put;
       near_first = (past_first, sym (all_written none), read_here pair.source_a pair.first past_first first_now p, no_more);
     }
 
@@ -185,10 +161,7 @@ module _ {A B X Y U V : Type 0} (join : JoinDef X Y) (pair : Pair A B X Y U V) (
           (subst (λ (b : Bool). SettlesPair join stage.written s.bytes (stage.taken ++ option_to_list (item_ahead second)) b) going (s.settles known))));
       first_all = s.first_all;
       second_all = λ e. absurd (false≢true (sym going ∙ e));
-      puts = s.puts;
-      works = s.works;
-      block = s.block;
-      grows = s.grows;
+      put = s.put;
       near_first = s.near_first;
     }
 
@@ -243,9 +216,9 @@ module _ {A B X Y U V : Type 0} (join : JoinDef X Y) (pair : Pair A B X Y U V) (
             | inl none ↦ near_same none (few_waited newly x stage.waiting (ap (λ (o : Option X). newly ++ option_to_list o) (sym waits) ∙ sym (unless_more none)))
             | inr some ↦ (
               past_first ++ some.0,
-              push_front (member_items (past_first ++ some.0)) new.written some.1.item x
+              (same_from_push (member_items (past_first ++ some.0)) new.written some.1.item x
                   (sym (map-append (λ m. m.item) (past_first ++ some.0) (some.1 ∷ [])) ∙ ap member_items (append_assoc past_first some.0 (some.1 ∷ []) ∙ ap (λ (l : List (Member X)). past_first ++ l) (sym some.2))
-                  ∙ sym all_now ∙ ap (λ (o : Option X). new.written ++ option_to_list o) waits),
+                  ∙ sym all_now ∙ ap (λ (o : Option X). new.written ++ option_to_list o) waits)).0,
               takes.last some.0 some.1 some.2,
               λ e. absurd (false≢true (sym going ∙ sym follows.first_is ∙ e)),
             )
@@ -285,10 +258,7 @@ module _ {A B X Y U V : Type 0} (join : JoinDef X Y) (pair : Pair A B X Y U V) (
               (ended_second was).1,
               takes_second.told all.2,
             );
-        puts = grown_puts out grown now s.bytes more s.puts adds;
-        works = works_both out grown now s.works (grown_works grown now more adds);
-        block = adds.block s.block;
-        grows = grows_both out.took grown.took now.took s.grows adds.grows;
+        put = put_more out grown now s.bytes more s.put adds;
         near_first = near_by new.waiting refl stage.first_ended refl;
       }
 
@@ -324,11 +294,11 @@ module _ {A B X Y U V : Type 0} (join : JoinDef X Y) (pair : Pair A B X Y U V) (
           (subst (λ (b : Bool). SettlesPair join stage.written s.bytes (stage.taken ++ option_to_list (item_ahead second)) b) goes (s.settles known))
 
       -- its end was given
-      ends_by : (now : Output) (bytes : List ℕ) → (IsKnown pair → SettlesPair join (firsts_given stage) bytes stage.taken true) → PutsLines out bytes now → WorksAsBefore out now → HoldsBlock now.took now.put → Grows out.took now.took
+      ends_by : (now : Output) (bytes : List ℕ) → (IsKnown pair → SettlesPair join (firsts_given stage) bytes stage.taken true) → HasPut out bytes now
           → ((past : List (Member X)) × (member_items past ≡ firsts_given stage)
           × (read : IsReadFor pair.source_a pair.first past past_first first) × (stage.first_ended ≡ true → HasNoMore pair first read.to.count))
           → Comes join pair out (record stage { written = firsts_given stage; waiting = None; second_ended = true }) past_first past_second first second_now now
-      ends_by now bytes settles puts works block grows near = record {
+      ends_by now bytes settles put near = record {
         first_passes = s.first_passes;
         second_passes = passes_end pair.source_b pair.second past_second second s.second_passes second_now over;
         all_given = append-nil (firsts_given stage) ∙ s.all_given;
@@ -337,10 +307,7 @@ module _ {A B X Y U V : Type 0} (join : JoinDef X Y) (pair : Pair A B X Y U V) (
         settles = λ known. subst (λ (l : List Y). SettlesPair join (firsts_given stage) bytes l true) (sym (seen_alone stage.taken second_now over.ends.none_buffered)) (settles known);
         first_all = λ e. let was = s.first_all e in (was.0, refl, was.2, was.3);
         second_all = λ e. (passes_all pair.source_b pair.second past_second second s.second_passes second_now over, over.ends.none_buffered, over.ends.told);
-        puts = puts;
-        works = works;
-        block = block;
-        grows = grows;
+        put = put;
         near_first = near;
       }
 
@@ -352,9 +319,7 @@ module _ {A B X Y U V : Type 0} (join : JoinDef X Y) (pair : Pair A B X Y U V) (
           let with_waiting : firsts_given stage ≡ stage.written ++ a ∷ [] = ap (λ (o : Option X). stage.written ++ option_to_list o) waits in
           ends_by now (s.bytes ++ more)
           (λ known. subst (λ (w : List X). SettlesPair join w (s.bytes ++ more) stage.taken true) (sym with_waiting) (settles_end join stage.written s.bytes stage.taken false a (settles_ended known)))
-          (grown_puts out grown now s.bytes more s.puts adds) (works_both out grown now s.works (grown_works grown now more adds)) (adds.block s.block)
-          (grows_both out.took grown.took now.took s.grows adds.grows)
-          (past_first, sym s.all_given, read_here pair.source_a pair.first past_first first s.first_passes, λ e. absurd (false≢true (sym (first_waits a waits) ∙ e)))
+          (put_more out grown now s.bytes more s.put adds) (past_first, sym s.all_given, read_here pair.source_a pair.first past_first first s.first_passes, λ e. absurd (false≢true (sym (first_waits a waits) ∙ e)))
 
       -- or none waited
       pub ends_alone : stage.waiting ≡ None → Comes join pair out (record stage { written = firsts_given stage; waiting = None; second_ended = true }) past_first past_second first second_now grown
@@ -363,4 +328,4 @@ module _ {A B X Y U V : Type 0} (join : JoinDef X Y) (pair : Pair A B X Y U V) (
           let near = s.near_first in
           ends_by grown s.bytes
           (λ known. subst (λ (w : List X). SettlesPair join w s.bytes stage.taken true) all (settles_close join stage.written s.bytes stage.taken (settles_ended known)))
-          s.puts s.works s.block s.grows (near.0, near.1 ∙ all, near.2, near.3)
+          s.put (near.0, near.1 ∙ all, near.2, near.3)

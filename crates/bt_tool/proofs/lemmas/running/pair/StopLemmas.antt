@@ -1,4 +1,5 @@
 -- How far a reader of members has come when it stops at a fault.
+use Rattle.std.proofs.lemmas.Option.{IfSome_then}
 use Rattle.std.proofs.Common.{◌≡◌, ℕ, suc, ◌+◌, ◌-◌, ◌<◌, ◌≤◌, List, [], ◌∷◌, length, drop, Option, Some, None, Result, Ok, Err, refl, sym, ap, ◌∙◌, subst, arith}
 use Rattle.std.specs.Prelude.{◌⊎◌, All, IfSome, option_map}
 use Rattle.std.proofs.Common.{inl, inr}
@@ -10,7 +11,6 @@ use Rattle.bt_lines.specs.calls.Output.{block_size}
 use Rattle.bt_lines.specs.calls.Reader.{IsKept, held, input_of, lines_given, lines_left, source_of, fault_kept as line_fault}
 use Rattle.bt_lines.specs.declared.fault.Input.{Input}
 use Rattle.bt_lines.specs.declared.fault.Kind.{Kind}
-use Rattle.bt_lines.specs.declared.fault.Place.{Place}
 use Rattle.bt_lines.specs.declared.reader.line_reader.LineReader.{LineReader}
 use Rattle.bt_lines.proofs.lemmas.reader.lines.ReaderLemmas.{sound_near}
 use Rattle.bt_lines.proofs.lemmas.reader.lines.TextLemmas.{lines_are_numbered}
@@ -18,6 +18,7 @@ use Rattle.bt_bed.specs.model.input.Good.{Format, Good, Member, ends_with, good_
 use Rattle.bt_bed.specs.model.input.GoodLines.{AreAscending, IsBeyond, IsFaultBeyond}
 use Rattle.bt_bed.specs.model.feature.LineKind.{fault_at_line}
 use Rattle.bt_bed.specs.calls.Reading.{AnswersFault, Cause, LastUnkept, LineIsWrong, LinesPass, MemberReader, SaidNothing, good_behind, good_coming}
+use Rattle.bt_bed.proofs.lemmas.read.good.CameLemmas.{near_pass}
 use Rattle.bt_bed.proofs.lemmas.read.good.GoodLemmas.{ascend_from, beyond_from}
 
 -- The first `count` lines have none of the members still to come and no fault. Of known bytes those
@@ -32,14 +33,8 @@ pub record StopsBehind {S A State : Type 0} (left : S → Option (List ℕ)) (ol
 abbrev FaultBeyond : ℕ → Option FaultValue → Type 0
 FaultBeyond count fault = IfSome fault (IsFaultBeyond count)
 
-placed_less : (less more : ℕ) (place : Option Place) → less ≤ more → IfSome place (λ p. more < p.line)
-    → IfSome place (λ p. less < p.line)
-placed_less less more None h f = tt
-placed_less less more (Some place) h f = omega arith
-
 fault_less : (less more : ℕ) (fault : Option FaultValue) → less ≤ more → FaultBeyond more fault → FaultBeyond less fault
-fault_less less more None h f = tt
-fault_less less more (Some fault) h f = placed_less less more fault.place h f
+fault_less less more fault h f = IfSome_then fault f (λ fault f. IfSome_then fault.place f (λ p up. omega (arith, h, up)))
 
 module _ {A State : Type 0} (format : Format A State) (input : Input) where
   fault_with : (count line : ℕ) (state : State) (said : Result (Option A) Kind) (rest : State → Good A)
@@ -129,8 +124,7 @@ FirstOn {A} line good = (m : Member A) × (rest : List (Member A)) × (good.memb
 
 first_item : {A : Type 0} (line : ℕ) (good : Option (Good A))
     → IfSome good (λ good. (item : A) × (rest : List (Member A)) × (good.members ≡ record { line = line; item = item } ∷ rest)) → IfSome good (FirstOn line)
-first_item line None f = tt
-first_item line (Some good) f = (record { line = line; item = f.0 }, f.1, f.2, refl)
+first_item line good f = IfSome_then good f (λ good f. (record { line = line; item = f.0 }, f.1, f.2, refl))
 
 first_beyond : {A State : Type 0} (format : Format A State) (input : Input) (state : State) (number : ℕ) (bytes : Option (List ℕ)) (good : Option (Good A)) (count line : ℕ)
     → good ≡ option_map (good_from format input state) (option_map (lines_from number) bytes)
@@ -143,21 +137,8 @@ first_beyond format input state number (Some bytes) (Some good) count line e f a
     subst (IsBeyond count) (sym is)
     (beyond_first format input state number (lines_from number bytes) f.1 f.0 count (lines_are_numbered number bytes) (sym (ap (λ g. g.members) is) ∙ f.2) (at ∙ sym f.3))
 
--- of the lines after those given, if the last call gave one, at most a block was taken
-near_passed : (start now : Option (List TextLine)) (rest : Option (List ℕ)) (passed more : ℕ) → more ≡ passed
-    → IfSome start (λ lines. now ≡ Some (drop passed lines))
-    → IfSome now (λ lines. IfSome rest (λ rest. bytes_in lines ≤ length rest + block_size))
-    → IfSome start (λ lines. IfSome rest (λ rest. bytes_in (drop more lines) ≤ length rest + block_size))
-near_passed None now rest passed more e p n = tt
-near_passed (Some start) None rest passed more e p n = cc
-near_passed (Some start) (Some now) None passed more e p n = tt
-near_passed (Some start) (Some now) (Some rest) passed more e p n =
-    let is : now ≡ drop passed start = cc in
-    omega (arith, ap bytes_in (is ∙ ap (λ n. drop n start) (sym e)), n)
-
 beyond_end : {A : Type 0} (count : ℕ) (fault : Option FaultValue) (good : Option (Good A)) → FaultBeyond count fault → IfSome good (λ good. good ≡ ends_with fault) → IfSome good (IsBeyond count)
-beyond_end count fault None h e = tt
-beyond_end {A} count fault (Some good) h e = subst (IsBeyond count) (sym e) (record { members = All-nil (λ (m : Member A). count < m.line); fault = h })
+beyond_end {A} count fault good h e = IfSome_then good e (λ good is. subst (IsBeyond count) (sym is) (record { members = All-nil (λ (m : Member A). count < m.line); fault = h }))
 
 module _ {S A State : Type 0} (device : Source S) (old : MemberReader S A State) (going : old.fault ≡ None) (kept : IsKept device old.below) where
   -- before a line that is the last one given
@@ -167,7 +148,7 @@ module _ {S A State : Type 0} (device : Source S) (old : MemberReader S A State)
   before_line new count at from passed lines next clear near = record {
     passed = passed;
     from = from;
-    near = near_passed (lines_left device.left old.below) (lines_left device.left new) (device.left (source_of new)) (lines_given new - lines_given old.below) (suc count - lines_given old.below) (omega (arith, at)) lines
+    near = near_pass (lines_left device.left old.below) (lines_left device.left new) (device.left (source_of new)) (lines_given new - lines_given old.below) 0 (suc count - lines_given old.below) lines (omega (arith, at))
         (sound_near device new (record { end = next.end; within = next.within; near = λ none. near }) clear);
   }
 

@@ -1,15 +1,15 @@
 -- The facts of a sweep that its report and its reading rest on.
-use Rattle.std.proofs.Common.{◌≡◌, ap, ℕ, Option, suc, ◌<◌, ◌≤◌, not, List, [], ◌∷◌, ◌++◌, take, refl, sym, ◌∙◌, subst}
-use Rattle.std.specs.Prelude.{All, IsTrue}
-use Rattle.std.specs.List.{list_all}
-use Rattle.std.proofs.lemmas.Bool.{and_from, or_left, and_parts}
-use Rattle.std.proofs.lemmas.List.Elements.{All-head, All-tail}
-use Rattle.std.proofs.lemmas.List.Folds.{list_any-append}
+use Rattle.std.proofs.Common.{◌≡◌, ap, ℕ, Option, suc, ◌<◌, ◌≤◌, not, List, [], ◌∷◌, ◌++◌, take, refl, sym, ◌∙◌, subst, ◌+◌, Bool, true, false, cond, Some, None, arith, append_assoc, append-nil, filter, length, length-append, option_to_list, ◌||◌, inl, inr}
+use Rattle.std.specs.Prelude.{All, IsTrue, IfSome, is_some, is_none}
+use Rattle.std.specs.List.{list_all, list_any}
+use Rattle.std.proofs.lemmas.Bool.{and_from, or_left, and_parts, false≢true, le-ltb, lt-ltb, ltb-false, or_right, cases_Bool}
+use Rattle.std.proofs.lemmas.List.Elements.{All-head, All-tail, filter-append}
+use Rattle.std.proofs.lemmas.List.Folds.{list_any-append, list_all-append}
 use Rattle.bt_lines.specs.model.Lines.{TextLine, bytes_in}
-use Rattle.bt_bed.specs.model.feature.Feature.{Feature}
-use Rattle.bt_bed.specs.model.input.Good.{Member}
-use Rattle.bt_bed.specs.model.order.Order.{Order}
-use Rattle.bt_sweep.specs.model.Deciding.{decides}
+use Rattle.bt_bed.specs.model.feature.Feature.{Feature, intervals_of}
+use Rattle.bt_bed.specs.model.input.Good.{Member, Good, items_in}
+use Rattle.bt_bed.specs.model.order.Order.{Order, IsTotal}
+use Rattle.bt_sweep.specs.model.Deciding.{decides, decided}
 use Rattle.bt_sweep.specs.calls.Standing.{leaves_some}
 use Rattle.bt_sweep.specs.calls.SweepState.{SameConfig, Sweeping}
 use Rattle.bt_sweep.specs.declared.hits.hit_rule.HitRule.{HitRule}
@@ -17,8 +17,30 @@ use Rattle.bt_sweep.specs.declared.output.shape.Shape.{Shape}
 use Rattle.bt_tool.specs.declared.loops.sweeping.SweepConfig.{SweepConfig}
 use Rattle.bt_tool.specs.model.report.SweepReport.{bytes_up_to, decider}
 use Rattle.bt_tool.specs.inside.feed.Feeding.{member_items}
-use Rattle.bt_tool.specs.inside.pair.SweepLoop.{config_of, sweep_join}
+use Rattle.bt_tool.specs.inside.pair.SweepLoop.{config_of, sweep_join, AreWithin}
 use Rattle.bt_tool.proofs.lemmas.running.pair.PairNear.{AreNeeded, least_by, not_all, skip_by, take_whole}
+use Rattle.std.proofs.lemmas.List.{map-append}
+use Rattle.bt_lines.specs.model.Fault.{FaultValue}
+use Rattle.bt_lines.specs.declared.fault.Input.TheVariants.{Second}
+use Rattle.bt_lines.specs.declared.fault.Kind.TheVariants.{TooManyHeld}
+use Rattle.bt_bed.specs.model.feature.LineKind.{fault_at_line}
+use Rattle.bt_bed.specs.model.order.Locus.{ArePlaced}
+use Rattle.bt_sweep.specs.model.Limit.{are_too_many, cut_behind, is_held, limited}
+use Rattle.bt_sweep.specs.calls.Steps.{has_room}
+use Rattle.bt_sweep.proofs.lemmas.laws.LimitLemmas.{cut_front, cut_here, cut_keeps, cut_next, cut_none, cut_on, few_decided, many_by}
+use Rattle.bt_tool.proofs.lemmas.running.pair.PairMet.{AreLimits}
+use Rattle.bt_bed.specs.calls.Reading.{members_from}
+use Rattle.bt_sweep.specs.calls.Advancing.{Settles}
+use Rattle.bt_sweep.specs.model.IntersectLines.{intersect}
+use Rattle.bt_sweep.specs.calls.Taking.{AreDecided, TakenEach}
+use Rattle.bt_sweep.specs.declared.sweep.phase.Phase.{Phase}
+use Rattle.bt_sweep.specs.declared.sweep.phase.Phase.TheVariants.{First}
+use Rattle.bt_sweep.proofs.lemmas.laws.DecidingLemmas.{none_before, placed_back}
+use Rattle.bt_sweep.proofs.lemmas.sweep.KeepLemmas.{decided_before, decided_behind, decided_both, lines_stay_so}
+use Rattle.bt_sweep.proofs.lemmas.laws.PlacedLemmas.{front_placed}
+use Rattle.bt_tool.specs.inside.pair.Pair.{JoinDef, SettlesPair}
+use Rattle.bt_tool.proofs.lemmas.running.pair.PairSettles.{all_or, settles_list}
+use Rattle.bt_tool.proofs.lemmas.running.pair.PairTurns as turned
 
 -- it goes by the same shape, rule and limit
 pub same_config : (old new : Sweeping) → SameConfig old new → config_of new ≡ config_of old
@@ -61,3 +83,254 @@ module _ (order : Order) where
   sweep_needs config given extra past rest lines count reached high =
       subst (λ o. bytes_in (take (suc count) lines) ≤ bytes_up_to lines o) (sym (decider_behind (given ++ extra) past rest (leaves_more given extra (member_items past) reached)))
       (reaches_least (given ++ extra) rest lines count high)
+
+pub some_limit : (limit : Option ℕ) (count : ℕ) → has_room limit count ≡ false → is_some limit ≡ true
+some_limit None count full = absurd (false≢true (sym full))
+some_limit (Some most) count full = refl
+
+module _ (order : Order) where
+  -- at the start
+  pub within_start : (limit : Option ℕ) (as_given : List Feature) → AreWithin order limit as_given []
+  within_start None as_given = tt
+  within_start (Some most) as_given = λ later more fault. refl
+
+  -- with more of the first input
+  pub within_given : (limit : Option ℕ) (as_given extra : List Feature) (past : List (Member Feature)) → AreWithin order limit as_given past → AreWithin order limit (as_given ++ extra) past
+  within_given None as_given extra past within = tt
+  within_given (Some most) as_given extra past within = λ later more fault.
+      subst (λ (l : List Feature). cut_behind (are_too_many order most l) [] (past ++ more) fault ≡ cut_behind (are_too_many order most l) past more fault) (sym (append_assoc as_given extra later)) (within (extra ++ later) more fault)
+
+  -- with one more of the second, with which they aren't too many
+  pub within_taken : (limit : Option ℕ) (as_given : List Feature) (past : List (Member Feature)) (m : Member Feature) → AreWithin order limit as_given past
+      → IfSome limit (λ most. (later : List Feature) → are_too_many order most (as_given ++ later) (member_items (past ++ m ∷ [])) ≡ false) → AreWithin order limit as_given (past ++ m ∷ [])
+  within_taken None as_given past m within few = tt
+  within_taken (Some most) as_given past m within few = λ later more fault.
+      ap (λ l. cut_behind (are_too_many order most (as_given ++ later)) [] l fault) (append_assoc past (m ∷ []) more) ∙ within later (m ∷ more) fault
+      ∙ cut_on (are_too_many order most (as_given ++ later)) past more m fault (few later)
+
+  -- by the records held for the one that waits
+  pub held_few : (limit : Option ℕ) (before : List Feature) (a : Feature) (second : List Feature) → list_all (λ x. decided order x second) before ≡ true → decided order a second ≡ false
+      → IfSome limit (λ most. length (filter (is_held a) second) ≤ most) → IfSome limit (λ most. (later : List Feature) → are_too_many order most ((before ++ a ∷ []) ++ later) second ≡ false)
+  held_few None before a second all undecided few = tt
+  held_few (Some most) before a second all undecided few = λ later.
+      ap (λ l. are_too_many order most l second) (append_assoc before (a ∷ []) later) ∙ many_by order most second before later a all undecided ∙ le-ltb most (length (filter (is_held a) second)) few
+
+  passed_one : (a b : Feature) → is_held a b ≡ true → length (filter (is_held a) (b ∷ [])) ≡ 1
+  passed_one a b e = ap (λ c. length (cond c (b ∷ []) [])) e
+
+  held_one : (a : Feature) (past : List (Member Feature)) (m : Member Feature) → is_held a m.item ≡ true → length (filter (is_held a) (member_items (past ++ m ∷ []))) ≡ length (filter (is_held a) (member_items past)) + 1
+  held_one a past m e =
+      ap (λ l. length (filter (is_held a) l)) (map-append (λ m. m.item) past (m ∷ []))
+      ∙ ap length (filter-append (is_held a) (member_items past) (m.item ∷ []))
+      ∙ length-append (filter (is_held a) (member_items past)) (filter (is_held a) (m.item ∷ []))
+      ∙ ap (λ n. length (filter (is_held a) (member_items past)) + n) (passed_one a m.item e)
+
+  -- with one that there is no room for, the second input is cut
+  pub cuts_at : (limit : Option ℕ) (before : List Feature) (a : Feature) (past : List (Member Feature)) (m : Member Feature) (fault : FaultValue) → fault ≡ fault_at_line Second m.line TooManyHeld
+      → AreWithin order limit (before ++ a ∷ []) past → list_all (λ x. decided order x (member_items (past ++ m ∷ []))) before ≡ true → decided order a (member_items (past ++ m ∷ [])) ≡ false
+      → is_held a m.item ≡ true → has_room limit (length (filter (is_held a) (member_items past))) ≡ false
+      → (later : List Feature) (more : List (Member Feature)) (other : Option FaultValue)
+      → limited order limit (before ++ a ∷ later) (record { members = (past ++ m ∷ []) ++ more; fault = other }) ≡ record { members = past ++ m ∷ []; fault = Some fault }
+  cuts_at None before a past m fault is within all undecided held full later more other = absurd (false≢true (sym full))
+  cuts_at (Some most) before a past m fault is within all undecided held full later more other =
+      let count = length (filter (is_held a) (member_items (past ++ m ∷ []))) in
+      let many : are_too_many order most (before ++ a ∷ later) (member_items (past ++ m ∷ [])) ≡ true =
+      many_by order most (member_items (past ++ m ∷ [])) before later a all undecided
+      ∙ lt-ltb most count (omega (arith, held_one a past m held, ltb-false (length (filter (is_held a) (member_items past))) most full)) in
+      let here : cut_behind (are_too_many order most (before ++ a ∷ later)) [] (past ++ m ∷ more) other ≡ cut_behind (are_too_many order most (before ++ a ∷ later)) past (m ∷ more) other =
+      subst (λ (l : List Feature). cut_behind (are_too_many order most l) [] (past ++ m ∷ more) other ≡ cut_behind (are_too_many order most l) past (m ∷ more) other) (append_assoc before (a ∷ []) later) (within later (m ∷ more) other) in
+      ap (λ l. cut_behind (are_too_many order most (before ++ a ∷ later)) [] l other) (append_assoc past (m ∷ []) more)
+      ∙ here ∙ cut_here (are_too_many order most (before ++ a ∷ later)) past more m other many
+      ∙ ap (λ (f : FaultValue). record { members = past ++ m ∷ []; fault = Some f }) (sym is)
+
+  module _ (most : ℕ) (first : List Feature) where
+    abbrev too_many : List Feature → Bool
+    too_many = are_too_many order most first
+
+    cut_at : (past more : List (Member Feature)) (fault : Option FaultValue) → AreWithin order (Some most) first past → cut_behind too_many [] (past ++ more) fault ≡ cut_behind too_many past more fault
+    cut_at past more fault within =
+        subst (λ (l : List Feature). cut_behind (are_too_many order most l) [] (past ++ more) fault ≡ cut_behind (are_too_many order most l) past more fault) (append-nil first) (within [] more fault)
+
+    still : (x : Feature) (past extra : List (Member Feature)) → decided order x (member_items past) ≡ true → decided order x (member_items (past ++ extra)) ≡ true
+    still x past extra e =
+        ap (decided order x) (map-append (λ m. m.item) past extra) ∙ list_any-append (decides order x) (member_items past) (member_items extra)
+        ∙ or_left (decided order x (member_items past)) (decided order x (member_items extra)) e
+
+    all_still : (xs : List Feature) (past extra : List (Member Feature)) → list_all (λ x. decided order x (member_items past)) xs ≡ true → list_all (λ x. decided order x (member_items (past ++ extra))) xs ≡ true
+    all_still [] past extra all = refl
+    all_still (x ∷ xs) past extra all =
+        let parts = and_parts (decided order x (member_items past)) (list_all (λ x. decided order x (member_items past)) xs) all in
+        and_from (decided order x (member_items (past ++ extra))) (list_all (λ x. decided order x (member_items (past ++ extra))) xs) (still x past extra parts.0) (all_still xs past extra parts.1)
+
+    cut_seen : (past : List (Member Feature)) (ahead : Option (Member Feature)) (rest : List (Member Feature)) (fault : Option FaultValue) → AreWithin order (Some most) first past
+        → list_all (λ x. decided order x (member_items (past ++ option_to_list ahead))) first ≡ true
+        → cut_behind too_many [] ((past ++ option_to_list ahead) ++ rest) fault ≡ cut_behind too_many (past ++ option_to_list ahead) rest fault
+    cut_seen past None rest fault within all =
+        ap (λ l. cut_behind too_many [] (l ++ rest) fault) (append-nil past) ∙ cut_at past rest fault within ∙ ap (λ l. cut_behind too_many l rest fault) (sym (append-nil past))
+    cut_seen past (Some m) rest fault within all =
+        ap (λ l. cut_behind too_many [] l fault) (append_assoc past (m ∷ []) rest) ∙ cut_at past (m ∷ rest) fault within
+        ∙ cut_on too_many past rest m fault (few_decided order most (member_items (past ++ m ∷ [])) first all)
+
+    -- if all of the first is decided, the second isn't cut
+    cut_done : (past : List (Member Feature)) (ahead : Option (Member Feature)) (rest : List (Member Feature)) (fault : Option FaultValue) → AreWithin order (Some most) first past
+        → list_all (λ x. decided order x (member_items (past ++ option_to_list ahead))) first ≡ true
+        → cut_behind too_many [] ((past ++ option_to_list ahead) ++ rest) fault ≡ record { members = (past ++ option_to_list ahead) ++ rest; fault = fault }
+    cut_done past ahead rest fault within all =
+        cut_seen past ahead rest fault within all
+        ∙ cut_none too_many (past ++ option_to_list ahead) rest fault
+        (λ front n more e. few_decided order most (member_items ((past ++ option_to_list ahead) ++ (front ++ n ∷ []))) first (all_still first (past ++ option_to_list ahead) (front ++ n ∷ []) all))
+
+    keeps_at : (past : List (Member Feature)) (ahead : Option (Member Feature)) (rest : List (Member Feature)) (fault : Option FaultValue) → AreWithin order (Some most) first past
+        → (more : List (Member Feature)) × ((cut_behind too_many [] ((past ++ option_to_list ahead) ++ rest) fault).members ≡ (past ++ option_to_list ahead) ++ more)
+    keeps_at past None rest fault within =
+        let keeps = cut_keeps too_many past rest fault in (
+          keeps.0,
+          ap (λ (g : Good Feature). g.members) (ap (λ l. cut_behind too_many [] (l ++ rest) fault) (append-nil past) ∙ cut_at past rest fault within) ∙ keeps.1 ∙ ap (λ l. l ++ keeps.0) (sym (append-nil past)),
+        )
+    keeps_at past (Some m) rest fault within =
+        let keeps = cut_next too_many past rest m fault in (
+          keeps.0,
+          ap (λ (g : Good Feature). g.members) (ap (λ l. cut_behind too_many [] l fault) (append_assoc past (m ∷ []) rest) ∙ cut_at past (m ∷ rest) fault within) ∙ keeps.1,
+        )
+
+  whole_limited : (limit : Option ℕ) (first : List Feature) (past : List (Member Feature)) (fault : Option FaultValue) → AreWithin order limit first past
+      → limited order limit first (record { members = past; fault = fault }) ≡ record { members = past; fault = fault }
+  whole_limited None first past fault within = refl
+  whole_limited (Some most) first past fault within = ap (λ l. cut_behind (are_too_many order most first) [] l fault) (sym (append-nil past)) ∙ cut_at most first past [] fault within
+
+  keeps_limited : (limit : Option ℕ) (first : List Feature) (past : List (Member Feature)) (ahead : Option (Member Feature)) (rest : List (Member Feature)) (fault : Option FaultValue) → AreWithin order limit first past
+      → (more : List (Member Feature)) × ((limited order limit first (record { members = (past ++ option_to_list ahead) ++ rest; fault = fault })).members ≡ (past ++ option_to_list ahead) ++ more)
+  keeps_limited None first past ahead rest fault within = (rest, refl)
+  keeps_limited (Some most) first past ahead rest fault within = keeps_at most first past ahead rest fault within
+
+  members_placed : (past rest : List (Member Feature)) → ArePlaced order (intervals_of (member_items (past ++ rest))) → ArePlaced order (intervals_of (member_items past))
+  members_placed past rest placed = front_placed order (member_items past) (member_items rest) (subst (λ l. ArePlaced order (intervals_of l)) (map-append (λ m. m.item) past rest) placed)
+
+  done_limited : (limit : Option ℕ) (first : List Feature) (past : List (Member Feature)) (ahead : Option (Member Feature)) (rest : List (Member Feature)) (fault : Option FaultValue) → AreWithin order limit first past
+      → ArePlaced order (intervals_of (member_items ((past ++ option_to_list ahead) ++ rest)))
+      → (ArePlaced order (intervals_of (member_items (past ++ option_to_list ahead))) → list_all (λ x. decided order x (member_items (past ++ option_to_list ahead))) first ≡ true)
+      → limited order limit first (record { members = (past ++ option_to_list ahead) ++ rest; fault = fault }) ≡ record { members = (past ++ option_to_list ahead) ++ rest; fault = fault }
+  done_limited None first past ahead rest fault within placed all = refl
+  done_limited (Some most) first past ahead rest fault within placed all = cut_done most first past ahead rest fault within (all (members_placed (past ++ option_to_list ahead) rest placed))
+
+  ordered_limited : (limit : Option ℕ) (first : List Feature) (second : Good Feature) → ArePlaced order (intervals_of (items_in second)) → ArePlaced order (intervals_of (items_in (limited order limit first second)))
+  ordered_limited None first second placed = placed
+  ordered_limited (Some most) first second placed =
+      let front = cut_front (are_too_many order most first) [] second.members second.fault in
+      members_placed (limited order (Some most) first second).members front.0 (subst (λ ms. ArePlaced order (intervals_of (member_items ms))) front.1 placed)
+
+  -- what a run owes for the limit
+  pub sweep_limits : (config : SweepConfig) → AreLimits (sweep_join order config)
+  sweep_limits config = record {
+    more = within_given config.limit;
+    whole = whole_limited config.limit;
+    keeps = keeps_limited config.limit;
+    done = done_limited config.limit;
+    ordered = ordered_limited config.limit;
+  }
+
+-- ---- the record that waits is undecided, if the second input gives no more
+
+module _ (order : Order) (total : IsTotal order) where
+  -- the last of the records leaves none undecided that they decide
+  all_decided : (front : List Feature) (b : Feature) (xs : List Feature) → ArePlaced order (intervals_of (front ++ b ∷ [])) → ArePlaced order (intervals_of xs)
+      → list_all (λ x. decided order x (front ++ b ∷ [])) xs ≡ true → list_any (λ x. not (decides order x b)) xs ≡ true → ⊥
+  all_decided front b [] placed placed_xs all some = false≢true some
+  all_decided front b (x ∷ xs) placed placed_xs all some =
+      let parts = and_parts (decided order x (front ++ b ∷ [])) (list_all (λ x. decided order x (front ++ b ∷ [])) xs) all in
+      elim (cases_Bool (decides order x b)) [
+        | inl here ↦ all_decided front b xs placed placed_xs.2 parts.1 (ap (λ (c : Bool). not c || list_any (λ x. not (decides order x b)) xs) (sym here) ∙ some)
+        | inr gone ↦ false≢true (sym (none_before order x front b total placed_xs.0 placed gone) ∙ parts.0)
+      ]
+
+  pub open_last : (taken written : List Feature) (a : Feature) → ArePlaced order (intervals_of taken) → ArePlaced order (intervals_of (written ++ a ∷ [])) → list_all (λ x. decided order x taken) written ≡ true
+      → IsTrue (list_all (leaves_some order (written ++ a ∷ [])) taken) → decided order a taken ≡ false
+  open_last taken written a placed placed_given all reached =
+      elim (turned.last_of taken) [
+        | inl none ↦ ap (decided order a) none
+        | inr some ↦ elim (cases_Bool (decided order a taken)) [
+          | inl here ↦
+              let every : list_all (λ x. decided order x taken) (written ++ a ∷ []) ≡ true = list_all-append (λ x. decided order x taken) written (a ∷ [])
+              ∙ and_from (list_all (λ x. decided order x taken) written) (list_all (λ x. decided order x taken) (a ∷ [])) all (and_from (decided order a taken) true here refl) in
+              let last : list_all (leaves_some order (written ++ a ∷ [])) (some.0 ++ some.1 ∷ []) ≡ true = ap (list_all (leaves_some order (written ++ a ∷ []))) (sym some.2) ∙ reached in
+              let parts = and_parts (list_all (leaves_some order (written ++ a ∷ [])) some.0) (list_all (leaves_some order (written ++ a ∷ [])) (some.1 ∷ []))
+              (sym (list_all-append (leaves_some order (written ++ a ∷ [])) some.0 (some.1 ∷ [])) ∙ last) in
+              absurd (all_decided some.0 some.1 (written ++ a ∷ []) (subst (λ (l : List Feature). ArePlaced order (intervals_of l)) some.2 placed) placed_given
+              (subst (λ (l : List Feature). list_all (λ x. decided order x l) (written ++ a ∷ []) ≡ true) some.2 every)
+              (and_parts (leaves_some order (written ++ a ∷ []) some.1) true parts.1).0)
+          | inr gone ↦ gone
+        ]
+      ]
+
+  -- ---- what is decided has its lines, whatever follows in order
+
+  lines_then : (shape : Shape) (rule : HitRule) (newly taken : List Feature) (o : Option Feature) (rest : List Feature) → ArePlaced order (intervals_of newly) → AreDecided order newly (taken ++ option_to_list o)
+      → ArePlaced order (intervals_of ((taken ++ option_to_list o) ++ rest)) → intersect shape rule newly ((taken ++ option_to_list o) ++ rest) ≡ intersect shape rule newly taken
+  lines_then shape rule newly taken (Some b) rest known all placed =
+      let parts : (taken ++ b ∷ []) ++ rest ≡ taken ++ b ∷ rest = append_assoc taken (b ∷ []) rest in
+      ap (intersect shape rule newly) parts ∙ lines_stay_so order total shape rule taken b rest (subst (λ (l : List Feature). ArePlaced order (intervals_of l)) parts placed) newly known all
+  lines_then shape rule newly taken None [] known all placed = ap (intersect shape rule newly) (append-nil (taken ++ []) ∙ append-nil taken)
+  lines_then shape rule newly taken None (b ∷ rest) known all placed =
+      let parts : (taken ++ []) ++ b ∷ rest ≡ taken ++ b ∷ rest = ap (λ (l : List Feature). l ++ b ∷ rest) (append-nil taken) in
+      ap (intersect shape rule newly) parts
+      ∙ lines_stay_so order total shape rule taken b rest (subst (λ (l : List Feature). ArePlaced order (intervals_of l)) parts placed) newly known
+      (decided_before order newly taken (b ∷ []) (subst (λ (l : List Feature). AreDecided order newly l) (append-nil taken) all))
+
+  none_true : (newly second : List Feature) → list_all (λ x. is_none {T = FaultValue} None || decided order x second) newly ≡ true
+  none_true [] second = refl
+  none_true (x ∷ newly) second = none_true newly second
+
+  module _ (config : SweepConfig) where
+    abbrev join_of : JoinDef Feature Feature
+    join_of = sweep_join order config
+
+    -- more records of the first are settled
+    pub settles_newly : (written newly : List Feature) (bytes : List ℕ) (taken : List Feature) (o : Option Feature) (ended : Bool) (phase : Phase) → SettlesPair join_of written bytes (taken ++ option_to_list o) ended → ArePlaced order (intervals_of newly)
+        → (phase ≡ First → (ended ≡ true) × (o ≡ None)) → (ss : List Feature) (before : List Feature) → taken ≡ before ++ ss → Settles order phase newly (ss ++ option_to_list o)
+        → SettlesPair join_of (written ++ newly) (bytes ++ intersect config.shape config.rule newly taken) (taken ++ option_to_list o) ended
+    settles_newly written newly bytes taken o ended phase s known ends ss before parts (inl first) =
+        let done = ends first in
+        settles_list join_of written newly bytes (intersect config.shape config.rule newly taken) (taken ++ option_to_list o) ended s
+        (λ second fault ordered may.
+        let all = may.all done.0 in (
+          subst (λ (f : Option FaultValue). list_all (λ x. is_none f || decided order x second) newly ≡ true) (sym all.1) (none_true newly second),
+          ap (intersect config.shape config.rule newly) (all.0 ∙ ap (λ (w : Option Feature). taken ++ option_to_list w) done.1 ∙ append-nil taken),
+        ))
+    settles_newly written newly bytes taken o ended phase s known ends ss before parts (inr each) =
+        let all : AreDecided order newly (taken ++ option_to_list o) =
+        subst (λ (l : List Feature). AreDecided order newly l) (sym (append_assoc before ss (option_to_list o)) ∙ ap (λ (l : List Feature). l ++ option_to_list o) (sym parts)) (decided_behind order newly before (ss ++ option_to_list o) each) in
+        settles_list join_of written newly bytes (intersect config.shape config.rule newly taken) (taken ++ option_to_list o) ended s
+        (λ second fault ordered may. (
+          all_or (λ x. decided order x second) (is_none fault) newly (or_right (is_none fault) _ (subst (λ (l : List Feature). AreDecided order newly l) (sym may.begins.1) (decided_before order newly (taken ++ option_to_list o) may.begins.0 all))),
+          ap (intersect config.shape config.rule newly) may.begins.1 ∙ lines_then config.shape config.rule newly taken o may.begins.0 known all (subst (λ (l : List Feature). ArePlaced order (intervals_of l)) may.begins.1 ordered),
+        ))
+
+  -- ---- the limit
+
+  few_more : (limit : Option ℕ) (xs after whole second items : List Feature) → whole ≡ xs ++ after → items ≡ second → IfSome limit (λ most. (later : List Feature) → are_too_many order most (xs ++ later) second ≡ false)
+      → IfSome limit (λ most. (later : List Feature) → are_too_many order most (whole ++ later) items ≡ false)
+  few_more None xs after whole second items e f few = tt
+  few_more (Some most) xs after whole second items e f few = λ later.
+      ap (λ (l : List Feature). are_too_many order most l items) (ap (λ (l : List Feature). l ++ later) e ∙ append_assoc xs after later) ∙ ap (are_too_many order most (xs ++ (after ++ later))) f ∙ few (after ++ later)
+
+  -- with each that was taken the limit lies as far
+  pub fits_each : (limit : Option ℕ) (written rest : List Feature) → ArePlaced order (intervals_of (written ++ rest)) → (n : ℕ) (seconds taken : List Feature) (past : List (Member Feature)) → member_items past ≡ taken → ArePlaced order (intervals_of (taken ++ seconds))
+      → ((b : Feature) (more : List Feature) → seconds ≡ b ∷ more → AreDecided order written (taken ++ b ∷ [])) → TakenEach order limit rest taken seconds → AreWithin order limit (written ++ rest) past
+      → AreWithin order limit (written ++ rest) (past ++ members_from n seconds)
+  fits_each limit written rest placed n [] taken past e placed_taken first each within = subst (λ (l : List (Member Feature)). AreWithin order limit (written ++ rest) l) (sym (append-nil past)) within
+  fits_each limit written rest placed n (b ∷ seconds) taken past e placed_taken first each within =
+      let t = each.0 in
+      let m : Member Feature = record { line = n; item = b } in
+      let items : member_items (past ++ m ∷ []) ≡ taken ++ b ∷ [] = map-append (λ m. m.item) past (m ∷ []) ∙ ap (λ l. l ++ b ∷ []) e in
+      let both : (taken ++ b ∷ []) ++ seconds ≡ taken ++ b ∷ seconds = append_assoc taken (b ∷ []) seconds in
+      let placed_both = subst (λ (l : List Feature). ArePlaced order (intervals_of l)) (sym both) placed_taken in
+      let whole : written ++ rest ≡ (written ++ t.before) ++ t.a ∷ t.after = ap (λ (l : List Feature). written ++ l) t.parts ∙ sym (append_assoc written t.before (t.a ∷ t.after)) in
+      let known = (placed_back order (written ++ t.before) (t.a ∷ t.after) (subst (λ (l : List Feature). ArePlaced order (intervals_of l)) whole placed)).0 in
+      let decided_now = first b seconds refl in
+      let few = held_few order limit (written ++ t.before) t.a (taken ++ b ∷ []) (decided_both order written t.before (taken ++ b ∷ []) decided_now t.settled)
+      (none_before order t.a taken b total known (front_placed order (taken ++ b ∷ []) seconds placed_both) t.undecided) t.within in
+      subst (λ (l : List (Member Feature)). AreWithin order limit (written ++ rest) l) (append_assoc past (m ∷ []) (members_from (suc n) seconds))
+      (fits_each limit written rest placed (suc n) seconds (taken ++ b ∷ []) (past ++ m ∷ []) items placed_both
+      (λ next more is. decided_before order written (taken ++ b ∷ []) (next ∷ []) decided_now) each.1
+      (within_taken order limit (written ++ rest) past m within (few_more limit ((written ++ t.before) ++ t.a ∷ []) t.after (written ++ rest) (taken ++ b ∷ []) (member_items (past ++ m ∷ []))
+      (whole ∙ sym (append_assoc (written ++ t.before) (t.a ∷ []) t.after)) items few)))

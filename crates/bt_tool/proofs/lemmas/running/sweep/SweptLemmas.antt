@@ -16,12 +16,14 @@ use Rattle.bt_lines.specs.declared.fault.Fault.{Fault}
 use Rattle.bt_lines.specs.declared.fault.Input.TheVariants.{Second}
 use Rattle.bt_lines.specs.declared.fault.Kind.{Kind}
 use Rattle.bt_lines.specs.declared.fault.Kind.TheVariants.{TooManyHeld}
+use Rattle.bt_bed.specs.calls.Batch.{HasEnded, Passes as PassesBatch, line_in}
+use Rattle.bt_bed.specs.declared.read.batch.Batch.{Batch}
 use Rattle.bt_bed.specs.model.feature.Feature.{Feature, intervals_of}
 use Rattle.bt_bed.specs.model.input.Good.{Format, Member}
 use Rattle.bt_bed.specs.model.input.GoodBed.{bed_format}
 use Rattle.bt_bed.specs.model.feature.LineKind.{IsBedKind, fault_at_line}
 use Rattle.bt_bed.specs.model.order.Locus.{ArePlaced, Locus}
-use Rattle.bt_bed.specs.model.order.Order.{Order, IsTotal}
+use Rattle.bt_bed.specs.model.order.Order.{Order}
 use Rattle.bt_bed.specs.calls.Reading.{AreSaid, MemberReader, ahead_in, first_from, members_from, state_behind}
 use Rattle.bt_bed.specs.calls.Records.{FillsRecords, below, order_in, view_of}
 use Rattle.bt_bed.specs.model.order.Sorting.{sorting_of}
@@ -29,10 +31,10 @@ use Rattle.bt_bed.specs.declared.order.ChromOrder.{Ghosts}
 use Rattle.bt_bed.specs.declared.read.records.Records.{Records}
 use Rattle.bt_bed.proofs.lemmas.parse.NameLemmas.{name_eq}
 use Rattle.bt_bed.proofs.lemmas.read.batch.NeighbourLemmas.{wrong_of_bed}
-use Rattle.bt_sweep.specs.calls.Advancing.{PutsEach, Settles, stage_after}
+use Rattle.bt_sweep.specs.calls.Advancing.{AdvancesSo, FailsAt, PutsEach, Settles, stage_after}
 use Rattle.bt_sweep.specs.model.Deciding.{decided}
 use Rattle.bt_sweep.specs.model.IntersectLines.{intersect, lines_for}
-use Rattle.bt_sweep.specs.calls.Taking.{AreDecided, CannotBeHeld, TakenEach}
+use Rattle.bt_sweep.specs.calls.Taking.{AreDecided, CannotBeHeld, ComesNext, TakenEach}
 use Rattle.bt_sweep.specs.model.Limit.{held_for, is_held}
 use Rattle.bt_sweep.specs.calls.Standing.{IsInOrder, MovesTo, Stage, StandsAt, given, leaves_some, phase_of, with_a_ended, with_b_ended}
 use Rattle.bt_sweep.specs.calls.Steps.{has_room}
@@ -42,46 +44,42 @@ use Rattle.bt_sweep.specs.declared.sweep.want.Want.TheVariants.{A as WantA, B as
 use Rattle.bt_sweep.proofs.lemmas.laws.DecidingLemmas.{none_before, placed_back}
 use Rattle.bt_sweep.proofs.lemmas.sweep.KeepLemmas.{undecided_beside}
 use Rattle.bt_sweep.proofs.lemmas.laws.PlacedLemmas.{front_placed}
+use Rattle.bt_sweep.specs.calls.SweepView.{state_of}
 use Rattle.bt_tool.specs.declared.loops.sweeping.SweepConfig.{SweepConfig}
+use Rattle.bt_tool.specs.declared.loops.sweeping.SweepRun.{SweepRun}
 use Rattle.bt_tool.specs.inside.feed.Feeding.{member_items}
 use Rattle.bt_tool.specs.inside.pair.Pair.{JoinDef, Pair, SettlesPair, item_ahead}
 use Rattle.bt_tool.specs.inside.pair.Progress.{Comes, TakesFurther}
-use Rattle.bt_tool.specs.inside.pair.Endings.{AsksFor, IsKnown}
-use Rattle.bt_tool.specs.inside.pair.Rounds.{fault_of}
-use Rattle.bt_tool.specs.inside.pair.SweepLoop.{AreWithin, ReadsRest, SweepEnds, Sweeps, config_of, records_pair, stage_of, sweep_join}
-use Rattle.bt_tool.specs.inside.pair.SweepSteps.{FailsAmong, GivesBoth, TakesBoth}
+use Rattle.bt_tool.specs.inside.pair.Endings.{AsksFor, IsKnown, PairEnds}
+use Rattle.bt_bed.specs.calls.SortedReader.{fault_in}
+use Rattle.bt_tool.specs.inside.pair.SweepLoop.{AreBegun, AreWithin, ReadsRest, Sweeps, config_of, records_pair, stage_of, sweep_join, sweep_rounds}
+use Rattle.bt_tool.specs.inside.feed.FeedsBuffered.{ConsumesGiven}
 use Rattle.bt_tool.specs.inside.feed.Passed.{Passes, StopsAfter}
-use Rattle.bt_tool.proofs.lemmas.running.sweep.AdvanceLemmas.{ahead_placed}
+use Rattle.bt_tool.proofs.lemmas.running.sweep.AdvanceLemmas.{TakesBoth, ahead_placed, seen_then}
+use Rattle.bt_tool.proofs.lemmas.running.pair.BufferedLemmas.{first_then, line_then}
 use Rattle.bt_tool.proofs.lemmas.running.pair.PairSettles.{settles_seen}
 use Rattle.bt_tool.proofs.lemmas.running.pair.PairStops as stop
 use Rattle.bt_tool.proofs.lemmas.running.pair.PairTurns as turned
-use Rattle.bt_tool.proofs.lemmas.running.sweep.SweepBegun.{At, Begun}
-use Rattle.bt_tool.proofs.lemmas.running.sweep.SweepFacts.{leaves_more, same_config}
-use Rattle.bt_tool.proofs.lemmas.running.sweep.SweepLimits.{cuts_at, some_limit, within_given}
+use Rattle.bt_tool.proofs.lemmas.running.sweep.SweepFacts.{leaves_more, same_config, cuts_at, some_limit, within_given, fits_each, open_last, settles_newly}
 use Rattle.bt_tool.proofs.lemmas.running.members.MemberLemmas.{items_from}
 use Rattle.bt_tool.proofs.lemmas.running.members.PassedLemmas.{is_filled, is_over, is_stopped, said_in_order}
-use Rattle.bt_tool.proofs.lemmas.running.sweep.SweepSettles.{fits_each, open_last, settles_newly}
 
 -- ---- what is wanted tells what waits
 
-none_by : (w : Option Feature) (done : Bool) → want_of (is_some w) done ≡ WantA → w ≡ None
-none_by None done wants = refl
-none_by (Some a) done wants = absurd (let apart : WantB ≡ WantA = wants in cc)
+pub wants_first : (w : Option Feature) (done : Bool) → want_of (is_some w) done ≡ WantA → (w ≡ None) × (done ≡ false) × (sweep_rounds (is_some w) done ≡ 1)
+wants_first (Some a) done e = absurd (let apart : WantB ≡ WantA = e in cc)
+wants_first None true e = absurd (let apart : Nothing ≡ WantA = e in cc)
+wants_first None false e = (refl, refl, refl)
 
-going_by : (w : Option Feature) (done : Bool) → want_of (is_some w) done ≡ WantA → done ≡ false
-going_by (Some a) done e = absurd (let apart : WantB ≡ WantA = e in cc)
-going_by None true e = absurd (let apart : Nothing ≡ WantA = e in cc)
-going_by None false e = refl
+pub wants_second : (w : Option Feature) (done : Bool) → want_of (is_some w) done ≡ WantB → (a : Feature) × (w ≡ Some a) × (sweep_rounds (is_some w) done ≡ 2)
+wants_second (Some a) done e = (a, refl, refl)
+wants_second None true e = absurd (let apart : Nothing ≡ WantB = e in cc)
+wants_second None false e = absurd (let apart : WantA ≡ WantB = e in cc)
 
-some_by : (w : Option Feature) (done : Bool) → want_of (is_some w) done ≡ WantB → (a : Feature) × (w ≡ Some a)
-some_by None true wants = absurd (let apart : Nothing ≡ WantB = wants in cc)
-some_by None false wants = absurd (let apart : WantA ≡ WantB = wants in cc)
-some_by (Some a) done wants = (a, refl)
-
-done_by : (w : Option Feature) (done : Bool) → want_of (is_some w) done ≡ Nothing → done ≡ true
-done_by (Some a) done e = absurd (let apart : WantB ≡ Nothing = e in cc)
-done_by None true e = refl
-done_by None false e = absurd (let apart : WantA ≡ Nothing = e in cc)
+pub wants_nothing : (w : Option Feature) (done : Bool) → want_of (is_some w) done ≡ Nothing → (done ≡ true) × (sweep_rounds (is_some w) done ≡ 0)
+wants_nothing (Some a) done e = absurd (let apart : WantB ≡ Nothing = e in cc)
+wants_nothing None true e = (refl, refl)
+wants_nothing None false e = absurd (let apart : WantA ≡ Nothing = e in cc)
 
 pub over_is : (a b : Bool) → is_done (phase_of a b) ≡ a
 over_is true b = refl
@@ -118,30 +116,15 @@ item_any m n (x ∷ xs) = refl
 item_same : (m n : ℕ) (xs ys : List Feature) → xs ≡ ys → option_map (λ (m : Member Feature). m.item) (first_from m xs) ≡ option_map (λ m. m.item) (first_from n ys)
 item_same m n xs ys e = item_any m n xs ∙ ap (λ (l : List Feature). option_map (λ (m : Member Feature). m.item) (first_from n l)) e
 
-module _ {A B O : Type 0} {g : Ghosts O} (source_a : Source A) (source_b : Source B) (begun : Begun A B O g) where
+module _ {A B O : Type 0} {g : Ghosts O} (source_a : Source A) (source_b : Source B) (start : SweepRun A B O g) (out : Output) (begun : AreBegun start.first start.second) where
   abbrev config : SweepConfig
-  config = begun.config
+  config = config_of (state_of start.sweep)
 
   abbrev old_first : Records A O g
-  old_first = begun.first
+  old_first = start.first
 
   abbrev old_second : Records B O g
-  old_second = begun.second
-
-  abbrev out : Output
-  out = begun.out
-
-  abbrev total : IsTotal (order_in begun.first)
-  total = begun.are.total
-
-  abbrev same_order : order_in begun.second ≡ order_in begun.first
-  same_order = begun.are.same_order
-
-  abbrev is_bed : (view_of begun.first).format ≡ bed_format (sorting_of (order_in begun.first))
-  is_bed = begun.are.is_bed
-
-  abbrev is_bed_second : (view_of begun.second).format ≡ bed_format (sorting_of (order_in begun.second))
-  is_bed_second = begun.are.is_bed_second
+  old_second = start.second
 
   abbrev order : Order
   order = order_in old_first
@@ -156,13 +139,13 @@ module _ {A B O : Type 0} {g : Ghosts O} (source_a : Source A) (source_b : Sourc
   Going = Sweeps source_a source_b order config old_first old_second out
 
   abbrev Ends : Option FaultValue → Records A O g → Records B O g → Output → Type 0
-  Ends = SweepEnds source_a source_b order config old_first old_second out
+  Ends fault first second grown = PairEnds join pair out fault (view_of first) (view_of second) grown
 
   wrong : (state : Option Locus) (line : TextLine) (kind : Kind) → (view_of old_first).format.says state line ≡ Err kind → IsBedKind order kind
-  wrong = says_bed order (view_of old_first).format is_bed
+  wrong = says_bed order (view_of old_first).format begun.is_bed
 
   wrong_bed : (state : Option Locus) (line : TextLine) (kind : Kind) → (view_of old_second).format.says state line ≡ Err kind → IsBedKind order kind
-  wrong_bed state line kind e = subst (λ (o : Order). IsBedKind o kind) same_order (says_bed (order_in old_second) (view_of old_second).format is_bed_second state line kind e)
+  wrong_bed state line kind e = subst (λ (o : Order). IsBedKind o kind) begun.same_order (says_bed (order_in old_second) (view_of old_second).format begun.is_bed_second state line kind e)
 
   wrong_second : (state : Option Locus) (line : TextLine) (kind : Kind) → (view_of old_second).format.says state line ≡ Err kind → join.second_kinds kind
   wrong_second state line kind e = inl (wrong_bed state line kind e)
@@ -170,14 +153,14 @@ module _ {A B O : Type 0} {g : Ghosts O} (source_a : Source A) (source_b : Sourc
   -- what was passed of either is in order
   first_placed : (past : List (Member Feature)) (now : MemberReader A Feature (Option Locus)) → Passes source_a (view_of old_first) past now → ArePlaced order (intervals_of (member_items past))
   first_placed past now p =
-      (said_in_order order (member_items past) total
-      (subst (λ (f : Format Feature (Option Locus)). AreSaid f None (member_items past)) is_bed (subst (λ (s : Option Locus). AreSaid (view_of old_first).format s (member_items past)) begun.are.none_last p.said))).0
+      (said_in_order order (member_items past) begun.total
+      (subst (λ (f : Format Feature (Option Locus)). AreSaid f None (member_items past)) begun.is_bed (subst (λ (s : Option Locus). AreSaid (view_of old_first).format s (member_items past)) begun.none_last p.said))).0
 
   second_placed : (past : List (Member Feature)) (now : MemberReader B Feature (Option Locus)) → Passes source_b (view_of old_second) past now → ArePlaced order (intervals_of (member_items past))
   second_placed past now p =
-      (said_in_order order (member_items past) total
-      (subst (λ (f : Format Feature (Option Locus)). AreSaid f None (member_items past)) (is_bed_second ∙ ap (λ (o : Order). bed_format (sorting_of o)) same_order)
-      (subst (λ (s : Option Locus). AreSaid (view_of old_second).format s (member_items past)) begun.are.none_last_second p.said))).0
+      (said_in_order order (member_items past) begun.total
+      (subst (λ (f : Format Feature (Option Locus)). AreSaid f None (member_items past)) (begun.is_bed_second ∙ ap (λ (o : Order). bed_format (sorting_of o)) begun.same_order)
+      (subst (λ (s : Option Locus). AreSaid (view_of old_second).format s (member_items past)) begun.none_last_second p.said))).0
 
   -- with the member ahead too many would be held
   limit_case : (fault : FaultValue) (first_now : Records A O g) (second_now : Records B O g) → order_in second_now ≡ order → (later : Stage) (last : Feature) → later.waiting ≡ Some last → later.b_ended ≡ false
@@ -188,12 +171,12 @@ module _ {A B O : Type 0} {g : Ghosts O} (source_a : Source A) (source_b : Sourc
   limit_case fault first_now second_now is_order later last waits going past_first past_second grown comes asks fits m ahead on starts ends known full is =
       let placed = second_placed past_second (view_of second_now) comes.second_passes in
       let state : (view_of second_now).state ≡ state_behind (bed_format (sorting_of order)) None (member_items past_second) =
-      comes.second_passes.state ∙ ap (λ (f : Format Feature (Option Locus)). state_behind f (view_of old_second).state (member_items past_second)) (is_bed_second ∙ ap (λ (o : Order). bed_format (sorting_of o)) same_order)
-      ∙ ap (λ (s : Option Locus). state_behind (bed_format (sorting_of order)) s (member_items past_second)) begun.are.none_last_second in
-      let with_m = ahead_placed second_now order is_order (member_items past_second) m total state ahead placed in
+      comes.second_passes.state ∙ ap (λ (f : Format Feature (Option Locus)). state_behind f (view_of old_second).state (member_items past_second)) (begun.is_bed_second ∙ ap (λ (o : Order). bed_format (sorting_of o)) begun.same_order)
+      ∙ ap (λ (s : Option Locus). state_behind (bed_format (sorting_of order)) s (member_items past_second)) begun.none_last_second in
+      let with_m = ahead_placed second_now order is_order (member_items past_second) m begun.total state ahead placed in
       let items : member_items (past_second ++ m ∷ []) ≡ member_items past_second ++ m.item ∷ [] = map-append (λ m. m.item) past_second (m ∷ []) in
       let undecided : decided order last (member_items (past_second ++ m ∷ [])) ≡ false =
-      ap (decided order last) items ∙ none_before order last (member_items past_second) m.item total known with_m (undecided_beside order total last m.item known on starts) in
+      ap (decided order last) items ∙ none_before order last (member_items past_second) m.item begun.total known with_m (undecided_beside order begun.total last m.item known on starts) in
       let parts : given later ≡ later.written ++ last ∷ [] = ap (λ (o : Option Feature). later.written ++ option_to_list o) waits in
       let held : is_held last m.item ≡ true = and_from (bytes_eq last.chrom m.item.chrom) (ltb last.start m.item.stop) (name_eq last.chrom m.item.chrom (sym on)) (lt-ltb last.start m.item.stop ends) in
       stop.passes_limit join pair out (stage_of later) past_first past_second (view_of first_now) (view_of second_now) grown comes asks fits last waits m ahead TooManyHeld
@@ -212,18 +195,15 @@ module _ {A B O : Type 0} {g : Ghosts O} (source_a : Source A) (source_b : Sourc
       })).0))
       undecided held (subst (λ (l : List Feature). has_room config.limit (length (filter (is_held last) l)) ≡ false) comes.all_taken full))
 
-  module _ (at : At A B O g) (s : Going at.first at.second at.sweep at.out) where
+  module _ (run : SweepRun A B O g) (grown : Output) (s : Going run.first run.second (state_of run.sweep) grown) where
     abbrev first : Records A O g
-    first = at.first
+    first = run.first
 
     abbrev second : Records B O g
-    second = at.second
+    second = run.second
 
     abbrev sweep : Sweeping
-    sweep = at.sweep
-
-    abbrev grown : Output
-    grown = at.out
+    sweep = state_of run.sweep
 
     abbrev stage : Stage
     stage = s.stage
@@ -270,10 +250,10 @@ module _ {A B O : Type 0} {g : Ghosts O} (source_a : Source A) (source_b : Sourc
 
     module _ (wants : want_in sweep ≡ WantA) where
       pub none_waits : stage.waiting ≡ None
-      none_waits = sym s.stands.current_is ∙ none_by sweep.current (is_done sweep.phase) wants
+      none_waits = sym s.stands.current_is ∙ (wants_first sweep.current (is_done sweep.phase) wants).0
 
       not_ended : stage.a_ended ≡ false
-      not_ended = sym (over_is stage.a_ended stage.b_ended) ∙ ap is_done (sym s.stands.phase_is) ∙ going_by sweep.current (is_done sweep.phase) wants
+      not_ended = sym (over_is stage.a_ended stage.b_ended) ∙ ap is_done (sym s.stands.phase_is) ∙ (wants_first sweep.current (is_done sweep.phase) wants).1
 
       pub fills_first : (first_now : Records A O g) → FillsRecords source_a first (Ok true) first_now → Going first_now second sweep grown
       fills_first first_now fills =
@@ -297,7 +277,7 @@ module _ {A B O : Type 0} {g : Ghosts O} (source_a : Source A) (source_b : Sourc
 
     module _ (wants : want_in sweep ≡ WantB) where
       pub waiting : (a : Feature) × (stage.waiting ≡ Some a)
-      waiting = let w = some_by sweep.current (is_done sweep.phase) wants in (w.0, sym s.stands.current_is ∙ w.1)
+      waiting = let w = wants_second sweep.current (is_done sweep.phase) wants in (w.0, sym s.stands.current_is ∙ w.1)
 
       abbrev a : Feature
       a = waiting.0
@@ -325,7 +305,7 @@ module _ {A B O : Type 0} {g : Ghosts O} (source_a : Source A) (source_b : Sourc
           let seen = turned.seen_alone stage.taken (view_of second) none in
           let all = ((s.comes.settles known).whatever stage.taken (Some no_memory) placed_taken (record { begins = ([], sym (append-nil stage.taken) ∙ ap (λ (l : List Feature). l ++ []) (sym seen)); all = λ e. absurd (false≢true (sym goes ∙ e)) })).0 in
           let parts : given stage ≡ stage.written ++ a ∷ [] = ap (λ (o : Option Feature). stage.written ++ option_to_list o) waiting.1 in
-          open_last order total stage.taken stage.written a placed_taken (subst (λ (l : List Feature). ArePlaced order (intervals_of l)) parts placed_given) all
+          open_last order begun.total stage.taken stage.written a placed_taken (subst (λ (l : List Feature). ArePlaced order (intervals_of l)) parts placed_given) all
           (subst (λ (l : List Feature). IsTrue (list_all (leaves_some order l) stage.taken)) parts asked)
 
       pub stops_second : (fault : Fault) (second_now : Records B O g) → FillsRecords source_b second (Err fault) second_now → Ends (Some (fault_value fault)) first second_now grown
@@ -341,7 +321,7 @@ module _ {A B O : Type 0} {g : Ghosts O} (source_a : Source A) (source_b : Sourc
 
     -- ---- what both have buffered was given
 
-    module _ (first_now : Records A O g) (second_now : Records B O g) (fs ss : List Feature) (takes : TakesBoth source_a source_b order first second sweep grown fs ss first_now second_now) where
+    module _ (first_now : Records A O g) (second_now : Records B O g) (fs ss : List Feature) (takes : TakesBoth source_a source_b first second fs ss first_now second_now) where
       abbrev more_first : List (Member Feature)
       more_first = members_from (suc (lines_given (below first))) fs
 
@@ -423,7 +403,7 @@ module _ {A B O : Type 0} {g : Ghosts O} (source_a : Source A) (source_b : Sourc
           → SettlesPair join written bytes ((stage.taken ++ ss) ++ option_to_list (item_ahead (view_of second_now))) stage.b_ended
           → SettlesPair join (written ++ newly) (bytes ++ intersect config.shape config.rule newly (stage.taken ++ ss)) ((stage.taken ++ ss) ++ option_to_list (item_ahead (view_of second_now))) stage.b_ended
       settled_more written newly bytes placed each settles =
-          settles_newly order total config written newly bytes (stage.taken ++ ss) (item_ahead (view_of second_now)) stage.b_ended sweep.phase settles placed ends_then ss stage.taken refl each
+          settles_newly order begun.total config written newly bytes (stage.taken ++ ss) (item_ahead (view_of second_now)) stage.b_ended sweep.phase settles placed ends_then ss stage.taken refl each
 
       -- the limit lies as far
       decided_first : IsKnown pair → (b : Feature) (more : List Feature) → ss ≡ b ∷ more → AreDecided order stage.written (stage.taken ++ b ∷ [])
@@ -453,7 +433,7 @@ module _ {A B O : Type 0} {g : Ghosts O} (source_a : Source A) (source_b : Sourc
         fits_later each known =
             let whole : stage.written ++ (option_to_list stage.waiting ++ fs) ≡ given stage ++ fs = sym (append_assoc stage.written (option_to_list stage.waiting) fs) in
             subst (λ (l : List Feature). AreWithin order config.limit l (s.past_second ++ more_second)) (whole ∙ sym given_later)
-            (fits_each order total config.limit stage.written (option_to_list stage.waiting ++ fs) (subst (λ (l : List Feature). ArePlaced order (intervals_of l)) (sym whole) placed_first) (suc (lines_given (below second))) ss stage.taken s.past_second
+            (fits_each order begun.total config.limit stage.written (option_to_list stage.waiting ++ fs) (subst (λ (l : List Feature). ArePlaced order (intervals_of l)) (sym whole) placed_first) (suc (lines_given (below second))) ss stage.taken s.past_second
             (sym s.comes.all_taken) placed_second (decided_first known) (subst (λ (o : Option Feature). TakenEach order config.limit (option_to_list o ++ fs) stage.taken ss) s.stands.current_is each)
             (subst (λ (l : List Feature). AreWithin order config.limit l s.past_second) (sym whole) (within_given order config.limit (given stage) fs s.past_second (s.fits known))))
 
@@ -478,80 +458,93 @@ module _ {A B O : Type 0} {g : Ghosts O} (source_a : Source A) (source_b : Sourc
               (intersect config.shape config.rule newly (stage.taken ++ ss)) now (λ known. settled_more stage.written newly s.comes.bytes newly_placed each (settled_seen known))
               (by_config (λ c. Grown grown (intersect c.shape c.rule newly (stage.taken ++ ss)) now) (puts stage s.stands placed_first placed_second))
 
-    -- ---- it went on
+    module _ (first_now : Records A O g) (second_now : Records B O g) (firsts seconds last_firsts last_seconds : Batch)
+        (consumes : ConsumesGiven source_a first firsts last_firsts first_now) (consumes_second : ConsumesGiven source_b second seconds last_seconds second_now) where
+      pub takes_both : (fs ss : List Feature) → PassesBatch firsts fs last_firsts → PassesBatch seconds ss last_seconds → TakesBoth source_a source_b first second fs ss first_now second_now
+      takes_both fs ss passes passes_second =
+          record { first_taken = consumes.takes fs passes; second_taken = consumes_second.takes ss passes_second; first_order = consumes.order; second_order = consumes_second.order }
 
-    pub goes_both : (first_now : Records A O g) (second_now : Records B O g) (swept : Sweeping) (now : Output) → GivesBoth source_a source_b order first second sweep grown first_now second_now swept now
-        → Going first_now second_now swept now
-    goes_both first_now second_now swept now gives =
-        let placed = placed_first first_now second_now gives.firsts gives.seconds gives.takes in
-        let placed_second = placed_second first_now second_now gives.firsts gives.seconds gives.takes in
-        let moves = gives.stands stage s.stands placed placed_second in
-        record {
-          past_first = s.past_first ++ members_from (suc (lines_given (below first))) gives.firsts;
-          past_second = s.past_second ++ members_from (suc (lines_given (below second))) gives.seconds;
-          stage = stage_after stage gives.newly swept.current gives.seconds;
-          stands = moves.stands;
-          config_is = moved swept (stage_after stage gives.newly swept.current gives.seconds) moves;
-          comes = comes_later first_now second_now gives.firsts gives.seconds gives.takes gives.newly swept.current gives.are gives.settles now gives.puts;
-          first_order = gives.takes.first_order ∙ s.first_order;
-          second_order = gives.takes.second_order ∙ s.second_order;
-          fits = fits_later first_now second_now gives.firsts gives.seconds gives.takes gives.newly swept.current gives.are
-              (by_config (λ c. TakenEach order c.limit (option_to_list sweep.current ++ gives.firsts) stage.taken gives.seconds) (gives.each stage s.stands placed placed_second));
-        }
+      seen : (newly ss : List Feature) (next : Option Feature) → ComesNext PassesBatch last_seconds next → Settles order sweep.phase newly (ss ++ option_to_list next) → Settles order sweep.phase newly (ss ++ option_to_list (item_ahead (view_of second_now)))
+      seen = seen_then source_b second second_now seconds last_seconds consumes_second order sweep.phase
 
-    -- ---- it failed at one of the first
+      -- it went on
+      pub goes_both : (swept : Sweeping) (now : Output) → AdvancesSo PassesBatch HasEnded PassesBatch HasEnded line_in order sweep firsts seconds grown swept last_firsts last_seconds now → Going first_now second_now swept now
+      goes_both swept now gives =
+          let fs = gives.proceeds.firsts in
+          let ss = gives.proceeds.seconds in
+          let takes = takes_both fs ss gives.proceeds.gives_firsts gives.proceeds.gives_seconds in
+          let placed = placed_first first_now second_now fs ss takes in
+          let placed_taken = placed_second first_now second_now fs ss takes in
+          let moves = gives.stands stage s.stands placed placed_taken in
+          record {
+            past_first = s.past_first ++ members_from (suc (lines_given (below first))) fs;
+            past_second = s.past_second ++ members_from (suc (lines_given (below second))) ss;
+            stage = stage_after stage gives.proceeds.newly swept.current ss;
+            stands = moves.stands;
+            config_is = moved swept (stage_after stage gives.proceeds.newly swept.current ss) moves;
+            comes = comes_later first_now second_now fs ss takes gives.proceeds.newly swept.current gives.proceeds.are (seen gives.proceeds.newly ss gives.proceeds.next gives.proceeds.comes gives.proceeds.settles) now gives.puts;
+            first_order = takes.first_order ∙ s.first_order;
+            second_order = takes.second_order ∙ s.second_order;
+            fits = fits_later first_now second_now fs ss takes gives.proceeds.newly swept.current gives.proceeds.are
+                (by_config (λ c. TakenEach order c.limit (option_to_list sweep.current ++ fs) stage.taken ss) (gives.proceeds.each stage s.stands placed placed_taken));
+          }
 
-    pub fails_both : (fault : FaultValue) (first_now : Records A O g) (second_now : Records B O g) (now : Output) → FailsAmong source_a source_b order first second sweep grown fault first_now second_now now
-        → Ends (Some fault) first_now second_now now
-    fails_both fault first_now second_now now fails =
-        let fs = fails.firsts in
-        let ss = fails.seconds in
-        let placed = placed_first first_now second_now fs ss fails.takes in
-        let placed_taken = placed_second first_now second_now fs ss fails.takes in
-        let each = by_config (λ c. TakenEach order c.limit (option_to_list sweep.current ++ fs) stage.taken ss) (fails.each stage s.stands placed placed_taken) in
-        let past_first = s.past_first ++ members_from (suc (lines_given (below first))) fs in
-        let past_second = s.past_second ++ members_from (suc (lines_given (below second))) ss in
-        let asks : stage.a_ended ≡ false → AsksFor join pair out past_first (view_of second_now) =
-        λ going. stop.asks_then join pair out (stage_of stage) s.past_first s.past_second (view_of first) (view_of second) grown s.comes asked (λ more asks. leaves_more order (given stage) more stage.taken asks)
-        (members_from (suc (lines_given (below first))) fs) (members_from (suc (lines_given (below second))) ss) (view_of second_now) (further_second first_now second_now fs ss fails.takes) in
-        elim fails.cause [
-          | inl write ↦ cuts_later first_now second_now fs ss fails.takes fails.newly fails.waiting fails.are each fails.settles fault now
-              (by_config (λ c. FailsToAdd grown (intersect c.shape c.rule fails.newly (stage.taken ++ ss)) fault now) (write.cuts stage s.stands placed placed_taken))
-          | inr others ↦ elim others [
-            | inl lack ↦
-                let last = lack.last in
-                let are = fails.are ∙ ap (λ (o : Option Feature). fails.newly ++ option_to_list o) lack.waits in
-                let comes = comes_later first_now second_now fs ss fails.takes fails.newly (Some last) are fails.settles now lack.puts in
-                let fits = fits_later first_now second_now fs ss fails.takes fails.newly (Some last) are each in
-                let placed_last = placed_back order (stage.written ++ fails.newly) (last ∷ []) (subst (λ (l : List Feature). ArePlaced order (intervals_of l)) (sym (given_later first_now second_now fs ss fails.takes fails.newly (Some last) are)) placed) in
-                elim (by_config (λ c. CannotBeHeld c.limit last (stage.taken ++ ss) lack.m.line fault) (lack.lacks stage s.stands placed placed_taken)) [
-                  | inl full ↦
-                      limit_case fault first_now second_now (fails.takes.second_order ∙ s.second_order ∙ same_order) (stage_after stage fails.newly (Some last) ss) last refl
-                      (not_ended_with first_now second_now fs ss fails.takes lack.m lack.ahead stage.b_ended refl) past_first past_second now comes asks fits lack.m lack.ahead lack.chrom lack.starts lack.ends placed_last.0 full.0 full.1
-                  | inr ran ↦ stop.lacks_memory join pair out (stage_of (stage_after stage fails.newly (Some last) ss)) past_first past_second (view_of first_now) (view_of second_now) now comes asks fits fault ran.1
-                ]
-            | inr keep ↦
-                let are = fails.are ∙ ap (λ (o : Option Feature). fails.newly ++ option_to_list o) keep.waits in
-                let comes = comes_later first_now second_now fs ss fails.takes fails.newly (Some keep.last) are fails.settles now keep.puts in
-                let fits = fits_later first_now second_now fs ss fails.takes fails.newly (Some keep.last) are each in
-                stop.lacks_memory join pair out (stage_of (stage_after stage fails.newly (Some keep.last) ss)) past_first past_second (view_of first_now) (view_of second_now) now comes asks fits fault keep.is
+      -- it failed at one of the first
+      pub fails_both : (fault : FaultValue) (now : Output) → FailsAt PassesBatch HasEnded PassesBatch HasEnded line_in order sweep firsts seconds grown fault last_firsts last_seconds now → Ends (Some fault) first_now second_now now
+      fails_both fault now fails =
+          let fs = fails.proceeds.firsts in
+          let ss = fails.proceeds.seconds in
+          let takes = takes_both fs ss fails.proceeds.gives_firsts fails.proceeds.gives_seconds in
+          let settles = seen fails.proceeds.newly ss fails.proceeds.next fails.proceeds.comes fails.proceeds.settles in
+          let placed = placed_first first_now second_now fs ss takes in
+          let placed_taken = placed_second first_now second_now fs ss takes in
+          let each = by_config (λ c. TakenEach order c.limit (option_to_list sweep.current ++ fs) stage.taken ss) (fails.proceeds.each stage s.stands placed placed_taken) in
+          let past_first = s.past_first ++ members_from (suc (lines_given (below first))) fs in
+          let past_second = s.past_second ++ members_from (suc (lines_given (below second))) ss in
+          let asks : stage.a_ended ≡ false → AsksFor join pair out past_first (view_of second_now) =
+          λ going. stop.asks_then join pair out (stage_of stage) s.past_first s.past_second (view_of first) (view_of second) grown s.comes asked (λ more asks. leaves_more order (given stage) more stage.taken asks)
+          (members_from (suc (lines_given (below first))) fs) (members_from (suc (lines_given (below second))) ss) (view_of second_now) (further_second first_now second_now fs ss takes) in
+          elim fails.cause [
+            | inl write ↦ cuts_later first_now second_now fs ss takes fails.proceeds.newly fails.waiting fails.proceeds.are each settles fault now
+                (by_config (λ c. FailsToAdd grown (intersect c.shape c.rule fails.proceeds.newly (stage.taken ++ ss)) fault now) (write stage s.stands placed placed_taken))
+            | inr others ↦ elim others [
+              | inl lack ↦
+                  let last = lack.shares.last in
+                  let m : Member Feature = record { line = suc (lines_given (below second_now)); item = lack.shares.b } in
+                  let ahead = first_then source_b second second_now seconds last_seconds consumes_second lack.shares.b lack.shares.after lack.shares.gives in
+                  let are = fails.proceeds.are ∙ ap (λ (o : Option Feature). fails.proceeds.newly ++ option_to_list o) lack.shares.waits in
+                  let comes = comes_later first_now second_now fs ss takes fails.proceeds.newly (Some last) are settles now lack.puts in
+                  let fits = fits_later first_now second_now fs ss takes fails.proceeds.newly (Some last) are each in
+                  let placed_last = placed_back order (stage.written ++ fails.proceeds.newly) (last ∷ []) (subst (λ (l : List Feature). ArePlaced order (intervals_of l)) (sym (given_later first_now second_now fs ss takes fails.proceeds.newly (Some last) are)) placed) in
+                  let lacks = subst (λ (n : ℕ). CannotBeHeld sweep.limit last (stage.taken ++ ss) n fault) (line_then source_b second second_now seconds last_seconds consumes_second lack.shares.b lack.shares.after lack.shares.gives) (lack.lacks stage s.stands placed placed_taken) in
+                  elim (by_config (λ c. CannotBeHeld c.limit last (stage.taken ++ ss) m.line fault) lacks) [
+                    | inl full ↦
+                        limit_case fault first_now second_now (takes.second_order ∙ s.second_order ∙ begun.same_order) (stage_after stage fails.proceeds.newly (Some last) ss) last refl
+                        (not_ended_with first_now second_now fs ss takes m ahead stage.b_ended refl) past_first past_second now comes asks fits m ahead lack.shares.chrom lack.shares.starts lack.shares.ends placed_last.0 full.0 full.1
+                    | inr ran ↦ stop.lacks_memory join pair out (stage_of (stage_after stage fails.proceeds.newly (Some last) ss)) past_first past_second (view_of first_now) (view_of second_now) now comes asks fits fault ran.1
+                  ]
+              | inr keep ↦
+                  let are = fails.proceeds.are ∙ ap (λ (o : Option Feature). fails.proceeds.newly ++ option_to_list o) keep.waits in
+                  let comes = comes_later first_now second_now fs ss takes fails.proceeds.newly (Some keep.last) are settles now keep.puts in
+                  let fits = fits_later first_now second_now fs ss takes fails.proceeds.newly (Some keep.last) are each in
+                  stop.lacks_memory join pair out (stage_of (stage_after stage fails.proceeds.newly (Some keep.last) ss)) past_first past_second (view_of first_now) (view_of second_now) now comes asks fits fault keep.is
+            ]
           ]
-        ]
 
     -- ---- the first input has ended, and the second was read to its end
 
     module _ (wants : want_in sweep ≡ Nothing) where
       done : stage.a_ended ≡ true
-      done = sym (over_is stage.a_ended stage.b_ended) ∙ ap is_done (sym s.stands.phase_is) ∙ done_by sweep.current (is_done sweep.phase) wants
+      done = sym (over_is stage.a_ended stage.b_ended) ∙ ap is_done (sym s.stands.phase_is) ∙ (wants_nothing sweep.current (is_done sweep.phase) wants).0
 
       pub finishes_both : {T : Type 0} (result : Result T Fault) (second_now : Records B O g) → ReadsRest source_b (IsBedKind (order_in second)) (view_of second) result (view_of second_now)
-          → Ends (fault_of result) first second_now grown
+          → Ends (fault_in result) first second_now grown
       finishes_both {T} (Ok unit) second_now reads =
-          let checks = subst (λ (o : Order). ReadsRest {T = T} source_b (IsBedKind o) (view_of second) (Ok unit) (view_of second_now)) (s.second_order ∙ same_order) reads (view_of old_second) s.past_second s.comes.second_passes wrong_bed in
+          let checks = subst (λ (o : Order). ReadsRest {T = T} source_b (IsBedKind o) (view_of second) (Ok unit) (view_of second_now)) (s.second_order ∙ begun.same_order) reads (view_of old_second) s.past_second s.comes.second_passes wrong_bed in
           stop.ends_rest join pair out (stage_of stage) s.past_first s.past_second (view_of first) (view_of second) grown s.comes asks_here s.fits done (view_of second_now) (λ some. absurd (false≢true (ap is_some (sym checks.passes.going) ∙ some))) checks.passes.bytes (s.past_second ++ checks.more) None
           (inl (refl, checks.all, record { served = checks.passes.served; within = checks.passes.kept.within checks.passes.clear }, refl))
       finishes_both {T} (Err fault) second_now reads =
-          let checks = subst (λ (o : Order). ReadsRest {T = T} source_b (IsBedKind o) (view_of second) (Err fault) (view_of second_now)) (s.second_order ∙ same_order) reads (view_of old_second) s.past_second s.comes.second_passes wrong_bed in
+          let checks = subst (λ (o : Order). ReadsRest {T = T} source_b (IsBedKind o) (view_of second) (Err fault) (view_of second_now)) (s.second_order ∙ begun.same_order) reads (view_of old_second) s.past_second s.comes.second_passes wrong_bed in
           stop.stops_rest join pair out (stage_of stage) s.past_first s.past_second (view_of first) (view_of second) grown s.comes asks_here s.fits done (view_of second_now) (λ some. checks.low) (s.past_second ++ checks.more) (fault_value fault)
           (stops_wider source_b (view_of old_second) (IsBedKind order) join.second_kinds (λ kind of_bed. inl of_bed) (s.past_second ++ checks.more) (fault_value fault) (view_of second_now) checks.stops)
           (λ e. checks.before_end (s.comes.second_all e).2) refl

@@ -26,7 +26,7 @@ use Rattle.bt_tool.specs.model.report.Report.{chromosomes_of, of_file}
 use Rattle.bt_tool.specs.calls.run.OwnReads.{IsOwnFailure, TellsOwnReads}
 use Rattle.bt_tool.proofs.lemmas.running.feed.FaultLemmas.{memory_no_write, placed_no_write}
 use Rattle.bt_tool.proofs.lemmas.running.whole.OwnFailureLemmas.{own_failure_of, same_input}
-use Rattle.bt_tool.proofs.lemmas.running.members.HandedReader.{cut_text, handed_all, handed_part, passes_by}
+use Rattle.bt_tool.proofs.lemmas.running.members.HandedLemmas.{cut_text, handed_all, handed_part, passes_by}
 
 -- what is said of the whole text is said of what the device holds
 held_as : {G : Type 0} (left : G → Option (List ℕ)) (genome : G) (P : Option Handed → Type 0) → ((text : List ℕ) → left genome ≡ Some text → P (Some (whole_text text)))

@@ -176,57 +176,47 @@ module _ {A B X Y U V : Type 0} (join : JoinDef X Y) (pair : Pair A B X Y U V) (
     (one_before : A) (two_before : B) (begins : BeginsAt pair.source_a.left first_format First one_before pair.first) (begins_second : BeginsAt pair.source_b.left second_format Second two_before pair.second)
     (first : MemberReader A X U) (second : MemberReader B Y V) (one_after : A) (two_after : B) (ended : source_of first.below ≡ one_after) (ended_second : source_of second.below ≡ two_after) (fault : Option FaultValue) (grown : Output)
     (w : PairEnds join pair out fault first second grown) (no_first : join.first_kinds ReadFailed → ⊥) (no_second : join.second_kinds ReadFailed → ⊥) (own : KeepsOwnFault pair.source_a.is_read pair.first.below first) (own_second : KeepsOwnFault pair.source_b.is_read pair.second.below second) where
-  abbrev OwnFirst : Input → Type 0
-  OwnFirst input = (input ≡ First) × IsOwnFailure pair.source_a.is_read one_before one_after
+  -- what a failed read of an input owes
+  abbrev Owns : Input → Type 0
+  Owns Genome = ⊥
+  Owns First = IsOwnFailure pair.source_a.is_read one_before one_after
+  Owns Second = IsOwnFailure pair.source_b.is_read two_before two_after
 
-  abbrev OwnSecond : Input → Type 0
-  OwnSecond input = (input ≡ Second) × IsOwnFailure pair.source_b.is_read two_before two_after
+  of_first : (past : List (Member X)) (other : FaultValue) → HasFaultBehind pair.source_a pair.first join.first_kinds past other first → (input : Input) (line : ℕ) → other ≡ read_failed input line → Owns input
+  of_first past other behind input line e =
+      let is = behind_own pair.source_a first_format First one_before pair.first begins first one_after ended own join.first_kinds no_first past other behind input line e in
+      subst Owns (sym is.0) is.1
 
-  of_first : (past : List (Member X)) (other : FaultValue) → HasFaultBehind pair.source_a pair.first join.first_kinds past other first → (input : Input) (line : ℕ) → other ≡ read_failed input line → OwnFirst input
-  of_first past other behind =
-      behind_own pair.source_a first_format First one_before pair.first begins first one_after ended own join.first_kinds no_first past other behind
-
-  of_second : (past : List (Member Y)) (other : FaultValue) → HasFaultBehind pair.source_b pair.second join.second_kinds past other second → (input : Input) (line : ℕ) → other ≡ read_failed input line → OwnSecond input
-  of_second past other behind =
-      behind_own pair.source_b second_format Second two_before pair.second begins_second second two_after ended_second own_second join.second_kinds no_second past other behind
+  of_second : (past : List (Member Y)) (other : FaultValue) → HasFaultBehind pair.source_b pair.second join.second_kinds past other second → (input : Input) (line : ℕ) → other ≡ read_failed input line → Owns input
+  of_second past other behind input line e =
+      let is = behind_own pair.source_b second_format Second two_before pair.second begins_second second two_after ended_second own_second join.second_kinds no_second past other behind input line e in
+      subst Owns (sym is.0) is.1
 
   -- the inputs reported it
-  by_inputs : InputsEnd join pair out w.written w.wrote.given w.wrote.ended first second fault → (input : Input) (line : ℕ) → fault ≡ Some (read_failed input line) → OwnFirst input ⊎ OwnSecond input
-  by_inputs (inl stops) input line e = inl (of_first stops.2.past stops.0 stops.2.cause input line (some_is stops.0 (read_failed input line) (sym stops.1 ∙ e)))
-  by_inputs (inr (inl stops)) input line e = inr (of_second stops.2.past stops.0 stops.2.fails.cause input line (some_is stops.0 (read_failed input line) (sym stops.1 ∙ e)))
+  by_inputs : InputsEnd join pair out w.written w.wrote.given w.wrote.ended first second fault → (input : Input) (line : ℕ) → fault ≡ Some (read_failed input line) → Owns input
+  by_inputs (inl stops) input line e = of_first stops.2.past stops.0 stops.2.cause input line (some_is stops.0 (read_failed input line) (sym stops.1 ∙ e))
+  by_inputs (inr (inl stops)) input line e = of_second stops.2.past stops.0 stops.2.fails.cause input line (some_is stops.0 (read_failed input line) (sym stops.1 ∙ e))
   by_inputs (inr (inr (inr stops))) input line e =
       absurd (never_read join.second_kinds no_second Second stops.2.m.line stops.2.kind stops.2.of_kind input line (sym stops.2.is ∙ some_is stops.0 (read_failed input line) (sym stops.1 ∙ e)))
   by_inputs (inr (inr (inl stops))) input line e =
       elim stops.rest [
         | inl end ↦ absurd (let apart : None ≡ Some (read_failed input line) = sym end.0 ∙ e in cc)
         | inr others ↦ elim others [
-          | inl other ↦ inr (of_second stops.past_second other.0 other.2.cause input line (some_is other.0 (read_failed input line) (sym other.1 ∙ e)))
+          | inl other ↦ of_second stops.past_second other.0 other.2.cause input line (some_is other.0 (read_failed input line) (sym other.1 ∙ e))
           | inr other ↦ absurd (never_read join.second_kinds no_second Second other.2.line other.2.kind other.2.of_kind input line (sym other.2.is ∙ some_is other.0 (read_failed input line) (sym other.1 ∙ e)))
         ]
       ]
 
-  by_cause : Why join pair out w.written w.bytes w.wrote.given w.wrote.ended first second fault grown → (input : Input) (line : ℕ) → fault ≡ Some (read_failed input line) → OwnFirst input ⊎ OwnSecond input
+  by_cause : Why join pair out w.written w.bytes w.wrote.given w.wrote.ended first second fault grown → (input : Input) (line : ℕ) → fault ≡ Some (read_failed input line) → Owns input
   by_cause (inl (end, puts, works)) input line e = by_inputs end input line e
   by_cause (inr (inl ran)) input line e = absurd (memory_no_read input line (some_is no_memory (read_failed input line) (sym ran.0 ∙ e)))
   by_cause (inr (inr cut)) input line e = absurd (write_no_read input line (some_is write_failed (read_failed input line) (sym cut.0 ∙ e)))
 
-  never_genome : OwnFirst Genome ⊎ OwnSecond Genome → ⊥
-  never_genome (inl own) = let apart : Genome ≡ First = own.0 in cc
-  never_genome (inr own) = let apart : Genome ≡ Second = own.0 in cc
-
-  only_first : OwnFirst First ⊎ OwnSecond First → IsOwnFailure pair.source_a.is_read one_before one_after
-  only_first (inl own) = own.1
-  only_first (inr own) = absurd (let apart : First ≡ Second = own.0 in cc)
-
-  only_second : OwnFirst Second ⊎ OwnSecond Second → IsOwnFailure pair.source_b.is_read two_before two_after
-  only_second (inl own) = absurd (let apart : Second ≡ First = own.0 in cc)
-  only_second (inr own) = own.1
-
   pub both_own : TellsOwnReads ⊥ (IsOwnFailure pair.source_a.is_read one_before one_after) (IsOwnFailure pair.source_b.is_read two_before two_after) fault
   both_own = record {
-    genome_file = λ line e. never_genome (by_cause w.why Genome line e);
-    first_input = λ line e. only_first (by_cause w.why First line e);
-    second_input = λ line e. only_second (by_cause w.why Second line e);
+    genome_file = λ line e. by_cause w.why Genome line e;
+    first_input = λ line e. by_cause w.why First line e;
+    second_input = λ line e. by_cause w.why Second line e;
   }
 
 -- a flush tells no failed read of its own

@@ -1,6 +1,6 @@
 -- Lemmas on a run, from its devices to the report on what its inputs hand over.
 use Rattle.std.proofs.Common.{◌≡◌, ℕ, ◌+◌, ◌≤◌, Bool, true, false, List, [], ◌++◌, length, take, Option, None, Some, Ok, Err, refl, sym, ap, ◌∙◌, subst, append-nil, append_assoc, arith, inl, inr, ⊎_elim}
-use Rattle.std.specs.Prelude.{◌⊎◌, ◌≢◌, IfSome, Result, is_some, option_map}
+use Rattle.std.specs.Prelude.{◌⊎◌, ◌≢◌, IfSome, Result, option_map}
 use Rattle.std.proofs.lemmas.Bool.{false≢true}
 use Rattle.std.proofs.lemmas.List.{append_cancel_left}
 use Rattle.std.specs.Io.KnownBytes.{Consumes, Keeps}
@@ -40,6 +40,7 @@ use Rattle.bt_tool.specs.declared.planning.plan_type.Command.{Command}
 use Rattle.bt_tool.specs.declared.planning.plan_type.Command.TheVariants.{Merge, Complement, Intersect, Subtract, Coverage, BamToBed, MaskFasta}
 use Rattle.bt_tool.proofs.lemmas.running.feed.WriteLemmas.{merge_settles_none}
 use Rattle.bt_tool.proofs.lemmas.running.feed.WritingLemmas.{hands_none, near_as}
+use Rattle.bt_tool.proofs.lemmas.running.members.MemberLemmas.{some_map}
 use Rattle.bt_tool.proofs.lemmas.running.feed.FaultLemmas.{memory_no_write, tells_no_write}
 
 -- known bytes that are kept
@@ -175,10 +176,6 @@ if_elsewhere device kinds input (Some before) None t other tells lies = absurd t
 if_elsewhere device kinds input (Some before) (Some after) t other tells lies = input_elsewhere device kinds input before after t other tells lies
 
 -- chromosomes that were read aren't at fault
-same_is_some : (table : Option Genome) → is_some (option_map entries table) ≡ is_some table
-same_is_some None = refl
-same_is_some (Some table) = refl
-
 other_chromosomes : (chromosomes : Result (Option (List Entry)) FaultValue) (entries : Option (List Entry)) (wrong : FaultValue) → chromosomes ≡ Ok entries → chromosomes ≡ Err wrong → ⊥
 other_chromosomes chromosomes entries wrong o e = cc
 
@@ -250,7 +247,7 @@ module _ {G A B K : Type 0} (source_g : Source G) (source_a : Source A) (source_
     sink_failed e = write_by mid.sink_has_failed write_of_others (writes.named write_failed e)
 
     of_others : (t : FaultValue) → Tells t ⊎ TellsDevice mid.sink_has_failed t → (GenomeTells t ⊎ OthersTell t) ⊎ TellsDevice mid.sink_has_failed t
-    of_others t (inl tells) = inl (inr (record { chromosomes = chromosomes; named = same_is_some table ∙ knows.named; tells = tells }))
+    of_others t (inl tells) = inl (inr (record { chromosomes = chromosomes; named = some_map entries table ∙ knows.named; tells = tells }))
     of_others t (inr tells) = inr tells
 
     report_is : (inputs : Inputs) → chromosomes_of inputs.genome ≡ Ok chromosomes → report_of command inputs ≡ reported inputs

@@ -1,13 +1,15 @@
-use Rattle.std.proofs.Common.{◌++◌, ◌∷◌, [], refl}
+use Rattle.std.proofs.Common.{◌≡◌, ◌∙◌, ◌++◌, Err, ap, append-nil, arith, length, refl}
 use Rattle.bt_lines.proofs.lemmas.reader.block.ReadsLemmas.{has_read_then, reads_same}
 use Rattle.bt_lines.specs.calls.Names.{fault_value}
 use Rattle.bt_lines.specs.calls.Reader.{HasRead}
-use Rattle.bt_bed.specs.calls.Records.{below, buffered_in, view_of}
+use Rattle.bt_bed.specs.calls.Records.{below, view_of}
 use Rattle.bt_bed.proofs.lemmas.order.ResultLemmas.{passed_on}
 use Rattle.bt_tool.specs.inside.feed.Feeding.{FeedsRecords}
 use Rattle.bt_tool.specs.calls.run.OwnReads.{AnswersNoRead}
-use Rattle.bt_tool.proofs.lemmas.running.feed.FeedLemmas.{failed_among, feeds_all, going_fill, going_start, going_taken, stops_feeding, stops_reading}
-use Rattle.bt_tool.proofs.lemmas.running.whole.OwnFailureLemmas.{own_then, told_kept}
+use Rattle.bt_tool.proofs.lemmas.running.feed.FeedLemmas.{failed_at, feeds_all, going_fill, going_start, going_taken, stops_feeding, stops_reading}
+use Rattle.bt_tool.proofs.lemmas.running.pair.BufferedLemmas.{given_by}
+use Rattle.bt_tool.proofs.lemmas.running.pair.RestLemmas.{some_buffered}
+use Rattle.bt_tool.proofs.lemmas.running.whole.OwnFailureLemmas.{none_kept, own_then, told_kept}
 use Rattle.bt_tool.proofs.lemmas.running.members.PassedLemmas.{is_filled, is_over, is_stopped, taken_reads}
 use Rattle.bt_tool.proofs.loops.driving.feed_all.Goals as goal
 
@@ -42,29 +44,45 @@ loop-records-preserved g c =
     c.loop-records.records c.loop-records.engine c.loop-records.out.output c.loop-records.invariant.0 c.fill.new.self (is_filled g.S.Source c.loop-records.records c.fill.new.self fills) fills.order in
     let takes = c.in_ok-feed_buffered.ensures in (
       going_taken g.E.Engine.takes g.E.Engine.is_after g.E.Engine.fault g.E.Engine.settled c.args.engine.now g.S.Source c.args.records.now c.args.out.now.output c.requires.sorted c.requires.total c.requires.none_last c.requires.takes
-          c.fill.new.self c.loop-records.engine c.loop-records.out.output filled g.E.Engine.quiet c.feed_buffered.new.records c.feed_buffered.new.engine c.feed_buffered.new.out.output takes,
+          c.fill.new.self c.loop-records.engine c.loop-records.out.output filled g.E.Engine.quiet c.feed_buffered.new.records c.feed_buffered.new.engine c.feed_buffered.new.out.output takes.feeds.0.records (takes.consumes.takes takes.feeds.0.records takes.feeds.0.given) takes.consumes.order takes.feeds.0.taken,
       has_read_then g.S.Source.is_read (below c.args.records.now) (below c.loop-records.records) (below c.feed_buffered.new.records) c.loop-records.invariant.1
           (has_read_then g.S.Source.is_read (below c.loop-records.records) (below c.fill.new.self) (below c.feed_buffered.new.records) fills.own_failure
-          (taken_reads g.S.Source (view_of c.fill.new.self) (buffered_in c.fill.new.self) (view_of c.feed_buffered.new.records) takes.takes)),
+          (taken_reads g.S.Source (view_of c.fill.new.self) takes.feeds.0.records (view_of c.feed_buffered.new.records) (takes.consumes.takes takes.feeds.0.records takes.feeds.0.given))),
     )
+
+pub loop-records-smaller : goal.loop-records-smaller
+loop-records-smaller g c =
+    let filled = is_filled g.S.Source c.loop-records.records c.fill.new.self (rw c.if-branch.true at c.in_ok-fill.ensures) in
+    let fed = c.in_ok-feed_buffered.ensures in
+    let has = fed.consumes.takes fed.feeds.0.records fed.feeds.0.given in
+    let all : (view_of c.fill.new.self).buffered ≡ fed.feeds.0.records = has.takes.buffered ∙ ap (λ l. fed.feeds.0.records ++ l) (fed.consumes.left_is ∙ fed.feeds.1.none) ∙ append-nil fed.feeds.0.records in
+    omega (arith, filled.gives.shrinks, has.takes.shrinks, ap length all, some_buffered _ (view_of c.fill.new.self).buffered _ filled.gives.ahead)
+
+pub returns-in_err-feed_buffered-clause-own_failure : goal.returns-in_err-feed_buffered-clause-own_failure
+returns-in_err-feed_buffered-clause-own_failure g c =
+    let filled = is_filled g.S.Source c.loop-records.records c.fill.new.self (rw c.if-branch.true at c.in_ok-fill.ensures) in
+    let gives = c.in_err-feed_buffered.ensures in
+    let given = given_by {A = Unit {0}} g.E.Engine.takes g.E.Engine.is_after g.E.Engine.fault g.E.Engine.settled g.E.Engine.quiet g.E.Engine.wants c.loop-records.engine gives.first c.loop-records.out.output (Err c.in_err-feed_buffered.field-0.0) c.feed_buffered.new.engine gives.last c.feed_buffered.new.out.output gives.feeds in
+    none_kept g.S.Source.is_read _ _ _ ((gives.consumes.takes given.0 given.1).takes.goes ∙ filled.gives.goes ∙ c.loop-records.invariant.0.fed.passes.going)
 
 pub returns-in_err-feed_buffered-clause-feeds : goal.returns-in_err-feed_buffered-clause-feeds
 returns-in_err-feed_buffered-clause-feeds g c =
     let fills = rw c.if-branch.true at c.in_ok-fill.ensures in
     let filled = going_fill g.E.Engine.takes g.E.Engine.is_after g.E.Engine.fault g.E.Engine.settled c.args.engine.now g.S.Source c.args.records.now c.args.out.now.output c.requires.sorted c.requires.total c.requires.none_last c.requires.takes
     c.loop-records.records c.loop-records.engine c.loop-records.out.output c.loop-records.invariant.0 c.fill.new.self (is_filled g.S.Source c.loop-records.records c.fill.new.self fills) fills.order in
-    let fails = failed_among c.in_err-feed_buffered.ensures c.args.engine.now _ filled.stands in
+    let gives = c.in_err-feed_buffered.ensures in
     passed_on (λ r. FeedsRecords (g.E.Engine.settled c.args.engine.now) g.S.Source (λ past. g.E.Engine.is_after c.args.engine.now past c.feed_buffered.new.engine) c.args.records.now c.args.out.now.output r c.feed_buffered.new.records c.feed_buffered.new.out.output) c.from_residual-in_err-feed_buffered.result c.in_err-feed_buffered.field-0.0 c.from_residual-in_err-feed_buffered.ensures.1
     (stops_feeding g.E.Engine.takes g.E.Engine.is_after g.E.Engine.fault g.E.Engine.settled c.args.engine.now g.S.Source c.args.records.now c.args.out.now.output c.requires.sorted c.requires.total c.requires.none_last c.requires.takes
-    c.fill.new.self c.loop-records.engine c.loop-records.out.output filled g.E.Engine.quiet c.in_err-feed_buffered.field-0.0 c.feed_buffered.new.records c.feed_buffered.new.engine c.feed_buffered.new.out.output fails)
+    c.fill.new.self c.loop-records.engine c.loop-records.out.output filled g.E.Engine.quiet g.E.Engine.wants c.in_err-feed_buffered.field-0.0 c.feed_buffered.new.records c.feed_buffered.new.engine c.feed_buffered.new.out.output gives.first gives.last gives.consumes (failed_at gives.feeds c.args.engine.now _ filled.stands))
 
 pub returns-in_err-feed_buffered-clause-reads : goal.returns-in_err-feed_buffered-clause-reads
 returns-in_err-feed_buffered-clause-reads g c = λ never.
     let fills = rw c.if-branch.true at c.in_ok-fill.ensures in
-    let fails = failed_among c.in_err-feed_buffered.ensures c.args.engine.now _ c.loop-records.invariant.0.stands in
+    let gives = c.in_err-feed_buffered.ensures in
+    let given = given_by {A = Unit {0}} g.E.Engine.takes g.E.Engine.is_after g.E.Engine.fault g.E.Engine.settled g.E.Engine.quiet g.E.Engine.wants c.loop-records.engine gives.first c.loop-records.out.output (Err c.in_err-feed_buffered.field-0.0) c.feed_buffered.new.engine gives.last c.feed_buffered.new.out.output gives.feeds in
     has_read_then g.S.Source.is_read (below c.args.records.now) (below c.loop-records.records) (below c.feed_buffered.new.records) c.loop-records.invariant.1
     (has_read_then g.S.Source.is_read (below c.loop-records.records) (below c.fill.new.self) (below c.feed_buffered.new.records) fills.own_failure
-    (taken_reads g.S.Source (view_of c.fill.new.self) (fails.records ++ fails.r ∷ []) (view_of c.feed_buffered.new.records) fails.takes))
+    (taken_reads g.S.Source (view_of c.fill.new.self) given.0 (view_of c.feed_buffered.new.records) (gives.consumes.takes given.0 given.1)))
 
 pub returns-clause-feeds : goal.returns-clause-feeds
 returns-clause-feeds g c =

@@ -21,7 +21,7 @@ consume-requires-2 g c =
     token_is c.args.records.now.sorted c.buffered-beds.result c.advance-masked.new.records gives.taken c.consumed-consumed-2.result c.buffered-beds.ensures.lends gives.given c.consumed-consumed-2.ensures
 
 pub returns-clause-gives : goal.returns-clause-gives
-returns-clause-gives g c = λ run going.
+returns-clause-gives g c = λ start before going.
     let gives = c.advance-masked.ensures.gives in
     let s = going.1 in
     let lines = c.args.lines.now in
@@ -34,7 +34,7 @@ returns-clause-gives g c = λ run going.
     let are = lines_consumed lines first_lines last_lines gives.texts begins gives.passes.left_is gives.passes.all_is gives.passes.given gives.passes.open_is c.consumed-consumed.result c.consumed-consumed.ensures in
     let taken = blocks_given c.args.records.now c.buffered-beds.result c.advance-masked.new.records gives.taken c.consumed-consumed-2.result c.buffered-beds.ensures.lends gives.given c.consumed-consumed-2.ensures in
     let has = blocks_taken g.B.Source c.args.records.now c.consume-2.new.self (count_in c.args.records.now c.consumed-consumed-2.result) gives.taken taken c.buffered-beds.ensures.comes c.consume-2.ensures in
-    gives_both g.A.Source g.B.Source run going.0 lines second c.args.mask.now c.args.out.now.output s
+    gives_both g.A.Source g.B.Source start before going.0 lines second c.args.mask.now c.args.out.now.output s
     first_lines last_lines begins gives.texts parts numbered c.buffered-beds.result c.advance-masked.new.records (lent_are c.args.records.now c.buffered-beds.result c.buffered-beds.ensures.lends) (lent_at c.args.records.now c.buffered-beds.result c.buffered-beds.ensures.lends)
     gives.taken gives.given c.consume.new.self (none_over lines) c.consumed-consumed.result are c.consume.ensures (view_of c.consume-2.new.self) has
     c.advance-masked.result c.advance-masked.new.self c.advance-masked.new.out.output (λ next. gives.comes s.stage s.stands next) c.advance-masked.ensures.stops

@@ -11,7 +11,7 @@ use Rattle.bt_seq.specs.model.Sequences.{sequence_format}
 use Rattle.bt_tool.specs.model.report.MaskReport.{mask_reaches, mask_settles}
 use Rattle.bt_tool.specs.inside.pair.MaskLoop.{line_members, mask_join, mask_pair, nothing_reached}
 use Rattle.bt_tool.proofs.lemmas.running.mask.MaskFacts.{mask_limits, mask_needs}
-use Rattle.bt_tool.proofs.lemmas.running.mask.MaskStart.{as_asked, masks_start}
+use Rattle.bt_tool.proofs.lemmas.running.mask.MaskRounds.{as_asked, masks_start}
 use Rattle.bt_bed.proofs.lemmas.read.good.ReadingLemmas.{good_at_first}
 use Rattle.bt_tool.proofs.lemmas.running.members.CameMembers.{begins_over, fresh_over}
 use Rattle.bt_tool.proofs.lemmas.running.pair.PairMet.{writes_both}

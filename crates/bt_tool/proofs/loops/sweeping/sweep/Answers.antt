@@ -14,9 +14,8 @@ use Rattle.bt_tool.specs.inside.pair.SweepLoop.{config_of, records_pair, sweep_j
 use Rattle.bt_tool.proofs.lemmas.running.pair.PairMet.{writes_both}
 use Rattle.bt_tool.proofs.lemmas.running.pair.PairNear.{near_both}
 use Rattle.bt_tool.proofs.lemmas.running.members.CameMembers.{begins_over, fresh_over}
-use Rattle.bt_tool.proofs.lemmas.running.sweep.SweepBegun.{sweeps_start}
-use Rattle.bt_tool.proofs.lemmas.running.sweep.SweepFacts.{sweep_needs}
-use Rattle.bt_tool.proofs.lemmas.running.sweep.SweepLimits.{sweep_limits}
+use Rattle.bt_tool.proofs.lemmas.running.sweep.SweepRounds.{sweeps_start}
+use Rattle.bt_tool.proofs.lemmas.running.sweep.SweepFacts.{sweep_needs, sweep_limits}
 use Rattle.bt_tool.proofs.lemmas.running.feed.DrivingLemmas.{sorted_start}
 use Rattle.bt_tool.proofs.lemmas.running.whole.OwnFailureLemmas.{bed_no_read, both_own, served_of, swept_no_read}
 use Rattle.bt_tool.proofs.loops.sweeping.sweep.Goals as goal

@@ -1,6 +1,7 @@
 use Rattle.bt_bed.proofs.lemmas.order.ResultLemmas.{passed_on}
 use Rattle.std.proofs.Common.{ℕ, ◌<◌, inl, inr, arith}
-use Rattle.bt_tool.specs.inside.pair.Rounds.{IsLessIfReady, IsLessOrReady, fault_of}
+use Rattle.bt_tool.specs.inside.pair.Rounds.{IsLessIfReady, IsLessOrReady}
+use Rattle.bt_bed.specs.calls.SortedReader.{fault_in}
 use Rattle.bt_tool.proofs.loops.two_inputs.give_all.Goals as goal
 
 -- a round leaves less to be wanted
@@ -13,7 +14,7 @@ loop-engine-init g c = c.requires
 
 pub returns-in_err-fill_wanted : goal.returns-in_err-fill_wanted
 returns-in_err-fill_wanted g c =
-    passed_on (λ r. g.E.TwoInputEngine.ends c.args.engine.now c.args.out.now.output (fault_of r) c.fill_wanted.new.engine c.fill_wanted.new.out.output)
+    passed_on (λ r. g.E.TwoInputEngine.ends c.args.engine.now c.args.out.now.output (fault_in r) c.fill_wanted.new.engine c.fill_wanted.new.out.output)
     c.from_residual.result c.in_err-fill_wanted.field-0.0 c.from_residual.ensures.1
     (c.in_err-fill_wanted.ensures c.args.engine.now c.args.out.now.output c.loop-engine.invariant)
 
@@ -36,7 +37,7 @@ loop-engine-preserved g c =
 pub returns-in_err-give_buffered : goal.returns-in_err-give_buffered
 returns-in_err-give_buffered g c =
     let filled = (rw c.if-branch.true at c.in_ok-fill_wanted.ensures) c.args.engine.now c.args.out.now.output c.loop-engine.invariant in
-    passed_on (λ r. g.E.TwoInputEngine.ends c.args.engine.now c.args.out.now.output (fault_of r) c.give_buffered.new.self c.give_buffered.new.out.output)
+    passed_on (λ r. g.E.TwoInputEngine.ends c.args.engine.now c.args.out.now.output (fault_in r) c.give_buffered.new.self c.give_buffered.new.out.output)
     c.from_residual-in_err-give_buffered.result c.in_err-give_buffered.field-0.0 c.from_residual-in_err-give_buffered.ensures.1
     (c.in_err-give_buffered.ensures c.args.engine.now c.args.out.now.output filled.0)
 

@@ -1,7 +1,7 @@
 use Rattle.std.proofs.Common.{◌≡◌, Some, None, false, sym, ◌∙◌}
 use Rattle.std.specs.Prelude.{string_bytes}
 use Rattle.bt_tool.specs.model.usage.Table.{fits, takes}
-use Rattle.bt_tool.specs.calls.words.TableLent.{table_lent}
+use Rattle.bt_tool.specs.calls.words.Lent.{table_lent}
 use Rattle.bt_tool.proofs.lemmas.options.Reading.{words-from, words-pair, unknown-at, missing-at, bad-at}
 use Rattle.bt_tool.proofs.options.item.item_at.Goals as goal
 

@@ -1,8 +1,8 @@
 use Rattle.std.proofs.Common.{Some, sym, ◌∙◌, ap}
 use Rattle.std.specs.Prelude.{◌||◌}
 use Rattle.bt_tool.specs.calls.words.Given.{items_in}
+use Rattle.bt_tool.specs.calls.words.Lent.{table_lent}
 use Rattle.bt_tool.specs.model.usage.Options.{has_exclusive, overwrites, reads_twice}
-use Rattle.bt_tool.specs.calls.words.TableLent.{table_lent}
 use Rattle.bt_tool.proofs.lemmas.planning.TableLemmas.{together-exclusive, together-none, together-twice}
 use Rattle.bt_tool.proofs.planning.checking.check.Goals as goal
 

@@ -1,8 +1,7 @@
 use Rattle.std.proofs.Common.{sym, ◌∙◌}
 use Rattle.bt_tool.specs.calls.words.Given.{items_in}
-use Rattle.bt_tool.specs.calls.words.NamesLent.{names_lent}
+use Rattle.bt_tool.specs.calls.words.Lent.{names_lent, table_lent}
 use Rattle.bt_tool.specs.model.usage.Options.{has_exclusive, overwrites}
-use Rattle.bt_tool.specs.calls.words.TableLent.{table_lent}
 use Rattle.bt_tool.proofs.lemmas.planning.TableLemmas.{exclusive-lent, or-first, or-second}
 use Rattle.bt_tool.proofs.planning.checking.excludes.Goals as goal
 

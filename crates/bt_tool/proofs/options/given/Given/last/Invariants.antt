@@ -1,9 +1,8 @@
 use Rattle.std.proofs.Common.{length, ◌-◌}
 use Rattle.std.specs.Prelude.{option_map}
 use Rattle.bt_tool.proofs.lemmas.options.Reading.{Reads}
-use Rattle.bt_tool.specs.calls.words.ItemLent.{item_lent}
+use Rattle.bt_tool.specs.calls.words.Lent.{item_lent, table_lent}
 use Rattle.bt_tool.specs.calls.words.Plan.{words_seen}
-use Rattle.bt_tool.specs.calls.words.TableLent.{table_lent}
 use Rattle.bt_tool.proofs.options.given.Given.last.Given as goal
 
 abbrev pub invariant-loop-at : goal.invariant-loop-at
