@@ -1,5 +1,4 @@
 -- Words of contracts inside of the crate.
-pub mod Coming
 pub mod ConvertSteps
 pub mod Feeding
 pub mod FeedsBuffered

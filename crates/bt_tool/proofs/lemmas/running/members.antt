@@ -1,7 +1,9 @@
 -- Lemmas on running, members.
 pub mod BlockMembers
 pub mod CameMembers
+pub mod Coming
 pub mod CursorLemmas
+pub mod Filled
 pub mod HandedLemmas
 pub mod LineMembers
 pub mod LinePassing

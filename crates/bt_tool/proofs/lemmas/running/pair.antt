@@ -1,5 +1,7 @@
 -- Lemmas on running, pair.
 pub mod BufferedLemmas
+pub mod Following
+pub mod Met
 pub mod PairMet
 pub mod PairNear
 pub mod PairSettles

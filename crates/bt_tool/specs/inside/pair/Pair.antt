@@ -1,7 +1,6 @@
 -- Two readers of members, and what a command makes of the members of the first by those
 -- of the second.
-use Rattle.std.specs.Prelude.{◌≡◌, ℕ, ◌^◌, ◌<◌, ◌||◌, Bool, true, List, ◌++◌, flat_map}
-use Rattle.std.specs.Prelude.{Option, None, is_none, option_map}
+use Rattle.std.specs.Prelude.{◌≡◌, ℕ, ◌^◌, ◌<◌, ◌||◌, Bool, true, List, ◌++◌, flat_map, Option, None, is_none, option_map}
 use Rattle.std.specs.List.{list_all}
 use Rattle.bt_lines.specs.declared.device.Source.{Ghosts as Source}
 use Rattle.bt_lines.specs.model.Fault.{FaultValue}
@@ -59,23 +58,6 @@ abbrev pub item_ahead : {S A State : Type 0} → MemberReader S A State → Opti
 item_ahead reader = option_map (λ m. m.item) (ahead_in reader)
 
 module _ {X Y : Type 0} (join : JoinDef X Y) where
-  -- what the good members of the second input, and its fault, make of the members of the first
-  abbrev pub rule_of : List X → Good Y → Rule X ℕ FaultValue
-  rule_of all second = record {
-    decided = λ x. is_none second.fault || join.decided x (items_in second);
-    lines = λ x. join.bytes x (items_in second);
-    fault = second.fault;
-    last = or_else (join.last all second.members) second.fault;
-  }
-
-  -- what is written of two inputs, and the fault that is reported
-  abbrev pub met_whole : Good X → Good Y → Met ℕ FaultValue
-  met_whole first second = join_report (rule_of (items_in first) second) (items_in first) first.fault
-
-  -- the same, by what the first meets of the second
-  abbrev pub met_by : Good X → Good Y → Met ℕ FaultValue
-  met_by first second = met_whole first (join.limited (items_in first) second)
-
   -- whatever the second input still has, these members of the first are decided and have these bytes
   pub record SettlesPair (written : List X) (bytes : List ℕ) (seen : List Y)
       (ended : Bool) : Type 0 where

@@ -30,7 +30,8 @@ use Rattle.bt_tool.specs.inside.feed.ConvertSteps.{LineRefused, LineUnwritten, L
 use Rattle.bt_tool.specs.model.report.Behaviour.{of_bamtobed, of_members}
 use Rattle.bt_tool.specs.calls.run.Writing.{WritesAlone}
 use Rattle.bt_tool.specs.inside.feed.Feeding.{FeedsAll, FeedsUpTo, IsFresh}
-use Rattle.bt_tool.specs.inside.feed.Passed.{IsStopped, KeepsOwnFault, Passes, member_items}
+use Rattle.bt_tool.proofs.lemmas.running.members.Filled.{IsStopped}
+use Rattle.bt_tool.specs.inside.feed.Passed.{KeepsOwnFault, Passes, member_items}
 use Rattle.bt_tool.specs.model.report.RecordReport.{report_by}
 use Rattle.bt_tool.specs.calls.run.OwnReads.{IsOwnFailure, TellsOwnReads}
 use Rattle.bt_tool.specs.model.report.Written.{Written}

@@ -38,7 +38,7 @@ use Rattle.bt_tool.specs.calls.run.FaultSource.{IsFaultButWrite, IsReported, IsW
 use Rattle.bt_tool.specs.model.report.Behaviour.{of_members}
 use Rattle.bt_tool.specs.model.report.Inputs.{Holds, HoldsIf}
 use Rattle.bt_tool.specs.calls.run.Writing.{WritesAlone}
-use Rattle.bt_tool.specs.inside.feed.Coming.{Came}
+use Rattle.bt_tool.proofs.lemmas.running.members.Coming.{Came}
 use Rattle.bt_tool.specs.inside.feed.Feeding.{StopCause, CutsLines, PutsFront, PutsLines, FeedsAll, FeedsUpTo, GoesOn, TookButBlock}
 use Rattle.bt_tool.specs.inside.feed.Passed.{IsReadFor, member_items}
 use Rattle.bt_tool.specs.model.report.RecordReport.{Report, members_report, members_settle, report_by}

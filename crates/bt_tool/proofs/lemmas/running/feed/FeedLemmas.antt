@@ -36,7 +36,8 @@ use Rattle.bt_runs.specs.calls.Engine.{FailsAtGiven, FeedsBatch, NotTaken, Takes
 use Rattle.bt_tool.specs.calls.run.FaultSource.{IsPutTo}
 use Rattle.bt_tool.specs.inside.feed.Feeding.{HasPut, AreInOrder, GoesOn, IsFresh, Took, TookButBlock, FeedsAll, FeedsUpTo}
 use Rattle.bt_tool.specs.inside.feed.FeedsBuffered.{ConsumesGiven}
-use Rattle.bt_tool.specs.inside.feed.Passed.{HasTaken, IsFilled, IsOver, IsReadFor, IsStopped, Passes, member_items}
+use Rattle.bt_tool.specs.inside.feed.Passed.{HasTaken, IsReadFor, Passes, member_items}
+use Rattle.bt_tool.proofs.lemmas.running.members.Filled.{IsFilled, IsOver, IsStopped}
 use Rattle.bt_tool.proofs.lemmas.running.feed.ComeLemmas.{begins_with}
 use Rattle.bt_tool.proofs.lemmas.running.members.MemberLemmas.{bytes_more, items_take, passes_all, passes_end, passes_fill, passes_start, passes_stop, passes_take, read_alone, read_at_stop, read_before, read_here}
 use Rattle.bt_tool.proofs.lemmas.running.members.PassedLemmas.{line_going, said_in_order}

@@ -10,7 +10,7 @@ use Rattle.bt_lines.specs.calls.Output.{Output, block_size}
 use Rattle.bt_lines.specs.declared.fault.Input.TheVariants.{First}
 use Rattle.bt_bed.specs.model.order.Genome.{Entry}
 use Rattle.bt_tool.specs.model.report.Behaviour.{Behaviour, behaviour_of}
-use Rattle.bt_tool.specs.inside.feed.Coming.{IsWhole}
+use Rattle.bt_tool.proofs.lemmas.running.members.Coming.{IsWhole}
 use Rattle.bt_tool.specs.model.report.Inputs.{HandsUpToIf, Holds, HoldsIf, ServesIf}
 use Rattle.bt_tool.specs.model.report.RecordReport.{Report}
 use Rattle.bt_tool.specs.calls.run.FaultSource.{IsFaultButWrite, IsOfInput, IsPutTo, IsReported, IsWithin, ReadsNoFurther, TellsInput}

@@ -30,7 +30,8 @@ use Rattle.bt_tool.specs.model.report.MaskReport.{is_fasta_kind}
 use Rattle.bt_tool.specs.declared.loops.masking.MaskRun.{MaskRun}
 use Rattle.bt_tool.specs.inside.pair.MaskLoop.{MaskEnds, Masks, leaves_some, line_members, nothing_reached, stage_of}
 use Rattle.bt_tool.specs.inside.pair.Pair.{JoinDef, Pair, SettlesPair, item_ahead}
-use Rattle.bt_tool.specs.inside.pair.Progress.{Follows, PairStage, TakesFurther}
+use Rattle.bt_tool.proofs.lemmas.running.pair.Following.{Follows, TakesFurther}
+use Rattle.bt_tool.specs.inside.pair.Progress.{PairStage}
 use Rattle.bt_tool.specs.inside.pair.Endings.{AsksFor, IsKnown}
 use Rattle.bt_tool.specs.inside.feed.Passed.{HasTaken}
 use Rattle.bt_tool.proofs.lemmas.running.feed.FaultLemmas.{line_no_read}

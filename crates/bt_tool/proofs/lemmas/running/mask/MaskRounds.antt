@@ -23,7 +23,8 @@ use Rattle.bt_sweep.specs.declared.sweep.want.Want.{Want}
 use Rattle.bt_sweep.specs.declared.sweep.want.Want.TheVariants.{A as WantA, B as WantB, Nothing as WantNothing}
 use Rattle.bt_tool.specs.declared.loops.masking.MaskRun.{MaskRun}
 use Rattle.bt_tool.specs.calls.run.OwnReads.{TellsNoRead}
-use Rattle.bt_tool.specs.inside.feed.Passed.{IsOwnFault, KeepsOwnFault, IsFilled, IsOver}
+use Rattle.bt_tool.specs.inside.feed.Passed.{IsOwnFault, KeepsOwnFault}
+use Rattle.bt_tool.proofs.lemmas.running.members.Filled.{IsFilled, IsOver}
 use Rattle.bt_tool.specs.inside.pair.MaskLoop.{AdvancesMask, GoesOn, MaskComes, MaskEnds, MaskIsOver, is_mask_ready, left_to_mask, wanted_by, IsMaskReady, Masks, mask_left, mask_rounds, line_members, mask_join, mask_pair, nothing_reached}
 use Rattle.bt_tool.specs.inside.pair.Rounds.{IsLessOrReady, IsLessIfReady, LeadsTo}
 use Rattle.bt_tool.proofs.lemmas.running.members.BlockMembers.{block_filled, block_over, block_stopped, blocks_going}

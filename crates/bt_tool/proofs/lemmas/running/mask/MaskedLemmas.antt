@@ -41,7 +41,7 @@ use Rattle.bt_tool.specs.inside.pair.MaskLoop.{AreOwned, MaskEnds, Masks, begun_
 use Rattle.bt_tool.specs.inside.pair.Pair.{JoinDef, Pair, SettlesPair, item_ahead}
 use Rattle.bt_tool.specs.inside.pair.Endings.{AsksFor, IsKnown}
 use Rattle.bt_tool.specs.inside.pair.Progress.{Comes}
-use Rattle.bt_tool.specs.inside.feed.Passed.{IsFilled, IsOver, IsStopped}
+use Rattle.bt_tool.proofs.lemmas.running.members.Filled.{IsFilled, IsOver, IsStopped}
 use Rattle.bt_tool.proofs.lemmas.running.members.LineMembers.{gives_over, gives_unread, passes_made, wrong_is_text}
 use Rattle.bt_tool.proofs.lemmas.running.mask.MaskGiven.{ahead_first, first_of}
 use Rattle.bt_tool.proofs.lemmas.running.mask.MaskFacts.{says_of_blocks}

@@ -21,7 +21,8 @@ use Rattle.bt_bed.specs.calls.Reading.{BeginsComing, Takes}
 use Rattle.bt_bed.specs.calls.SortedReader.{view_with}
 use Rattle.bt_bed.specs.declared.read.batch.Batch.{Batch}
 use Rattle.bt_bed.specs.declared.read.blocks.Blocks.{Blocks}
-use Rattle.bt_tool.specs.inside.feed.Passed.{HasTaken, IsFilled, IsOver, IsStopped}
+use Rattle.bt_tool.specs.inside.feed.Passed.{HasTaken}
+use Rattle.bt_tool.proofs.lemmas.running.members.Filled.{IsFilled, IsOver, IsStopped}
 use Rattle.bt_tool.proofs.lemmas.running.members.PassedLemmas.{consumed_of, or_none}
 
 over_at : (state : State) → ended_at state ≡ true → (lends_at state ≡ false) × (open_at state ≡ false)

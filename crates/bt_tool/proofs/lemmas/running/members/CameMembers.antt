@@ -14,7 +14,7 @@ use Rattle.bt_bed.specs.model.feature.LineKind.{fault_at_line}
 use Rattle.bt_bed.specs.model.input.Good.{Format, Good, Member, good, good_handed, or_else}
 use Rattle.bt_bed.specs.model.input.GoodLines.{IsBeyond}
 use Rattle.bt_bed.specs.calls.Reading.{MemberReader, good_coming}
-use Rattle.bt_tool.specs.inside.feed.Coming.{Came}
+use Rattle.bt_tool.proofs.lemmas.running.members.Coming.{Came}
 use Rattle.bt_tool.specs.calls.run.FaultSource.{TellsInput}
 use Rattle.bt_tool.specs.inside.feed.Feeding.{IsFresh}
 use Rattle.bt_lines.specs.declared.reader.line_reader.LineReader.{LineReader}

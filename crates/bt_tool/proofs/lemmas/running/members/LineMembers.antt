@@ -25,7 +25,8 @@ use Rattle.bt_bed.specs.calls.Reading.{AreSaid, MemberReader, first_from, good_b
 use Rattle.bt_seq.specs.calls.GivenLines.{SayEach}
 use Rattle.bt_seq.specs.model.Sequences.{Reached, SequenceLine, is_header, line_says, may_stand, sequence_format}
 use Rattle.bt_tool.specs.inside.pair.MaskLoop.{line_members}
-use Rattle.bt_tool.specs.inside.feed.Passed.{ComeFirst, HasTaken, IsOver, IsReadFor, IsStopped, Passes, StopsAfter}
+use Rattle.bt_tool.specs.inside.feed.Passed.{ComeFirst, HasTaken, IsReadFor, Passes, StopsAfter}
+use Rattle.bt_tool.proofs.lemmas.running.members.Filled.{IsOver, IsStopped}
 use Rattle.bt_tool.proofs.lemmas.running.feed.ComeLemmas.{lines_on, up_to}
 use Rattle.bt_tool.proofs.lemmas.running.members.MemberLemmas.{members_low}
 

@@ -27,7 +27,8 @@ use Rattle.bt_bed.specs.model.input.GoodLines.{IsBeyond}
 use Rattle.bt_bed.specs.model.feature.LineKind.{fault_at_line}
 use Rattle.bt_bed.specs.calls.Reading.{AnswersFault, AreSaid, Cause, MemberReader, Remains, ahead_in, first_from, good_coming, members_from, state_behind, with_members}
 use Rattle.bt_tool.specs.inside.feed.Feeding.{IsFresh}
-use Rattle.bt_tool.specs.inside.feed.Passed.{AreAll, ComeFirst, HasFaultBehind, HasTaken, IsFilled, IsOver, IsReadFor, IsStopped, LacksMemory, Passes, StopsAfter, member_items}
+use Rattle.bt_tool.specs.inside.feed.Passed.{AreAll, ComeFirst, HasFaultBehind, HasTaken, IsReadFor, LacksMemory, Passes, StopsAfter, member_items}
+use Rattle.bt_tool.proofs.lemmas.running.members.Filled.{IsFilled, IsOver, IsStopped}
 use Rattle.bt_bed.proofs.lemmas.read.good.CameLemmas.{near_pass}
 use Rattle.bt_tool.proofs.lemmas.running.feed.FaultLemmas.{line_no_read}
 use Rattle.bt_tool.proofs.lemmas.running.feed.ComeLemmas.{begins_beyond, begins_with, come_none, cuts_both, lines_on, near_from_start, none_passed, up_to, whole_with}

@@ -25,7 +25,8 @@ use Rattle.bt_bed.specs.declared.read.records.Records.{Records}
 use Rattle.bt_bed.proofs.lemmas.read.batch.RecordsLemmas.{said_behind}
 use Rattle.bt_bed.proofs.lemmas.order.ContiguousLemmas.{last_of-push, grows_placed}
 use Rattle.bt_tool.specs.inside.feed.Feeding.{AreInOrder}
-use Rattle.bt_tool.specs.inside.feed.Passed.{HasTaken, IsFilled, IsOver, IsStopped}
+use Rattle.bt_tool.specs.inside.feed.Passed.{HasTaken}
+use Rattle.bt_tool.proofs.lemmas.running.members.Filled.{IsFilled, IsOver, IsStopped}
 
 pub or_none : (a b : Option FaultValue) → or_else a b ≡ None → b ≡ None
 or_none None b e = e

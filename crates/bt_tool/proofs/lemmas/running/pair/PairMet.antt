@@ -22,11 +22,12 @@ use Rattle.bt_bed.proofs.lemmas.laws.MeetingLemmas.{all_stop, all_written, met_f
 use Rattle.bt_tool.specs.model.report.Behaviour.{Behaviour}
 use Rattle.bt_tool.specs.model.report.SweepReport.{met_report}
 use Rattle.bt_tool.specs.calls.run.Writing.{WritesBy}
-use Rattle.bt_tool.specs.inside.feed.Coming.{Came}
+use Rattle.bt_tool.proofs.lemmas.running.members.Coming.{Came}
 use Rattle.bt_tool.specs.calls.run.FaultSource.{IsFaultButWrite, IsReported, IsWithin, ReadsNoFurther, TellsDevice, TellsInput}
 use Rattle.bt_tool.specs.inside.feed.Feeding.{PutsFront, PutsLines, member_items}
 use Rattle.bt_tool.specs.model.report.Inputs.{HandsUpTo, Holds, HoldsIf, Reads, ReadsIf, or_empty}
-use Rattle.bt_tool.specs.inside.pair.Pair.{JoinDef, MayCome, Pair, Serves, met_by, met_whole, rule_of}
+use Rattle.bt_tool.specs.inside.pair.Pair.{JoinDef, MayCome, Pair, Serves}
+use Rattle.bt_tool.proofs.lemmas.running.pair.Met.{met_by, met_whole, rule_of}
 use Rattle.bt_tool.specs.inside.pair.Endings.{PairEnds, FirstFails, FirstStops, InputsEnd, LimitStops, RestStops, SecondFails, SecondStops, Why}
 use Rattle.bt_tool.proofs.lemmas.running.members.CameMembers.{BeginsAt, at_whole, came_cut, came_whole, is_known, says_fault, tells_fault, text_known}
 use Rattle.bt_tool.proofs.lemmas.running.feed.FaultLemmas.{memory_no_write, tells_no_write}

@@ -12,9 +12,11 @@ use Rattle.bt_bed.specs.model.input.Good.{Member}
 use Rattle.bt_bed.specs.calls.Reading.{MemberReader, first_from, good_coming, members_from}
 use Rattle.bt_tool.specs.inside.feed.Feeding.{HasPut, member_items}
 use Rattle.bt_tool.specs.inside.pair.Pair.{JoinDef, Pair, SettlesPair, item_ahead}
-use Rattle.bt_tool.specs.inside.pair.Progress.{Comes, Follows, PairStage, TakesFurther, firsts_given}
+use Rattle.bt_tool.specs.inside.pair.Progress.{Comes, PairStage, firsts_given}
+use Rattle.bt_tool.proofs.lemmas.running.pair.Following.{Follows, TakesFurther}
 use Rattle.bt_tool.specs.inside.pair.Endings.{HasNoMore, IsKnown}
-use Rattle.bt_tool.specs.inside.feed.Passed.{AreAll, HasTaken, IsFilled, IsOver, IsReadFor, Passes}
+use Rattle.bt_tool.specs.inside.feed.Passed.{AreAll, HasTaken, IsReadFor, Passes}
+use Rattle.bt_tool.proofs.lemmas.running.members.Filled.{IsFilled, IsOver}
 use Rattle.bt_tool.proofs.lemmas.running.feed.FeedLemmas.{put_more, put_none}
 use Rattle.bt_tool.proofs.lemmas.running.members.MemberLemmas.{ended_after_all, items_from, passes_all, passes_end, passes_fill, passes_take, read_before, read_here}
 use Rattle.bt_tool.proofs.lemmas.running.pair.PairSettles.{seen_by, settles_close, settles_end, settles_nothing}

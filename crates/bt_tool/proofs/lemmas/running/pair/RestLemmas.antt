@@ -13,7 +13,8 @@ use Rattle.bt_lines.specs.declared.fault.Kind.{Kind}
 use Rattle.bt_lines.proofs.lemmas.reader.lines.ReaderLemmas.{hands_none, hands_both}
 use Rattle.bt_bed.specs.model.input.Good.{Member}
 use Rattle.bt_bed.specs.calls.Reading.{MemberReader, ahead_in, first_from, members_from}
-use Rattle.bt_tool.specs.inside.feed.Passed.{HasTaken, IsFilled, IsOver, IsStopped, Passes}
+use Rattle.bt_tool.specs.inside.feed.Passed.{HasTaken, Passes}
+use Rattle.bt_tool.proofs.lemmas.running.members.Filled.{IsFilled, IsOver, IsStopped}
 use Rattle.bt_tool.specs.inside.pair.SweepLoop.{ChecksAll, ChecksUpTo, IsReadOn}
 use Rattle.bt_tool.proofs.lemmas.running.feed.ComeLemmas.{up_to}
 use Rattle.bt_tool.proofs.lemmas.running.members.MemberLemmas.{fails_before_end, passes_all, passes_end, passes_fill, passes_stop, passes_take}

@@ -49,7 +49,8 @@ use Rattle.bt_tool.specs.declared.loops.sweeping.SweepConfig.{SweepConfig}
 use Rattle.bt_tool.specs.declared.loops.sweeping.SweepRun.{SweepRun}
 use Rattle.bt_tool.specs.inside.feed.Feeding.{member_items}
 use Rattle.bt_tool.specs.inside.pair.Pair.{JoinDef, Pair, SettlesPair, item_ahead}
-use Rattle.bt_tool.specs.inside.pair.Progress.{Comes, TakesFurther}
+use Rattle.bt_tool.specs.inside.pair.Progress.{Comes}
+use Rattle.bt_tool.proofs.lemmas.running.pair.Following.{TakesFurther}
 use Rattle.bt_tool.specs.inside.pair.Endings.{AsksFor, IsKnown, PairEnds}
 use Rattle.bt_bed.specs.calls.SortedReader.{fault_in}
 use Rattle.bt_tool.specs.inside.pair.SweepLoop.{AreBegun, AreWithin, ReadsRest, Sweeps, config_of, records_pair, stage_of, sweep_join, sweep_rounds}
