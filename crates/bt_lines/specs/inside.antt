@@ -1,7 +1,6 @@
 -- Words of contracts inside of the crate.
 pub mod Copying
 pub mod Digits
-pub mod Newline
 pub mod ReadBuffer
 pub mod ReaderState
 pub mod Shape

@@ -26,17 +26,12 @@ MoreComes PastBound left was_failed is_failed told bytes old unread taken =
 
 -- a byte past the bound isn't counted
 abbrev pub uncounted : Stop → ℕ
-uncounted LineFeed = 0
-uncounted End = 0
-uncounted Failed = 0
 uncounted TooLong = 1
-uncounted NoMemory = 0
+uncounted _ = 0
 
 abbrev pub uncounted_more : More → ℕ
-uncounted_more Bytes = 0
-uncounted_more NoBytes = 0
-uncounted_more BadRead = 0
 uncounted_more PastBound = 1
+uncounted_more _ = 0
 
 module _ {S : Type 0} (device : Source S) where
   -- more bytes were requested
@@ -53,18 +48,15 @@ module _ {S : Type 0} (device : Source S) where
 module _ {S : Type 0} (IsRead : S → Option ℕ → S → Type 0) where
   -- the read for more bytes gave as many as are counted, or failed
   abbrev pub IsCounted : More → S → ℕ → S → ℕ → Type 0
-  IsCounted Bytes old old_taken new taken = ReadsCounted IsRead old old_taken new taken
-  IsCounted NoBytes old old_taken new taken = ReadsCounted IsRead old old_taken new taken
   IsCounted BadRead old old_taken new taken = ReadsFail IsRead old new
   IsCounted PastBound old old_taken new taken = ReadsCounted IsRead old old_taken new (suc taken)
+  IsCounted _ old old_taken new taken = ReadsCounted IsRead old old_taken new taken
 
   -- the reads up to a stop gave as many bytes as are counted, or the last one failed
   abbrev pub AreCounted : Stop → S → ℕ → S → ℕ → Type 0
-  AreCounted LineFeed old old_taken new taken = ReadsCounted IsRead old old_taken new taken
-  AreCounted End old old_taken new taken = ReadsCounted IsRead old old_taken new taken
   AreCounted Failed old old_taken new taken = ReadsFail IsRead old new
   AreCounted TooLong old old_taken new taken = ReadsCounted IsRead old old_taken new (suc taken)
-  AreCounted NoMemory old old_taken new taken = ReadsCounted IsRead old old_taken new taken
+  AreCounted _ old old_taken new taken = ReadsCounted IsRead old old_taken new taken
 
 -- a last piece with a line feed; an empty one is no line
 abbrev pub closed : List ℕ → List ℕ

@@ -5,9 +5,10 @@ pub(crate) mod script_sink;
 pub(crate) mod script_source;
 pub(crate) mod to_write;
 
-ghost use Rattle.std.specs.Prelude.{◌≡◌, ℕ, ◌<◌, ◌≤◌, Bool, true, Option, Some, None, List, length, IfOk, OnOk, OnErr};
+ghost use Rattle.std.specs.Prelude.{◌≡◌, ℕ, ◌<◌, ◌≤◌, Bool, true, false, Option, Some, None, List, length, IfNone, IfSome, IfOk, OnOk, OnErr};
 ghost use Rattle.std.specs.Io.KnownBytes.{Keeps, ReadConsumes, WriteAppends};
 ghost use Rattle.bt_lines.specs.calls.Device.{TellsEnd};
+ghost use Rattle.bt_lines.specs.calls.Script.{is_spent, let_through};
 
 /// A call of a device failed. Which error it was stays with the device.
 #[derive(Clone, Copy, Debug, PartialEq, Eq)]
@@ -75,4 +76,19 @@ pub trait Sink {
     /// Whether a write or a flush has failed. Once true, it stays so.
     fn failed(&self) -> bool
         ensures { result ≡ has_failed self.now };
+}
+
+// How many of `most` bytes a script moves after `moved` others, or none if its good bytes are used up.
+pub(crate) fn let_through(good: Option<usize>, moved: usize, most: usize) -> Option<usize>
+    ensures spent { IfNone result (is_spent good moved ≡ true) }
+    ensures works { IfSome result (λ n. is_spent good moved ≡ false) }
+    ensures count { IfSome result (λ n. n ≡ let_through good moved most) }
+    ensures within { IfSome result (λ n. n ≤ most) }
+    ensures some { IfSome result (λ n. 0 < most → 0 < n) }
+{
+    match good {
+        Some(good) if good <= moved => None,
+        Some(good) => Some(most.min(good - moved)),
+        None => Some(most),
+    }
 }

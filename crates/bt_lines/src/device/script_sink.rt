@@ -4,8 +4,7 @@ ghost use Rattle.std.specs.Prelude.{◌≡◌, ℕ, ◌+◌, ◌<◌, ◌≤◌,
 ghost use Rattle.std.specs.Io.KnownBytes.{Keeps, WriteAppends};
 ghost use Rattle.bt_lines.specs.calls.Script.{is_spent, takes_of};
 
-use crate::device::script_source::let_through;
-use crate::device::{DeviceFailed, Sink};
+use crate::device::{DeviceFailed, Sink, let_through};
 use std::alloc::Global;
 use std::marker::Model;
 

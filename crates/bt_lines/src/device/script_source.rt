@@ -5,7 +5,7 @@ ghost use Rattle.std.specs.Io.KnownBytes.{ReadConsumes};
 ghost use Rattle.bt_lines.specs.calls.Device.{TellsEnd};
 ghost use Rattle.bt_lines.specs.calls.Script.{IsScriptRead, is_spent, hands_over, let_through};
 
-use crate::device::{DeviceFailed, Source};
+use crate::device::{DeviceFailed, Source, let_through};
 use std::marker::Model;
 
 /// Hands over the bytes of a text, at most `step` of them a call, and fails once `good` bytes were
@@ -72,21 +72,6 @@ impl<'a> ScriptSource<'a> {
         ensures { result ≡ self.now.given }
     {
         self.given
-    }
-}
-
-// How many of `most` bytes a script moves after `moved` others, or none if its good bytes are used up.
-pub(crate) fn let_through(good: Option<usize>, moved: usize, most: usize) -> Option<usize>
-    ensures spent { IfNone result (is_spent good moved ≡ true) }
-    ensures works { IfSome result (λ n. is_spent good moved ≡ false) }
-    ensures count { IfSome result (λ n. n ≡ let_through good moved most) }
-    ensures within { IfSome result (λ n. n ≤ most) }
-    ensures some { IfSome result (λ n. 0 < most → 0 < n) }
-{
-    match good {
-        Some(good) if good <= moved => None,
-        Some(good) => Some(most.min(good - moved)),
-        None => Some(most),
     }
 }
 

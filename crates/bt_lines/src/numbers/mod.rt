@@ -107,6 +107,7 @@ fn other_bits(bytes: u8x8) -> u64
 }
 
 // The number that eight digits denote, of their values in the bytes of one number, the first in the lowest.
+#[tactic(auto, using(crate::proofs::lemmas::numbers::EightLemmas::joined_value))]
 #[inline(always)]
 fn joined(ones: u64) -> u64
     requires { ones ≤ 0x0909_0909_0909_0909 }

@@ -131,10 +131,10 @@ impl<S: Source> LineReader<S> {
         ensures* after { sem 𝓛 (Rests (the_row S.row) self.entry (λ new.
             NextLine S.Source self.old result new)) }
     {
-        if self.cuts_line() {
+        if self.cut_line() {
             return Ok(Some(self.last_line()));
         }
-        if !self.moves_on() {
+        if !self.move_on() {
             return Err(self.fault());
         }
         Ok(self.line())
@@ -204,7 +204,7 @@ impl<S: Source> LineReader<S> {
 
     // Moves on to the next line if one is buffered, and else does nothing.
     #[inline(always)]
-    fn cuts_line(&mut self) -> bool
+    fn cut_line(&mut self) -> bool
         ensures cut { result ≡ true → CutsFirst S.Source self.old self.new }
         ensures at { result ≡ true → IsSome (line_at self.new) }
         ensures reads_nothing { result ≡ true → HasRead S.is_read self.old self.new }
@@ -225,7 +225,7 @@ impl<S: Source> LineReader<S> {
     // cleared for each line, also for buffered ones.
     #[cold]
     #[inline(never)]
-    fn moves_on(&mut self) -> bool
+    fn move_on(&mut self) -> bool
         requires { complete self.old.buffer ≡ [] }
         ensures moved { result ≡ true → Moves S.Source self.old self.new }
         ensures stopped { result ≡ false → Stops S.Source self.old self.new }
@@ -241,7 +241,7 @@ impl<S: Source> LineReader<S> {
     {
         match self.fill() {
             Ok(true) => {
-                self.cuts_line();
+                self.cut_line();
                 true
             }
             Ok(false) => true,

@@ -41,6 +41,7 @@ pub(crate) enum More {
 }
 
 // Makes at least one line buffered, or the end, if none is. It counts all bytes that it takes.
+#[tactic(auto, using(crate::proofs::lemmas::reader::block::ReadsLemmas::counts_then))]
 pub(crate) fn read_lines<S: Source>(
     source: &mut S,
     buffer: &mut ReadBuffer,
@@ -70,6 +71,7 @@ pub(crate) fn read_lines<S: Source>(
 }
 
 // Reads on in a line that fills the block: moves it to a vector, and reads up to its line feed.
+#[tactic(auto, using(crate::proofs::lemmas::reader::block::ReadsLemmas::counts_then))]
 fn read_long<S: Source>(source: &mut S, buffer: &mut ReadBuffer, taken: &mut u64) -> Stop
     requires counted { taken.old < 2 ^ 63 }
     requires none { complete buffer.old ≡ [] }
@@ -105,6 +107,7 @@ fn read_long<S: Source>(source: &mut S, buffer: &mut ReadBuffer, taken: &mut u64
 }
 
 // Reads more bytes, and one past the bound only once the bound is reached.
+#[tactic(auto, using(crate::proofs::lemmas::reader::block::ReadsLemmas::fails_once))]
 fn ask_more<S: Source>(source: &mut S, buffer: &mut ReadBuffer, taken: &mut u64) -> More
     requires counted { taken.old < 2 ^ 63 }
     requires none { complete buffer.old ≡ [] }

@@ -126,7 +126,7 @@ impl<K: Sink> Out<K> {
 
     // Puts two short pieces, as `try_put_pair` does, and no others. It is out of line, and calls nothing.
     #[inline(never)]
-    pub(crate) fn hold_short(&mut self, piece: &[u8], next: &[u8]) -> bool
+    pub(crate) fn try_put_short(&mut self, piece: &[u8], next: &[u8]) -> bool
         ensures held { result ≡ true → PutsAll self.old.output (piece.now ++ next.now) self.new.output }
         ensures unasked { self.new.sink ≡ self.old.sink }
         ensures unchanged { result ≡ false → self.new.output ≡ self.old.output }

@@ -37,7 +37,7 @@ pub fn put_line<K: Sink>(text: &[u8], end: &[u8], out: &mut Out<K>) -> Result<()
 pub fn put_both<K: Sink>(piece: &[u8], next: &[u8], out: &mut Out<K>) -> Result<(), Fault>
     ensures { Puts out.old.output (piece.now ++ next.now) result out.new.output }
 {
-    if out.hold_short(piece, next) || put_across(piece, next, out) {
+    if out.try_put_short(piece, next) || put_across(piece, next, out) {
         return Ok(());
     }
     Err(write_failed())

@@ -1,5 +1,5 @@
 -- What one put after another does to an output.
-use Rattle.std.proofs.Common.{◌≡◌, ◌≤◌, ℕ, Bool, length, subst, List, [], ◌∷◌, ◌++◌, Option, None, Some, Result, Ok, Err, true, false, refl, sym, ap, ◌∙◌, append_assoc, append-nil}
+use Rattle.std.proofs.Common.{◌≡◌, ◌≤◌, ◌+◌, arith, length-append, ℕ, Bool, length, subst, List, [], ◌∷◌, ◌++◌, Option, None, Some, Result, Ok, Err, true, false, refl, sym, ap, ◌∙◌, append_assoc, append-nil}
 use Rattle.std.specs.Prelude.{OnOk, OnErr, IfErr, IsErr, flat_map}
 use Rattle.std.proofs.lemmas.Grind.{flat_map-append}
 use Rattle.std.proofs.KnownBytes.{Appends-trans, Appends-nil}
@@ -81,7 +81,7 @@ held_further : (took : Option (List ℕ)) (held more : List ℕ)
 held_further None held more = tt
 held_further (Some took) held more = sym (append_assoc took held more)
 
--- a piece is held back, and what ends it
+-- bytes are held back
 module _ (took : Option (List ℕ)) (failed sink_failed flushed : Bool) where
   abbrev holding : List ℕ → Output
   holding held = record {
@@ -92,20 +92,15 @@ module _ (took : Option (List ℕ)) (failed sink_failed flushed : Bool) where
     sink_is_flushed = flushed;
   }
 
-  pub puts_held : (held piece end with_piece all : List ℕ) → failed ≡ false → with_piece ≡ held ++ piece
-      → all ≡ with_piece ++ end → length all ≤ block_size → PutsAll (holding held) (piece ++ end) (holding all)
-  puts_held held piece end with_piece all works first then short =
-      let is : held ++ (piece ++ end) ≡ all =
-      sym (then ∙ ap (λ l. l ++ end) first ∙ append_assoc held piece end) in
-      record {
-        appends = subst (λ l. Appends (append_known took held) (append_known took l) (piece ++ end)) is
-            (held_further took held (piece ++ end));
-        block = holds_held took all short;
-        grows = grows_nothing took;
-        was_served = works;
-        served = works;
-        sink_served = refl;
-      }
+  pub puts_held : (held bytes all : List ℕ) → failed ≡ false → all ≡ held ++ bytes → length held + length bytes ≤ block_size → PutsAll (holding held) bytes (holding all)
+  puts_held held bytes all works is fits = record {
+    appends = rw is (held_further took held bytes);
+    block = holds_held took all (omega (arith, fits, ap length is, length-append held bytes));
+    grows = grows_nothing took;
+    was_served = works;
+    served = works;
+    sink_served = refl;
+  }
 
 -- bytes that were put, or none
 pub grown_all : (old new : Output) (bytes : List ℕ) → (bytes ≡ [] → ⊥) → PutsAll old bytes new → Grown old bytes new

@@ -3,8 +3,7 @@ use Rattle.std.proofs.Common.{◌≡◌, ℕ, ◌+◌, ◌-◌, ◌≤◌, false
 use Rattle.std.proofs.Math.Seq.{take-add, take-length}
 use Rattle.std.proofs.lemmas.List.{take-append-drop, take_at, drop_at, length-take-le, length-drop}
 use Rattle.std.proofs.lemmas.List.Elements.{All-append}
-use Rattle.bt_lines.specs.calls.FirstByte.{IsBefore, Lacks}
-use Rattle.bt_lines.specs.inside.Newline.{IsFirstOf}
+use Rattle.bt_lines.specs.calls.FirstByte.{IsBefore, IsFirstOf, Lacks}
 
 -- bytes that are cut at one before which there is none
 pub feed_at : (value : ℕ) (text xs ys : List ℕ) (n : ℕ) → text ≡ xs ++ value ∷ ys → Lacks value xs → n ≡ length xs → IsFirstOf value text (Some n)

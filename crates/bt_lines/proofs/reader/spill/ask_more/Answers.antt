@@ -1,9 +1,6 @@
 use Rattle.std.proofs.Common.{Some, refl, sym, subst, add-zero, arith}
-use Rattle.bt_lines.proofs.lemmas.reader.block.ReadsLemmas.{counts_one, fails_once}
+use Rattle.bt_lines.proofs.lemmas.reader.block.ReadsLemmas.{counts_one}
 use Rattle.bt_lines.proofs.reader.spill.ask_more.Goals as goal
-
-pub returns-in-Err-clause-counted : goal.returns-in-Err-clause-counted
-returns-in-Err-clause-counted g c = fails_once g.S.Source.is_read _ _ c.in-Err.ensures.refused
 
 pub returns-in-Ok-eq0-clause-counted : goal.returns-in-Ok-eq0-clause-counted
 returns-in-Ok-eq0-clause-counted g c =

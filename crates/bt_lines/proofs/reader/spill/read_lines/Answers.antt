@@ -15,9 +15,6 @@ returns-then-is_full-clause-buffers g c =
     let finds = c.loop-buffer-test.ensures.finds in
     then_long _ _ _ _ _ _ _ c.loop-buffer.invariant.0 _ finds.1 finds.2 _ _ _ _ _ c.read_long.ensures.buffers
 
-pub returns-then-is_full-clause-counted : goal.returns-then-is_full-clause-counted
-returns-then-is_full-clause-counted g c = then_counted g.S.Source.is_read _ _ _ _ _ _ _ c.loop-buffer.invariant.1 c.read_long.ensures.counted
-
 pub ask_more-requires-clause-room : goal.ask_more-requires-clause-room
 ask_more-requires-clause-room g c = not_full _ c.if-is_full.ensures (unread_fits c.find_lines.new.self)
 
@@ -39,21 +36,18 @@ returns-in-NoBytes-clause-buffers g c =
     let finds = c.loop-buffer-test.ensures.finds in
     text_ended _ _ _ _ _ _ _ c.loop-buffer.invariant.0 _ finds.1 finds.2 _ _ _ _ _ c.in-NoBytes.ensures.asks c.end_text.ensures.lines c.end_text.ensures.unread
 
-pub returns-in-NoBytes-clause-counted : goal.returns-in-NoBytes-clause-counted
-returns-in-NoBytes-clause-counted g c = counts_then g.S.Source.is_read _ _ _ _ _ _ c.loop-buffer.invariant.1 c.in-NoBytes.ensures.counted
-
 pub returns-in-BadRead-clause-buffers : goal.returns-in-BadRead-clause-buffers
 returns-in-BadRead-clause-buffers g c =
     let finds = c.loop-buffer-test.ensures.finds in
     source_failed _ _ _ _ _ _ _ c.loop-buffer.invariant.0 _ finds.1 finds.2 _ _ _ _ c.in-BadRead.ensures.asks c.in-BadRead.ensures.none
-
-pub returns-in-BadRead-clause-counted : goal.returns-in-BadRead-clause-counted
-returns-in-BadRead-clause-counted g c = fails_then g.S.Source.is_read _ _ _ _ _ c.loop-buffer.invariant.1 c.in-BadRead.ensures.counted
 
 pub returns-in-PastBound-clause-buffers : goal.returns-in-PastBound-clause-buffers
 returns-in-PastBound-clause-buffers g c =
     let finds = c.loop-buffer-test.ensures.finds in
     text_too_long _ _ _ _ _ _ _ c.loop-buffer.invariant.0 _ finds.1 finds.2 _ _ _ _ c.in-PastBound.ensures.asks c.in-PastBound.ensures.none
 
-pub returns-in-PastBound-clause-counted : goal.returns-in-PastBound-clause-counted
-returns-in-PastBound-clause-counted g c = counts_then g.S.Source.is_read _ _ _ _ _ _ c.loop-buffer.invariant.1 c.in-PastBound.ensures.counted
+pub returns-then-is_full-clause-counted : goal.returns-then-is_full-clause-counted
+returns-then-is_full-clause-counted g c = then_counted g.S.Source.is_read _ _ _ _ _ _ _ c.loop-buffer.invariant.1 c.read_long.ensures.counted
+
+pub returns-in-BadRead-clause-counted : goal.returns-in-BadRead-clause-counted
+returns-in-BadRead-clause-counted g c = fails_then g.S.Source.is_read _ _ _ _ _ c.loop-buffer.invariant.1 c.in-BadRead.ensures.counted

@@ -45,18 +45,6 @@ pub returns-in-PastBound-clause-buffers : goal.returns-in-PastBound-clause-buffe
 returns-in-PastBound-clause-buffers g c =
     past_bound _ _ _ _ c.requires.some c.requires.clear _ _ _ _ (rw c.begin_spill.ensures.unread at c.reads.invariant.0) _ _ _ c.spill.ensures.moves (c.in-Ok-false.is ∙ ap Ok c.in-Ok-false.field-0-test) _ _ _ _ c.in-PastBound.ensures.asks c.in-PastBound.ensures.none
 
-pub returns-in-Err-clause-counted : goal.returns-in-Err-clause-counted
-returns-in-Err-clause-counted g c = c.reads.invariant.1
-
-pub returns-in-Ok-true-clause-counted : goal.returns-in-Ok-true-clause-counted
-returns-in-Ok-true-clause-counted g c = c.reads.invariant.1
-
-pub returns-in-BadRead-clause-counted : goal.returns-in-BadRead-clause-counted
-returns-in-BadRead-clause-counted g c = fails_then g.S.Source.is_read _ _ _ _ _ c.reads.invariant.1 c.in-BadRead.ensures.counted
-
-pub returns-in-PastBound-clause-counted : goal.returns-in-PastBound-clause-counted
-returns-in-PastBound-clause-counted g c = counts_then g.S.Source.is_read _ _ _ _ _ _ c.reads.invariant.1 c.in-PastBound.ensures.counted
-
 pub returns-in-Err-end_spilled-clause-buffers : goal.returns-in-Err-end_spilled-clause-buffers
 returns-in-Err-end_spilled-clause-buffers g c =
     none_refused _ _ _ _ c.requires.some c.requires.clear _ _ _ _ (rw c.begin_spill.ensures.unread at c.reads.invariant.0) _ _ _ c.spill.ensures.moves (c.in-Ok-false.is ∙ ap Ok c.in-Ok-false.field-0-test) _ _ _ _ _ c.in-NoBytes.ensures.asks (c.end_spilled.ensures.lines ∙ c.in-NoBytes.ensures.none) c.end_spilled.ensures.unread
@@ -73,8 +61,5 @@ returns-in-Ok-clause-buffers g c =
     none_came _ _ _ _ c.requires.some c.requires.clear _ _ _ _ (rw c.begin_spill.ensures.unread at c.reads.invariant.0) _ _ _ c.spill.ensures.moves (c.in-Ok-false.is ∙ ap Ok c.in-Ok-false.field-0-test) _ _ _ _ _ c.in-NoBytes.ensures.asks
     (c.use_spilled-in-Ok.ensures.lines ∙ c.in-Ok.ensures.ended ∙ ap (λ l. l ++ 10 ∷ []) c.in-NoBytes.ensures.spilled) (c.use_spilled-in-Ok.ensures.unread ∙ c.end_spilled.ensures.unread)
 
-pub returns-in-Err-end_spilled-clause-counted : goal.returns-in-Err-end_spilled-clause-counted
-returns-in-Err-end_spilled-clause-counted g c = counts_then g.S.Source.is_read _ _ _ _ _ _ c.reads.invariant.1 c.in-NoBytes.ensures.counted
-
-pub returns-in-Ok-clause-counted : goal.returns-in-Ok-clause-counted
-returns-in-Ok-clause-counted g c = counts_then g.S.Source.is_read _ _ _ _ _ _ c.reads.invariant.1 c.in-NoBytes.ensures.counted
+pub returns-in-BadRead-clause-counted : goal.returns-in-BadRead-clause-counted
+returns-in-BadRead-clause-counted g c = fails_then g.S.Source.is_read _ _ _ _ _ c.reads.invariant.1 c.in-BadRead.ensures.counted

@@ -10,21 +10,11 @@ new-requires-clause-fed g c = rw c.lines.ensures (are_fed c.args.self.now.buffer
 
 pub returns-clause-begins : goal.returns-clause-begins
 unfolding buffered_bytes lines_given is_open
-returns-clause-begins g c = record {
-  bytes_are = c.new.ensures.begins.bytes_are ∙ c.lines.ensures;
-  at = c.new.ensures.begins.at;
-  given = c.new.ensures.begins.given;
-  open_is = c.new.ensures.begins.open_is ∙ c.is_open.ensures;
-}
+returns-clause-begins g c = rw (← c.lines.ensures, ← c.is_open.ensures) c.new.ensures.begins
 
 pub returns-clause-lines : goal.returns-clause-lines
 unfolding buffered_bytes lines_given is_open
-returns-clause-lines g c = begins_lines c.new.result _ _ _ (record {
-  bytes_are = c.new.ensures.begins.bytes_are ∙ c.lines.ensures;
-  at = c.new.ensures.begins.at;
-  given = c.new.ensures.begins.given;
-  open_is = c.new.ensures.begins.open_is ∙ c.is_open.ensures;
-})
+returns-clause-lines g c = rw (← c.lines.ensures, ← c.is_open.ensures) (begins_lines c.new.result _ _ _ c.new.ensures.begins)
 
 pub returns-clause-prefix : goal.returns-clause-prefix
 returns-clause-prefix g c = is_prefix g.S.Source.left c.args.self.now

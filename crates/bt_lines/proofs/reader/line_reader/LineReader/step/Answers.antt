@@ -7,5 +7,5 @@ returns-in-Err-clause-stopped g c = λ e. stops_by _ c.args.self.now _ c.in-Err.
 
 pub returns-in-Ok-true-clause-moved : goal.returns-in-Ok-true-clause-moved
 returns-in-Ok-true-clause-moved g c = λ e.
-    moves_by _ c.args.self.now c.fill.new.self c.cuts_line.new.self c.fill.result c.cuts_line.result (c.in-Ok-true.is ∙ ap Ok c.in-Ok-true.field-0-test) c.fill.ensures.fills c.cuts_line.ensures.none
-    c.cuts_line.ensures.cut c.fill.ensures.own_failure c.cuts_line.ensures.reads_nothing
+    moves_by _ c.args.self.now c.fill.new.self c.cut_line.new.self c.fill.result c.cut_line.result (c.in-Ok-true.is ∙ ap Ok c.in-Ok-true.field-0-test) c.fill.ensures.fills c.cut_line.ensures.none
+    c.cut_line.ensures.cut c.fill.ensures.own_failure c.cut_line.ensures.reads_nothing

@@ -7,7 +7,7 @@ use Rattle.bt_lines.proofs.lemmas.reader.block.ReadsLemmas.{counts_none}
 use Rattle.bt_lines.specs.calls.FirstLine.{ending_at, line_shown}
 use Rattle.bt_lines.specs.inside.ReadBuffer.{complete, unread}
 use Rattle.bt_lines.specs.calls.Reader.{buffered_bytes, bytes_taken, source_of}
-use Rattle.bt_lines.proofs.reader.line_reader.LineReader.cuts_line.Goals as goal
+use Rattle.bt_lines.proofs.reader.line_reader.LineReader.cut_line.Goals as goal
 
 pub take_line-requires-clause-line : goal.take_line-requires-clause-line
 unfolding buffered_bytes
