@@ -1,7 +1,6 @@
 -- Words of contracts inside of the crate.
-pub mod Ahead
 pub mod FirstColumns
-pub mod KeptForm
+pub mod InlineText
 pub mod PackedName
 pub mod OrderedLookahead
 pub mod RankTotal

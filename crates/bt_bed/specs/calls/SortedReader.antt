@@ -10,12 +10,11 @@ use Rattle.bt_lines.specs.calls.Reader.{TakenLines, TakesLines, buffered_bytes, 
 use Rattle.bt_lines.specs.declared.reader.buffered_lines.ConsumedLines.{ConsumedLines}
 use Rattle.bt_lines.specs.declared.fault.Fault.{Fault}
 use Rattle.bt_lines.specs.declared.reader.line_reader.LineReader.{LineReader}
-use Rattle.bt_bed.specs.inside.Ahead.{ahead_of}
 use Rattle.bt_bed.specs.calls.Batch.{chrom_in, cursor_in, left as left_in, start_in as start_of}
 use Rattle.bt_bed.specs.model.feature.Feature.{Feature}
 use Rattle.bt_bed.specs.model.input.Good.{or_else}
 use Rattle.bt_bed.specs.model.input.GoodBed.{bed_format, line_says, locus_at}
-use Rattle.bt_bed.specs.inside.OrderedLookahead.{KeepsLast, LineUnkept, LineWrong, last_in, name_in, start_in}
+use Rattle.bt_bed.specs.inside.OrderedLookahead.{KeepsLast, LineUnkept, LineWrong, ahead_of, last_in, name_in, start_in}
 use Rattle.bt_bed.specs.model.order.Locus.{Locus}
 use Rattle.bt_bed.specs.calls.Reading.{MemberReader}
 use Rattle.bt_bed.specs.calls.Run.{is_some_left, last_start}

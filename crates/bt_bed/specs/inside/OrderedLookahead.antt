@@ -1,11 +1,14 @@
 -- The last record and the chromosome of the one ahead, sorted by some rule.
-use Rattle.std.specs.Prelude.{◌≡◌, ℕ, ◌⊎◌, Bool, false, ◌&&◌, IsTrue, IfSome, List, bytes_eq, if◌then◌else◌}
+use Rattle.std.specs.Prelude.{◌≡◌, ℕ, ◌⊎◌, Bool, false, ◌&&◌, IsTrue, IfSome, List, [], bytes_eq, if◌then◌else◌}
 use Rattle.std.specs.Prelude.{Option, Some, None, Result, Ok, Err, option_map, is_some}
 use Rattle.bt_lines.specs.model.Fault.{FaultValue, no_memory}
 use Rattle.bt_lines.specs.calls.Names.{fault_value}
+use Rattle.bt_lines.specs.calls.Reader.{buffered_in}
 use Rattle.bt_lines.specs.declared.fault.Fault.{Fault}
 use Rattle.bt_lines.specs.declared.fault.Kind.{Kind}
 use Rattle.bt_lines.specs.declared.fault.Place.{Place}
+use Rattle.bt_lines.specs.declared.reader.line_reader.LineReader.{LineReader}
+use Rattle.bt_bed.specs.calls.Run.{run_of}
 use Rattle.bt_bed.specs.model.feature.Feature.{Feature}
 use Rattle.bt_bed.specs.model.input.GoodBed.{line_says, in_order, locus_at}
 use Rattle.bt_bed.specs.model.feature.LineKind.{fault_at_line}
@@ -54,6 +57,11 @@ module _ {Q : Type 0} where
   -- from where on records may start on it
   unfoldable pub start_in : OrderedLookahead Q → ℕ
   start_in lookahead = start_on lookahead.is_elsewhere lookahead.last
+
+  -- the records on it that a reader of lines has buffered: none if none is known to be ahead
+  abbrev pub ahead_of : {S : Type 0} → Bool → LineReader S → OrderedLookahead Q → List Feature
+  ahead_of is_ahead reader lookahead =
+      if is_ahead then run_of (name_in lookahead) (start_in lookahead) (buffered_in reader) else []
 
   -- whether there was a last record, and its chromosome has this name
   abbrev pub goes_on : OrderedLookahead Q → List ℕ → Bool

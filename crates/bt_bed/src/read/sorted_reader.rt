@@ -2,7 +2,7 @@
 
 ghost use Rattle.std.specs.Prelude.{◌≡◌, None, true};
 ghost use Rattle.bt_bed.specs.calls.Run.{is_some_left};
-ghost use Rattle.bt_bed.specs.inside.Ahead.{ahead_of};
+ghost use Rattle.bt_bed.specs.inside.OrderedLookahead.{ahead_of};
 
 use crate::read::batch::{Batch, Consumed};
 use crate::read::lookahead::OrderedLookahead;

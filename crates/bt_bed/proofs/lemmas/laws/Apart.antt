@@ -1,5 +1,5 @@
 -- Lists of spans with gaps between them: two that cover the same positions are equal.
-use Rattle.std.proofs.Common.{◌≡◌, ℕ, ◌+◌, ◌≤◌, inl, inr, List, [], ◌∷◌, refl, ap₂, arith, IsTrue}
+use Rattle.std.proofs.Common.{◌≡◌, ℕ, ◌+◌, ◌≤◌, inl, inr, List, [], ◌∷◌, refl, ap₂, arith}
 use Rattle.std.proofs.lemmas.Bool.{cases_lt}
 use Rattle.bt_bed.specs.model.feature.Interval.{Span}
 use Rattle.bt_bed.specs.model.feature.Stretches.{IsCovered, AreApartFrom, AreStretchesOf}
@@ -12,13 +12,11 @@ covered_from first (x ∷ xs) p apart (inr w) = let h = covered_from (x.stop + 1
 
 -- and at or past the first start
 pub covered_from_start : (first : ℕ) (x : Span) (xs : List Span) (p : ℕ) → AreApartFrom first (x ∷ xs) → IsCovered (x ∷ xs) p → x.start ≤ p
-covered_from_start first x xs p apart (inl w) = w.0
-covered_from_start first x xs p apart (inr w) = let h = covered_from (x.stop + 1) xs p apart.2 w in omega arith
+covered_from_start first x xs p apart e = grind (arith, covered_from)
 
 -- a span's stop is covered by none of them
 stop_is_bare : (first : ℕ) (x : Span) (xs : List Span) (p : ℕ) → AreApartFrom first (x ∷ xs) → p ≡ x.stop → IsCovered (x ∷ xs) p → ⊥
-stop_is_bare first x xs p apart e (inl w) = absurd (omega arith)
-stop_is_bare first x xs p apart e (inr w) = let h = covered_from (x.stop + 1) xs p apart.2 w in absurd (omega arith)
+stop_is_bare first x xs p apart e h = grind (arith, covered_from)
 
 -- each position that the first list covers is covered by the second
 abbrev pub IsWithin : List Span → List Span → Type 0

@@ -1,10 +1,9 @@
 -- Lemmas on the good records of a BED input.
-use Rattle.std.proofs.Common.{◌≡◌, ℕ, ◌<◌, Bool, true, false, cond, List, [], ◌∷◌, Option, Some, None, Result, Ok, Err, refl, subst, ap, length, arith}
+use Rattle.std.proofs.Common.{◌≡◌, ℕ, ◌<◌, Bool, true, false, cond, List, [], ◌∷◌, Option, Some, None, Result, Ok, Err, refl, arith}
 use Rattle.std.specs.Prelude.{IsTrue, IfSome}
 use Rattle.std.proofs.lemmas.List.Elements.{All-nil, All-cons}
 use Rattle.bt_lines.specs.model.Handed.{lines_handed}
-use Rattle.bt_lines.proofs.lemmas.reader.lines.TextLemmas.{lines_are_numbered}
-use Rattle.bt_lines.specs.model.Lines.{TextLine, text_lines}
+use Rattle.bt_lines.specs.model.Lines.{TextLine}
 use Rattle.bt_lines.specs.declared.fault.Input.{Input}
 use Rattle.bt_lines.specs.declared.fault.Kind.{Kind}
 use Rattle.bt_lines.specs.declared.fault.Kind.TheVariants.{UnknownChrom, OutOfOrder}
@@ -16,7 +15,6 @@ use Rattle.bt_bed.specs.model.order.Order.{Order, IsTotal}
 use Rattle.bt_bed.specs.model.order.Locus.{Locus, IsUpTo, ArePlaced, IsPlacedBefore}
 use Rattle.bt_bed.specs.model.feature.Record.{record_of}
 use Rattle.bt_bed.specs.model.order.Sorting.{Sorting, falls_in, sorting_of}
-use Rattle.bt_bed.proofs.lemmas.read.good.GoodLemmas.{ascend_from, first_from, within_from}
 use Rattle.bt_bed.proofs.lemmas.read.good.SaidLemmas.{said_features}
 use Rattle.bt_bed.proofs.lemmas.order.SortingLemmas.{sorted_up_to}
 
@@ -27,16 +25,10 @@ pub record Said (sorting : Sorting) (last : Option Locus) (text : List ℕ) (r :
   pub says : record_of text ≡ Ok (Some r)
 
 chosen : (knows falls : Bool) (r s : Feature) → cond knows (cond falls (Err OutOfOrder) (Ok (Some r))) (Err UnknownChrom) ≡ Ok (Some s) → (knows ≡ true) × (falls ≡ false) × (r ≡ s)
-chosen false falls r s e = cc
-chosen true true r s e = cc
-chosen true false r s e = (refl, refl, cc)
+chosen knows falls r s e = grind arith
 
 said_by_record : (sorting : Sorting) (last : Option Locus) (text : List ℕ) (said : Result (Option Feature) Kind) (r : Feature) → record_of text ≡ said → said_after sorting last said ≡ Ok (Some r) → Said sorting last text r
-said_by_record sorting last text (Err kind) r was e = cc
-said_by_record sorting last text (Ok None) r was e = cc
-said_by_record sorting last text (Ok (Some s)) r was e =
-    let tests = chosen (sorting.knows s.chrom) (falls_in sorting last (locus_at s)) s r e in
-    subst (λ q. Said sorting last text q) tests.2 (record { known = tests.0; stays = tests.1; says = was })
+said_by_record sorting last text said r was e = grind arith
 
 pub line_said : (sorting : Sorting) (last : Option Locus) (text : List ℕ) (r : Feature) → line_says sorting last text ≡ Ok (Some r) → Said sorting last text r
 unfolding line_says
@@ -57,16 +49,13 @@ abbrev IsKnownLocus : Order → Option Locus → Type 0
 IsKnownLocus order last = IfSome last (λ place. IsTrue (order.knows place.chrom))
 
 follow_nil : (order : Order) (last : Option Locus) → Follow order last []
-follow_nil order None = tt
-follow_nil order (Some last) = tt
+follow_nil order last = grind arith
 
 follow_up_to : (order : Order) (last : Option Locus) (r : Feature) (rs : List Feature) → IfSome last (λ l. IsUpTo order l (locus_at r)) → Follow order last (r ∷ rs)
-follow_up_to order None r rs up = tt
-follow_up_to order (Some last) r rs up = up
+follow_up_to order last r rs up = grind arith
 
 before_rest : (order : Order) (r : Feature) (rs : List Feature) → Follow order (Some (locus_at r)) rs → IsPlacedBefore order (interval_of r) (intervals_of rs)
-before_rest order r [] f = tt
-before_rest order r (s ∷ ss) f = f
+before_rest order r rs f = grind arith
 
 placed_with : (input : Input) (order : Order) (last : Option Locus) (line : TextLine) (rest : Option Locus → Good Feature) → IsTotal order → IsKnownLocus order last
     → ((now : Option Locus) → IsKnownLocus order now → Placed order now (items_in (rest now)))

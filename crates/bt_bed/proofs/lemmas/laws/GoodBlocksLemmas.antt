@@ -1,11 +1,10 @@
 -- Lemmas on the good records of a BED input in blocks.
-use Rattle.std.proofs.Common.{◌≡◌, true, false, cond, List, [], ◌∷◌, Option, Some, None, Result, Ok, Err, refl, subst, length, arith}
+use Rattle.std.proofs.Common.{◌≡◌, true, false, cond, List, [], ◌∷◌, Option, Some, None, Result, Ok, Err, refl, subst, arith}
 use Rattle.std.specs.Prelude.{IfSome, bytes_eq, nat_lt}
 use Rattle.std.specs.Cmp.Lexicographic.{bytes_decides}
 use Rattle.std.proofs.lemmas.Bool.Decides.{nat_tests}
-use Rattle.bt_lines.proofs.lemmas.reader.lines.TextLemmas.{lines_are_numbered}
 use Rattle.bt_lines.specs.model.Handed.{lines_handed}
-use Rattle.bt_lines.specs.model.Lines.{TextLine, text_lines}
+use Rattle.bt_lines.specs.model.Lines.{TextLine}
 use Rattle.bt_lines.specs.declared.fault.Input.{Input}
 use Rattle.bt_lines.specs.declared.fault.Kind.{Kind}
 use Rattle.bt_bed.specs.model.feature.Feature.{Feature}
@@ -14,8 +13,7 @@ use Rattle.bt_bed.specs.model.input.GoodBed.{line_says, locus_at}
 use Rattle.bt_bed.specs.model.input.GoodBlocks.{AreInBlocks, IsBlockUpTo, block_format, good_are_in_blocks}
 use Rattle.bt_bed.specs.model.order.Locus.{Locus}
 use Rattle.bt_bed.specs.model.order.Sorting.{block_sorting, falls_in}
-use Rattle.bt_bed.proofs.lemmas.laws.GoodBedLemmas.{line_said, non_empty_from}
-use Rattle.bt_bed.proofs.lemmas.read.good.GoodLemmas.{ascend_from, within_from}
+use Rattle.bt_bed.proofs.lemmas.laws.GoodBedLemmas.{line_said}
 
 -- a place that doesn't fall below the last one doesn't start before it on its chromosome
 pub block_up_to : (last : Option Locus) (place : Locus) → falls_in block_sorting last place ≡ false → IfSome last (λ l. IsBlockUpTo l place)
@@ -35,8 +33,7 @@ record Blocked (last : Option Locus) (rs : List Feature) : Type 0 where
   behind : Follow last rs
 
 more_blocks : (r : Feature) (rs : List Feature) → Blocked (Some (locus_at r)) rs → AreInBlocks (r ∷ rs)
-more_blocks r [] b = tt
-more_blocks r (s ∷ rs) b = (b.behind, b.blocks)
+more_blocks r rs b = grind arith
 
 blocked_with : (input : Input) (last : Option Locus) (line : TextLine) (rest : Option Locus → Good Feature) → ((now : Option Locus) → Blocked now (items_in (rest now)))
     → (said : Result (Option Feature) Kind) → line_says block_sorting last line.text ≡ said → Blocked last (items_in (good_with block_format input line.number last said rest))

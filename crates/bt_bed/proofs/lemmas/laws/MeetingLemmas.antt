@@ -1,34 +1,28 @@
 -- Lemmas on the meeting of two inputs.
-use Rattle.std.proofs.Common.{◌≡◌, Bool, true, false, ◌&&◌, cond, List, [], ◌∷◌, ◌++◌, Option, refl, sym, ap, ◌∙◌, append_assoc, flat_map}
+use Rattle.std.proofs.Common.{arith, ◌≡◌, Bool, true, false, ◌&&◌, cond, List, [], ◌∷◌, ◌++◌, Option, refl, sym, ap, ◌∙◌, append_assoc, flat_map}
 use Rattle.std.specs.Prelude.{if◌then◌else◌}
-use Rattle.std.specs.List.{list_all, take_while, AllByRecursion}
-use Rattle.std.proofs.lemmas.Bool.{false≢true, and_parts, and_left, and_right}
+use Rattle.std.specs.List.{list_all}
+use Rattle.std.proofs.lemmas.Bool.{and_parts, and_left, and_right}
 use Rattle.std.proofs.lemmas.List.Folds.{list_all-append}
 use Rattle.std.specs.Option.{option_or}
-use Rattle.std.proofs.lemmas.List.Sums.{take_while-cons}
 use Rattle.bt_bed.specs.model.input.TwoInputReport.{Rule, Met, join_report, written}
 
 met_either : {L F : Type 0} (b : Bool) (x y : Met L F) (lines : List L) → (b ≡ true → x.lines ≡ lines) → y.lines ≡ lines → (if b then x else y).lines ≡ lines
-met_either true x y lines first second = first refl
-met_either false x y lines first second = second
+met_either b x y lines first second = grind arith
 
 fault_yes : {L F : Type 0} (b : Bool) (x y : Met L F) → b ≡ true → (if b then x else y).fault ≡ x.fault
-fault_yes true x y e = refl
-fault_yes false x y e = absurd (false≢true e)
+fault_yes b x y e = grind arith
 
 fault_no : {L F : Type 0} (b : Bool) (x y : Met L F) → b ≡ false → (if b then x else y).fault ≡ y.fault
-fault_no true x y e = absurd (false≢true (sym e))
-fault_no false x y e = refl
+fault_no b x y e = grind arith
 
 module _ {A L F : Type 0} where
   pub written_at : (rule : Rule A L F) (a : A) (members : List A) (d : Bool) → rule.decided a ≡ d → written rule (a ∷ members) ≡ cond d (rule.lines a ++ written rule members) []
-  written_at rule a members true e = ap (flat_map rule.lines) (take_while-cons rule.decided a members ∙ ap (λ b. cond b (a ∷ take_while rule.decided members) []) e)
-  written_at rule a members false e = ap (flat_map rule.lines) (take_while-cons rule.decided a members ∙ ap (λ b. cond b (a ∷ take_while rule.decided members) []) e)
+  written_at rule a members d e = grind arith
 
   all_at : (rule : Rule A L F) (a : A) (members : List A) (d : Bool) → rule.decided a ≡ d → (d && list_all rule.decided members) ≡ true → (list_all rule.decided members ≡ true → flat_map rule.lines members ≡ written rule members)
       → flat_map rule.lines (a ∷ members) ≡ written rule (a ∷ members)
-  all_at rule a members true e some rest = ap (λ l. rule.lines a ++ l) (rest some) ∙ sym (written_at rule a members true e)
-  all_at rule a members false e some rest = absurd (false≢true some)
+  all_at rule a members d e some rest = grind arith
 
   -- if each member is decided, the lines of all are those before the first that isn't
   pub all_written : (rule : Rule A L F) (members : List A) → list_all rule.decided members ≡ true → flat_map rule.lines members ≡ written rule members

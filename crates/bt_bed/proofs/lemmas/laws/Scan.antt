@@ -1,6 +1,6 @@
 -- The scan of positions finds the stretches of those that pass the test.
-use Rattle.std.proofs.Common.{◌≡◌, ℕ, zero, suc, ◌+◌, ◌<◌, ◌≤◌, ◌⊎◌, inl, inr, List, [], ◌∷◌, arith, Bool, true, false, ◌==◌}
-use Rattle.std.proofs.lemmas.Bool.{cases_Bool, cases_eq, cond-true, cond-false, eq-eqb, ne_eqb}
+use Rattle.std.proofs.Common.{◌≡◌, ℕ, zero, suc, ◌+◌, ◌<◌, ◌≤◌, ◌⊎◌, inl, inr, List, [], ◌∷◌, arith, Bool, true, false}
+use Rattle.std.proofs.lemmas.Bool.{cases_Bool, cases_eq, cond-true, cond-false}
 use Rattle.bt_bed.specs.model.feature.Interval.{Span}
 use Rattle.bt_bed.specs.model.feature.Stretches.{IsCovered, AreApartFrom, with_position, stretches_from, scan_finds_stretches}
 
@@ -22,30 +22,9 @@ touching p s ss a e = record {
   whole = λ q c. elim c [ inl w ↦ inl (omega arith, w.1) | inr w ↦ inr w ];
 }
 
-standing_off : (p : ℕ) (s : Span) (ss : List Span) → AreApartFrom (p + 1) (s ∷ ss) → (s.start ≡ p + 1 → ⊥) → AddsPosition p (s ∷ ss) (record { start = p; stop = p + 1 } ∷ s ∷ ss)
-standing_off p s ss a e = record {
-  apart = (omega arith, omega arith, (omega arith, a.1, a.2));
-  within = λ q c. elim c [
-    | inl w ↦ inl (omega arith)
-    | inr w ↦ inr w
-  ];
-  here = inl (omega arith, omega arith);
-  whole = λ q c. inr c;
-}
-
 with_position-adds : (p : ℕ) (xs : List Span) → AreApartFrom (p + 1) xs → AddsPosition p xs (with_position p xs)
 unfolding with_position
-with_position-adds p [] a = record {
-  apart = (omega arith, omega arith, tt);
-  within = λ q c. elim c [ inl w ↦ inl (omega arith) | inr w ↦ absurd w ];
-  here = inl (omega arith, omega arith);
-  whole = λ q c. absurd c;
-}
-with_position-adds p (s ∷ ss) a =
-    elim (cases_eq s.start (p + 1)) [
-      | inl e ↦ rw (cond-true (s.start == p + 1) (record { start = p; stop = s.stop } ∷ ss) (record { start = p; stop = p + 1 } ∷ s ∷ ss) (eq-eqb s.start (p + 1) e)) (touching p s ss a e)
-      | inr e ↦ rw (cond-false (s.start == p + 1) (record { start = p; stop = s.stop } ∷ ss) (record { start = p; stop = p + 1 } ∷ s ∷ ss) (ne_eqb s.start (p + 1) e)) (standing_off p s ss a e)
-    ]
+with_position-adds p xs a = grind arith
 
 -- the list is what a scan of n positions from the first on is to find
 record IsScanOf (test : ℕ → Bool) (first n : ℕ) (ys : List Span) : Type 0 where

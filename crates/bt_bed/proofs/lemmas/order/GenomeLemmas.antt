@@ -1,14 +1,11 @@
 -- Lemmas on the entries of a genome file.
-use Rattle.std.proofs.Common.{◌≡◌, ℕ, zero, suc, ◌+◌, ◌<◌, ◌≤◌, arith, take, Bool, true, false, cond, List, [], ◌∷◌, ◌++◌, Option, Some, None, Result, Ok, Err, refl, sym, ap, ◌∙◌, subst, append_assoc, append-nil}
-use Rattle.std.specs.Prelude.{IfErr, bytes_eq}
+use Rattle.std.proofs.Common.{◌≡◌, ℕ, arith, false, List, [], ◌∷◌, ◌++◌, Option, Some, None, Result, Ok, Err, refl, sym, ap, ◌∙◌, append_assoc, append-nil}
+use Rattle.std.specs.Prelude.{bytes_eq}
 use Rattle.std.proofs.lemmas.Bool.{or_parts}
 use Rattle.bt_lines.specs.model.Fault.{FaultValue}
-use Rattle.bt_lines.proofs.lemmas.reader.lines.TextLemmas.{lines_are_numbered}
-use Rattle.bt_lines.specs.model.Lines.{TextLine, AreNumbered, text_lines}
+use Rattle.bt_lines.specs.model.Lines.{TextLine}
 use Rattle.bt_lines.specs.declared.fault.Input.{Input}
 use Rattle.bt_lines.specs.declared.fault.Kind.{Kind}
-use Rattle.bt_lines.specs.declared.fault.Kind.TheVariants.{RepeatedChrom}
-use Rattle.bt_bed.specs.model.input.GoodLines.{IsFaultBeyond}
 use Rattle.bt_bed.specs.model.order.Rank.{is_among, AreDistinct}
 use Rattle.bt_bed.specs.model.order.Genome.{Entry, genome_names, genome_from, genome_with, new_entry, entry_of, with_entry}
 use Rattle.bt_bed.proofs.lemmas.parse.NameLemmas.{name_ne-sym}
@@ -28,20 +25,11 @@ distinct_push (m ∷ ms) n d e =
     (among_push ms n m d.0 (name_ne-sym m n parts.0), distinct_push ms n d.1 parts.1)
 
 pub ok_entries : (entry : Entry) (rest : Result (List Entry) FaultValue) (entries : List Entry) → with_entry entry rest ≡ Ok entries → (more : List Entry) × (rest ≡ Ok more) × (entries ≡ entry ∷ more)
-ok_entries entry (Ok more) entries e = (more, refl, cc)
-ok_entries entry (Err fault) entries e = cc
-
-new_if : (b : Bool) (entry other : Entry) → cond b (Err RepeatedChrom) (Ok (Some entry)) ≡ Ok (Some other) → (b ≡ false) × (entry ≡ other)
-new_if true entry other e = cc
-new_if false entry other e = (refl, cc)
+ok_entries entry rest entries more = grind arith
 
 -- an entry that is taken has a new name
 pub is_new : (names : List (List ℕ)) (said : Result (Option Entry) Kind) (entry : Entry) → new_entry names said ≡ Ok (Some entry) → is_among names entry.name ≡ false
-is_new names (Err kind) entry e = cc
-is_new names (Ok None) entry e = cc
-is_new names (Ok (Some other)) entry e =
-    let tests = new_if (is_among names other.name) other entry e in
-    subst (λ (it : Entry). is_among names it.name ≡ false) tests.1 tests.0
+is_new names said entry e = grind arith
 
 -- entries before those of a result
 pub before : List Entry → Result (List Entry) FaultValue → Result (List Entry) FaultValue
@@ -50,13 +38,11 @@ before front (Err fault) = Err fault
 
 before_none : (result : Result (List Entry) FaultValue) → before [] result ≡ result
 unfolding before
-before_none (Ok more) = refl
-before_none (Err fault) = refl
+before_none result = grind arith
 
 before_more : (entry : Entry) (front : List Entry) (result : Result (List Entry) FaultValue) → with_entry entry (before front result) ≡ before (entry ∷ front) result
 unfolding before
-before_more entry front (Ok more) = refl
-before_more entry front (Err fault) = refl
+before_more entry front result = grind arith
 
 pub before_ok : (front more : List Entry) (result : Result (List Entry) FaultValue) → result ≡ Ok more → before front result ≡ Ok (front ++ more)
 unfolding before

@@ -1,15 +1,10 @@
 -- Lemmas on the ranks of names.
-use Rattle.std.proofs.Common.{◌≡◌, ℕ, suc, Bool, true, false, ◌||◌, cond, List, [], ◌∷◌, Option, Some, None, refl, ap, ◌∙◌}
+use Rattle.std.proofs.Common.{arith, ◌≡◌, ℕ, suc, Bool, ◌||◌, cond, List, [], ◌∷◌, Option, Some, refl, ap, ◌∙◌}
 use Rattle.std.specs.Prelude.{bytes_eq, is_some, option_map}
 use Rattle.bt_bed.specs.model.order.Rank.{is_among, rank_of}
 
-is_some-map : (o : Option ℕ) → is_some (option_map (λ n. suc n) o) ≡ is_some o
-is_some-map None = refl
-is_some-map (Some n) = refl
-
 is_some-cond : (b : Bool) (o : Option ℕ) → is_some (cond b (Some 0) (option_map (λ n. suc n) o)) ≡ (b || is_some o)
-is_some-cond true o = refl
-is_some-cond false o = is_some-map o
+is_some-cond b o = grind arith
 
 -- a name is among the names exactly if it has a rank
 pub among_ranked : (names : List (List ℕ)) (name : List ℕ) → is_some (rank_of names name) ≡ is_among names name

@@ -1,26 +1,17 @@
 -- Lemmas on how records are sorted.
-use Rattle.std.proofs.Common.{◌≡◌, ℕ, Bool, true, false, cond, Option, Some, None, refl, sym, ◌∙◌, subst, inl, inr, arith}
+use Rattle.std.proofs.Common.{◌≡◌, ℕ, Bool, true, false, cond, Option, Some, refl, sym, ◌∙◌, subst, arith}
 use Rattle.std.specs.Prelude.{IsTrue, IfSome, bytes_eq, nat_lt}
 use Rattle.std.specs.Cmp.Lexicographic.{bytes_decides}
-use Rattle.std.specs.Ordering.{ordering_reverse}
 use Rattle.std.specs.declared.cmp.Ordering.{Ordering}
-use Rattle.std.specs.declared.cmp.Ordering.TheVariants.{Less, Equal, Greater}
+use Rattle.std.specs.declared.cmp.Ordering.TheVariants.{Equal}
 use Rattle.std.proofs.lemmas.Bool.{false≢true}
-use Rattle.std.proofs.lemmas.Bool.Decides.{nat_tests}
 use Rattle.bt_bed.specs.model.order.Order.{Order, IsTotal}
 use Rattle.bt_bed.specs.model.order.Locus.{Locus, is_below_at, falls_below, IsUpTo}
 use Rattle.bt_bed.specs.model.order.Sorting.{falls_in, is_less, sorted_by_places, sorting_of}
 
-reversed : (o p : Ordering) → p ≡ ordering_reverse o → o ≡ Greater → p ≡ Less
-reversed o p e g = cc
-
 up_to_by : (order : Order) (last place : Locus) → IsTotal order → IsTrue (order.knows last.chrom) → IsTrue (order.knows place.chrom)
     → (o : Ordering) → order.compare place.chrom last.chrom ≡ o → is_below_at o place.start last.start ≡ false → IsUpTo order last place
-up_to_by order last place total was is Less e stays = absurd (let apart : true ≡ false = stays in cc)
-up_to_by order last place total was is Equal e stays =
-    inr (sym (total.equal place.chrom last.chrom is was e), let not_below : nat_lt place.start last.start ≡ false = stays in grind (arith, nat_tests))
-up_to_by order last place total was is Greater e stays =
-    inl (reversed (order.compare place.chrom last.chrom) (order.compare last.chrom place.chrom) (total.swapped place.chrom last.chrom is was) e)
+up_to_by order last place o was is e h stays = grind arith
 
 -- a place that doesn't fall below the last one isn't before it
 stays_up_to : (order : Order) (last place : Locus) → IsTotal order → IsTrue (order.knows last.chrom) → IsTrue (order.knows place.chrom) → falls_below order (Some last) place ≡ false → IsUpTo order last place
@@ -28,9 +19,7 @@ stays_up_to order last place total was is stays = up_to_by order last place tota
 
 -- if the names differ, the order of the chromosomes decides alone
 apart_by : (o : Ordering) (start other : ℕ) → (o ≡ Equal → ⊥) → is_less o ≡ is_below_at o start other
-apart_by Less start other apart = refl
-apart_by Equal start other apart = absurd (apart refl)
-apart_by Greater start other apart = refl
+apart_by o start other apart = grind arith
 
 sorted_by : (order : Order) (last place : Locus) → IsTotal order → IsTrue (order.knows last.chrom) → IsTrue (order.knows place.chrom)
     → (b : Bool) → bytes_eq last.chrom place.chrom ≡ b → cond b (nat_lt place.start last.start) (is_less (order.compare place.chrom last.chrom)) ≡ falls_below order (Some last) place
@@ -51,5 +40,4 @@ places_sorted order last place total was is = sorted_by order last place total w
 -- a place that doesn't fall below the last one isn't before it
 pub sorted_up_to : (order : Order) (last : Option Locus) (place : Locus) → IsTotal order → IfSome last (λ l. IsTrue (order.knows l.chrom)) → IsTrue (order.knows place.chrom) → falls_in (sorting_of order) last place ≡ false
     → IfSome last (λ l. IsUpTo order l place)
-sorted_up_to order None place total was is stays = tt
-sorted_up_to order (Some last) place total was is stays = stays_up_to order last place total was is (sym (places_sorted order last place total was is) ∙ stays)
+sorted_up_to order last place total was is stays = grind (arith, stays_up_to, places_sorted)

@@ -1,19 +1,18 @@
 -- Lemmas on a table of chromosomes and on reading one.
-use Rattle.std.proofs.Common.{◌≡◌, ℕ, zero, suc, ◌+◌, ◌-◌, Bool, true, false, cond, List, [], ◌∷◌, ◌++◌, map, length, take, Option, Some, None, Result, Ok, Err, refl, sym, ap, ◌∙◌, subst, append_assoc, append-nil, add-zero, length-append, inl, inr, arith}
+use Rattle.std.proofs.Common.{◌≡◌, ℕ, zero, suc, ◌+◌, ◌-◌, Bool, true, false, cond, List, [], ◌∷◌, ◌++◌, map, length, take, Option, Some, None, Result, Ok, Err, refl, sym, ap, ◌∙◌, subst, append_assoc, append-nil, length-append, inl, inr, arith}
 use Rattle.std.proofs.lemmas.List.Elements.{All-push, All-head, All-tail}
-use Rattle.std.specs.Prelude.{◌⊎◌, ◌==◌, ◌<◌, All, IfSome, Vec, bytes_eq, is_some, option_map, position, slice_get}
+use Rattle.std.specs.Prelude.{◌⊎◌, ◌<◌, All, IfSome, Vec, bytes_eq, is_some, option_map, position, slice_get}
 use Rattle.std.specs.Option.{option_to_list}
 use Rattle.std.proofs.lemmas.List.{map-append}
 use Rattle.std.proofs.lemmas.Option.{slice_get-map}
 use Rattle.std.proofs.Math.Seq.{take-append_seam}
 use Rattle.bt_lines.specs.model.Fault.{FaultValue, read_failed, no_memory}
 use Rattle.bt_lines.specs.calls.LentLine.{GivesFirst}
-use Rattle.bt_lines.specs.model.Lines.{TextLine, pieces}
-use Rattle.bt_lines.specs.model.Number.{value_of}
+use Rattle.bt_lines.specs.model.Lines.{TextLine}
 use Rattle.bt_lines.specs.calls.Reader.{Hands, IsSound, end_told, GivesLine, GivesEnd, GivesFault, FailsToRead, source_of, input_of, lines_given, fault_kept, lines_left}
 use Rattle.bt_lines.specs.declared.fault.Input.{Input}
 use Rattle.bt_lines.specs.declared.fault.Kind.{Kind}
-use Rattle.bt_lines.specs.declared.fault.Kind.TheVariants.{TooFewColumns, EmptyName, BadLength, RepeatedChrom}
+use Rattle.bt_lines.specs.declared.fault.Kind.TheVariants.{RepeatedChrom}
 use Rattle.bt_lines.specs.declared.fault.Place.{Place}
 use Rattle.bt_lines.specs.declared.reader.line_reader.LineReader.{LineReader}
 use Rattle.bt_bed.proofs.lemmas.order.GenomeLemmas.{before_err, before_ok, distinct_push, is_new, says_then}
@@ -27,52 +26,12 @@ use Rattle.std.proofs.lemmas.Bool.{or_parts}
 use Rattle.bt_lines.specs.declared.device.Source.{Ghosts as Source}
 use Rattle.bt_lines.proofs.lemmas.reader.lines.ReaderLemmas.{hands_both, not_told}
 use Rattle.indexmap.specs.IndexMap.{insert_entry}
-use Rattle.bt_bed.specs.model.order.Genome.{Entry, is_skipped, genome_names, genome_from, genome_of, new_entry, entry_of, entry_from, columns_give}
+use Rattle.bt_bed.specs.model.order.Genome.{Entry, genome_names, genome_from, genome_of, new_entry, entry_of}
 use Rattle.bt_bed.specs.model.feature.LineKind.{fault_at_line, is_genome_kind}
 use Rattle.bt_bed.specs.model.order.Rank.{is_among, rank_of, AreDistinct}
 use Rattle.bt_bed.proofs.lemmas.order.HandsLemmas.{Passed, cut_fault, near_fault, near_line, passed_line, passed_none}
-use Rattle.bt_bed.specs.model.feature.Record.{not_skipped}
 use Rattle.bt_bed.specs.calls.GenomeTable.{entries, names_of, entry_seen, IsToldFirst, LineAdded, LineRefused, LineUnkept, ReadsAll, EntryIsWrong, ReadingStops, StopCause}
 use Rattle.bt_bed.specs.declared.order.genome.Genome.{Genome}
-
--- the kind of a result is of a line if the kind that it was is
-pub same_place : {T : Type 0} (was : Result T Kind) (a kind : Kind) → was ≡ Err a → was ≡ Err kind → is_genome_kind a ≡ true → is_genome_kind kind ≡ true
-same_place was a kind p q placed = let is : a ≡ kind = cc in subst (λ k. is_genome_kind k ≡ true) is placed
-
-place_of_length : (b : Bool) (entry : Entry) (kind : Kind) → cond b (Err BadLength) (Ok entry) ≡ Err kind → is_genome_kind kind ≡ true
-place_of_length true entry kind e = same_place {T = Entry} (Err BadLength) BadLength kind refl e refl
-place_of_length false entry kind e = cc
-
-place_of_entry : (name : List ℕ) (size : Option ℕ) (kind : Kind) → entry_from name size ≡ Err kind → is_genome_kind kind ≡ true
-place_of_entry [] size kind e = same_place {T = Entry} (Err EmptyName) EmptyName kind refl e refl
-place_of_entry (byte ∷ bytes) None kind e = same_place {T = Entry} (Err BadLength) BadLength kind refl e refl
-place_of_entry (byte ∷ bytes) (Some n) kind e = place_of_length (n == 0) (record { name = byte ∷ bytes; length = n }) kind e
-
-place_of_columns : (columns : List (List ℕ)) (kind : Kind) → columns_give columns ≡ Err kind → is_genome_kind kind ≡ true
-place_of_columns [] kind e = same_place {T = Entry} (Err TooFewColumns) TooFewColumns kind refl e refl
-place_of_columns (name ∷ []) kind e = same_place {T = Entry} (Err TooFewColumns) TooFewColumns kind refl e refl
-place_of_columns (name ∷ size ∷ rest) kind e = place_of_entry name (value_of size) kind e
-
-place_of_said : (said : Result Entry Kind) (kind : Kind) → not_skipped said ≡ Err kind → ((k : Kind) → said ≡ Err k → is_genome_kind k ≡ true) → is_genome_kind kind ≡ true
-place_of_said (Ok entry) kind e h = cc
-place_of_said (Err k) kind e h = same_place {T = Option Entry} (Err k) k kind refl e (h k refl)
-
-place_of_line : (b : Bool) (columns : List (List ℕ)) (kind : Kind) → cond b (Ok None) (not_skipped (columns_give columns)) ≡ Err kind → is_genome_kind kind ≡ true
-place_of_line true columns kind e = cc
-place_of_line false columns kind e = place_of_said (columns_give columns) kind e (place_of_columns columns)
-
-place_of_text : (text : List ℕ) (kind : Kind) → entry_of text ≡ Err kind → is_genome_kind kind ≡ true
-unfolding entry_of
-place_of_text text kind e = place_of_line (is_skipped text) (pieces 9 text) kind e
-
-place_of_repeated : (b : Bool) (entry : Entry) (kind : Kind) → cond b (Err RepeatedChrom) (Ok (Some entry)) ≡ Err kind → is_genome_kind kind ≡ true
-place_of_repeated true entry kind e = same_place {T = Option Entry} (Err RepeatedChrom) RepeatedChrom kind refl e refl
-place_of_repeated false entry kind e = cc
-
-place_of_new : (names : List (List ℕ)) (said : Result (Option Entry) Kind) (kind : Kind) → new_entry names said ≡ Err kind → ((k : Kind) → said ≡ Err k → is_genome_kind k ≡ true) → is_genome_kind kind ≡ true
-place_of_new names (Err k) kind e h = same_place {T = Option Entry} (Err k) k kind refl e (h k refl)
-place_of_new names (Ok None) kind e h = cc
-place_of_new names (Ok (Some entry)) kind e h = place_of_repeated (is_among names entry.name) entry kind e
 
 -- a line's entry is new if its name has no rank, and else repeated
 pub says_new : (names : List (List ℕ)) (said : Result (Option Entry) Kind) (entry : Entry) → said ≡ Ok (Some entry) → is_some (rank_of names entry.name) ≡ false → new_entry names said ≡ Ok (Some entry)
@@ -85,26 +44,20 @@ says_repeated names said entry e ranked =
 
 -- what is wrong with a line is of a line
 pub refused_at_place : (names : List (List ℕ)) (text : List ℕ) (kind : Kind) → new_entry names (entry_of text) ≡ Err kind → is_genome_kind kind ≡ true
-refused_at_place names text kind e = place_of_new names (entry_of text) kind e (place_of_text text)
+unfolding entry_of
+refused_at_place names text kind e = grind arith
 
 -- a rank is counted from n
 plus : ℕ → Option ℕ → Option ℕ
 plus n o = option_map (λ k. n + k) o
 
-plus_suc : (n : ℕ) (o : Option ℕ) → plus (n + 1) o ≡ plus n (option_map (λ k. suc k) o)
-unfolding plus
-plus_suc n None = refl
-plus_suc n (Some k) = let same : (n + 1) + k ≡ n + suc k = omega arith in ap Some same
-
 plus_none : (o : Option ℕ) → plus 0 o ≡ o
 unfolding plus
-plus_none None = refl
-plus_none (Some k) = let same : 0 + k ≡ k = omega arith in ap Some same
+plus_none o = grind arith
 
 plus_cond : (n : ℕ) (b : Bool) (o : Option ℕ) → cond b (Some n) (plus (n + 1) o) ≡ plus n (cond b (Some 0) (option_map (λ k. suc k) o))
 unfolding plus
-plus_cond n true o = let same : n ≡ n + 0 = omega arith in ap Some same
-plus_cond n false o = plus_suc n o
+plus_cond n b o = grind arith
 
 -- the position of a name among the keys, counted from n, is its rank counted from n
 placed_from : (chromosomes : List (Vec ℕ Global × ℕ)) (name : List ℕ) (n : ℕ)
@@ -118,10 +71,7 @@ placed_from (chromosome ∷ more) name n =
 -- the index of a name among the keys is its rank
 pub placed_by_rank : (chromosomes : List (Vec ℕ Global × ℕ)) (name : List ℕ)
     → position (λ key. bytes_eq name key.items) (keys_of chromosomes) ≡ rank_of (genome_names (map entry_seen chromosomes)) name
-placed_by_rank chromosomes name =
-    position_from-zero (λ key. bytes_eq name key.items) (keys_of chromosomes)
-    ∙ placed_from chromosomes name 0
-    ∙ plus_none (rank_of (genome_names (map entry_seen chromosomes)) name)
+placed_by_rank chromosomes name = grind (arith, position_from-zero, placed_from, plus_none)
 
 inserted_last : (chromosomes : List (Vec ℕ Global × ℕ)) (name : Vec ℕ Global) (size : ℕ) → is_among (genome_names (map entry_seen chromosomes)) name.items ≡ false
     → insert_entry (λ a b. bytes_eq a.items b.items) chromosomes name size ≡ chromosomes ++ (name, size) ∷ []
@@ -139,26 +89,18 @@ entries_push chromosomes name size text is new =
     ∙ ap (λ n. map entry_seen chromosomes ++ record { name = n; length = size } ∷ []) is
 
 seen_name : (o : Option (Vec ℕ Global × ℕ)) → option_map (λ entry. entry.name) (option_map entry_seen o) ≡ option_map (λ chromosome. chromosome.0.items) o
-seen_name None = refl
-seen_name (Some chromosome) = refl
+seen_name o = grind arith
 
 seen_length : (o : Option (Vec ℕ Global × ℕ)) → option_map (λ entry. entry.length) (option_map entry_seen o) ≡ option_map (λ chromosome. chromosome.1) o
-seen_length None = refl
-seen_length (Some chromosome) = refl
+seen_length o = grind arith
 
 -- the name at a rank is that of the chromosome there
 pub name_at : (chromosomes : List (Vec ℕ Global × ℕ)) (rank : ℕ) → slice_get (genome_names (map entry_seen chromosomes)) rank ≡ option_map (λ chromosome. chromosome.0.items) (slice_get chromosomes rank)
-name_at chromosomes rank =
-    slice_get-map (λ entry. entry.name) (map entry_seen chromosomes) rank
-    ∙ ap (option_map (λ entry. entry.name)) (slice_get-map entry_seen chromosomes rank)
-    ∙ seen_name (slice_get chromosomes rank)
+name_at chromosomes rank = grind (arith, slice_get-map, seen_name)
 
 -- and so is the length
 pub length_at : (chromosomes : List (Vec ℕ Global × ℕ)) (rank : ℕ) → option_map (λ entry. entry.length) (slice_get (map entry_seen chromosomes) rank) ≡ slice_get (map (λ chromosome. chromosome.1) chromosomes) rank
-length_at chromosomes rank =
-    ap (option_map (λ entry. entry.length)) (slice_get-map entry_seen chromosomes rank)
-    ∙ seen_length (slice_get chromosomes rank)
-    ∙ sym (slice_get-map (λ chromosome. chromosome.1) chromosomes rank)
+length_at chromosomes rank = grind (arith, slice_get-map, seen_length)
 
 -- the lines before those left were given, and have these entries
 abbrev Continues : Input → Option (List TextLine) → ℕ → List Entry → Option (List TextLine) → ℕ → Type 0
@@ -168,13 +110,11 @@ Continues input (Some old) from front (Some new) to = (given : List TextLine) ×
 
 continues_start : (input : Input) (lines : Option (List TextLine)) (n : ℕ) → Continues input lines n [] lines n
 unfolding genome_from
-continues_start input None n = tt
-continues_start input (Some lines) n = ([], refl, add-zero n, refl)
+continues_start input lines n = grind arith
 
 says_more : (input : Input) (names : List (List ℕ)) (line : TextLine) (entry : Option Entry) → new_entry names (entry_of line.text) ≡ Ok entry → genome_from input names (line ∷ []) ≡ Ok (option_to_list entry)
 unfolding genome_from
-says_more input names line None e = rw e refl
-says_more input names line (Some entry) e = rw e refl
+says_more input names line entry e = grind arith
 
 says_wrong : (input : Input) (names : List (List ℕ)) (line : TextLine) (lines : List TextLine) (kind : Kind) → new_entry names (entry_of line.text) ≡ Err kind → genome_from input names (line ∷ lines) ≡ Err (fault_at_line input line.number kind)
 unfolding genome_from

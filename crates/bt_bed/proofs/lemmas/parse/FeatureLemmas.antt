@@ -1,13 +1,12 @@
 -- Lemmas on the feature that a line says.
-use Rattle.std.proofs.Common.{◌≡◌, ℕ, ◌+◌, ◌<◌, ◌≤◌, Bool, true, false, ◌&&◌, cond, List, [], ◌∷◌, ◌++◌, length, drop, Option, Some, None, Result, Ok, Err, refl, sym, ap, ◌∙◌, subst, arith, ltb, leb}
-use Rattle.std.proofs.lemmas.Bool.{leb-true, ltb-true, and_parts}
+use Rattle.std.proofs.Common.{◌≡◌, ℕ, ◌+◌, ◌<◌, ◌≤◌, Bool, true, false, ◌&&◌, cond, List, [], ◌∷◌, ◌++◌, length, drop, Option, Some, None, Result, Ok, refl, sym, ap, ◌∙◌, subst, arith, ltb, leb}
+use Rattle.std.proofs.lemmas.Bool.{leb-true, and_parts}
 use Rattle.std.specs.List.{AllByRecursion, list_all}
 use Rattle.std.specs.Char.{is_ascii_digit}
 use Rattle.std.specs.Str.Parse.{digits_value}
 use Rattle.bt_lines.specs.model.Lines.{pieces}
 use Rattle.bt_lines.specs.model.Number.{value_of, is_number}
 use Rattle.bt_lines.specs.declared.fault.Kind.{Kind}
-use Rattle.bt_lines.specs.declared.fault.Kind.TheVariants.{EmptyFeature}
 use Rattle.bt_bed.specs.calls.Bed.{feature_between}
 use Rattle.bt_bed.specs.model.feature.Feature.{Feature}
 use Rattle.bt_bed.specs.model.feature.Header.{is_header}
@@ -17,8 +16,7 @@ use Rattle.bt_bed.proofs.lemmas.parse.Kept.{three_columns, kept_is_cut, pieces_a
 use Rattle.bt_lines.proofs.lemmas.reader.lines.ColumnLemmas.{IsColumn}
 
 some_of : (b : Bool) (v n : ℕ) → (b ≡ true → v ≤ 999999999999) → cond b (Some v) None ≡ Some n → n ≤ 999999999999
-some_of true v n h e = let same : v ≡ n = cc in subst (λ k. k ≤ 999999999999) same (h refl)
-some_of false v n h e = cc
+some_of b v n h e = grind arith
 
 -- a number that a text denotes has at most twelve digits
 value_at_most : (text : List ℕ) (n : ℕ) → value_of text ≡ Some n → n ≤ 999999999999
@@ -48,18 +46,8 @@ pub record IsWhole (chrom : List ℕ) (start stop : Option ℕ) (rest : List (Li
   pub below : f.start < f.stop
   pub same : whole chrom f.start f.stop rest ≡ f
 
-chosen_whole : (test : Bool) (chrom : List ℕ) (start stop : ℕ) (rest : List (List ℕ)) (f : Feature) → 0 < length chrom → ltb start stop ≡ test
-    → cond test (Ok (whole chrom start stop rest)) (Err EmptyFeature) ≡ Ok f → IsWhole chrom (Some start) (Some stop) rest f
-chosen_whole true chrom start stop rest f some below e =
-    let same : whole chrom start stop rest ≡ f = cc in
-    subst (λ g. IsWhole chrom (Some start) (Some stop) rest g) same (record { some = some; start_is = refl; stop_is = refl; below = ltb-true start stop below; same = refl })
-chosen_whole false chrom start stop rest f some below e = cc
-
 pub of_whole : (chrom : List ℕ) (start stop : Option ℕ) (rest : List (List ℕ)) (f : Feature) → feature_of chrom start stop rest ≡ Ok f → IsWhole chrom start stop rest f
-of_whole [] start stop rest f e = cc
-of_whole (byte ∷ bytes) None stop rest f e = cc
-of_whole (byte ∷ bytes) (Some start) None rest f e = cc
-of_whole (byte ∷ bytes) (Some start) (Some stop) rest f e = chosen_whole (ltb start stop) (byte ∷ bytes) start stop rest f (omega arith) refl e
+of_whole chrom start stop rest f e = grind arith
 
 -- the columns of which a feature was made
 pub record Made (columns : List (List ℕ)) (f : Feature) : Type 0 where
@@ -71,11 +59,7 @@ pub record Made (columns : List (List ℕ)) (f : Feature) : Type 0 where
   whole_is : IsWhole chrom (value_of start) (value_of stop) rest f
 
 columns_made : (columns : List (List ℕ)) (f : Feature) → columns_say columns ≡ Ok f → Made columns f
-columns_made [] f e = cc
-columns_made (chrom ∷ []) f e = cc
-columns_made (chrom ∷ start ∷ []) f e = cc
-columns_made (chrom ∷ start ∷ stop ∷ rest) f e =
-    record { chrom = chrom; start = start; stop = stop; rest = rest; cut = refl; whole_is = of_whole chrom (value_of start) (value_of stop) rest f e }
+columns_made columns f e = grind arith
 
 whole_is_feature : (chrom : List ℕ) (start stop : ℕ) (rest : List (List ℕ)) → IsName chrom → start < stop → stop ≤ 999999999999 → AllByRecursion IsColumn rest → IsFeature (whole chrom start stop rest)
 whole_is_feature chrom start stop rest name below small columns = record {
@@ -114,9 +98,7 @@ unfolding record_of
 columns_of_line text h = rw h refl
 
 skipped_or_said : (header : Bool) (said : Result Feature Kind) (f : Feature) → cond header (Ok None) (not_skipped said) ≡ Ok (Some f) → (header ≡ false) × (said ≡ Ok f)
-skipped_or_said true said f e = cc
-skipped_or_said false (Ok g) f e = (refl, cc)
-skipped_or_said false (Err kind) f e = cc
+skipped_or_said header said f e = grind arith
 
 -- a line that says a feature is no header, and its columns say it
 pub record_said : (text : List ℕ) (f : Feature) → record_of text ≡ Ok (Some f) → (is_header text ≡ false) × (columns_say (pieces 9 text) ≡ Ok f)

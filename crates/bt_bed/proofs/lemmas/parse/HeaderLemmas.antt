@@ -1,9 +1,8 @@
 -- Lemmas on the first word of a text.
-use Rattle.std.proofs.Common.{◌≡◌, ℕ, ◌<◌, ◌≤◌, Bool, true, false, cond, not, eqb, ◌||◌, List, [], ◌∷◌, ◌++◌, length, refl, sym, ap, ◌∙◌, arith, bytes_eq, take, drop, get_or, append-nil}
+use Rattle.std.proofs.Common.{◌≡◌, ℕ, ◌<◌, ◌≤◌, Bool, true, false, cond, eqb, ◌||◌, List, [], ◌∷◌, ◌++◌, length, refl, sym, ap, ◌∙◌, arith, bytes_eq, take, drop, get_or, append-nil}
 use Rattle.std.proofs.lemmas.Bool.{false_from_ne_true}
 use Rattle.std.proofs.lemmas.List.{length-append, take-append-drop}
 use Rattle.std.proofs.lemmas.List.Elements.{All-head, All-tail}
-use Rattle.std.proofs.lemmas.List.Sums.{take_while-cons}
 use Rattle.std.proofs.lemmas.Slice.Eq.{bytes_eq-Decides}
 use Rattle.std.specs.List.{All}
 use Rattle.bt_bed.specs.model.feature.Header.{ends_word, first_word, is_header, is_header_word}
@@ -13,8 +12,7 @@ abbrev pub IsOfWord : ℕ → Type 0
 IsOfWord byte = ends_word byte ≡ false
 
 pub of_word : (byte : ℕ) (bytes : List ℕ) (b : Bool) → ends_word byte ≡ b → first_word (byte ∷ bytes) ≡ cond b [] (byte ∷ first_word bytes)
-of_word byte bytes true e = take_while-cons (λ x. not (ends_word x)) byte bytes ∙ rw e refl
-of_word byte bytes false e = take_while-cons (λ x. not (ends_word x)) byte bytes ∙ rw e refl
+of_word byte bytes b e = grind arith
 
 -- bytes that don't end a word begin the first one
 pub word_first : (word text : List ℕ) → All IsOfWord word → first_word (word ++ text) ≡ word ++ first_word text
@@ -41,8 +39,7 @@ alone word [] h short = rw (word_first word [] h) (same_word word)
 alone word (byte ∷ bytes) h short = absurd (omega arith)
 
 ended_by : (word bytes : List ℕ) (byte : ℕ) (b : Bool) → ends_word byte ≡ b → b ≡ bytes_eq (word ++ first_word (byte ∷ bytes)) word
-ended_by word bytes byte true e = rw (of_word byte bytes true e) (same_word word)
-ended_by word bytes byte false e = rw (of_word byte bytes false e) (longer_word word (first_word bytes) byte)
+ended_by word bytes byte b e = grind (arith, of_word, same_word, longer_word)
 
 ended : (word rest : List ℕ) → All IsOfWord word → 1 ≤ length rest → ends_word (get_or rest 0 0) ≡ bytes_eq (first_word (word ++ rest)) word
 ended word [] h some = absurd (omega arith)

@@ -1,11 +1,10 @@
 -- Lemmas on columns, and on what is kept of them.
-use Rattle.std.proofs.Common.{◌≡◌, ℕ, ◌+◌, ◌≤◌, Bool, true, false, List, [], ◌∷◌, ◌++◌, length, drop, refl, sym, ap, ◌∙◌, eqb, append_assoc, append-nil, arith}
+use Rattle.std.proofs.Common.{◌≡◌, ℕ, ◌+◌, ◌≤◌, Bool, List, [], ◌∷◌, ◌++◌, length, drop, refl, sym, ap, ◌∙◌, eqb, append_assoc, append-nil, arith}
 use Rattle.std.proofs.lemmas.List.{length-append, drop_at}
 use Rattle.std.proofs.lemmas.List.Splits.{slice_split_at, slice_split_none, join_with_byte-slice_split}
-use Rattle.std.proofs.lemmas.List.Elements.{All-cons}
-use Rattle.std.specs.List.{AllByRecursion, join_with_byte, onto_first}
+use Rattle.std.specs.List.{AllByRecursion, join_with_byte}
 use Rattle.bt_lines.specs.model.Lines.{pieces}
-use Rattle.bt_lines.proofs.lemmas.reader.lines.ColumnLemmas.{IsColumn, IsInside}
+use Rattle.bt_lines.proofs.lemmas.reader.lines.ColumnLemmas.{IsColumn}
 use Rattle.bt_bed.specs.model.feature.Record.{kept_columns}
 
 -- a column and those after it, each with a tab before it
@@ -17,14 +16,8 @@ joined x (y ∷ ys) = rw (joined y ys) refl
 pub cut_and_kept : (text : List ℕ) (x : List ℕ) (xs : List (List ℕ)) → pieces 9 text ≡ x ∷ xs → text ≡ x ++ kept_columns xs
 cut_and_kept text x xs e = sym (join_with_byte-slice_split 9 text) ∙ ap (join_with_byte 9) e ∙ joined x xs
 
--- the columns with one more byte before them
-onto_columns : (byte : ℕ) (xs : List (List ℕ)) → IsInside byte → AllByRecursion IsColumn xs → AllByRecursion IsColumn (onto_first byte xs)
-onto_columns byte [] e h = (All-cons IsInside byte [] e (λ k d l. absurd (omega arith)), tt)
-onto_columns byte (x ∷ xs) e h = (All-cons IsInside byte x e h.0, h.1)
-
 columns_more : (byte : ℕ) (bytes : List ℕ) (b : Bool) → eqb byte 9 ≡ b → AllByRecursion IsColumn (pieces 9 bytes) → AllByRecursion IsColumn (pieces 9 (byte ∷ bytes))
-columns_more byte bytes true e h = rw e ((λ k d l. absurd (omega arith)), h)
-columns_more byte bytes false e h = rw e (onto_columns byte (pieces 9 bytes) e h)
+columns_more byte bytes b e h = grind arith
 
 -- the pieces between tabs have no tabs
 pub pieces_are_columns : (text : List ℕ) → AllByRecursion IsColumn (pieces 9 text)

@@ -1,6 +1,5 @@
 -- Lemmas on the first columns of a line that are in order.
 use Rattle.std.proofs.Common.{◌≡◌, ℕ, ◌+◌, ◌^◌, ◌<◌, ◌≤◌, Bool, true, false, List, [], ◌∷◌, ◌++◌, length, take, drop, get_or, Option, Some, Ok, refl, sym, ap, ◌∙◌, subst, arith, append_assoc, bytes_eq, eqb, ltb, length-take}
-use Rattle.std.specs.Prelude.{nat_lt}
 use Rattle.std.specs.Char.{is_ascii_digit}
 use Rattle.std.specs.List.{list_all}
 use Rattle.std.specs.Str.Parse.{digits_value}
@@ -43,9 +42,7 @@ kept_by bytes (x ∷ xs) e some = ap (λ l. 9 ∷ l) (sym (cut_and_kept bytes x 
 
 -- what is kept is its columns, each with a tab before it
 pub kept_again : (kept : List ℕ) → is_kept kept ≡ true → kept_columns (columns_in kept) ≡ kept
-kept_again [] e = refl
-kept_again (byte ∷ bytes) e =
-    kept_by bytes (pieces 9 bytes) refl (omega (arith, length-slice_split (λ byte. eqb byte 9) bytes)) ∙ ap (λ b. b ∷ bytes) (sym (eqb-true byte 9 e))
+kept_again kept e = grind (arith, kept_by, length-slice_split, eqb-true)
 
 -- what follows a column begins with a tab
 pub kept_behind : (text : List ℕ) (n : ℕ) → n ≤ length text → (n < length text → get_or text n 0 ≡ 9) → is_kept (drop n text) ≡ true
@@ -59,10 +56,7 @@ kept_behind text n within tab = by (ltb n (length text)) refl
 
 numbers_say : (a : List ℕ) (b c : Option ℕ) (start stop : ℕ) (columns : List (List ℕ)) → 0 < length a → b ≡ Some start → c ≡ Some stop → start < stop
     → feature_of a b c columns ≡ Ok (record { chrom = a; start = start; stop = stop; strand = strand_of columns; rest = kept_columns columns })
-numbers_say [] b c start stop columns some p q below = absurd (omega arith)
-numbers_say (byte ∷ bytes) b c start stop columns some p q below =
-    let test : nat_lt start stop ≡ true = grind (arith, nat_tests) in
-    rw (p, q, test) refl
+numbers_say a b c start stop columns some p q below = grind arith
 
 -- the three columns say a feature
 pub direct_say : (text first second kept : List ℕ) (name : ℕ) (start stop : ParsedNumber) (strand : Strand) → first ≡ drop (name + 1) text → second ≡ drop (start.end + 1) first → kept ≡ drop stop.end second → strand ≡ strand_of (columns_in kept)
@@ -107,40 +101,23 @@ digit_bound byte digit = grind (arith, nat_tests)
 
 -- the value of the first digits is below the power of ten that has one digit more
 pub begins_below : (text : List ℕ) (lead : ParsedNumber) → BeginsWith text lead → lead.value < 10 ^ lead.end
-begins_below text lead begins =
-    let within = begins.within in
-    let size : length (take lead.end text) ≡ lead.end = omega (arith, length-take lead.end text) in
-    let below : digits_value 10 (take lead.end text) < 10 ^ length (take lead.end text) = digits_below (take lead.end text) begins.digits in
-    rw begins.value (subst (λ (n : ℕ). digits_value 10 (take lead.end text) < 10 ^ n) size below)
+begins_below text lead begins = grind (arith, length-take, digits_below)
 
 -- what follows three columns, by the count of bytes before it
 pub rest_stands : (text first second kept : List ℕ) (a b c : ℕ) → first ≡ drop (a + 1) text
     → second ≡ drop (b + 1) first
     → kept ≡ drop c second → drop (a + b + c + 2) text ≡ kept
-rest_stands text first second kept a b c f s k =
-    let whole : a + b + c + 2 ≡ a + 1 + (b + 1) + c = omega arith in
-    let behind : drop (a + 1 + (b + 1)) text ≡ second =
-    sym (drop-drop (b + 1) (a + 1) text) ∙ ap (drop (b + 1)) (sym f) ∙ sym s in
-    ap (λ (m : ℕ). drop m text) whole ∙ sym (drop-drop c (a + 1 + (b + 1)) text)
-    ∙ ap (drop c) behind ∙ sym k
+rest_stands text first second kept a b c f s k = grind (arith, drop-drop)
 
 -- the feature of two columns that are its bounds, and of what follows them
 pub bounds_say : (text rest : List ℕ) (name : ℕ) (start stop : ParsedNumber) (strand : Strand) → EndsName text name → AreBounds text name start stop → rest ≡ drop (name + start.end + stop.end + 2) text
     → strand ≡ strand_of (columns_in rest)
     → Ok (record { chrom = take name text; start = start.value; stop = stop.value; strand = strand; rest = rest }) ≡ columns_say (pieces 9 text)
-bounds_say text rest name start stop strand ends bounds r t =
-    let first = drop (name + 1) text in
-    let second = drop (start.end + 1) first in
-    direct_say text first second rest name start stop strand refl refl (r ∙ rest_stands text first second (drop stop.end second) name start.end stop.end refl refl refl) t ends bounds.first bounds.inside bounds.second bounds.below
+bounds_say text rest name start stop strand ends bounds r t = grind (arith, direct_say, rest_stands)
 
 -- a text that has a name and a tab at its front
 pub name_in_front : (text name : List ℕ) → length name < length text → get_or text (length name) 0 ≡ 9 → bytes_eq name (take (length name) text) ≡ true → BeginsWithName text name
-name_in_front text name within tab same =
-    let front : name ≡ take (length name) text = (bytes_eq-Decides name (take (length name) text)).0 same in
-    let there : drop (length name) text ≡ 9 ∷ drop (length name + 1) text =
-    drop_more text (length name) 0 within ∙ ap (λ b. b ∷ drop (length name + 1) text) tab in
-    sym (take-append-drop (length name) text) ∙ ap (λ l. l ++ drop (length name) text) (sym front)
-    ∙ ap (λ l. name ++ l) there
+name_in_front text name within tab same = grind (arith, bytes_eq-Decides, drop_more, take-append-drop)
 
 -- it is the first column
 pub front_is_name : (text name : List ℕ) → BeginsWithName text name → take (length name) text ≡ name
@@ -148,10 +125,7 @@ front_is_name text name e =
     ap (take (length name)) e ∙ take-append_seam name (9 ∷ drop (length name + 1) text)
 
 pub begins_within : (text name : List ℕ) → BeginsWithName text name → length name < length text
-begins_within text name e =
-    let rest = drop (length name + 1) text in
-    let size : length text ≡ length name + length (9 ∷ rest) = ap length e ∙ length-append name (9 ∷ rest) in
-    omega arith
+begins_within text name e = grind (arith, length-append)
 
 pub name_ends : (text name : List ℕ) → IsName name → BeginsWithName text name → EndsName text (length name)
 name_ends text name named e =

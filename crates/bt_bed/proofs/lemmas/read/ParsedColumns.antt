@@ -36,8 +36,7 @@ few : (first : List ℕ) (name : List ℕ) (f : Feature) → columns_say (name �
 few first name f e = cc
 
 value_is : (o : Option ℕ) (n value : ℕ) → o ≡ Some n → IfSome o (λ v. value ≡ v) → value ≡ n
-value_is None n value e h = cc
-value_is (Some m) n value e h = let same : m ≡ n = cc in h ∙ same
+value_is o n value e h = grind arith
 
 module _ (text name : List ℕ) (r : Feature) (says : record_of text ≡ Ok (Some r)) (on : r.chrom ≡ name) where
   said : columns_say (pieces 9 text) ≡ Ok r
@@ -47,10 +46,7 @@ module _ (text name : List ℕ) (r : Feature) (says : record_of text ≡ Ok (Som
   stands = said_stands text r said
 
   pub parsed_begins : BeginsWithName text name
-  parsed_begins =
-      let rest = stands.0 ++ r.rest in
-      let whole : text ≡ name ++ 9 ∷ rest = stands.1 ∙ append_assoc r.chrom (9 ∷ stands.0) r.rest ∙ ap (λ n. n ++ 9 ∷ rest) on in
-      whole ∙ ap (λ l. name ++ 9 ∷ l) (sym (ap (drop (length name + 1)) whole ∙ behind_name name rest))
+  parsed_begins = grind (arith, stands, append_assoc, behind_name)
 
   pub parsed_name : EndsName text (length name)
   parsed_name = name_ends text name (subst IsName on (said_is_feature text r said).named) parsed_begins

@@ -1,5 +1,5 @@
 -- Lemmas on lines of which a record's bounds were read.
-use Rattle.std.proofs.Common.{◌≡◌, ℕ, zero, suc, ◌+◌, ◌-◌, ◌<◌, ◌≤◌, List, [], ◌∷◌, ◌++◌, length, take, drop, get_or, Some, Ok, false, refl, sym, ap, ◌∙◌, subst, arith, append_assoc, decimal, eq-eqb, eqb, length-append, length-drop}
+use Rattle.std.proofs.Common.{◌≡◌, ℕ, ◌+◌, ◌-◌, ◌<◌, ◌≤◌, List, [], ◌∷◌, ◌++◌, length, take, drop, get_or, Some, Ok, false, refl, sym, ap, ◌∙◌, subst, arith, append_assoc, decimal, eq-eqb, eqb, length-append, length-drop}
 use Rattle.std.specs.Prelude.{IsTrue, not}
 use Rattle.std.specs.Char.{is_ascii_digit}
 use Rattle.std.specs.Io.BufRead.{strip_last}
@@ -46,8 +46,7 @@ digits_written (byte ∷ bytes) value e small no_zero =
 -- a column that denotes a number has a byte
 some_digits : (end : ℕ) (text : List ℕ) (value : ℕ) → value_of (take end text) ≡ Some value → 0 < end
 unfolding value_of
-some_digits zero text value e = cc
-some_digits (suc end) text value e = omega arith
+some_digits end text value e = grind arith
 
 -- so is a column
 column_written : (text : List ℕ) (lead : ParsedNumber) → Leads text lead → lead.value ≤ 999999999999 → (get_or text 0 0 ≡ 48 → ⊥) → decimal lead.value ≡ take lead.end text
@@ -61,12 +60,7 @@ cut_there text end inside tab =
 
 -- the third column has a first byte
 pub column_begins : (line : RawRecord) → line.name + 1 + line.start.end + 1 < length (strip_last 13 line.line.now)
-column_begins line =
-    let first = drop (line.name + 1) (strip_last 13 line.line.now) in
-    let second = drop (line.start.end + 1) first in
-    let some = some_digits line.stop.end second line.stop.value line.bounds.second.value in
-    let within = line.bounds.second.within in
-    omega (arith, length-drop (line.name + 1) (strip_last 13 line.line.now), length-drop (line.start.end + 1) first)
+column_begins line = grind (arith, some_digits, length-drop)
 
 -- if no number begins with a zero, the record is written as its line is
 pub written_so : (line : RawRecord) (r : Feature) → record_of (strip_last 13 line.line.now) ≡ Ok (Some r) → (get_or (strip_last 13 line.line.now) (line.name + 1) 0 ≡ 48 → ⊥) → (get_or (strip_last 13 line.line.now) (line.name + 1 + line.start.end + 1) 0 ≡ 48 → ⊥) → bed_text r ≡ (strip_last 13 line.line.now)

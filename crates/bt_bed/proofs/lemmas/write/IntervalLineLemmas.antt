@@ -1,6 +1,5 @@
 -- The line of an interval, put column by column, and the lines of intervals one after another.
-use Rattle.std.proofs.Common.{◌≡◌, ℕ, [], ◌∷◌, ◌++◌, Err, List, Ok, Result, false, sym, ap, subst, true, ◌∙◌, append_assoc, codes, decimal, arith, drop, length, length-append, take, ◌-◌}
-use Rattle.std.proofs.lemmas.Bool.{false≢true}
+use Rattle.std.proofs.Common.{◌≡◌, ℕ, [], ◌∷◌, ◌++◌, List, Result, false, ap, subst, true, ◌∙◌, append_assoc, codes, decimal, arith, drop, length, length-append, take, ◌-◌}
 use Rattle.std.proofs.lemmas.List.{length-drop, take_all}
 use Rattle.std.specs.Result.{is_ok}
 use Rattle.bt_lines.specs.model.Fault.{write_failed}
@@ -13,14 +12,7 @@ use Rattle.bt_bed.specs.model.feature.IntervalLine.{interval_line, interval_line
 
 -- the name, and what follows it
 pub line_parts : (r : Interval) → r.chrom ++ span_text r.start r.stop 10 ≡ interval_line r
-line_parts r =
-    let tab = codes "\t" in
-    let end = decimal r.stop ++ codes "\n" in
-    let rest = decimal r.start ++ (tab ++ end) in
-    sym (append_assoc r.chrom tab rest)
-    ∙ sym (append_assoc (r.chrom ++ tab) (decimal r.start) (tab ++ end))
-    ∙ sym (append_assoc ((r.chrom ++ tab) ++ decimal r.start) tab end)
-    ∙ sym (append_assoc (((r.chrom ++ tab) ++ decimal r.start) ++ tab) (decimal r.stop) (codes "\n"))
+line_parts r = grind (arith, codes, append_assoc)
 
 -- no line is empty
 pub line_has_bytes : (r : Interval) → interval_line r ≡ [] → ⊥
@@ -35,12 +27,10 @@ adds_line r old new result p = line_alone interval_line r old new result (line_h
 
 -- by whether a call could put the bytes
 pub was_put : {A : Type 0} (old new : Output) (bytes : List ℕ) (result : Result A Fault) → Puts old bytes result new → is_ok result ≡ true → PutsAll old bytes new
-was_put old new bytes (Ok done) p e = p
-was_put old new bytes (Err fault) p e = absurd (false≢true e)
+was_put old new bytes result p e = grind arith
 
 pub was_cut : {A : Type 0} (old new : Output) (bytes : List ℕ) (result : Result A Fault) → Puts old bytes result new → is_ok result ≡ false → FailsToPut old bytes write_failed new
-was_cut old new bytes (Ok done) p e = absurd (false≢true (sym e))
-was_cut old new bytes (Err fault) p e = subst (λ t. FailsToPut old bytes t new) p.is p
+was_cut old new bytes result p e = grind arith
 
 -- what a text of 43 bytes has from an offset on is put
 pub puts_text : {A : Type 0} (old new : Output) (name text behind : List ℕ) (first : ℕ) (result : Result A Fault) → length text ≡ 43 → drop first text ≡ behind

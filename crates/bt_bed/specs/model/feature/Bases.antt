@@ -1,6 +1,6 @@
 -- The bases of an interval, and those that two intervals share (UCSC BED description, fields
 -- chromStart and chromEnd; bedtools manual, intersect).
-use Rattle.std.specs.Prelude.{◌≡◌, ℕ, ◌-◌, ◌<◌, ◌≤◌, List, cond, max, min, bytes_eq}
+use Rattle.std.specs.Prelude.{ℕ, ◌-◌, cond, max, min, bytes_eq}
 use Rattle.bt_bed.specs.model.feature.Interval.{Interval}
 
 -- how many bases an interval has

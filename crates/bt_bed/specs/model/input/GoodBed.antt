@@ -1,16 +1,13 @@
 -- The good records of a BED input. Sorted input has its chromosomes in an order, as that of the
 -- genome file, and on each of them the starts don't fall (bedtools manual, sorted input and genome
 -- files).
-use Rattle.std.specs.Prelude.{◌≡◌, ℕ, ◌≤◌, All, List, ◌++◌, length, take, Option, Some, None, Result, Ok, Err, if◌then◌else◌}
+use Rattle.std.specs.Prelude.{◌≡◌, ℕ, List, Option, Some, None, Result, Ok, Err, if◌then◌else◌}
 use Rattle.bt_lines.specs.model.Handed.{Handed}
-use Rattle.bt_lines.specs.model.Fault.{FaultValue}
-use Rattle.bt_lines.specs.model.Lines.{text_lines}
 use Rattle.bt_lines.specs.declared.fault.Input.{Input}
 use Rattle.bt_lines.specs.declared.fault.Kind.{Kind}
 use Rattle.bt_lines.specs.declared.fault.Kind.TheVariants.{UnknownChrom, OutOfOrder}
 use Rattle.bt_bed.specs.model.feature.Feature.{Feature, interval_of, intervals_of}
-use Rattle.bt_bed.specs.model.input.Good.{Format, Good, Member, good, good_handed, items_in}
-use Rattle.bt_bed.specs.model.input.GoodLines.{AreAscending, IsBeyond}
+use Rattle.bt_bed.specs.model.input.Good.{Format, Good, good_handed, items_in}
 use Rattle.bt_bed.specs.model.feature.Interval.{AreNonEmpty}
 use Rattle.bt_bed.specs.model.feature.LineKind.{IsBedKind}
 use Rattle.bt_bed.specs.model.order.Order.{Order, IsTotal}

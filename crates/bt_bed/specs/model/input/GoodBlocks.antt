@@ -1,16 +1,12 @@
 -- The good records of a BED input whose chromosomes come in any order. A block is a maximal run of
 -- records of one chromosome; in each block the starts don't fall, and a chromosome may have several
 -- blocks (bedtools manual, maskfasta).
-use Rattle.std.specs.Prelude.{◌≡◌, ◌≢◌, ℕ, ◌≤◌, ⊤, All, IfSome, List, [], ◌∷◌, length, Option}
+use Rattle.std.specs.Prelude.{◌≡◌, ◌≤◌, ⊤, List, [], ◌∷◌, Option}
 use Rattle.bt_lines.specs.model.Handed.{Handed}
-use Rattle.bt_lines.specs.model.Lines.{text_lines}
 use Rattle.bt_lines.specs.declared.fault.Input.{Input}
-use Rattle.bt_lines.specs.declared.fault.Kind.TheVariants.{UnknownChrom}
-use Rattle.bt_bed.specs.model.feature.Feature.{Feature, intervals_of}
-use Rattle.bt_bed.specs.model.input.Good.{Format, Good, good, good_handed, items_in}
+use Rattle.bt_bed.specs.model.feature.Feature.{Feature}
+use Rattle.bt_bed.specs.model.input.Good.{Format, Good, good_handed, items_in}
 use Rattle.bt_bed.specs.model.input.GoodBed.{bed_format, locus_at}
-use Rattle.bt_bed.specs.model.input.GoodLines.{AreAscending}
-use Rattle.bt_bed.specs.model.feature.Interval.{AreNonEmpty}
 use Rattle.bt_bed.specs.model.order.Locus.{Locus}
 use Rattle.bt_bed.specs.model.order.Sorting.{block_sorting}
 

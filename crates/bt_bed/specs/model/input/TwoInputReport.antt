@@ -3,7 +3,7 @@
 -- A member of the first input (a record, or a line of a sequence) is decided once nothing that may
 -- still come of the second input changes its lines.
 -- A faulty line of the second input decides nothing.
-use Rattle.std.specs.Prelude.{Bool, IsTrue, ◌≡◌, All, List, ◌++◌, Option, flat_map, if◌then◌else◌}
+use Rattle.std.specs.Prelude.{Bool, List, Option, flat_map, if◌then◌else◌}
 use Rattle.std.specs.List.{list_all, take_while}
 use Rattle.std.specs.Option.{option_or}
 

@@ -1,5 +1,5 @@
 -- Lemmas on the next record of a batch.
-use Rattle.std.proofs.Common.{◌≡◌, ℕ, ◌+◌, ◌<◌, ◌≤◌, true, false, List, [], ◌∷◌, ◌++◌, drop, length, length-append, take, Option, Some, None, sym, ap, ◌∙◌, arith, nat_lt}
+use Rattle.std.proofs.Common.{◌≡◌, ℕ, ◌+◌, ◌<◌, ◌≤◌, true, false, List, [], ◌∷◌, ◌++◌, drop, length, length-append, take, Option, sym, ap, ◌∙◌, arith, nat_lt}
 use Rattle.std.proofs.lemmas.Bool.Decides.{nat_tests}
 use Rattle.std.specs.Prelude.{IfNone}
 use Rattle.std.specs.Io.BufRead.{strip_last}
@@ -18,23 +18,15 @@ use Rattle.bt_bed.specs.declared.read.batch.Batch.{Batch}
 use Rattle.bt_bed.specs.declared.record.raw_record.RawRecord.{RawRecord}
 
 pub none_holds : {A : Type 0} (o : Option A) (P : Type 0) → P → IfNone o P
-none_holds None P p = p
-none_holds (Some x) P p = tt
+none_holds o P p = grind arith
 
 -- the bytes of a line are those before its line feed, and that
 line_there : (line bytes : List ℕ) → take (length line) bytes ≡ line → Cut bytes (shown_of line) → take (length line + 1) bytes ≡ line ++ 10 ∷ []
-line_there line bytes front cut =
-    let size : length cut.piece ≡ length line = omega (arith, cut.size_is) in
-    let piece : cut.piece ≡ line =
-    sym (ap (take (length cut.piece)) cut.cut ∙ take-append_seam cut.piece (10 ∷ drop (length line + 1) bytes)) ∙ ap (λ n. take n bytes) size ∙ front in
-    ap (λ n. take (n + 1) bytes) (sym size) ∙ ap (take (length cut.piece + 1)) cut.cut ∙ take-append-add cut.piece (10 ∷ drop (length line + 1) bytes) 1 ∙ ap (λ l. l ++ 10 ∷ []) piece
+line_there line bytes front cut = grind (arith, take-append_seam, take-append-add)
 
 -- bytes that a record's line begins aren't empty
 pub some_bytes : (raw : RawRecord) (line bytes : List ℕ) → raw.line.now ≡ line → take (length line) bytes ≡ line → 0 < length bytes
-some_bytes raw line [] is front =
-    let none : length line ≡ 0 = ap length (sym front) ∙ ap length (take-nil (length line)) in
-    absurd (let inside = name_within raw in omega (arith, ap length is, none))
-some_bytes raw line (byte ∷ bytes) is front = omega arith
+some_bytes raw line bytes is front = grind (arith, take-nil, name_within)
 
 -- none is left without a line, and else where the next one says so
 pub none_either : (batch : Batch) (bytes : List ℕ) → rest_in (cursor_in batch) ≡ bytes → (rest_in (cursor_in batch) ≡ [] → lines_in (cursor_in batch) ≡ [])

@@ -1,5 +1,5 @@
 -- Lemmas on the reader of records in blocks.
-use Rattle.std.proofs.Common.{◌≡◌, ℕ, Bool, true, false, List, [], ◌∷◌, Option, Some, Ok, Err, take, refl, sym, ap, ◌∙◌}
+use Rattle.std.proofs.Common.{arith, ◌≡◌, ℕ, Bool, true, false, List, ◌∷◌, Option, Some, Ok, Err, take, refl, ◌∙◌}
 use Rattle.std.specs.Prelude.{Result, option_map}
 use Rattle.bt_lines.specs.declared.device.Source.{Ghosts as Source}
 use Rattle.bt_lines.specs.declared.fault.Fault.{Fault}
@@ -46,8 +46,7 @@ module _ {S : Type 0} (device : Source S) (old new : Blocks S) where
   takes_blocks count takes = record { takes = takes }
 
   last_one : (items : List Feature) (line : ℕ) (item : Feature) (more : List Feature) (state : Option Locus) → items ≡ item ∷ more → state ≡ Some (locus_at item) → state ≡ option_map locus_at (option_map (λ m. m.item) (first_from line items))
-  last_one [] line item more state e s = cc
-  last_one (x ∷ xs) line item more state e s = let same : x ≡ item = cc in s ∙ ap (λ (f : Feature). Some (locus_at f)) (sym same)
+  last_one items line item more state e s = grind arith
 
   pub passes_blocks : (item : Feature) (more : List Feature) → records_in old.sorted ≡ item ∷ more → Takes device (view_in block_sorting old.sorted) (take 1 (records_in old.sorted)) (view_in block_sorting new.sorted) → PassesBlocks device old new
   unfolding view_of view_with

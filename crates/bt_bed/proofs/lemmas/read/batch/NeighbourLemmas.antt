@@ -6,7 +6,7 @@ use Rattle.bt_lines.specs.declared.fault.Kind.TheVariants.{UnknownChrom, OutOfOr
 use Rattle.std.proofs.lemmas.Bool.{false≢true}
 use Rattle.std.proofs.lemmas.Bool.Decides.{nat_tests}
 use Rattle.std.proofs.lemmas.Slice.Eq.{bytes_eq-Decides}
-use Rattle.bt_bed.proofs.lemmas.read.good.SaidLemmas.{wrong_is_of_line, wrong_is_of_record, same_kind}
+use Rattle.bt_bed.proofs.lemmas.read.good.SaidLemmas.{wrong_is_of_line, wrong_is_of_record}
 use Rattle.bt_bed.specs.model.feature.Feature.{Feature}
 use Rattle.bt_bed.specs.model.input.GoodBed.{line_says, said_after, in_order, locus_at, wrong_lines_are_of_bed}
 use Rattle.bt_bed.specs.model.feature.LineKind.{is_bed_kind, is_record_kind}
@@ -33,19 +33,8 @@ module _ (sorting : Sorting) (last : Option Locus) (text : List ℕ) where
   unfolding line_says
   says_record r e known stays = ap (said_after sorting last) (sym e) ∙ (rw (known, stays) refl)
 
-kind_of_order : (knows falls : Bool) (r : Feature) (kind : Kind) → cond knows (cond falls (Err OutOfOrder) (Ok (Some r))) (Err UnknownChrom) ≡ Err kind → is_bed_kind kind ≡ true
-kind_of_order false falls r kind e = same_kind {T = Option Feature} (Err UnknownChrom) UnknownChrom kind refl e refl
-kind_of_order true true r kind e = same_kind {T = Option Feature} (Err OutOfOrder) OutOfOrder kind refl e refl
-kind_of_order true false r kind e = cc
-
--- what is wrong with a record after the last place is a fault of a line
-pub misplaced_is_of_line : (sorting : Sorting) (last : Option Locus) (r : Feature) (kind : Kind) → in_order sorting last r ≡ Err kind → is_bed_kind kind ≡ true
-misplaced_is_of_line sorting last r kind e = kind_of_order (sorting.knows r.chrom) (falls_in sorting last (locus_at r)) r kind e
-
 said_is_of_line : (sorting : Sorting) (last : Option Locus) (said : Result (Option Feature) Kind) (kind : Kind) → said_after sorting last said ≡ Err kind → ((k : Kind) → said ≡ Err k → is_bed_kind k ≡ true) → is_bed_kind kind ≡ true
-said_is_of_line sorting last (Ok None) kind e h = cc
-said_is_of_line sorting last (Ok (Some r)) kind e h = misplaced_is_of_line sorting last r kind e
-said_is_of_line sorting last (Err k) kind e h = same_kind {T = Option Feature} (Err k) k kind refl e (h k refl)
+said_is_of_line sorting last said kind e h = grind arith
 
 -- so is what a line says wrong
 pub says_of_line : (sorting : Sorting) (last : Option Locus) (text : List ℕ) (kind : Kind) → line_says sorting last text ≡ Err kind → is_bed_kind kind ≡ true
@@ -54,9 +43,7 @@ says_of_line sorting last text kind e = said_is_of_line sorting last (record_of 
 
 -- an unknown chromosome is one that the order doesn't know
 unknown_by : (b : Bool) (name : List ℕ) (known falls : Bool) (r : Feature) → b ≡ known → cond known (cond falls (Err OutOfOrder) (Ok (Some r))) (Err UnknownChrom) ≡ Err UnknownChrom → b ≡ false
-unknown_by b name false falls r is e = is
-unknown_by b name true true r is e = cc
-unknown_by b name true false r is e = cc
+unknown_by b name known falls r is e = grind arith
 
 unknown_said : (order : Order) (last : Option Locus) (said : Result (Option Feature) Kind) → said_after (sorting_of order) last said ≡ Err UnknownChrom → ((k : Kind) → said ≡ Err k → is_record_kind k ≡ true) → (name : List ℕ) × (order.knows name ≡ false)
 unknown_said order last (Ok None) e h = cc
@@ -67,22 +54,17 @@ unknown_said order last (Err k) e h =
 
 pub wrong_of_bed : wrong_lines_are_of_bed
 unfolding line_says
-wrong_of_bed order last text kind e = (
-  says_of_line (sorting_of order) last text kind e,
-  λ is. unknown_said order last (record_of text) (e ∙ ap (λ k. Err k) is) (λ k h. wrong_is_of_record text k (sym h)),
-)
+wrong_of_bed order last text kind e = grind (arith, says_of_line, unknown_said, wrong_is_of_record)
 
 -- ---- the chromosome of the record ahead
 
 -- if it is that of the last record
 pub held_same : (name chrom : List ℕ) (last : Option ℕ) → is_some last && bytes_eq name chrom ≡ true → (name ≡ chrom) × (start_on false last ≡ start_after (start_at name last) chrom)
-held_same name chrom None e = absurd (false≢true e)
-held_same name chrom (Some start) e = ((bytes_eq-Decides name chrom).0 e, rw e refl)
+held_same name chrom last e = grind (arith, bytes_eq-Decides)
 
 -- if it is another
 pub held_other : (name chrom : List ℕ) (last : Option ℕ) → is_some last && bytes_eq name chrom ≡ false → start_on true last ≡ start_after (start_at name last) chrom
-held_other name chrom None e = refl
-held_other name chrom (Some start) e = rw e refl
+held_other name chrom last e = grind arith
 
 -- a record that fits after the last one doesn't start below
 pub fits_above : (sorting : Sorting) (last : Option Locus) (r : Feature) → falls_in sorting last (locus_at r) ≡ false → start_after last r.chrom ≤ r.start

@@ -1,5 +1,5 @@
 -- Lemmas on the reader of records.
-use Rattle.std.proofs.Common.{◌≡◌, ℕ, Bool, true, false, List, [], ◌∷◌, Option, Some, None, Ok, Err, take, refl, sym, ap, ◌∙◌, subst}
+use Rattle.std.proofs.Common.{arith, ◌≡◌, ℕ, Bool, true, false, List, [], ◌∷◌, Option, Some, None, Ok, Err, take, refl, sym, ap, ◌∙◌, subst}
 use Rattle.std.specs.Prelude.{IfSome, IsSome, IsTrue, Result, option_map}
 use Rattle.std.specs.Option.{ForSome}
 use Rattle.std.proofs.lemmas.Bool.{false≢true}
@@ -29,8 +29,7 @@ use Rattle.bt_bed.specs.declared.order.ChromOrder.{Ghosts}
 use Rattle.bt_bed.specs.declared.read.records.Records.{Records}
 
 for_if : {A : Type 0} (o : Option A) (P : A → Type 0) → ForSome o P → IfSome o P
-for_if None P h = tt
-for_if (Some x) P h = h x refl
+for_if o P h = grind arith
 
 -- what is known of a record that a line says after the last one
 pub record BehindLast (order : Order) (last : Option Locus) (r : Feature) : Type 0 where
@@ -49,8 +48,7 @@ said_behind order last text r total known says =
     }
 
 pub some_first : {A : Type 0} (line : ℕ) (items : List A) → IsSome (option_map (λ m. m.line) (first_from line items)) → (item : A) × (more : List A) × (items ≡ item ∷ more)
-some_first line [] some = absurd (false≢true some)
-some_first line (x ∷ xs) some = (x, xs, refl)
+some_first line items item = grind arith
 
 module _ {S O : Type 0} {g : Ghosts O} (device : Source S) where
   given : (old new : Records S O g) (m : Member Feature) → IsTotal (order_in old) → GivesMember device (view_of old) m (view_of new) → GivesRecord device old m.item new
@@ -70,10 +68,7 @@ module _ {S Q : Type 0} (device : Source S) (sorting : Sorting) (sorted : Sorted
   pub good_at_start : (reader : LineReader S) → sorted.reader ≡ reader → sorted.fault ≡ None → last_in sorted.lookahead ≡ None → line_fault reader ≡ None
       → good_coming device.left (view_in sorting sorted) ≡ option_map (good (bed_format sorting) (input_of reader)) (lines_left device.left reader)
   unfolding view_with
-  good_at_start reader same own last going =
-      let fault : (view_in sorting sorted).fault ≡ None = rw (own, same) going in
-      good_at_first device (view_in sorting sorted) fault last
-      ∙ ap (λ r. option_map (good (bed_format sorting) (input_of r)) (lines_left device.left r)) same
+  good_at_start reader same own last going = grind (arith, good_at_first)
 
   pub placed_at_start : records_in sorted ≡ [] → last_in sorted.lookahead ≡ None → IsPlaced sorting (view_in sorting sorted)
   unfolding view_with
@@ -125,8 +120,7 @@ module _ {S O : Type 0} {g : Ghosts O} (device : Source S) (old new : Records S 
   takes_records count takes = record { takes = rw (← same_view) at takes; order = same_order }
 
   last_one : (items : List Feature) (line : ℕ) (item : Feature) (more : List Feature) (state : Option Locus) → items ≡ item ∷ more → state ≡ Some (locus_at item) → state ≡ option_map locus_at (option_map (λ m. m.item) (first_from line items))
-  last_one [] line item more state e s = cc
-  last_one (x ∷ xs) line item more state e s = let same : x ≡ item = cc in s ∙ ap (λ (f : Feature). Some (locus_at f)) (sym same)
+  last_one items line item more state e s = grind arith
 
   pub passes_record : (item : Feature) (more : List Feature) → records_in old.sorted ≡ item ∷ more → Takes device (view_in (sorting_at g old.sorted) old.sorted) (take 1 (records_in old.sorted)) (view_in (sorting_at g old.sorted) new.sorted) → PassesRecord device old new
   unfolding view_of view_with

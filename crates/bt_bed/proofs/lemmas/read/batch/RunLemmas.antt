@@ -1,5 +1,5 @@
 -- Lemmas on the records on one chromosome that lines begin with.
-use Rattle.std.proofs.Common.{◌≡◌, ℕ, ◌≤◌, Bool, true, false, cond, List, [], ◌∷◌, Option, Some, None, Result, Ok, Err, refl, ap, ◌∙◌, arith, bytes_eq, nat_lt}
+use Rattle.std.proofs.Common.{◌≡◌, ℕ, ◌≤◌, Bool, true, false, cond, List, [], ◌∷◌, Option, Some, None, Result, Ok, refl, ap, ◌∙◌, arith, bytes_eq, nat_lt}
 use Rattle.std.proofs.lemmas.Bool.Decides.{nat_tests}
 use Rattle.std.proofs.lemmas.Slice.Eq.{bytes_eq-Decides}
 use Rattle.bt_lines.specs.model.Lines.{TextLine}
@@ -11,10 +11,7 @@ use Rattle.bt_bed.specs.calls.Run.{is_on, placed_on, record_on, run_of, run_then
 -- a record on the chromosome that doesn't start below
 pub placed_there : (name : List ℕ) (start : ℕ) (text : List ℕ) (r : Feature) → record_of text ≡ Ok (Some r) → r.chrom ≡ name → start ≤ r.start → record_on name start text ≡ Some r
 unfolding record_on
-placed_there name start text r says on above =
-    let same : bytes_eq r.chrom name ≡ true = (bytes_eq-Decides r.chrom name).1 on in
-    let test : nat_lt r.start start ≡ false = grind (arith, nat_tests) in
-    ap (placed_on name start) says ∙ rw (same, test) refl
+placed_there name start text r says on above = grind (arith, bytes_eq-Decides, nat_tests)
 
 -- one that starts below
 pub placed_below : (name : List ℕ) (start : ℕ) (text : List ℕ) (r : Feature) → record_of text ≡ Ok (Some r) → nat_lt r.start start ≡ true → record_on name start text ≡ None
@@ -26,9 +23,7 @@ placed_below name start text r says below = ap (placed_on name start) says ∙ b
     by false = refl
 
 not_placed_by : (name : List ℕ) (start : ℕ) (said : Result (Option Feature) Kind) → is_on name said ≡ false → placed_on name start said ≡ None
-not_placed_by name start (Err kind) e = refl
-not_placed_by name start (Ok None) e = refl
-not_placed_by name start (Ok (Some r)) e = rw e refl
+not_placed_by name start said e = grind arith
 
 -- no record on the chromosome
 pub placed_elsewhere : (name : List ℕ) (start : ℕ) (text : List ℕ) → is_on name (record_of text) ≡ false → record_on name start text ≡ None

@@ -2,7 +2,6 @@
 use Rattle.std.proofs.Common.{◌≡◌, ℕ, suc, ◌+◌, ◌-◌, ◌<◌, ◌≤◌, Bool, true, false, List, [], ◌∷◌, ◌++◌, length, take, drop, Option, Some, None, Ok, refl, sym, ap, ◌∙◌, subst, arith, length-take, take-append-drop}
 use Rattle.std.specs.Prelude.{if◌then◌else◌, IfSome, IsTrue, is_some, option_map}
 use Rattle.std.specs.Option.{ForSome}
-use Rattle.std.proofs.lemmas.Bool.{false≢true}
 use Rattle.bt_lines.specs.declared.device.Source.{Ghosts as Source}
 use Rattle.bt_lines.proofs.lemmas.reader.lines.TakingLemmas.{is_prefix}
 use Rattle.bt_lines.specs.calls.Buffered.{buffered_lines}
@@ -20,27 +19,23 @@ use Rattle.bt_bed.specs.model.feature.Feature.{Feature}
 use Rattle.bt_bed.specs.model.input.Good.{Format, Good, Member, good_from, or_else}
 use Rattle.bt_bed.specs.model.input.GoodBed.{bed_format, line_says, locus_at}
 use Rattle.bt_bed.specs.model.order.Locus.{Locus}
-use Rattle.bt_bed.specs.inside.OrderedLookahead.{HoldsChrom, LineTaken, MakesLast, last_in, name_in, start_in}
+use Rattle.bt_bed.specs.inside.OrderedLookahead.{HoldsChrom, LineTaken, MakesLast, ahead_of, last_in, name_in, start_in}
 use Rattle.bt_bed.specs.calls.Reading.{AreSaid, BeginsComing, MemberReader, Takes, good_behind, good_coming, members_from, state_behind, with_members}
 use Rattle.bt_bed.specs.calls.Run.{is_some_left, last_start, run_of}
 use Rattle.bt_bed.specs.model.order.Sorting.{Sorting}
-use Rattle.bt_bed.specs.inside.Ahead.{ahead_of}
 use Rattle.bt_bed.specs.calls.SortedReader.{IsPlaced, IsTaken, are_in_order, buffered_in, count_in, view_in, view_with}
 use Rattle.bt_bed.specs.declared.read.batch.Consumed.{Consumed}
 use Rattle.bt_bed.specs.declared.read.lookahead.OrderedLookahead.{OrderedLookahead}
 use Rattle.bt_bed.specs.declared.read.sorted_reader.SortedReader.{SortedReader}
 
 none_by : (told : Bool) (held : List ℕ) (number : ℕ) → option_map (lines_from number) (left_at told held None) ≡ None
-none_by true held number = refl
-none_by false held number = refl
+none_by told held number = grind arith
 
 some_by : (told : Bool) (held : List ℕ) (number : ℕ) (rest : List ℕ) → option_map (lines_from number) (left_at told held (Some rest)) ≡ None → ⊥
-some_by true held number rest e = cc
-some_by false held number rest e = cc
+some_by told held number rest e = grind arith
 
 unknown_by : (a b : Option (List ℕ)) (t u : Bool) (h k : List ℕ) (n m : ℕ) → b ≡ a → option_map (lines_from n) (left_at t h a) ≡ None → option_map (lines_from m) (left_at u k b) ≡ None
-unknown_by None b t u h k n m e none = ap (λ o. option_map (lines_from m) (left_at u k o)) e ∙ none_by u k m
-unknown_by (Some rest) b t u h k n m e none = absurd (some_by t h n rest none)
+unknown_by a b t u h k n m e none = grind arith
 
 -- if no bytes are known, none are once lines were taken
 still_unknown : {S : Type 0} (left : S → Option (List ℕ)) (old new : LineReader S) → source_of new ≡ source_of old → lines_left left old ≡ None → lines_left left new ≡ None
@@ -52,16 +47,11 @@ still_unknown left old new same none =
 taken_good : {A State : Type 0} (format : Format A State) (input : Input) (state : State) (number : ℕ) (items : List A) (a b : Option (List TextLine)) → IfSome a (AreNumbered number) → IfSome a (λ all. LinesSay format state all items)
     → (a ≡ None → b ≡ None) → DropsLines a (length items) b
     → option_map (with_members (members_from number items)) (option_map (good_behind format input None (state_behind format state items)) b) ≡ option_map (good_behind format input None state) a
-taken_good {A} {State} format input state number items None b n say none drops =
-    ap (λ o. option_map (with_members (members_from number items)) (option_map (good_behind format input None (state_behind format state items)) o)) (none refl)
-taken_good {A} {State} format input state number items (Some all) b n say none drops =
-    ap (λ o. option_map (with_members (members_from number items)) (option_map (good_behind format input None (state_behind format state items)) o)) drops
-    ∙ ap Some (good_said format input number state all items n say)
+taken_good format input state number items a b n say none drops = grind (arith, good_said)
 
 say_all : {A State : Type 0} (format : Format A State) (state : State) (front : List TextLine) (items : List A) (all : Option (List TextLine)) → IfSome all (λ lines. take (length front) lines ≡ front) → LinesSay format state front items
     → IfSome all (λ lines. LinesSay format state lines items)
-say_all format state front items None e say = tt
-say_all format state front items (Some all) e say = say_front format state front all items e say
+say_all format state front items all e say = grind (arith, say_front)
 
 -- items that lines say are the first of what is good
 begins_good : {A State : Type 0} (format : Format A State) (input : Input) (state : State) (number : ℕ) (items : List A) (a : Option (List TextLine)) → IfSome a (AreNumbered number) → IfSome a (λ all. LinesSay format state all items)
@@ -75,13 +65,10 @@ begins_none None number items none = tt
 begins_none {A} (Some good) number items none = (good.members, ap (λ (l : List A). members_from number l ++ good.members) (sym none))
 
 cond_left : (b : Bool) (run more : List Feature) → b ≡ is_some_left more → run ≡ more → (if b then run else []) ≡ more
-cond_left true run more e same = same
-cond_left false run [] e same = refl
-cond_left false run (r ∷ more) e same = cc
+cond_left b run more e same = grind arith
 
 pub is_ahead_by : (b : Bool) (run : List Feature) (r : Feature) (more : List Feature) → (if b then run else []) ≡ r ∷ more → (b ≡ true) × (run ≡ r ∷ more)
-is_ahead_by true run r more e = (refl, e)
-is_ahead_by false run r more e = cc
+is_ahead_by b run r more e = grind arith
 
 some_taken : (n : ℕ) (records : List Feature) → 0 < n → n ≤ length records → (r : Feature) × (taken : List Feature) × (take n records ≡ r ∷ taken) × (records ≡ r ∷ (taken ++ drop n records)) × (n ≡ length (r ∷ taken))
 some_taken n [] some within = absurd (omega (arith, some, within))
@@ -292,15 +279,13 @@ pub record Found {Q : Type 0} (sorting : Sorting) (old new : OrderedLookahead Q)
   pub holds : HoldsChrom old r.chrom new
 
 found_by : {Q : Type 0} (sorting : Sorting) (old new : OrderedLookahead Q) (text : List ℕ) (said : Option Feature) → line_says sorting (last_in old) text ≡ Ok said → true ≡ is_some said → IfSome said (λ r. HoldsChrom old r.chrom new) → Found sorting old new text
-found_by sorting old new text None says e holds = absurd (false≢true (sym e))
-found_by sorting old new text (Some r) says e holds = record { r = r; says = says; holds = holds }
+found_by sorting old new text said says e holds = grind arith
 
 pub found_of : {Q : Type 0} (sorting : Sorting) (old new : OrderedLookahead Q) (text : List ℕ) → LineTaken sorting text old true new → Found sorting old new text
 found_of sorting old new text taken = found_by sorting old new text taken.said taken.says taken.is taken.ahead
 
 said_none : (said : Option Feature) → false ≡ is_some said → said ≡ None
-said_none None e = refl
-said_none (Some r) e = absurd (false≢true e)
+said_none said e = grind arith
 
 -- one that wasn't says nothing
 pub skipped_of : {Q : Type 0} (sorting : Sorting) (old new : OrderedLookahead Q) (text : List ℕ) → LineTaken sorting text old false new → line_says sorting (last_in old) text ≡ Ok None

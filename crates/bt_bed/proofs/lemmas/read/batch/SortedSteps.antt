@@ -1,5 +1,5 @@
 -- Lemmas on how a reader of sorted records reads on.
-use Rattle.std.proofs.Common.{◌≡◌, suc, Bool, true, false, List, [], ◌∷◌, Option, Some, None, Result, Ok, Err, refl, sym, ap, ◌∙◌, subst, inl, inr}
+use Rattle.std.proofs.Common.{arith, ◌≡◌, suc, Bool, true, false, List, [], ◌∷◌, Option, Some, None, Result, Ok, Err, refl, sym, ap, ◌∙◌, subst, inl, inr}
 use Rattle.std.specs.Prelude.{◌⊎◌, option_map}
 use Rattle.bt_lines.specs.model.Fault.{FaultValue}
 use Rattle.bt_lines.specs.model.Lines.{TextLine}
@@ -17,18 +17,16 @@ use Rattle.bt_bed.proofs.lemmas.read.good.SaidRuns.{FirstOfRun, first_of_run, or
 use Rattle.bt_bed.proofs.lemmas.read.batch.SortedReaderLemmas.{is_ahead_by}
 use Rattle.bt_lines.proofs.lemmas.reader.block.ReadsLemmas.{counts_none, has_read_then, reads_same}
 use Rattle.bt_lines.proofs.lemmas.reader.lines.TakingLemmas.{next_bytes, next_number}
-use Rattle.std.proofs.lemmas.Bool.{false≢true}
 use Rattle.bt_lines.specs.declared.device.Source.{Ghosts as Source}
 use Rattle.bt_bed.specs.model.feature.Feature.{Feature}
 use Rattle.bt_bed.specs.model.input.GoodBed.{bed_format}
 use Rattle.bt_bed.specs.model.feature.LineKind.{fault_at_line}
 use Rattle.bt_bed.specs.model.order.Locus.{Locus}
-use Rattle.bt_bed.specs.inside.OrderedLookahead.{KeepsLast, LineUnkept, LineWrong, last_in, name_in, start_in}
+use Rattle.bt_bed.specs.inside.OrderedLookahead.{KeepsLast, LineUnkept, LineWrong, ahead_of, last_in, name_in, start_in}
 use Rattle.bt_bed.specs.inside.FirstColumns.{IsRecordName}
 use Rattle.bt_bed.specs.calls.Run.{is_some_left, run_of}
 use Rattle.bt_bed.specs.calls.Reading.{AnswersFault, AreSaid, Fills, MemberReader, TellsOwnFailure}
 use Rattle.bt_bed.specs.model.order.Sorting.{Sorting}
-use Rattle.bt_bed.specs.inside.Ahead.{ahead_of}
 use Rattle.bt_bed.specs.calls.SortedReader.{FindsRecord, IsPlaced, LosesLine, SkipsLine, TakesFirst, TakesOne, are_in_order, buffered_in, view_in, view_with}
 use Rattle.bt_bed.specs.declared.read.lookahead.OrderedLookahead.{OrderedLookahead}
 use Rattle.bt_bed.specs.declared.read.sorted_reader.SortedReader.{SortedReader}
@@ -176,8 +174,7 @@ module _ {S Q : Type 0} (device : Source S) (sorting : Sorting) where
     read_fault before fault taken = lost_is_own Bool device.is_read before old new.reader fault (read_on device old mid.reader new.reader read taken.takes.takes) rules (record { input = input_of mid.reader; line = taken.line.number }) taken.line.text mid.lookahead taken.takes.cause
 
 some_parts : (records : List Feature) → is_some_left records ≡ true → (r : Feature) × (more : List Feature) × (records ≡ r ∷ more)
-some_parts [] e = absurd (false≢true e)
-some_parts (r ∷ more) e = (r, more, refl)
+some_parts records r = grind arith
 
 module _ {S Q : Type 0} (sorted : SortedReader S Q) (some : sorted.is_ahead ≡ true) where
   parts : (r : Feature) × (more : List Feature) × (buffered_in sorted ≡ r ∷ more)

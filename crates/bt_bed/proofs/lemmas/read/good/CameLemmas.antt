@@ -1,5 +1,5 @@
 -- Lemmas on lines that a reader of records takes one after another.
-use Rattle.std.proofs.Common.{◌≡◌, ℕ, zero, suc, ◌+◌, ◌-◌, ◌^◌, ◌<◌, ◌≤◌, List, [], ◌∷◌, ◌++◌, length, take, drop, Option, Some, None, refl, sym, ap, ◌∙◌, subst, arith, false, length-append}
+use Rattle.std.proofs.Common.{◌≡◌, ℕ, suc, ◌+◌, ◌-◌, ◌^◌, ◌<◌, ◌≤◌, List, [], ◌∷◌, ◌++◌, length, take, drop, Option, Some, None, sym, ap, ◌∙◌, subst, arith, false, length-append}
 use Rattle.std.specs.Prelude.{IfSome, option_map}
 use Rattle.std.proofs.Math.Seq.{take-append-add}
 use Rattle.std.proofs.lemmas.List.{drop-drop}
@@ -18,15 +18,10 @@ use Rattle.bt_bed.specs.calls.Reading.{LinesPass}
 
 -- lines that were passed none at a time, or some and then others
 pub no_pass : (lines : Option (List TextLine)) (n : ℕ) → IfSome lines (λ all. lines ≡ Some (drop (n - n) all))
-no_pass None n = tt
-no_pass (Some all) n = let none : n - n ≡ 0 = omega arith in rw none refl
+no_pass lines n = grind arith
 
 pub pass_more : (a b c : Option (List TextLine)) (i j k : ℕ) → IfSome a (λ all. b ≡ Some (drop i all)) → IfSome b (λ all. c ≡ Some (drop j all)) → k ≡ i + j → IfSome a (λ all. c ≡ Some (drop k all))
-pass_more None b c i j k p q e = tt
-pass_more (Some all) None c i j k p q e = cc
-pass_more (Some all) (Some some) c i j k p q e =
-    let same : some ≡ drop i all = cc in
-    q ∙ ap (λ l. Some (drop j l)) same ∙ ap Some (drop-drop j i all) ∙ ap (λ n. Some (drop n all)) (sym e)
+pass_more a b c i j k p q e = grind (arith, drop-drop)
 
 pub near_pass : (a b : Option (List TextLine)) (rest : Option (List ℕ)) (i j k : ℕ) → IfSome a (λ all. b ≡ Some (drop i all)) → k ≡ i + j
     → IfSome b (λ all. IfSome rest (λ bytes. bytes_in (drop j all) ≤ length bytes + block_size))
@@ -39,35 +34,21 @@ near_pass (Some all) (Some some) rest i j k p e q =
     subst (λ lines. IfSome rest (λ bytes. bytes_in lines ≤ length bytes + block_size)) is q
 
 numbered_by : (n : ℕ) (bytes : Option (List ℕ)) → IfSome (option_map (lines_from n) bytes) (AreNumbered n)
-numbered_by n None = tt
-numbered_by n (Some bytes) = lines_are_numbered n bytes
+numbered_by n bytes = grind (arith, lines_are_numbered)
 
 -- the first n bytes of two texts, if the first text has at most n
 pub front_of_both : (first second : List ℕ) (n m : ℕ) → n ≡ length first + m → take n (first ++ second) ≡ first ++ take m second
 front_of_both first second n m e = rw e (take-append-add first second m)
 
 same_pass : (a b : Option (List TextLine)) (n m : ℕ) → SameLines a b → m ≡ n → IfSome a (λ all. b ≡ Some (drop (m - n) all))
-same_pass None b n m s e = tt
-same_pass (Some all) b n m s e = let none : m - n ≡ 0 = omega (arith, e) in s ∙ ap (λ k. Some (drop k all)) (sym none)
+same_pass a b n m s e = grind arith
 
 pub drops_pass : (a b : Option (List TextLine)) (count k : ℕ) → DropsLines a count b → k ≡ count → IfSome a (λ all. b ≡ Some (drop k all))
-drops_pass None b count k d e = tt
-drops_pass (Some all) b count k d e = d ∙ ap (λ n. Some (drop n all)) (sym e)
-
-pub front_line : (all : List TextLine) (line : TextLine) (more : List TextLine) → take (length (line ∷ more)) all ≡ line ∷ more → all ≡ line ∷ drop 1 all
-front_line [] line more e = cc
-front_line (x ∷ xs) line more e = let same : x ≡ line = cc in ap (λ l. l ∷ xs) same
+drops_pass a b count k d e = grind arith
 
 first_by : (a b c : Option (List TextLine)) (line : TextLine) (more buffered : List TextLine) (count : ℕ) → SameLines a b → IfSome b (λ all. take (length buffered) all ≡ buffered) → buffered ≡ line ∷ more → DropsLines b count c → count ≡ 1
     → GivesFirst a line c
-first_by None b c line more buffered count s p is d one = tt
-first_by (Some all) None c line more buffered count s p is d one = cc
-first_by (Some all) (Some mid) None line more buffered count s p is d one = cc
-first_by (Some all) (Some mid) (Some new) line more buffered count s p is d one =
-    let same : mid ≡ all = cc in
-    let left : new ≡ drop 1 all = cc in
-    let front : take (length (line ∷ more)) all ≡ line ∷ more = subst (λ (l : List TextLine). take (length l) all ≡ l) is (subst (λ (l : List TextLine). take (length buffered) l ≡ buffered) same p) in
-    front_line all line more front ∙ ap (λ l. line ∷ l) (sym left)
+first_by a b c line more buffered count s p is d one = grind arith
 
 -- the reader's next line was made buffered, and taken
 pub record LineCame {S : Type 0} (device : Source S) (old : LineReader S) (line : TextLine) (new : LineReader S) : Type 0 where
@@ -84,8 +65,7 @@ pub record LineCame {S : Type 0} (device : Source S) (old : LineReader S) (line 
 
 -- if lines were taken, bytes were
 pub some_bytes : (count : ℕ) (bytes : List ℕ) → 0 < line_feeds (take count bytes) → 0 < count
-some_bytes zero bytes some = absurd (omega (arith, some))
-some_bytes (suc count) bytes some = omega arith
+some_bytes count bytes some = grind arith
 
 module _ {S : Type 0} (device : Source S) (old mid new : LineReader S) (makes : MakesLine device old mid) where
   pub same_room : room mid ≡ room old
@@ -128,9 +108,7 @@ module _ {S : Type 0} (device : Source S) where
   left_numbered reader = numbered_by (suc (lines_given reader)) (bytes_left device.left reader)
 
   first_drops : (old : Option (List TextLine)) (line : TextLine) (new : Option (List TextLine)) → GivesFirst old line new → IfSome old (λ lines. new ≡ Some (drop 1 lines))
-  first_drops None line new h = tt
-  first_drops (Some lines) line None h = absurd h
-  first_drops (Some lines) line (Some rest) h = rw h refl
+  first_drops old line new h = grind arith
 
   -- of known bytes, those after one more line are left
   pub near_came : (old new : LineReader S) → Came old new → IsNear device.left old new

@@ -31,10 +31,7 @@ module _ {A State : Type 0} (format : Format A State) (input : Input) where
 
   within_with : (last number : ℕ) (state : State) (said : Result (Option A) Kind) (rest : State → Good A) → number ≤ last
       → ((now : State) → All (λ m. m.line ≤ last) (rest now).members) → All (λ m. m.line ≤ last) (good_with format input number state said rest).members
-  within_with last number state (Err kind) rest n h = All-nil (λ m. m.line ≤ last)
-  within_with last number state (Ok None) rest n h = h state
-  within_with last number state (Ok (Some item)) rest n h =
-      All-cons (λ m. m.line ≤ last) (record { line = number; item = item }) (rest (format.after state item)).members n (h (format.after state item))
+  within_with last number state said rest n h = grind arith
 
   -- and none is on a line after the last of them
   pub within_from : (last number : ℕ) (state : State) (lines : List TextLine) → AreNumbered number lines → number + length lines ≤ suc last → All (λ m. m.line ≤ last) (good_from format input state lines).members
@@ -52,9 +49,7 @@ ascending_beyond {A} count line (m ∷ ms) low asc =
 module _ {A State : Type 0} (format : Format A State) (input : Input) where
   fault_with : (count number : ℕ) (state : State) (said : Result (Option A) Kind) (rest : State → Good A) → count < number
       → ((now : State) → IfSome (rest now).fault (IsFaultBeyond count)) → IfSome (good_with format input number state said rest).fault (IsFaultBeyond count)
-  fault_with count number state (Err kind) rest low h = low
-  fault_with count number state (Ok None) rest low h = h state
-  fault_with count number state (Ok (Some item)) rest low h = h (format.after state item)
+  fault_with count number state said rest low h = grind arith
 
   fault_from : (count number : ℕ) (state : State) (lines : List TextLine) → count < number → AreNumbered number lines → IfSome (good_from format input state lines).fault (IsFaultBeyond count)
   unfolding good_from

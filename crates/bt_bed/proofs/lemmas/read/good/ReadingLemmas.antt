@@ -1,7 +1,6 @@
 -- Lemmas on a step of a reader of members, whatever the lines say.
-use Rattle.std.proofs.Common.{◌≡◌, ℕ, suc, ◌-◌, ◌^◌, ◌<◌, ◌≤◌, true, false, List, [], ◌∷◌, ◌++◌, drop, take, length, Option, Some, None, Ok, Err, refl, sym, ap, ◌∙◌, subst, arith, inl, inr}
+use Rattle.std.proofs.Common.{◌≡◌, ℕ, suc, ◌-◌, ◌^◌, ◌<◌, ◌≤◌, true, false, List, [], ◌∷◌, ◌++◌, drop, take, length, Option, Some, None, Ok, Err, refl, sym, ap, ◌∙◌, arith, inl, inr}
 use Rattle.std.specs.Prelude.{◌⊎◌, IsSome, IfSome, option_map}
-use Rattle.std.proofs.lemmas.Bool.{false≢true}
 use Rattle.bt_lines.specs.declared.device.Source.{Ghosts as Source}
 use Rattle.bt_lines.proofs.lemmas.reader.lines.ReaderLemmas.{not_told}
 use Rattle.bt_lines.specs.model.Fault.{FaultValue, read_failed, no_memory}
@@ -13,7 +12,7 @@ use Rattle.bt_lines.specs.declared.fault.Kind.{Kind}
 use Rattle.bt_lines.specs.declared.reader.line_reader.LineReader.{LineReader}
 use Rattle.bt_bed.proofs.lemmas.read.good.GoodLemmas.{beyond_from}
 use Rattle.bt_lines.proofs.lemmas.reader.lines.ReaderLemmas.{hands_none, hands_both}
-use Rattle.bt_bed.proofs.lemmas.read.good.CameLemmas.{Came, LineCame, came_line, came_made, came_none, cut_fault, front_line, left_numbered, near_came, near_fault, same_room}
+use Rattle.bt_bed.proofs.lemmas.read.good.CameLemmas.{Came, LineCame, came_line, came_made, came_none, cut_fault, left_numbered, near_came, near_fault, same_room}
 use Rattle.bt_lines.proofs.lemmas.reader.lines.TakingLemmas.{given_below, is_prefix, next_below}
 use Rattle.bt_bed.specs.model.input.Good.{with_member, Format, Good, Member, ends_with, good, good_from}
 use Rattle.bt_bed.specs.model.input.GoodLines.{IsBeyond}
@@ -21,19 +20,13 @@ use Rattle.bt_bed.specs.model.feature.LineKind.{fault_at_line, is_of_line}
 use Rattle.bt_bed.specs.calls.Reading.{MemberReader, Remains, first_from, good_behind, good_coming, with_members, Stays, Takes, GivesMember, EndsMembers, LineIsWrong, RunsOut, Cause, AnswersFault}
 
 pub remains_same : {A : Type 0} (a : Option (Good A)) → Remains a a
-remains_same None = tt
-remains_same (Some good) = refl
+remains_same a = grind arith
 
 remains_further : {A : Type 0} (a b c : Option (Good A)) → Remains a b → Remains b c → Remains a c
-remains_further None b c p q = tt
-remains_further (Some good) None c p q = absurd p
-remains_further (Some good) (Some mid) None p q = absurd q
-remains_further (Some good) (Some mid) (Some new) p q = q ∙ p
+remains_further a b c p q = grind arith
 
 remains_if : {A : Type 0} (a b : Option (Good A)) (P : Good A → Type 0) → Remains a b → IfSome b P → IfSome a P
-remains_if None b P r h = tt
-remains_if (Some good) None P r h = absurd r
-remains_if (Some good) (Some new) P r h = subst P r h
+remains_if a b P r h = grind arith
 
 module _ {A State : Type 0} (format : Format A State) (input : Input) (state : State) where
   said_none : (line : TextLine) (lines : List TextLine) → format.says state line ≡ Ok None → good_from format input state lines ≡ good_from format input state (line ∷ lines)
@@ -48,9 +41,7 @@ module _ {A State : Type 0} (format : Format A State) (input : Input) (state : S
   -- after a line that says nothing what was to come still comes
   good_line : (line : TextLine) (a b : Option (List TextLine)) → GivesFirst a line b → format.says state line ≡ Ok None
       → Remains (option_map (good_behind format input None state) a) (option_map (good_behind format input None state) b)
-  good_line line None b g e = tt
-  good_line line (Some xs) None g e = absurd g
-  good_line line (Some xs) (Some ys) g e = said_none line ys e ∙ ap (good_from format input state) (sym g)
+  good_line line a b g e = grind (arith, said_none, format, state)
 
   -- the member that a line says comes first
   good_first : (line : TextLine) (item : A) (a : Option (List TextLine)) → IfSome a (λ lines. (rest : List TextLine) × (lines ≡ line ∷ rest)) → format.says state line ≡ Ok (Some item)
@@ -67,39 +58,30 @@ module _ {A State : Type 0} (format : Format A State) (input : Input) (state : S
   -- a line at fault is all that was to come
   good_fault : (line : TextLine) (a b : Option (List TextLine)) (kind : Kind) → GivesFirst a line b → format.says state line ≡ Err kind
       → IfSome (option_map (good_behind format input None state) a) (λ good. good ≡ ends_with (Some (fault_at_line input line.number kind)))
-  good_fault line None b kind g e = tt
-  good_fault line (Some xs) None kind g e = absurd g
-  good_fault line (Some xs) (Some ys) kind g e = ap (good_from format input state) g ∙ wrong_good line ys kind e
+  good_fault line a b kind g e = grind (arith, format, state, wrong_good)
 
   -- if no line is left, no member is
   good_end : (a : Option (List TextLine)) → IfSome a (λ lines. lines ≡ [])
       → IfSome (option_map (good_behind format input None state) a) (λ good. good ≡ ends_with None)
   unfolding good_from
-  good_end None h = tt
-  good_end (Some xs) h = ap (good_from format input state) h
+  good_end a h = grind arith
 
 remains_lines : {A State : Type 0} (format : Format A State) (input : Input) (state : State) (a b : Option (List TextLine)) → SameLines a b
     → Remains (option_map (good_behind format input None state) a) (option_map (good_behind format input None state) b)
-remains_lines format input state None b s = tt
-remains_lines format input state (Some xs) None s = cc
-remains_lines format input state (Some xs) (Some ys) s = let same : ys ≡ xs = cc in ap (good_from format input state) same
+remains_lines format input state a b s = grind arith
 
 buffered_below : {S : Type 0} (reader : LineReader S) → 0 < length (buffered_bytes reader) → suc (lines_given reader) < 2 ^ 63
 unfolding buffered_bytes
 buffered_below reader some = next_below reader some
 
 none_ahead : {A : Type 0} (line : ℕ) (items : List A) → items ≡ [] → IsSome (first_from line items) → ⊥
-none_ahead line [] e some = false≢true some
-none_ahead line (x ∷ xs) e some = cc
+none_ahead line items e some = grind arith
 
 all_given : (a b : Option (List TextLine)) (i k : ℕ) → IfSome a (λ all. b ≡ Some (drop i all)) → IfSome b (λ lines. lines ≡ []) → k ≡ i → IfSome a (λ all. drop k all ≡ [])
-all_given None b i k p q e = tt
-all_given (Some all) None i k p q e = cc
-all_given (Some all) (Some some) i k p q e = let same : some ≡ drop i all = cc in ap (λ n. drop n all) e ∙ sym same ∙ q
+all_given a b i k p q e = grind arith
 
 beyond_lines : {A State : Type 0} (format : Format A State) (input : Input) (state : State) (count : ℕ) (lines : Option (List TextLine)) → IfSome lines (AreNumbered (suc count)) → IfSome (option_map (good_behind format input None state) lines) (IsBeyond count)
-beyond_lines format input state count None n = tt
-beyond_lines format input state count (Some lines) n = beyond_from format input count state lines n
+beyond_lines format input state count lines n = grind (arith, beyond_from)
 
 module _ {S A State : Type 0} (device : Source S) where
   -- what is still to come, without a fault
@@ -152,8 +134,7 @@ module _ {S A State : Type 0} (device : Source S) where
     }
 
     begun_by : (now : MemberReader S A State) (line : TextLine) (reader : LineReader S) → (now ≡ old) ⊎ Begun old → now.fault ≡ line_fault now.below → LineCame device now.below line reader → Begun old
-    begun_by now line reader (inl same) rest gives = record { was_going = ap (λ r. r.fault) (sym same) ∙ rest ∙ gives.was_going.0; not_told = ap (λ r. has_ended r.below) (sym same) ∙ gives.was_going.1 }
-    begun_by now line reader (inr begun) rest gives = record { was_going = begun.was_going; not_told = begun.not_told }
+    begun_by now line reader e rest gives = grind arith
 
     -- the old reader had no fault
     was_faultless : (now : MemberReader S A State) → Going old now → line_fault now.below ≡ None → old.fault ≡ None
@@ -208,9 +189,7 @@ module _ {S A State : Type 0} (device : Source S) where
     }
 
     lines_first : (a b : Option (List TextLine)) (line : TextLine) (more buffered : List TextLine) → IfSome b (λ all. take (length buffered) all ≡ buffered) → buffered ≡ line ∷ more → IfSome b (λ lines. (rest : List TextLine) × (lines ≡ line ∷ rest))
-    lines_first a None line more buffered p is = tt
-    lines_first a (Some all) line more buffered p is =
-        (drop 1 all, front_line all line more (subst (λ (l : List TextLine). take (length l) all ≡ l) is p))
+    lines_first a b line more buffered p is = grind arith
 
     good_same : (now new : MemberReader S A State) → now.fault ≡ None → new.fault ≡ None → MakesLine device now.below new.below → Follows now new → Remains (good_coming device.left now) (good_coming device.left new)
     good_same now new going goes makes follows =
@@ -274,14 +253,11 @@ module _ {S A State : Type 0} (device : Source S) where
         }
 
     first_came : (a b : Option (List TextLine)) (line : TextLine) → GivesFirst a line b → IfSome a (λ lines. (rest : List TextLine) × (lines ≡ line ∷ rest))
-    first_came None b line g = tt
-    first_came (Some xs) None line g = absurd g
-    first_came (Some xs) (Some ys) line g = (ys, g)
+    first_came a b line g = grind arith
 
     told_first : (good : Option (Good A)) (n line : ℕ) (item : A) → line ≡ n → IfSome good (λ good. (rest : List (Member A)) × (good.members ≡ record { line = line; item = item } ∷ rest))
         → IfSome good (λ good. (first : A) × (rest : List (Member A)) × (good.members ≡ record { line = n; item = first } ∷ rest))
-    told_first None n line item e h = tt
-    told_first (Some good) n line item e h = (item, h.0, h.1 ∙ ap (λ (k : ℕ). record { line = k; item = item } ∷ h.0) e)
+    told_first good n line item e h = grind arith
 
     -- a member that couldn't be kept was good
     unkept_cause : (now new : MemberReader S A State) (line : TextLine) (fault : FaultValue) (item : A) → Going old now → LineCame device now.below line new.below
@@ -339,12 +315,7 @@ module _ {S A State : Type 0} (device : Source S) where
 
     again_by : (now new : MemberReader S A State) (fault : FaultValue) → Going old now → GivesFault device now.below fault new.below → new.fault ≡ Some fault → (new.below ≡ now.below → new.fault ≡ now.fault → new ≡ now) → (now ≡ old) ⊎ Begun old → (before : FaultValue) → old.fault ≡ Some before
         → (fault ≡ before) × (new ≡ old)
-    again_by now new fault g gives is track (inl same) before kept =
-        let line_kept : line_fault now.below ≡ Some before = sym g.rest ∙ ap (λ r. r.fault) same ∙ kept in
-        let again = gives.again before line_kept in
-        (again.0, track again.1 (is ∙ ap Some again.0 ∙ sym line_kept ∙ sym g.rest) ∙ same)
-    again_by now new fault g gives is track (inr begun) before kept =
-        absurd (let apart : None ≡ Some before = sym begun.was_going ∙ kept in cc)
+    again_by now new fault before gives is track e h kept = grind arith
 
     pub going_unread : (now new : MemberReader S A State) (fault : FaultValue) → Going old now → GivesFault device now.below fault new.below → new.fault ≡ Some fault → new.buffered ≡ [] → Follows now new → (new.below ≡ now.below → new.fault ≡ now.fault → new ≡ now)
         → AnswersFault device old fault new
@@ -363,10 +334,7 @@ module _ {S A State : Type 0} (device : Source S) where
 
     -- no line was left
     end_again : (now new : MemberReader S A State) → Going old now → GivesEnd device now.below new.below → new.fault ≡ line_fault new.below → (new.below ≡ now.below → new.fault ≡ now.fault → new ≡ now) → (now ≡ old) ⊎ Begun old → has_ended old.below ≡ true → new ≡ old
-    end_again now new g gives rest track (inl same) ended =
-        let reader = gives.again (ap (λ r. has_ended r.below) same ∙ ended) in
-        track reader (rest ∙ ap line_fault reader ∙ sym g.rest) ∙ same
-    end_again now new g gives rest track (inr begun) ended = absurd (false≢true (sym begun.not_told ∙ ended))
+    end_again now new g gives rest track e ended = grind arith
 
     room_at_end : (now : LineReader S) (reader : LineReader S) → GivesEnd device now reader → line_room reader ≤ line_room now
     room_at_end now reader gives = let counted = gives.bytes.1.counted in rw gives.nothing_held (omega arith)
@@ -424,8 +392,7 @@ module _ {S A State : Type 0} (device : Source S) where
   }
 
 with_none : {A : Type 0} (good : Option (Good A)) → option_map (with_members []) good ≡ good
-with_none None = refl
-with_none (Some good) = refl
+with_none good = grind arith
 
 -- no member was taken
 pub takes_none : {S A State : Type 0} (device : Source S) (reader : MemberReader S A State) → Takes device reader [] reader

@@ -82,10 +82,7 @@ record_on_is name start text r e = placed_is_by name start (record_of text) r e
 
 -- the head of a run
 run_head : (name : List ℕ) (o : Option Feature) (more : ℕ → List Feature) (r : Feature) (items : List Feature) → run_then o more ≡ r ∷ items → (o ≡ Some r) × (more r.start ≡ items)
-run_head name None more r items e = cc
-run_head name (Some x) more r items e =
-    let same : x ≡ r = cc in
-    (ap Some same, subst (λ (f : Feature). more f.start ≡ items) same (let rest : more x.start ≡ items = cc in rest))
+run_head name o more r items e = grind arith
 
 -- the first line of a run
 pub record FirstOfRun (name : List ℕ) (start : ℕ) (lines : List TextLine) (r : Feature) (items : List Feature) : Type 0 where
@@ -125,24 +122,16 @@ says_again sorting state text other r said e =
 pub run_says : (sorting : Sorting) (state : Option Locus) (name : List ℕ) (start : ℕ) (lines : List TextLine) (records : List Feature) → run_of name start lines ≡ records → AreSaid (bed_format sorting) state records
     → LinesSay (bed_format sorting) state lines records
 run_says sorting state name start lines [] e said = tt
-run_says sorting state name start [] (r ∷ records) e said = let first = first_of_run name start [] r records e in absurd (no_line first.line first.more first.lines_are)
-  where
-    no_line : (line : TextLine) (more : List TextLine) → [] ≡ line ∷ more → ⊥
-    no_line line more h = cc
+run_says sorting state name start [] (r ∷ records) e said = let none = (first_of_run name start [] r records e).lines_are in cc
 run_says sorting state name start (line ∷ lines) (r ∷ records) e said =
     let first = first_of_run name start (line ∷ lines) r records e in
-    let same : first.line ≡ line = same_line first.line first.more first.lines_are in
-    let more : first.more ≡ lines = same_more first.line first.more first.lines_are in
+    let is = first.lines_are in
+    let same : first.line ≡ line = cc in
+    let more : first.more ≡ lines = cc in
     let says : record_of line.text ≡ Ok (Some r) = subst (λ (l : TextLine). record_of l.text ≡ Ok (Some r)) same first.says in (
       says_again sorting state line.text said.0.0.text r said.0.1 says,
       run_says sorting (Some (locus_at r)) name r.start lines records (subst (λ l. run_of name r.start l ≡ records) more first.rest) said.1,
     )
-  where
-    same_line : (x : TextLine) (xs : List TextLine) → line ∷ lines ≡ x ∷ xs → x ≡ line
-    same_line x xs h = cc
-
-    same_more : (x : TextLine) (xs : List TextLine) → line ∷ lines ≡ x ∷ xs → xs ≡ lines
-    same_more x xs h = cc
 
 -- a record on the chromosome of the last place that doesn't start below
 pub says_on : (sorting : Sorting) (name : List ℕ) (start : ℕ) (text : List ℕ) (r : Feature) → IsTrue (sorting.knows name) → record_of text ≡ Ok (Some r) → r.chrom ≡ name → start ≤ r.start
@@ -169,16 +158,12 @@ run_is_said sorting name start lines (r ∷ records) known e =
 pub run_behind : (name : List ℕ) (start : ℕ) (lines : List TextLine) (records more : List Feature) → run_of name start lines ≡ records ++ more
     → run_of name (last_start start records) (drop (length records) lines) ≡ more
 run_behind name start lines [] more e = e
-run_behind name start [] (r ∷ records) more e = let first = first_of_run name start [] r (records ++ more) e in absurd (no_line first.line first.more first.lines_are)
-  where
-    no_line : (line : TextLine) (more : List TextLine) → [] ≡ line ∷ more → ⊥
-    no_line line more h = cc
+run_behind name start [] (r ∷ records) more e = let none = (first_of_run name start [] r (records ++ more) e).lines_are in cc
 run_behind name start (line ∷ lines) (r ∷ records) more e =
     let first = first_of_run name start (line ∷ lines) r (records ++ more) e in
-    run_behind name r.start lines records more (subst (λ l. run_of name r.start l ≡ records ++ more) (same_more first.line first.more first.lines_are) first.rest)
-  where
-    same_more : (x : TextLine) (xs : List TextLine) → line ∷ lines ≡ x ∷ xs → xs ≡ lines
-    same_more x xs h = cc
+    let is = first.lines_are in
+    let same : first.more ≡ lines = cc in
+    run_behind name r.start lines records more (subst (λ l. run_of name r.start l ≡ records ++ more) same first.rest)
 
 -- the place after some records of a run
 pub place_behind : (sorting : Sorting) (state : Option Locus) (name : List ℕ) (start : ℕ) (lines : List TextLine) (r : Feature) (records more : List Feature) → run_of name start lines ≡ r ∷ (records ++ more)

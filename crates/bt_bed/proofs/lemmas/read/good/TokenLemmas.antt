@@ -2,7 +2,6 @@
 use Rattle.std.proofs.Common.{◌≡◌, ◌+◌, ◌-◌, Bool, true, false, List, [], ◌∷◌, ◌++◌, Option, Some, None, length, take, drop, refl, sym, ap, ◌∙◌, subst, arith, length-append, length-take}
 use Rattle.std.specs.Prelude.{IfNone, IfSome}
 use Rattle.std.proofs.Math.Seq.{take-append_seam}
-use Rattle.std.proofs.lemmas.Bool.{false≢true}
 use Rattle.std.proofs.lemmas.List.{drop_at, length-drop}
 use Rattle.bt_lines.proofs.lemmas.reader.block.BufferLemmas.{fed_none}
 use Rattle.bt_lines.proofs.lemmas.reader.lines.PassingLemmas.{lines_taken}
@@ -25,8 +24,7 @@ none_before [] ys e = refl
 none_before (x ∷ xs) ys e = cc
 
 none_some : (xs : List Feature) → is_some_left xs ≡ false → xs ≡ []
-none_some [] e = refl
-none_some (x ∷ xs) e = absurd (false≢true (sym e))
+none_some xs e = grind arith
 
 -- if no line was consumed, no byte was
 same_place : (first last : BufferedLines) → PassesLines first 0 last → last.at ≡ first.at
