@@ -2,12 +2,11 @@
 use Rattle.std.proofs.Common.{◌≡◌, ℕ, zero, suc, ◌+◌, ◌-◌, ◌<◌, ◌≤◌, ◌⊎◌, inl, inr, Bool, true, false, cond, List, [], ◌∷◌, ◌++◌, length, take, drop, get_or, set, slice_range, Some, None, refl, sym, ap, ◌∙◌, subst, append_assoc, length-append, eqb, arith}
 use Rattle.std.proofs.Math.Seq.{paste, take-add}
 use Rattle.std.proofs.lemmas.Bool.{eqb-true, false_from_ne_true, false≢true}
-use Rattle.std.proofs.lemmas.List.{take-append-drop, take-append-le, drop-append-le, take_at, drop-take, drop-drop, take_all, take_more, take_more_set, length-take, length-take-le, length-drop, get_or-drop, get_or_default}
-use Rattle.std.proofs.lemmas.List.Elements.{All-append, All-nil, recursion_from_All}
-use Rattle.std.specs.List.{AllByRecursion}
+use Rattle.std.proofs.lemmas.List.{take-append-drop, take-append-le, take-take, drop-append-le, take_at, drop-take, drop-drop, take_more, take_more_set, length-take, length-take-le, length-drop, get_or-drop, get_or_default}
+use Rattle.std.proofs.lemmas.List.Elements.{All-append, All-nil}
 use Rattle.memchr.specs.Find.{IsLastByte, is_byte}
 use Rattle.bt_lines.proofs.lemmas.reader.block.BlockLemmas.{consumed}
-use Rattle.bt_lines.proofs.lemmas.reader.lines.TextLemmas.{line_feeds-append}
+use Rattle.bt_lines.proofs.lemmas.reader.lines.TextLemmas.{line_feeds-append, line_feeds-none}
 use Rattle.bt_lines.specs.calls.LentLine.{NoLineFeed}
 use Rattle.bt_lines.specs.model.Lines.{line_feeds}
 use Rattle.bt_lines.specs.calls.FirstByte.{IsBefore}
@@ -39,17 +38,8 @@ range_drop xs a b h =
     let all : a + (b - a) ≡ b = omega arith in
     sym (drop-take a (b - a) xs) ∙ ap (λ (n : ℕ). drop a (take n xs)) all
 
-take_front : (l : List ℕ) (b n : ℕ) → take b (take (b + n) l) ≡ take b l
-take_front l zero n = refl
-take_front [] (suc b) n = ap (take (suc b)) (take_all (suc b + n) [] (omega arith))
-take_front (x ∷ l) (suc b) n =
-    let e : suc b + n ≡ suc (b + n) = omega arith in
-    ap (λ (m : ℕ). take (suc b) (take m (x ∷ l))) e ∙ ap (λ m. x ∷ m) (take_front l b n)
-
 shorter : (l : List ℕ) (b c : ℕ) → b ≤ c → take b l ≡ take b (take c l)
-shorter l b c h =
-    let parts : b + (c - b) ≡ c = omega arith in
-    sym (take_front l b (c - b)) ∙ ap (λ (n : ℕ). take b (take n l)) parts
+shorter l b c h = sym (take-take b c l h)
 
 -- a part whose bytes are the same in both
 pub range_same : (xs ys : List ℕ) (a b c : ℕ) → take c ys ≡ take c xs → a ≤ b → b ≤ c → slice_range ys a b ≡ slice_range xs a b
@@ -93,13 +83,8 @@ fed_none_by xs none (inr f) =
 pub fed_none : (xs : List ℕ) → is_fed xs ≡ true → line_feeds xs ≡ 0 → xs ≡ []
 fed_none xs h none = fed_none_by xs none (fed_last xs h)
 
-clear_fed : (xs : List ℕ) → is_fed xs ≡ true → AllByRecursion (λ byte. eqb byte 10 ≡ false) xs → xs ≡ []
-clear_fed [] h clear = refl
-clear_fed (x ∷ []) h clear = absurd (false≢true (sym clear.0 ∙ h))
-clear_fed (x ∷ y ∷ ys) h clear = absurd (omega (arith, ap length (clear_fed (y ∷ ys) h clear.1)))
-
 pub fed_clear : (xs : List ℕ) → is_fed xs ≡ true → NoLineFeed xs → xs ≡ []
-fed_clear xs h clear = clear_fed xs h (recursion_from_All (λ (byte : ℕ). eqb byte 10 ≡ false) xs clear)
+fed_clear xs h clear = fed_none xs h (line_feeds-none xs clear)
 
 feeds_drop : (n : ℕ) (xs : List ℕ) → line_feeds (drop n xs) ≤ line_feeds xs
 feeds_drop n xs = omega (arith, ap line_feeds (take-append-drop n xs), line_feeds-append (take n xs) (drop n xs))
@@ -141,23 +126,6 @@ pub record LastFeed (bytes : List ℕ) (from end last : ℕ) : Type 0 where
 sum : (a b : ℕ) → a + (b + 1) ≡ a + b + 1
 sum a b = omega arith
 
-in_list : (xs : List ℕ) (i : ℕ) → get_or xs i 0 ≡ 10 → i < length xs
-in_list [] i e = absurd (omega (arith, e))
-in_list (x ∷ xs) zero e = omega arith
-in_list (x ∷ xs) (suc i) e = omega (arith, in_list xs i e)
-
-small : (bytes : List ℕ) (from end last : ℕ) → from + last < end → get_or (slice_range bytes from end) last 0 ≡ 10 → last < length (slice_range bytes from end)
-small bytes from end last inside byte = in_list (slice_range bytes from end) last byte
-
-range_front : (bytes : List ℕ) (from end last : ℕ) → from + last < end → get_or (slice_range bytes from end) last 0 ≡ 10
-    → slice_range bytes from (from + last + 1) ≡ take last (slice_range bytes from end) ++ 10 ∷ []
-range_front bytes from end last inside byte =
-    let hay = slice_range bytes from end in
-    let size : from + last + 1 - from ≡ last + 1 = omega arith in
-    let below : last < length hay = small bytes from end last inside byte in
-    ap (λ (n : ℕ). take n (drop from bytes)) size ∙ shorter (drop from bytes) (last + 1) (end - from) (omega (arith, inside))
-    ∙ take_more hay last 0 below ∙ ap (λ (b : ℕ). take last hay ++ b ∷ []) byte
-
 pub last_feed : (bytes : List ℕ) (from end last : ℕ) → from ≤ end → end ≤ length bytes → IsLastByte (is_byte 10) (slice_range bytes from end) (Some last) → LastFeed bytes from end last
 last_feed bytes from end last h k is =
     let hay = slice_range bytes from end in
@@ -165,9 +133,10 @@ last_feed bytes from end last h k is =
     let below : last < length hay = is.0.high in
     let inside : from + last < end = omega (arith, below, size) in
     let byte : get_or hay last 0 ≡ 10 = eqb-true (get_or hay last 0) 10 is.1 in
-    let parts : from + last - from ≡ last = omega arith in
+    let count : from + last + 1 - from ≡ last + 1 = omega arith in
     let front : slice_range bytes from (from + last + 1) ≡ take last hay ++ 10 ∷ [] =
-    range_front bytes from end last inside byte in
+    ap (λ (n : ℕ). take n (drop from bytes)) count ∙ shorter (drop from bytes) (last + 1) (end - from) (omega (arith, inside))
+    ∙ take_more hay last 0 below ∙ ap (λ (b : ℕ). take last hay ++ b ∷ []) byte in
     record {
       inside = inside;
       fed = rw front (fed_push (take last hay));
@@ -198,7 +167,7 @@ pub record Found (bytes : List ℕ) (whole searched end last : ℕ) : Type 0 whe
   pub split : slice_range bytes whole (searched + last + 1) ++ slice_range bytes (searched + last + 1) end ≡ slice_range bytes whole end
   pub some : 0 < length (slice_range bytes whole (searched + last + 1))
 
-fed_after : (xs ys : List ℕ) → 0 < length ys → is_fed ys ≡ true → is_fed (xs ++ ys) ≡ true
+pub fed_after : (xs ys : List ℕ) → 0 < length ys → is_fed ys ≡ true → is_fed (xs ++ ys) ≡ true
 fed_after [] ys some h = h
 fed_after (x ∷ []) [] some h = absurd (omega (arith, some))
 fed_after (x ∷ []) (y ∷ ys) some h = h

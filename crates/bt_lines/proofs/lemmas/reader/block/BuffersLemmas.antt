@@ -11,7 +11,7 @@ use Rattle.bt_lines.specs.calls.Device.{ReadsCounted}
 use Rattle.bt_lines.specs.calls.LentLine.{NoLineFeed}
 use Rattle.bt_lines.specs.model.Lines.{line_feeds}
 use Rattle.bt_lines.specs.inside.Shape.{is_fed}
-use Rattle.bt_lines.specs.inside.Spill.{AreCounted, AsksMore, Buffers, StopsWith, closed}
+use Rattle.bt_lines.specs.inside.Spill.{AreCounted, AsksMore, Buffers, StopsWith, closed, uncounted}
 use Rattle.bt_lines.specs.declared.reader.spill.More.TheVariants.{Bytes, NoBytes, BadRead, PastBound}
 use Rattle.bt_lines.specs.declared.reader.spill.Stop.{Stop}
 use Rattle.bt_lines.specs.declared.reader.spill.Stop.TheVariants.{LineFeed, End, Failed, TooLong, NoMemory}
@@ -107,55 +107,43 @@ module _ {S : Type 0} (device : Source S) where
       pub shorter : (new : S) (next_unread : List ℕ) (next_taken : ℕ) → AsksMore device mid same taken Bytes new next_unread next_taken → 2 ^ 63 - next_taken < 2 ^ 63 - taken
       shorter new next_unread next_taken asks = omega (arith, asks.counted, asks.came.0, asks.within, so_far.within)
 
+      -- where the reading stopped, after more reads
+      stops_by : (stop : Stop) (new : S) (next complete rest : List ℕ) (next_taken : ℕ) → Consumes (device.left mid) (device.left new) next → next_taken + uncounted stop ≡ taken + length next → next_taken < 2 ^ 63
+          → StopsWith stop (device.left new) (device.has_failed old) (device.has_failed new) (device.end_told new) (old_unread ++ (so_far.bytes ++ next)) complete rest next_taken
+          → Buffers device old old_unread old_taken stop new complete rest next_taken
+      stops_by stop new next complete rest next_taken consumed counted within stopped = record {
+        bytes = so_far.bytes ++ next;
+        consumed = both new next consumed;
+        counted = omega (arith, so_far.counted, counted, counts next);
+        within = within;
+        ready = λ h. absurd (never h);
+        first = inl (zero_of _ never);
+        stopped = stopped;
+      }
+
       pub text_ended : (new : S) (next_unread : List ℕ) (next_taken : ℕ) (complete rest : List ℕ) → AsksMore device mid same taken NoBytes new next_unread next_taken
           → complete ≡ closed next_unread → rest ≡ [] → Buffers device old old_unread old_taken End new complete rest next_taken
       text_ended new next_unread next_taken complete rest asks lines none =
           let whole : old_unread ++ (so_far.bytes ++ asks.bytes) ≡ same = all asks.bytes ∙ ap (λ l. same ++ l) asks.came.0 ∙ append-nil same in
-          record {
-            bytes = so_far.bytes ++ asks.bytes;
-            consumed = both new asks.bytes asks.consumed;
-            counted = omega (arith, so_far.counted, asks.counted, counts asks.bytes);
-            within = asks.within;
-            ready = λ h. absurd (never h);
-            first = inl (zero_of _ never);
-            stopped = (rw whole clear, rw whole (lines ∙ ap closed asks.came.1), none, asks.came.2 ∙ so_far.served, asks.came.3, asks.came.4);
-          }
+          stops_by End new asks.bytes complete rest next_taken asks.consumed asks.counted asks.within
+          (rw whole clear, rw whole (lines ∙ ap closed asks.came.1), none, asks.came.2 ∙ so_far.served, asks.came.3, asks.came.4)
 
       pub source_failed : (new : S) (next_unread : List ℕ) (next_taken : ℕ) (complete : List ℕ) → AsksMore device mid same taken BadRead new next_unread next_taken
           → complete ≡ [] → Buffers device old old_unread old_taken Failed new complete next_unread next_taken
       source_failed new next_unread next_taken complete asks none =
           let whole : old_unread ++ (so_far.bytes ++ asks.bytes) ≡ same = all asks.bytes ∙ ap (λ l. same ++ l) asks.came.0 ∙ append-nil same in
-          record {
-            bytes = so_far.bytes ++ asks.bytes;
-            consumed = both new asks.bytes asks.consumed;
-            counted = omega (arith, so_far.counted, asks.counted, counts asks.bytes);
-            within = asks.within;
-            ready = λ h. absurd (never h);
-            first = inl (zero_of _ never);
-            stopped = (rw whole clear, none, rw asks.came.1 clear, asks.came.2, ([], whole ∙ sym asks.came.1));
-          }
+          stops_by Failed new asks.bytes complete next_unread next_taken asks.consumed asks.counted asks.within
+          (rw whole clear, none, rw asks.came.1 clear, asks.came.2, ([], whole ∙ sym asks.came.1))
 
       pub text_too_long : (new : S) (next_unread : List ℕ) (next_taken : ℕ) (complete : List ℕ) → AsksMore device mid same taken PastBound new next_unread next_taken
           → complete ≡ [] → Buffers device old old_unread old_taken TooLong new complete next_unread next_taken
-      text_too_long new next_unread next_taken complete asks none = record {
-        bytes = so_far.bytes ++ asks.bytes;
-        consumed = both new asks.bytes asks.consumed;
-        counted = omega (arith, so_far.counted, asks.counted, counts asks.bytes);
-        within = asks.within;
-        ready = λ h. absurd (never h);
-        first = inl (zero_of _ never);
-        stopped = ((same, asks.bytes, clear, all asks.bytes, asks.came.0), none, asks.came.1, asks.came.2);
-      }
+      text_too_long new next_unread next_taken complete asks none =
+          stops_by TooLong new asks.bytes complete next_unread next_taken asks.consumed asks.counted asks.within
+          ((same, asks.bytes, clear, all asks.bytes, asks.came.0), none, asks.came.1, asks.came.2)
 
       -- the line is longer than a block
       pub then_long : (stop : Stop) (new : S) (complete rest : List ℕ) (next_taken : ℕ) → Buffers device mid same taken stop new complete rest next_taken
           → Buffers device old old_unread old_taken stop new complete rest next_taken
-      then_long stop new complete rest next_taken long = record {
-        bytes = so_far.bytes ++ long.bytes;
-        consumed = both new long.bytes long.consumed;
-        counted = omega (arith, so_far.counted, long.counted, counts long.bytes);
-        within = long.within;
-        ready = λ h. absurd (never h);
-        first = inl (zero_of _ never);
-        stopped = then_stopped stop (device.left new) (device.has_failed old) (device.has_failed mid) (device.has_failed new) (device.end_told new) (old_unread ++ (so_far.bytes ++ long.bytes)) (same ++ long.bytes) complete rest next_taken (all long.bytes) so_far.served long.stopped;
-      }
+      then_long stop new complete rest next_taken long =
+          stops_by stop new long.bytes complete rest next_taken long.consumed long.counted long.within
+          (then_stopped stop (device.left new) (device.has_failed old) (device.has_failed mid) (device.has_failed new) (device.end_told new) (old_unread ++ (so_far.bytes ++ long.bytes)) (same ++ long.bytes) complete rest next_taken (all long.bytes) so_far.served long.stopped)

@@ -1,9 +1,8 @@
 -- Lemmas on lines that were consumed, one after another.
-use Rattle.std.proofs.Common.{◌≡◌, ℕ, zero, suc, ◌+◌, ◌-◌, ◌<◌, true, List, [], ◌∷◌, ◌++◌, length, take, drop, take-add, refl, sym, ap, ◌∙◌, append_assoc, append-nil, length-append, length-take, arith, inl, inr}
-use Rattle.std.specs.Prelude.{◌⊎◌}
+use Rattle.std.proofs.Common.{◌≡◌, ℕ, zero, suc, ◌+◌, ◌-◌, ◌<◌, true, List, [], ◌∷◌, ◌++◌, length, take, drop, take-add, refl, sym, ap, ◌∙◌, append_assoc, append-nil, length-append, length-take, arith}
 use Rattle.std.proofs.Math.Seq.{take-append_seam}
 use Rattle.std.proofs.lemmas.List.{drop-drop}
-use Rattle.bt_lines.proofs.lemmas.reader.block.BufferLemmas.{fed_last, fed_none, fed_push}
+use Rattle.bt_lines.proofs.lemmas.reader.block.BufferLemmas.{fed_after, fed_none, fed_push}
 use Rattle.bt_lines.proofs.lemmas.reader.lines.BufferedLemmas.{lines_first}
 use Rattle.bt_lines.proofs.lemmas.reader.lines.TextLemmas.{line_feeds-append, line_feeds-fed}
 use Rattle.bt_lines.specs.calls.Buffered.{BeginsLines, IsWhere, PassesLines, buffered_lines, lines_in, rest_in}
@@ -15,13 +14,10 @@ use Rattle.bt_lines.specs.declared.reader.buffered_lines.BufferedLines.{Buffered
 use Rattle.bt_lines.specs.declared.reader.buffered_lines.ConsumedLines.{ConsumedLines}
 use Rattle.bt_lines.specs.declared.reader.line_reader.LineReader.{LineReader}
 
-fed_both_by : (xs ys : List ℕ) → is_fed xs ≡ true → (ys ≡ []) ⊎ ((front : List ℕ) × (ys ≡ front ++ 10 ∷ [])) → is_fed (xs ++ ys) ≡ true
-fed_both_by xs ys fed (inl none) = ap (λ l. is_fed (xs ++ l)) none ∙ ap is_fed (append-nil xs) ∙ fed
-fed_both_by xs ys fed (inr f) = ap (λ l. is_fed (xs ++ l)) f.1 ∙ ap is_fed (sym (append_assoc xs f.0 (10 ∷ []))) ∙ fed_push (xs ++ f.0)
-
 -- complete lines after others
 fed_both : (xs ys : List ℕ) → is_fed xs ≡ true → is_fed ys ≡ true → is_fed (xs ++ ys) ≡ true
-fed_both xs ys fed more = fed_both_by xs ys fed (fed_last ys more)
+fed_both xs [] fed more = rw (append-nil xs) fed
+fed_both xs (y ∷ ys) fed more = fed_after xs (y ∷ ys) (omega arith) more
 
 pub passes_none : (cursor : BufferedLines) → PassesLines cursor 0 cursor
 passes_none cursor =

@@ -414,15 +414,6 @@ held_closed (x ∷ xs) complete unread e =
     let size : length (whole ++ 10 ∷ []) - 1 ≡ length whole = omega (arith, length-append whole (10 ∷ [])) in
     ap (λ l. take (length l - 1) l) e ∙ ap (λ n. take n (whole ++ 10 ∷ [])) size ∙ take-append_seam whole (10 ∷ [])
 
-failed_is_none : StopLineFeed ≡ Failed → ⊥
-failed_is_none e = cc
-
-long_is_none : StopLineFeed ≡ StopTooLong → ⊥
-long_is_none e = cc
-
-refused_is_none : StopLineFeed ≡ StopNoMemory → ⊥
-refused_is_none e = cc
-
 no_feeds_by : (stop : Stop) (n : ℕ) → (stop ≡ StopLineFeed → ⊥) → (n ≡ 0) ⊎ (stop ≡ StopLineFeed) → n ≡ 0
 no_feeds_by stop n other (inl e) = e
 no_feeds_by stop n other (inr e) = absurd (other e)
@@ -500,7 +491,7 @@ module _ {S : Type 0} (device : Source S) (old new : LineReader S) (going : old.
         let clear : NoLineFeed (held old ++ b.bytes) = subst NoLineFeed (sym all) b.stopped.0 in
         let kept : held new ≡ unread new.buffer = rw (state, b.stopped.1) refl in
         let none : line_feeds (held new) ≡ 0 = rw kept (line_feeds-none (unread new.buffer) b.stopped.2) in
-        stepped_cut device old new b.bytes (held old ++ b.bytes) [] fault was (no_feeds (λ e. failed_is_none (sym e ∙ is))) same same_lines b.consumed
+        stepped_cut device old new b.bytes (held old ++ b.bytes) [] fault was (no_feeds (λ e. let apart : StopLineFeed ≡ Failed = sym e ∙ is in cc)) same same_lines b.consumed
         (rw (state, was.taken) counted) (sym (append-nil (held old ++ b.bytes))) clear (omega arith)
         (λ below. omega (arith, none, line_feeds-none (held old ++ b.bytes) clear, line_feeds-append (held old) b.bytes)) (rw (state, is_fault, same, same_lines) refl) (rw state refl) nothing_buffered
         (λ e. rw (was.taken, take_all (2 ^ 63 - 1 - old.taken) b.bytes room) refl)
@@ -519,7 +510,7 @@ module _ {S : Type 0} (device : Source S) (old new : LineReader S) (going : old.
         let room : length b.bytes - length cut.1 ≡ 2 ^ 63 - 1 - old.taken = omega (arith, counted, cut.4, b.stopped.3) in
         let some : length cut.1 ≤ length b.bytes = omega (arith, counted, cut.4, b.stopped.3, old.counted) in
         let joined : held old ++ b.bytes ≡ cut.0 ++ cut.1 = joined_all (cut.0 ++ cut.1) b.bytes cut.3 in
-        stepped_cut device old new b.bytes cut.0 cut.1 fault was (no_feeds (λ e. long_is_none (sym e ∙ is))) same same_lines b.consumed
+        stepped_cut device old new b.bytes cut.0 cut.1 fault was (no_feeds (λ e. let apart : StopLineFeed ≡ StopTooLong = sym e ∙ is in cc)) same same_lines b.consumed
         (rw (state, was.taken) counted) joined cut.2 (omega (arith, cut.4))
         (λ below. absurd (omega (arith, b.stopped.3, rw state at below))) (rw (state, is_fault, same, same_lines) refl) (rw state refl) nothing_buffered
         (λ e. rw (was.taken, ← room) (front_of_joined (held old) b.bytes cut.0 cut.1 joined some))
@@ -536,7 +527,7 @@ module _ {S : Type 0} (device : Source S) (old new : LineReader S) (going : old.
         let counted : new.taken ≡ old.taken + length b.bytes = omega (arith, b.counted) in
         let joined : held old ++ b.bytes ≡ cut.0 ++ unread new.buffer = joined_all (cut.0 ++ unread new.buffer) b.bytes cut.2 in
         let kept : held new ≡ unread new.buffer = rw (state, b.stopped.1) refl in
-        stepped_cut device old new b.bytes cut.0 (unread new.buffer) fault was (no_feeds (λ e. refused_is_none (sym e ∙ is))) same same_lines b.consumed
+        stepped_cut device old new b.bytes cut.0 (unread new.buffer) fault was (no_feeds (λ e. let apart : StopLineFeed ≡ StopNoMemory = sym e ∙ is in cc)) same same_lines b.consumed
         (rw (state, was.taken) counted) joined cut.1 (unread_fits new.buffer)
         (λ below. omega (arith, ap line_feeds kept, ap line_feeds joined, line_feeds-append (held old) b.bytes, line_feeds-append cut.0 (unread new.buffer), line_feeds-none cut.0 cut.1))
         (rw (state, is_fault) refl) (rw state refl) nothing_buffered

@@ -1,12 +1,11 @@
 -- Lemmas on lines that are taken of those that are buffered.
 use Rattle.std.proofs.Common.{◌≡◌, ◌⊎◌, inl, inr, ℕ, zero, suc, ◌+◌, ◌-◌, ◌^◌, ◌<◌, ◌≤◌, Bool, true, false, nat_eq, List, [], ◌∷◌, ◌++◌, length, take, drop, refl, sym, ap, ◌∙◌, subst, Option, None, Some, append_assoc, length-append, arith}
-use Rattle.std.specs.Prelude.{IfSome, is_some, option_map}
+use Rattle.std.specs.Prelude.{IfSome, option_map}
 use Rattle.std.proofs.lemmas.Bool.{false≢true}
 use Rattle.std.proofs.lemmas.Bool.Decides.{nat_tests}
 use Rattle.std.proofs.lemmas.List.{drop_all, drop_at, take_all, take_at, length-take, length-drop, take-append-drop}
 use Rattle.std.proofs.lemmas.List.Sums.{count_by-le-length}
 use Rattle.std.proofs.KnownBytes.{Consumes-nil}
-use Rattle.std.specs.Io.KnownBytes.{Consumes}
 use Rattle.bt_lines.specs.declared.device.Source.{Ghosts as Source}
 use Rattle.bt_lines.proofs.lemmas.reader.block.BufferLemmas.{fed_clear, fed_drop, fed_last, fed_none}
 use Rattle.bt_lines.proofs.lemmas.reader.block.BlockLemmas.{unread_fits}
@@ -18,10 +17,11 @@ use Rattle.bt_lines.specs.calls.LentLine.{NoLineFeed}
 use Rattle.bt_lines.specs.model.Lines.{AreNumbered, TextLine, bytes_in, fed_line, last_line, line_feeds, lines_from, whole_lines_from}
 use Rattle.bt_lines.specs.calls.Output.{block_size}
 use Rattle.bt_lines.specs.inside.ReadBuffer.{complete, unread}
-use Rattle.bt_lines.specs.calls.Reader.{DropsLines, Hands, IsKept, IsPrefix, bytes_taken, buffered_in, fault_kept, feeds_taken, has_ended, input_of, buffered_bytes, bytes_left, is_open, end_told, held, left_at, lines_given, lines_left, source_of}
+use Rattle.bt_lines.specs.calls.Reader.{DropsLines, Hands, IsKept, IsPrefix, TakesLines, bytes_taken, buffered_in, fault_kept, feeds_taken, has_ended, input_of, buffered_bytes, bytes_left, is_open, end_told, held, left_at, lines_given, lines_left, source_of}
 use Rattle.bt_lines.specs.inside.ReaderState.{ended_at, fault_at, lends_at, open_at, taken_at, told_at}
 use Rattle.bt_lines.specs.inside.Shape.{AreComplete, IsLast, held_at, is_fed}
 use Rattle.bt_lines.specs.declared.fault.Input.{Input}
+use Rattle.bt_lines.specs.declared.reader.buffered_lines.ConsumedLines.{ConsumedLines}
 use Rattle.bt_lines.specs.declared.reader.line_reader.LineReader.{LineReader}
 use Rattle.bt_lines.specs.declared.reader.line_reader.State.{State}
 use Rattle.bt_lines.specs.declared.reader.line_reader.State.TheVariants.{Reading, LastLine, Ended, ReadFailed, TooLong, NoMemory}
@@ -29,9 +29,6 @@ use Rattle.bt_lines.specs.declared.reader.read_buffer.ReadBuffer.{ReadBuffer}
 
 feeds_le : (xs : List ℕ) → line_feeds xs ≤ length xs
 feeds_le xs = count_by-le-length _ xs
-
-drop_nil : (n : ℕ) (xs : List ℕ) → xs ≡ [] → drop n xs ≡ []
-drop_nil n xs e = drop_all n xs (omega (arith, ap length e))
 
 not_one : (n m : ℕ) → n ≡ m → nat_eq m 1 ≡ false → nat_eq n 1 ≡ false
 not_one n m e h = rw e h
@@ -88,7 +85,7 @@ module _ (state : State) (lines unread : List ℕ) (given taken n : ℕ) (within
   spaced_taken = spaced_closed (open_at state) refl
 
   pub quiet_taken : lends_at state ≡ false → drop n lines ≡ []
-  quiet_taken e = drop_nil n lines (quiet e)
+  quiet_taken e = drop_all n lines (omega (arith, ap length (quiet e)))
 
   pub last_taken : IsLast (told_at state) (open_at state) (drop n lines) unread
   last_taken = record {
@@ -141,32 +138,18 @@ left_drops true number lines unread n (Some rest) fed =
 held_plain : (b : Bool) (lines unread : List ℕ) → b ≡ false → held_at b lines unread ≡ lines ++ unread
 held_plain b lines unread e = rw e refl
 
-module _ {S : Type 0} (left : S → Option (List ℕ)) (old new : LineReader S) (n : ℕ) (same_state : new.state ≡ old.state) (same_source : new.source ≡ old.source)
-    (more : new.lines ≡ old.lines + line_feeds (take n (complete old.buffer))) (lines : complete new.buffer ≡ drop n (complete old.buffer)) (behind : unread new.buffer ≡ unread old.buffer)
-    (fed : is_fed (take n (complete old.buffer)) ≡ true) (plain : open_at old.state ≡ false) where
-  old_held : held old ≡ complete old.buffer ++ unread old.buffer
-  unfolding held
-  old_held = held_plain (open_at old.state) (complete old.buffer) (unread old.buffer) plain
-
-  new_held : held new ≡ drop n (complete old.buffer) ++ unread old.buffer
-  unfolding held
-  new_held = held_plain (open_at new.state) (complete new.buffer) (unread new.buffer) (ap open_at same_state ∙ plain) ∙ ap (λ l. l ++ unread new.buffer) lines ∙ ap (λ l. drop n (complete old.buffer) ++ l) behind
-
-  same_told : end_told new ≡ end_told old
-  unfolding end_told
-  same_told = ap told_at same_state
-
-  sources : source_of new ≡ source_of old
-  unfolding source_of
-  sources = same_source
-
-  numbers : suc (lines_given new) ≡ suc (lines_given old) + line_feeds (take n (complete old.buffer))
-  unfolding lines_given
-  numbers = omega (arith, more)
-
-  pub left_taken : DropsLines (lines_left left old) (line_feeds (take n (complete old.buffer))) (lines_left left new)
-  unfolding bytes_left
-  left_taken = rw (same_told, sources, old_held, new_held, numbers) (left_drops (end_told old) (suc (lines_given old)) (complete old.buffer) (unread old.buffer) n (left (source_of old)) fed)
+-- lines of so many bytes were taken, and nothing else changed
+pub record Takes {S : Type 0} (old new : LineReader S) (n : ℕ) : Type 0 where
+  pub state : new.state ≡ old.state
+  pub source : new.source ≡ old.source
+  pub input : new.input ≡ old.input
+  pub taken : new.taken ≡ old.taken
+  pub more : new.lines ≡ old.lines + line_feeds (take n (complete old.buffer))
+  pub lines : complete new.buffer ≡ drop n (complete old.buffer)
+  pub behind : unread new.buffer ≡ unread old.buffer
+  pub spilled : new.buffer.is_spilled ≡ old.buffer.is_spilled
+  pub within : n ≤ length (complete old.buffer)
+  pub fed : is_fed (take n (complete old.buffer)) ≡ true
 
 -- ---- those that are buffered come first
 
@@ -214,30 +197,6 @@ near_behind true buffer lines n same are is within fed some =
 held_short : (b : Bool) (lines unread : List ℕ) → length (held_at b lines unread) ≤ length (lines ++ unread)
 held_short false lines unread = omega arith
 held_short true lines unread = omega (arith, length-take (length lines - 1) lines, length-append lines unread)
-
-no_fault : (state : State) (input : Input) (old new : ℕ) → fault_at state input new ≡ None → fault_at state input old ≡ None
-no_fault Reading input old new e = refl
-no_fault LastLine input old new e = refl
-no_fault Ended input old new e = refl
-no_fault ReadFailed input old new e = absurd (false≢true (sym (ap is_some e)))
-no_fault TooLong input old new e = absurd (false≢true (sym (ap is_some e)))
-no_fault NoMemory input old new e = absurd (false≢true (sym (ap is_some e)))
-
-module _ {S : Type 0} (old new : LineReader S) (n : ℕ) (lines : complete new.buffer ≡ drop n (complete old.buffer)) (spilled : new.buffer.is_spilled ≡ old.buffer.is_spilled)
-    (within : n ≤ length (complete old.buffer)) (fed : is_fed (take n (complete old.buffer)) ≡ true) where
-  pub near_taken : 0 < n → length (held new) ≤ block_size
-  unfolding held
-  near_taken some =
-      omega (arith, held_short (open_at new.state) (complete new.buffer) (unread new.buffer), near_behind old.buffer.is_spilled new.buffer (complete old.buffer) n spilled (are_fed old.buffer) lines within fed some)
-
-pub kept_taken : {S : Type 0} (device : Source S) (old new : LineReader S) → new.state ≡ old.state → new.source ≡ old.source → new.input ≡ old.input → new.taken ≡ old.taken
-    → IsKept device old → IsKept device new
-unfolding end_told source_of fault_kept bytes_taken
-kept_taken device old new state source input taken h = record {
-  end = λ e. let before = h.end (sym (ap told_at state) ∙ e) in rw source before;
-  within = λ e. let before = h.within (no_fault old.state old.input old.lines new.lines (sym (ap (λ s. fault_at s new.input new.lines) state ∙ ap (λ i. fault_at old.state i new.lines) input) ∙ e)) in
-      rw (state, taken) before;
-}
 
 -- ---- an open line
 
@@ -287,37 +246,6 @@ closed_held : {S : Type 0} (reader : LineReader S) → open_at reader.state ≡ 
 unfolding held
 closed_held reader e = held_plain (open_at reader.state) (complete reader.buffer) (unread reader.buffer) e
 
-same_source_of : {S : Type 0} (old new : LineReader S) → new.source ≡ old.source → source_of new ≡ source_of old
-unfolding source_of
-same_source_of old new e = e
-
-more_given : {S : Type 0} (old new : LineReader S) (count : ℕ) → new.lines ≡ old.lines + count → suc (lines_given new) ≡ suc (lines_given old) + count
-unfolding lines_given
-more_given old new count e = omega (arith, e)
-
-module _ {S : Type 0} (left : S → Option (List ℕ)) (old new : LineReader S) (n : ℕ) (same_state : new.state ≡ old.state) (same_source : new.source ≡ old.source)
-    (more : new.lines ≡ old.lines + line_feeds (take n (complete old.buffer))) (lines : complete new.buffer ≡ drop n (complete old.buffer)) (behind : unread new.buffer ≡ unread old.buffer)
-    (within : n ≤ length (complete old.buffer)) (fed : is_fed (take n (complete old.buffer)) ≡ true) where
-  open_taken : open_at old.state ≡ true → DropsLines (lines_left left old) (line_feeds (take n (complete old.buffer))) (lines_left left new)
-  unfolding bytes_left
-  open_taken opened =
-      let was : held old ≡ held_at true (complete old.buffer) (unread old.buffer) = open_held old opened in
-      let is : held new ≡ held_at true (drop n (complete old.buffer)) (unread old.buffer) = open_held new (ap open_at same_state ∙ opened) ∙ ap (λ l. held_at true l (unread new.buffer)) lines ∙ ap (λ l. held_at true (drop n (complete old.buffer)) l) behind in
-      let told_old : end_told old ≡ true = open_is_told old opened in
-      let told_new : end_told new ≡ true = open_is_told new (ap open_at same_state ∙ opened) in
-      let source : source_of new ≡ source_of old = same_source_of old new same_source in
-      let number : suc (lines_given new) ≡ suc (lines_given old) + line_feeds (take n (complete old.buffer)) = more_given old new (line_feeds (take n (complete old.buffer))) more in
-      let all_fed = (are_fed old.buffer).fed in
-      let one = old.last.one opened in
-      rw (told_old, told_new, source, was, is, number) (open_drops (suc (lines_given old)) (complete old.buffer) (unread old.buffer) n (left (source_of old)) all_fed one (whole (complete old.buffer) n within all_fed fed one).is)
-
-  both_taken : (b : Bool) → open_at old.state ≡ b → DropsLines (lines_left left old) (line_feeds (take n (complete old.buffer))) (lines_left left new)
-  both_taken true e = open_taken e
-  both_taken false e = left_taken left old new n same_state same_source more lines behind fed e
-
-  pub all_taken : DropsLines (lines_left left old) (line_feeds (take n (complete old.buffer))) (lines_left left new)
-  all_taken = both_taken (open_at old.state) refl
-
 -- ---- what stays as it was
 
 closed_by : (state : State) → told_at state ≡ false → open_at state ≡ false
@@ -331,50 +259,89 @@ closed_by NoMemory e = refl
 none_taken : (lines : List ℕ) (n : ℕ) → lines ≡ [] → line_feeds (take n lines) ≡ 0
 none_taken lines n e = ap line_feeds (ap (take n) e ∙ take_all n [] (omega arith))
 
-module _ {S : Type 0} (left : S → Option (List ℕ)) (old new : LineReader S) (n : ℕ) (same_state : new.state ≡ old.state) (same_source : new.source ≡ old.source) (same_input : new.input ≡ old.input) (same_taken : new.taken ≡ old.taken)
-    (more : new.lines ≡ old.lines + line_feeds (take n (complete old.buffer))) (lines : complete new.buffer ≡ drop n (complete old.buffer)) (behind : unread new.buffer ≡ unread old.buffer)
-    (within : n ≤ length (complete old.buffer)) (fed : is_fed (take n (complete old.buffer)) ≡ true) where
+module _ {S : Type 0} (device : Source S) (old new : LineReader S) (n : ℕ) (takes : Takes old new n) where
+  near_taken : 0 < n → length (held new) ≤ block_size
+  unfolding held
+  near_taken some =
+      omega (arith, held_short (open_at new.state) (complete new.buffer) (unread new.buffer), near_behind old.buffer.is_spilled new.buffer (complete old.buffer) n takes.spilled (are_fed old.buffer) takes.lines takes.within takes.fed some)
+
+  told_taken : end_told new ≡ end_told old
+  unfolding end_told
+  told_taken = ap told_at takes.state
+
+  sources : source_of new ≡ source_of old
+  unfolding source_of
+  sources = takes.source
+
+  numbers : suc (lines_given new) ≡ suc (lines_given old) + line_feeds (take n (complete old.buffer))
+  unfolding lines_given
+  numbers = omega (arith, takes.more)
+
+  still : (b : Bool) → open_at old.state ≡ b → open_at new.state ≡ b
+  still b e = ap open_at takes.state ∙ e
+
+  closed_new : open_at old.state ≡ false → held new ≡ drop n (complete old.buffer) ++ unread old.buffer
+  closed_new plain = closed_held new (still false plain) ∙ ap (λ l. l ++ unread new.buffer) takes.lines ∙ ap (λ l. drop n (complete old.buffer) ++ l) takes.behind
+
+  closed_taken : open_at old.state ≡ false → DropsLines (lines_left device.left old) (line_feeds (take n (complete old.buffer))) (lines_left device.left new)
+  unfolding bytes_left
+  closed_taken plain =
+      rw (told_taken, sources, closed_held old plain, closed_new plain, numbers)
+      (left_drops (end_told old) (suc (lines_given old)) (complete old.buffer) (unread old.buffer) n (device.left (source_of old)) takes.fed)
+
+  open_taken : open_at old.state ≡ true → DropsLines (lines_left device.left old) (line_feeds (take n (complete old.buffer))) (lines_left device.left new)
+  unfolding bytes_left
+  open_taken opened =
+      let is : held new ≡ held_at true (drop n (complete old.buffer)) (unread old.buffer) = open_held new (still true opened) ∙ ap (λ l. held_at true l (unread new.buffer)) takes.lines ∙ ap (λ l. held_at true (drop n (complete old.buffer)) l) takes.behind in
+      let all_fed = (are_fed old.buffer).fed in
+      let one = old.last.one opened in
+      rw (open_is_told old opened, open_is_told new (still true opened), sources, open_held old opened, is, numbers)
+      (open_drops (suc (lines_given old)) (complete old.buffer) (unread old.buffer) n (device.left (source_of old)) all_fed one (whole (complete old.buffer) n takes.within all_fed takes.fed one).is)
+
+  both_taken : (b : Bool) → open_at old.state ≡ b → DropsLines (lines_left device.left old) (line_feeds (take n (complete old.buffer))) (lines_left device.left new)
+  both_taken true e = open_taken e
+  both_taken false e = closed_taken e
+
+  all_taken : DropsLines (lines_left device.left old) (line_feeds (take n (complete old.buffer))) (lines_left device.left new)
+  all_taken = both_taken (open_at old.state) refl
+
   faults_by : (state : State) → old.state ≡ state → fault_at state old.input new.lines ≡ fault_at state old.input old.lines
   faults_by Reading e = refl
   faults_by LastLine e = refl
   faults_by Ended e = refl
   faults_by NoMemory e = refl
   faults_by ReadFailed e =
-      let same : new.lines ≡ old.lines = omega (arith, more, none_taken (complete old.buffer) n (old.quiet (ap lends_at e))) in
+      let same : new.lines ≡ old.lines = omega (arith, takes.more, none_taken (complete old.buffer) n (old.quiet (ap lends_at e))) in
       ap (fault_at ReadFailed old.input) same
   faults_by TooLong e =
-      let same : new.lines ≡ old.lines = omega (arith, more, none_taken (complete old.buffer) n (old.quiet (ap lends_at e))) in
+      let same : new.lines ≡ old.lines = omega (arith, takes.more, none_taken (complete old.buffer) n (old.quiet (ap lends_at e))) in
       ap (fault_at TooLong old.input) same
 
-  pub fault_taken : fault_kept new ≡ fault_kept old
+  fault_taken : fault_kept new ≡ fault_kept old
   unfolding fault_kept
-  fault_taken = ap (λ s. fault_at s new.input new.lines) same_state ∙ ap (λ i. fault_at old.state i new.lines) same_input ∙ faults_by old.state refl
+  fault_taken = ap (λ s. fault_at s new.input new.lines) takes.state ∙ ap (λ i. fault_at old.state i new.lines) takes.input ∙ faults_by old.state refl
 
-  pub told_taken : end_told new ≡ end_told old
-  unfolding end_told
-  told_taken = ap told_at same_state
-
-  pub ended_taken : has_ended new ≡ has_ended old
+  ended_taken : has_ended new ≡ has_ended old
   unfolding has_ended
-  ended_taken = ap ended_at same_state
+  ended_taken = ap ended_at takes.state
 
   same_bytes : bytes_taken new ≡ bytes_taken old
   unfolding bytes_taken
-  same_bytes = ap (λ s. taken_at s new.taken) same_state ∙ ap (taken_at old.state) same_taken
+  same_bytes = ap (λ s. taken_at s new.taken) takes.state ∙ ap (taken_at old.state) takes.taken
 
   inputs : input_of new ≡ input_of old
   unfolding input_of
-  inputs = same_input
+  inputs = takes.input
 
   feeds_kept : end_told new ≡ false → feeds_taken new ≡ feeds_taken old
   unfolding feeds_taken end_told lines_given
   feeds_kept e =
-      let plain : open_at old.state ≡ false = closed_by old.state (sym (ap told_at same_state) ∙ e) in
-      let was : held old ≡ complete old.buffer ++ unread old.buffer = old_held left old new n same_state same_source more lines behind fed plain in
-      let is : held new ≡ drop n (complete old.buffer) ++ unread old.buffer = new_held left old new n same_state same_source more lines behind fed plain in
+      let plain : open_at old.state ≡ false = closed_by old.state (sym (ap told_at takes.state) ∙ e) in
+      let was : held old ≡ complete old.buffer ++ unread old.buffer = closed_held old plain in
+      let is : held new ≡ drop n (complete old.buffer) ++ unread old.buffer = closed_new plain in
       omega (
         arith,
-        more,
+        takes.more,
         ap line_feeds was,
         ap line_feeds is,
         line_feeds-append (complete old.buffer) (unread old.buffer),
@@ -383,17 +350,13 @@ module _ {S : Type 0} (left : S → Option (List ℕ)) (old new : LineReader S) 
         line_feeds-append (take n (complete old.buffer)) (drop n (complete old.buffer)),
       )
 
-  over_none : Consumes (left old.source) (left new.source) []
-  over_none = rw same_source (Consumes-nil (left old.source))
-
-  hands_over : Consumes (left (source_of old)) (left (source_of new)) []
-  unfolding source_of
-  hands_over = over_none
+  kept_taken : IsKept device old → IsKept device new
+  kept_taken h = record { end = λ e. rw sources (h.end (sym told_taken ∙ e)); within = λ e. rw same_bytes (h.within (sym fault_taken ∙ e)) }
 
   -- nothing is handed over
-  pub hands_taken : Hands left old [] new
+  hands_taken : Hands device.left old [] new
   hands_taken = record {
-    left_over = hands_over;
+    left_over = rw sources (Consumes-nil (device.left (source_of old)));
     counted = omega (arith, same_bytes);
     same_input = inputs;
     fed = λ e b. omega (arith, feeds_kept e);
@@ -401,13 +364,34 @@ module _ {S : Type 0} (left : S → Option (List ℕ)) (old new : LineReader S) 
   }
 
   -- and so much less is held
-  pub held_taken : length (held new) + line_feeds (take n (complete old.buffer)) ≤ length (held old)
+  held_taken : length (held new) + line_feeds (take n (complete old.buffer)) ≤ length (held old)
   unfolding held
   held_taken =
       let now : held_at (open_at new.state) (complete new.buffer) (unread new.buffer) ≡ held_at (open_at old.state) (drop n (complete old.buffer)) (unread old.buffer) =
-      ap (λ s. held_at (open_at s) (complete new.buffer) (unread new.buffer)) same_state ∙ ap (λ l. held_at (open_at old.state) l (unread new.buffer)) lines ∙ ap (held_at (open_at old.state) (drop n (complete old.buffer))) behind in
-      let spaced = spaced_taken old.state (complete old.buffer) (unread old.buffer) 0 (length (held_at (open_at old.state) (complete old.buffer) (unread old.buffer))) n within (are_fed old.buffer).fed fed old.last old.quiet (omega arith) in
+      ap (λ s. held_at (open_at s) (complete new.buffer) (unread new.buffer)) takes.state ∙ ap (λ l. held_at (open_at old.state) l (unread new.buffer)) takes.lines ∙ ap (held_at (open_at old.state) (drop n (complete old.buffer))) takes.behind in
+      let spaced = spaced_taken old.state (complete old.buffer) (unread old.buffer) 0 (length (held_at (open_at old.state) (complete old.buffer) (unread old.buffer))) n takes.within (are_fed old.buffer).fed takes.fed old.last old.quiet (omega arith) in
       omega (arith, ap length now, spaced)
+
+-- all that taking lines does
+pub takes_lines : {S : Type 0} (device : Source S) (old new : LineReader S) (consumed : ConsumedLines) → new.lines ≡ consumed.lines → Takes old new consumed.bytes → TakesLines device old consumed new
+unfolding buffered_bytes lines_given source_of input_of bytes_taken is_open
+takes_lines device old new consumed given takes = record {
+  kept = kept_taken device old new consumed.bytes takes;
+  near = near_taken device old new consumed.bytes takes;
+  left_is = all_taken device old new consumed.bytes takes;
+  bytes = takes.lines;
+  given = given;
+  below = omega (arith, new.a_byte_each, new.counted);
+  source_is = takes.source;
+  input_is = takes.input;
+  taken_is = same_bytes device old new consumed.bytes takes;
+  open_is = ap open_at takes.state;
+  fault_is = fault_taken device old new consumed.bytes takes;
+  told_is = told_taken device old new consumed.bytes takes;
+  ended_is = ended_taken device old new consumed.bytes takes;
+  hands = hands_taken device old new consumed.bytes takes;
+  shrinks = held_taken device old new consumed.bytes takes;
+}
 
 -- ---- what follows the next line
 

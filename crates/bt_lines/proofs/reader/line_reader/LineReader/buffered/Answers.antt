@@ -1,4 +1,3 @@
-use Rattle.std.proofs.Common.{◌∙◌}
 use Rattle.bt_lines.proofs.lemmas.reader.lines.BufferedLemmas.{begins_lines}
 use Rattle.bt_lines.proofs.lemmas.reader.lines.CutLemmas.{are_fed}
 use Rattle.bt_lines.proofs.lemmas.reader.lines.TakingLemmas.{is_prefix}
