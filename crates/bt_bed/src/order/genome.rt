@@ -75,6 +75,7 @@ impl Genome {
     }
 
     /// The name of the chromosome of this rank, which is below [`Genome::count`].
+    #[tactic(auto, using(crate::proofs::lemmas::order::TableLemmas::name_at), unfolding(crate::specs::calls::GenomeTable::entries))]
     pub fn name(&self, rank: usize) -> &[u8]
         requires { rank < length (entries self.now) }
         ensures { slice_get (names_of self.now) rank ≡ Some result.now }
@@ -84,6 +85,7 @@ impl Genome {
     }
 
     /// The length in bases, at least 1, of the chromosome of this rank, which is below [`Genome::count`].
+    #[tactic(auto, using(crate::proofs::lemmas::order::TableLemmas::length_at, crate::proofs::lemmas::order::TableLemmas::some_length), unfolding(crate::specs::calls::GenomeTable::entries))]
     pub fn length(&self, rank: usize) -> u64
         requires { rank < length (entries self.now) }
         ensures is { option_map (λ entry. entry.length) (slice_get (entries self.now) rank) ≡ Some result }

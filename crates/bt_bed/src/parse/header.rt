@@ -18,6 +18,7 @@ pub(crate) fn is_header(text: &[u8]) -> bool
 }
 
 // Whether a text's first word is this one.
+#[tactic(auto, using(crate::proofs::lemmas::parse::HeaderLemmas::word_alone, crate::proofs::lemmas::parse::HeaderLemmas::word_ended))]
 fn begins_with_word(text: &[u8], word: &[u8]) -> bool
     requires { All (λ byte. ends_word byte ≡ false) word.now }
     ensures { result ≡ bytes_eq (first_word text.now) word.now }

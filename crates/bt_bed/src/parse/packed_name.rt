@@ -19,6 +19,7 @@ pub(crate) struct PackedName {
 
 impl PackedName {
     // The key of a name.
+    #[tactic(auto, using(crate::proofs::lemmas::parse::NameKeyLemmas::factor_is, crate::proofs::lemmas::parse::NameKeyLemmas::key_made))]
     pub(crate) fn of(name: &[u8]) -> PackedName
         ensures { HasKey name.now result }
     {
@@ -32,6 +33,7 @@ impl PackedName {
     }
 
     // Whether a line that begins with these eight bytes begins with the name and a tab.
+    #[tactic(auto, using(crate::proofs::lemmas::parse::NameKeyLemmas::key_tells))]
     #[inline(always)]
     pub(crate) fn begins(self, bytes: &[u8; 8]) -> bool
         ensures { (name : List ℕ) → IsKey name self → IsTrue result

@@ -30,6 +30,7 @@ pub(crate) fn parse_number(text: &[u8], from: usize) -> ParsedNumber
 }
 
 // Where the column that begins here ends, counted from there.
+#[tactic(auto, using(crate::proofs::lemmas::read::ParsedColumns::alone_ends))]
 #[cold]
 #[inline(never)]
 fn column_end(text: &[u8], from: usize) -> usize

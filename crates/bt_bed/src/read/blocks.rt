@@ -35,6 +35,7 @@ impl<S: Source> Blocks<S> {
     ghost use Rattle.bt_bed.specs.model.input.GoodBlocks.{block_format};
 
     /// A reader of the records that the reader of lines has left.
+    #[tactic(auto, using(crate::proofs::lemmas::read::batch::RecordsLemmas::good_at_start, crate::proofs::lemmas::read::batch::RecordsLemmas::placed_at_start), unfolding(crate::specs::calls::SortedReader::view_with, crate::specs::calls::Blocks::view_of))]
     pub fn new(alloc: Global, reader: LineReader<S>) -> Blocks<S>
         ensures below { below result ≡ reader }
         ensures fault { fault_kept result ≡ line_fault reader }
