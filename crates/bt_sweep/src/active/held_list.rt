@@ -119,6 +119,7 @@ impl Held for HeldList {
 
 // How many records there are before the first that starts at the place or after it. Those near the first one
 // are tested first: each index is at most twice as great as the one before it.
+#[tactic(auto, using(crate::proofs::lemmas::active::HeldListLemmas::come_to))]
 fn started_in(records: &VecDeque<Rec>, place: u64) -> usize
     ensures within { result ≤ length records.now.items }
     ensures point { IsNonDecreasingBy (λ r. r.start) records.now.items
@@ -156,6 +157,7 @@ fn record_at(records: &VecDeque<Rec>, index: usize) -> Option<&Rec>
 }
 
 // Whether one of the first `count` records ends at or before the place.
+#[tactic(auto, using(crate::proofs::lemmas::output::HeldLemmas::any_at, crate::proofs::lemmas::output::HeldLemmas::get_took, crate::proofs::lemmas::output::HeldLemmas::none_next))]
 fn has_ended(records: &VecDeque<Rec>, count: usize, place: u64) -> bool
     ensures { result ≡ list_any (λ r. nat_le r.stop place) (take count records.now.items) }
 {
@@ -169,6 +171,7 @@ fn has_ended(records: &VecDeque<Rec>, count: usize, place: u64) -> bool
 
 // Drops those of the first `count` records that end at or before the place. The others are moved
 // after those that follow, and then back.
+#[tactic(auto, using(crate::proofs::lemmas::active::HeldListLemmas::kept_next, crate::proofs::lemmas::active::HeldListLemmas::passed_next))]
 #[inline(always)]
 fn drop_ended_of(records: &mut VecDeque<Rec>, count: usize, place: u64)
     requires { count ≤ length records.old.items }

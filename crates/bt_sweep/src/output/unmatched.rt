@@ -22,6 +22,7 @@ pub(crate) enum Unmatched {
 }
 
 // What is written of it in this shape.
+#[tactic(auto, using(crate::proofs::lemmas::sweep::PendingLemmas::unmatched_itself))]
 #[inline(always)]
 pub(crate) fn unmatched_in(shape: Shape) -> Unmatched
     ensures { IsUnmatched result shape }
@@ -39,6 +40,7 @@ pub(crate) fn unmatched_in(shape: Shape) -> Unmatched
 }
 
 // Puts what is written of a record that nothing hits.
+#[tactic(auto, using(crate::proofs::lemmas::sweep::PendingLemmas::counted_adds, crate::proofs::lemmas::sweep::PendingLemmas::itself_adds))]
 #[inline(always)]
 pub(crate) fn put_unmatched<R: Record, K: Sink>(
     shape: Shape,

@@ -21,6 +21,7 @@ use bt_bed::{BedRef, Rec, Record, put_bed, put_cut};
 use bt_lines::{Fault, Out, Sink, put_number};
 
 // Puts the lines of a record against these, which can hit it and come by their starts.
+#[tactic(auto, using(crate::proofs::lemmas::sweep::StateLemmas::none_against))]
 #[inline(always)]
 pub(crate) fn put_against<R: Record, H: Held, K: Sink>(
     shape: Shape,
@@ -91,6 +92,7 @@ fn put_hits<H: Held, K: Sink>(
 }
 
 // Puts the line of a held record, if there is one and it hits the record.
+#[tactic(auto, using(crate::proofs::lemmas::laws::RuleLemmas::hit_overlaps))]
 #[inline(always)]
 fn put_if_hit<K: Sink>(
     shape: Shape,
@@ -149,6 +151,7 @@ fn put_where<K: Sink>(is_put: bool, a: &SourceRecord<'_>, out: &mut Out<K>) -> R
 }
 
 // Puts a part of a record, and another record after it.
+#[tactic(auto, using(std::proofs::lemmas::Result::err_from_is_err_and, bt_lines::proofs::lemmas::writer::PuttingLemmas::fails_before, bt_lines::proofs::lemmas::writer::PuttingLemmas::puts_more))]
 fn put_both<K: Sink>(
     a: &BedRef<'_>,
     start: u64,
@@ -164,6 +167,7 @@ fn put_both<K: Sink>(
 }
 
 // Puts a record and a number.
+#[tactic(auto, using(std::proofs::lemmas::Result::err_from_is_err_and, bt_lines::proofs::lemmas::writer::PuttingLemmas::fails_before, bt_lines::proofs::lemmas::writer::PuttingLemmas::puts_more))]
 #[inline(never)]
 fn put_counted<K: Sink>(a: &SourceRecord<'_>, count: u64, out: &mut Out<K>) -> Result<(), Fault>
     ensures { Puts out.old.output (line_with (bed_text (feature_lent a.now.bed) ∷ decimal count ∷ [])) result out.new.output }
@@ -173,6 +177,7 @@ fn put_counted<K: Sink>(a: &SourceRecord<'_>, count: u64, out: &mut Out<K>) -> R
 }
 
 // Puts two records.
+#[tactic(auto, using(std::proofs::lemmas::Result::err_from_is_err_and, bt_lines::proofs::lemmas::writer::PuttingLemmas::fails_before, bt_lines::proofs::lemmas::writer::PuttingLemmas::puts_more))]
 fn put_beside<K: Sink>(a: &SourceRecord<'_>, b: &BedRef<'_>, out: &mut Out<K>) -> Result<(), Fault>
     ensures { Puts out.old.output (line_with (bed_text (feature_lent a.now.bed)
         ∷ bed_text (feature_lent b.now) ∷ [])) result out.new.output }
@@ -182,6 +187,7 @@ fn put_beside<K: Sink>(a: &SourceRecord<'_>, b: &BedRef<'_>, out: &mut Out<K>) -
 }
 
 // Puts two records and a number.
+#[tactic(auto, using(std::proofs::lemmas::Result::err_from_is_err_and, bt_lines::proofs::lemmas::writer::PuttingLemmas::fails_before, bt_lines::proofs::lemmas::writer::PuttingLemmas::puts_more))]
 fn put_overlap<K: Sink>(
     a: &SourceRecord<'_>,
     b: &BedRef<'_>,

@@ -36,6 +36,7 @@ pub(crate) fn plain_intersect(
 }
 
 // Adds what is written of a record against these.
+#[tactic(auto, using(std::proofs::lemmas::Result::on_ok_weaker, crate::proofs::lemmas::plain::PlainLemmas::all_pieces, crate::proofs::lemmas::plain::PlainLemmas::count_all, crate::proofs::lemmas::plain::PlainLemmas::each_hit))]
 fn write_lines(
     shape: Shape,
     rule: HitRule,
@@ -175,6 +176,7 @@ fn write_pair(
 }
 
 // Adds the line of two records and a number.
+#[tactic(auto, using(std::proofs::lemmas::Result::on_ok_weaker, crate::proofs::lemmas::plain::PlainLemmas::tabbed))]
 fn write_overlap(
     a: &BedRef<'_>,
     b: &BedRef<'_>,

@@ -21,6 +21,7 @@ pub(crate) struct PlainPiece {
 }
 
 // The pieces of a record without the bases of those that hit it, the last one first.
+#[tactic(auto, using(crate::proofs::lemmas::plain::PlainPieceLemmas::scan_all, crate::proofs::lemmas::plain::PlainPieceLemmas::scan_next, crate::proofs::lemmas::plain::PlainPieceLemmas::scan_none))]
 pub(crate) fn find_pieces(
     alloc: Global,
     rule: HitRule,
@@ -63,6 +64,7 @@ fn has_position(b: &Rec, position: u64) -> bool
 }
 
 // Adds the position to the last piece if that begins after it, and else as a piece of its own.
+#[tactic(auto, using(std::proofs::lemmas::List::nil_from_length, crate::proofs::lemmas::plain::PlainPieceLemmas::first_found, crate::proofs::lemmas::plain::PlainPieceLemmas::next_apart, crate::proofs::lemmas::plain::PlainPieceLemmas::next_joined))]
 fn add_position(found: &mut Vec<PlainPiece>, position: u64) -> Result<(), AllocError>
     requires { position + 1 < 2 ^ 64 }
     ensures { OnOk result (pieces_in found.new.items ≡ with_position position (pieces_in found.old.items)) }

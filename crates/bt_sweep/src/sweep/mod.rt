@@ -95,6 +95,7 @@ impl<'o, H: Held, O: ChromOrder> Sweep<'o, H, O> {
     /// Takes records of both inputs, one after another, as [`Sweep::give_a`] and [`Sweep::give_b`] do with each, as long as
     /// the input that it wants has a next one. It may stop too once the record is written that waited before.
     /// If it wants nothing, it takes none. It fails as these calls do.
+    #[tactic(auto, using(crate::proofs::lemmas::sweep::GiveLemmas::goes_on, crate::proofs::lemmas::sweep::GiveLemmas::lifts_current, crate::proofs::lemmas::sweep::StandLemmas::one_waits))]
     pub fn advance<A: Cursor, B: Cursor, K: Sink>(
         &mut self,
         a: &mut A,
@@ -120,6 +121,7 @@ impl<'o, H: Held, O: ChromOrder> Sweep<'o, H, O> {
     /// Takes the next record of the first input. If the second has ended its lines are written at
     /// once, and else nothing is. It fails with `NoMemory` if the record can't be kept, and with `WriteFailed` if the
     /// lines can't be written.
+    #[tactic(auto, using(crate::proofs::lemmas::sweep::KnownLemmas::known_none, crate::proofs::lemmas::sweep::SingleLemmas::gives_a))]
     pub fn give_a<K: Sink>(&mut self, a: &BedRef<'_>, out: &mut Out<K>) -> Result<(), Fault>
         requires want { want_in (state_of self.old) ≡ Want.A }
         requires known { IsTrue ((order_of self.old).knows a.now.chrom.now) }
@@ -176,6 +178,7 @@ impl<'o, H: Held, O: ChromOrder> Sweep<'o, H, O> {
 
     /// Takes the end of the second input, and writes the lines of the current record of the first. It
     /// fails with `WriteFailed` if they can't be written.
+    #[tactic(auto, using(std::proofs::lemmas::Result::err_from_is_err_and, crate::proofs::lemmas::sweep::KnownLemmas::known_none, crate::proofs::lemmas::sweep::SingleLemmas::same_some, crate::proofs::lemmas::sweep::SingleLemmas::stops_end))]
     pub fn end_b<K: Sink>(&mut self, out: &mut Out<K>) -> Result<(), Fault>
         requires { want_in (state_of self.old) ≡ Want.B }
         ensures gives { (stage : Stage) (a : Feature)
@@ -196,6 +199,7 @@ impl<'o, H: Held, O: ChromOrder> Sweep<'o, H, O> {
     }
 
     // Writes the record that waits if one of these of the second input decides it. The records before that one are taken.
+    #[tactic(auto, using(crate::proofs::lemmas::sweep::StandLemmas::only_first, crate::proofs::lemmas::sweep::StandLemmas::single_none))]
     fn decide_current<B: Cursor, K: Sink>(
         &mut self,
         b: &mut B,
@@ -250,6 +254,7 @@ impl<'o, H: Held, O: ChromOrder> Sweep<'o, H, O> {
 
     // Writes records of the first input, from this one on, as far as those of the second decide them, which are taken up to
     // there. It returns the one that is left, if there is one.
+    #[tactic(auto, using(crate::proofs::lemmas::sweep::RelateLemmas::decides_none))]
     fn decide<A: Cursor, B: Cursor, K: Sink>(
         &mut self,
         first: A::Record,

@@ -22,6 +22,7 @@ pub(crate) enum Relation {
 }
 
 // Where they lie. The names of the chromosomes are compared once for all of them.
+#[tactic(auto, using(crate::proofs::lemmas::sweep::JoinLemmas::known_head))]
 pub(crate) fn relation_of<O: ChromOrder, B: Cursor>(
     order: &O,
     phase: Phase,

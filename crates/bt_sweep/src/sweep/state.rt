@@ -131,6 +131,7 @@ impl<H: Held> State<H> {
     }
 
     // Takes out the record that waits.
+    #[tactic(auto, using(crate::proofs::lemmas::sweep::StateLemmas::hits_of))]
     pub(crate) fn take_current(&mut self) -> Option<Rec>
         ensures is { result ≡ self.old.current }
         ensures taken { self.new ≡ record self.old { current = None } }
@@ -165,6 +166,7 @@ impl<H: Held> State<H> {
     }
 
     // Drops the held records that can hit neither this one of the first input nor a later one.
+    #[tactic(auto, using(crate::proofs::lemmas::sweep::StateLemmas::ready_none, crate::proofs::lemmas::sweep::StateLemmas::on_one_filter))]
     pub(crate) fn enter<R: Record>(&mut self, a: &R)
         requires { self.old.current ≡ None }
         ensures entered { self.new ≡ record self.old { held = held_with self.old.held (R.feature a.now) } }
@@ -178,6 +180,7 @@ impl<H: Held> State<H> {
     }
 
     // Drops the held records that end at the place or before it.
+    #[tactic(auto, using(crate::proofs::lemmas::sweep::StateLemmas::ready_none, crate::proofs::lemmas::sweep::StateLemmas::on_one_filter))]
     #[inline(always)]
     fn drop_ended(&mut self, place: u64)
         requires { self.old.current ≡ None }
@@ -258,6 +261,7 @@ impl<H: Held> State<H> {
 
     // Puts the lines of a record after those that are pending. Where the line of one that nothing hits is what is written, it
     // is left pending too.
+    #[tactic(auto, using(crate::proofs::lemmas::sweep::PendingLemmas::left_in, crate::proofs::lemmas::sweep::PendingLemmas::nothing_in))]
     #[inline(always)]
     fn write<A: Cursor, K: Sink>(
         &mut self,
@@ -305,6 +309,7 @@ impl<H: Held> State<H> {
 
     // Puts lines, and then those of a record, and returns true if it could. It is out of line, so that the loops over the
     // records stay small.
+    #[tactic(auto, using(crate::proofs::lemmas::sweep::PendingLemmas::puts_not, crate::proofs::lemmas::sweep::PendingLemmas::puts_then, crate::proofs::lemmas::sweep::PendingLemmas::same_if_put))]
     #[inline(never)]
     fn put_after<R: Record, K: Sink>(&mut self, lines: &[u8], a: &R, out: &mut Out<K>) -> bool
         requires filled { (R.feature a.now).start < (R.feature a.now).stop }
@@ -333,6 +338,7 @@ impl<H: Held> State<H> {
 
     // Writes records of the first input, from this one on, as long as they end at the place or before it. It returns the
     // first one that doesn't, if there is one. Lines may be left pending.
+    #[tactic(auto, using(crate::proofs::lemmas::sweep::WriteLemmas::writes_first))]
     #[inline(always)]
     fn write_up_to<A: Cursor, K: Sink>(
         &mut self,

@@ -1,11 +1,9 @@
-use Rattle.std.proofs.Common.{ℕ, List, [], ◌∷◌, ◌++◌, ap, sym, ◌∙◌, append-nil, decimal, flat_map}
+use Rattle.std.proofs.Common.{ℕ, List, [], ◌∷◌, ◌++◌, ap, sym, ◌∙◌, append-nil}
 use Rattle.std.proofs.lemmas.Result.{on_ok_weaker}
 use Rattle.bt_bed.specs.model.feature.Feature.{Feature}
 use Rattle.bt_bed.specs.model.feature.Record.{bed_text}
-use Rattle.bt_sweep.specs.model.Hits.{hits_among}
-use Rattle.bt_sweep.specs.model.IntersectLines.{hit_line, line_with, piece_line}
-use Rattle.bt_sweep.specs.model.Pieces.{pieces}
-use Rattle.bt_sweep.proofs.lemmas.plain.PlainLemmas.{all_pieces, count_all, each_hit, missing_none, missing_some, once_none, once_some}
+use Rattle.bt_sweep.specs.model.IntersectLines.{line_with}
+use Rattle.bt_sweep.proofs.lemmas.plain.PlainLemmas.{missing_none, missing_some, once_none, once_some}
 use Rattle.bt_sweep.proofs.plain.write_lines.Goals as goal
 
 pub returns-in-Once : goal.returns-in-Once
@@ -25,21 +23,3 @@ returns-in-Missing c =
 
 pub returns-in-Missing-2 : goal.returns-in-Missing-2
 returns-in-Missing-2 c = sym (append-nil c.args.text.now.items) ∙ ap (λ (l : List ℕ). c.args.text.now.items ++ l) (sym (missing_some c.args.a.now c.args.second.now c.args.shape c.args.rule c.count_hits-count.result c.count_hits-count.ensures c.in-Missing.is c.if-count-eq0-2.false))
-
-pub returns-in-Count : goal.returns-in-Count
-returns-in-Count c =
-    on_ok_weaker c.write_counted.result
-    (λ e. e ∙ ap (λ (l : List ℕ). c.args.text.now.items ++ l) (ap (λ (f : Feature). line_with (bed_text f ∷ decimal c.count_hits-count.result ∷ [])) c.as_bed-a.ensures ∙ sym (count_all c.args.a.now c.args.second.now c.args.shape c.args.rule c.count_hits-count.result c.count_hits-count.ensures c.in-Count.is)))
-    c.write_counted.ensures
-
-pub returns-in-Cut : goal.returns-in-Cut
-returns-in-Cut c =
-    on_ok_weaker c.write_hits.result
-    (λ e. e ∙ ap (λ (l : List ℕ). c.args.text.now.items ++ l) (ap (λ (f : Feature). flat_map (hit_line c.args.shape f) (hits_among c.args.rule f c.args.second.now)) c.as_bed-a.ensures ∙ sym (each_hit c.args.a.now c.args.second.now c.args.shape c.args.rule c.in-Cut.is)))
-    c.write_hits.ensures
-
-pub returns-in-Pieces : goal.returns-in-Pieces
-returns-in-Pieces c =
-    on_ok_weaker c.write_pieces.result
-    (λ e. e ∙ ap (λ (l : List ℕ). c.args.text.now.items ++ l) (ap (λ (f : Feature). flat_map (piece_line f) (pieces f (hits_among c.args.rule f c.args.second.now))) c.as_bed-a.ensures ∙ sym (all_pieces c.args.a.now c.args.second.now c.args.shape c.args.rule c.in-Pieces.is)))
-    c.write_pieces.ensures

@@ -1,7 +1,7 @@
 use Rattle.std.proofs.Common.{◌∙◌, ◌+◌, ap, arith, nat_lt, option_to_list, sym}
 use Rattle.std.specs.List.{list_any}
 use Rattle.bt_bed.specs.model.feature.Feature.{Feature}
-use Rattle.bt_sweep.proofs.lemmas.active.HeldListLemmas.{come_before, come_from, come_to}
+use Rattle.bt_sweep.proofs.lemmas.active.HeldListLemmas.{come_before, come_from}
 use Rattle.bt_sweep.proofs.active.held_list.started_in.Goals as goal
 
 pub loop-low-preserved-then-starts_before : goal.loop-low-preserved-then-starts_before
@@ -31,9 +31,3 @@ loop-low-preserved c =
           come_from c.args.place items rises middle (omega (arith, c.loop-low.invariant.within, c.loop-low-test.true, c.min.ensures))
           (sym (c.if-starts_before.ensures ∙ at));
     }
-
-pub returns-clause-point : goal.returns-clause-point
-returns-clause-point c = λ rises.
-    come_to c.args.place c.args.records.now.items c.loop-low.low c.loop-low.high
-    (omega (arith, c.loop-low.invariant.order, c.loop-low-test.false))
-    (c.loop-low.invariant.before rises) (c.loop-low.invariant.rest rises)

@@ -1,7 +1,7 @@
 use Rattle.std.proofs.Common.{◌∙◌, ◌≡◌, ◌+◌, ◌-◌, ◌<◌, ap, arith, length, nat_le, option_to_list, sym}
 use Rattle.std.specs.List.{list_any}
 use Rattle.bt_bed.specs.model.feature.Feature.{Feature}
-use Rattle.bt_sweep.proofs.lemmas.hits.StartedLemmas.{start_ahead, start_behind}
+use Rattle.bt_sweep.proofs.lemmas.hits.StartedLemmas.{start_ahead}
 use Rattle.bt_sweep.proofs.hits.started.count_started.Goals as goal
 
 pub returns-then-not-starts_from-clause-before : goal.returns-then-not-starts_from-clause-before
@@ -12,29 +12,3 @@ returns-then-not-starts_from-clause-before g c = λ rises.
     let within : n - 1 < length held = omega (arith, c.if-high-eq0.false, c.len-high.ensures) in
     let all : (n - 1) + 1 ≡ n = omega (arith, c.if-high-eq0.false) in
     rw (← all) (start_ahead c.args.place held (n - 1) within (sym (c.if-not-starts_from.ensures ∙ at)) rises)
-
-pub loop-low-preserved-then-starts_from : goal.loop-low-preserved-then-starts_from
-loop-low-preserved-then-starts_from g c =
-    let held = g.H.Held.records c.args.held.now in
-    let middle = c.loop-low.low + c.min.result in
-    let at = ap (λ o. list_any (λ (r : Feature). nat_le c.args.place r.start) (option_to_list o)) c.nth-in-loop-low.ensures in
-    record {
-      order = omega (arith, c.loop-low-test.true, c.min.ensures);
-      within = omega (arith, c.loop-low.invariant.within, c.loop-low-test.true, c.min.ensures);
-      before = c.loop-low.invariant.before;
-      rest = λ rises. start_behind c.args.place held middle (sym (c.if-starts_from.ensures ∙ at)) rises;
-    }
-
-pub loop-low-preserved : goal.loop-low-preserved
-loop-low-preserved g c =
-    let held = g.H.Held.records c.args.held.now in
-    let middle = c.loop-low.low + c.min.result in
-    let at = ap (λ o. list_any (λ (r : Feature). nat_le c.args.place r.start) (option_to_list o)) c.nth-in-loop-low.ensures in
-    record {
-      order = omega (arith, c.loop-low-test.true, c.min.ensures);
-      within = c.loop-low.invariant.within;
-      before = λ rises.
-          start_ahead c.args.place held middle (omega (arith, c.loop-low.invariant.within, c.loop-low-test.true, c.min.ensures))
-          (sym (c.if-starts_from.ensures ∙ at)) rises;
-      rest = c.loop-low.invariant.rest;
-    }

@@ -1,19 +1,8 @@
 use Rattle.std.proofs.Common.{ap}
 use Rattle.bt_bed.specs.model.feature.Feature.{Feature}
 use Rattle.bt_sweep.specs.calls.SweepView.{order_of, state_of}
-use Rattle.bt_sweep.proofs.lemmas.sweep.RelateLemmas.{decides_after, decides_before, decides_beside, decides_none}
+use Rattle.bt_sweep.proofs.lemmas.sweep.RelateLemmas.{decides_after, decides_before, decides_beside}
 use Rattle.bt_sweep.proofs.sweep.Sweep.decide.Goals as goal
-
-pub join-requires-clause-beside : goal.join-requires-clause-beside
-join-requires-clause-beside g c =
-    let rel = rw (c.phase.ensures, ap (λ (f : Feature). f.chrom) c.bed.ensures) at c.in-Beside.ensures in
-    (g.met.O.ChromOrder.total c.args.self.now.order.now).equal (g.B.Cursor.name c.args.b.now) (g.A.Record.Record.feature c.args.first).chrom rel.known c.requires.known rel.compared
-
-pub returns-in-Unknown-clause-joins : goal.returns-in-Unknown-clause-joins
-returns-in-Unknown-clause-joins g c =
-    let rel = rw c.phase.ensures at c.in-Unknown.ensures in
-    decides_none g.A.Cursor.gives g.A.Cursor.has_ended g.met.A.Cursor.gives_none g.met.A.Cursor.gives_more g.B.Cursor.gives g.B.Cursor.has_ended g.B.Cursor.line g.met.B.Cursor.gives_none g.met.B.Cursor.gives_more
-    g.A.Record.Record.feature (order_of c.args.self.now) (g.met.O.ChromOrder.total c.args.self.now.order.now) (state_of c.args.self.now) c.args.first c.args.a.now.cursor c.args.b.now c.args.out.now.output c.requires.known c.requires.hits rel
 
 pub returns-in-Before-clause-joins : goal.returns-in-Before-clause-joins
 returns-in-Before-clause-joins g c =

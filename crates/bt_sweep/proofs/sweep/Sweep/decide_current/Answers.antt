@@ -1,5 +1,5 @@
 use Rattle.std.proofs.Common.{◌≡◌, List, [], ◌∷◌, Option, Some, None, inl, inr, ap, refl, subst, sym, ◌∙◌}
-use Rattle.std.specs.Prelude.{All, is_some, ⊤}
+use Rattle.std.specs.Prelude.{is_some, ⊤}
 use Rattle.std.proofs.lemmas.Bool.{false≢true}
 use Rattle.std.proofs.lemmas.Result.{err_from_is_err_and}
 use Rattle.bt_lines.specs.calls.Names.{fault_value}
@@ -7,7 +7,6 @@ use Rattle.bt_bed.specs.calls.Bed.{feature_lent}
 use Rattle.bt_bed.specs.model.feature.Feature.{Feature}
 use Rattle.bt_bed.specs.calls.Single.{GivesSingle, HasNone, single_left}
 use Rattle.bt_sweep.specs.calls.Advancing.{AdvancesSo, NoneGiven}
-use Rattle.bt_sweep.specs.calls.Held.{CanHit}
 use Rattle.bt_sweep.specs.inside.Relating.{EndsWhile}
 use Rattle.bt_sweep.specs.calls.SweepState.{Sweeping}
 use Rattle.bt_sweep.specs.calls.SweepView.{order_of, state_of}
@@ -57,14 +56,6 @@ returns-in_default-2-clause-decides g c =
           (ap (λ (o : Option Feature). record final { current = o }) c.decide.ensures.none) (λ bad. absurd (false≢true bad)) tt,
       inr c.decide.ensures.none,
     )
-
-pub put_back-requires : goal.put_back-requires
-put_back-requires g c =
-    let j = rw c.in-Some-2.is at c.in_ok-decide.ensures.joins in
-    let first = feature_lent c.as_bed-bed.result in
-    let alone = single_none c.new-none.result.cursor c.decide.new.a.cursor j.0.proceeds.firsts (ap single_left c.new-none.ensures.cursor ∙ c.none.ensures.left) j.0.proceeds.gives_firsts in
-    let same = only_first first (feature_lent c.in-Some-2.field-0) j.0.proceeds.newly (ap (λ (l : List Feature). first ∷ l) (sym alone) ∙ j.0.proceeds.are) in
-    subst (λ (f : Feature). All (CanHit f) (state_of c.decide.new.self).held) (sym same ∙ c.as_bed-bed.ensures) j.0.waits.1
 
 pub returns-clause-decides : goal.returns-clause-decides
 returns-clause-decides g c =

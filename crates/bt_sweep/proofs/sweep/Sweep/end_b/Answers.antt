@@ -1,5 +1,4 @@
-use Rattle.std.proofs.Common.{◌≡◌, Some, Ok, Err, ap, subst, sym, ◌∙◌}
-use Rattle.std.proofs.lemmas.Result.{err_from_is_err_and}
+use Rattle.std.proofs.Common.{◌≡◌, Some, Ok, ap, subst, sym, ◌∙◌}
 use Rattle.bt_bed.specs.calls.Bed.{feature_lent}
 use Rattle.bt_bed.specs.calls.Single.{single_left}
 use Rattle.bt_bed.specs.model.feature.Feature.{Feature}
@@ -7,24 +6,8 @@ use Rattle.bt_sweep.specs.calls.Steps.{EndsB}
 use Rattle.bt_sweep.specs.calls.SweepState.{Sweeping}
 use Rattle.bt_sweep.specs.calls.SweepView.{order_of, state_of}
 use Rattle.bt_sweep.specs.declared.sweep.phase.Phase.TheVariants.{First}
-use Rattle.bt_sweep.proofs.lemmas.sweep.KnownLemmas.{known_none}
-use Rattle.bt_sweep.proofs.lemmas.sweep.SingleLemmas.{ends_b, same_some, stops_end}
+use Rattle.bt_sweep.proofs.lemmas.sweep.SingleLemmas.{ends_b, same_some}
 use Rattle.bt_sweep.proofs.sweep.Sweep.end_b.Goals as goal
-
-pub decide-requires-clause-known_b : goal.decide-requires-clause-known_b
-decide-requires-clause-known_b g c = known_none (order_of c.args.self.now) c.none-2.result c.none-2.ensures.left
-
-pub returns-in_err-decide-clause-gives : goal.returns-in_err-decide-clause-gives
-returns-in_err-decide-clause-gives g c = λ stage a st waits ordered.
-    let order = order_of c.args.self.now in
-    let old = state_of c.args.self.now in
-    let first = feature_lent c.as_bed-bed.result in
-    let some : old.current ≡ Some first = sym c.in-Some.ensures.is ∙ ap (λ (f : Feature). Some f) (sym c.as_bed-bed.ensures) in
-    let e = err_from_is_err_and c.from_residual.result c.from_residual.ensures.1 in
-    rw (e.1, e.2)
-    (subst (λ (f : Feature). EndsB {A = Unit {0}} order stage f old c.args.out.now.output (Err c.in_err-decide.field-0.0) (state_of c.decide.new.self) c.decide.new.out.output) (same_some first a (sym some ∙ st.current_is ∙ waits))
-    (stops_end order stage first old st (sym st.current_is ∙ some) ordered c.end_b.new.self (c.end_b.ensures ∙ ap (λ (s : Sweeping). record s { phase = First }) c.take_current.ensures.taken) c.new-none.result.cursor c.none-2.result
-    (ap single_left c.new-none.ensures.cursor ∙ c.none.ensures.left) c.none-2.ensures.left c.args.out.now.output (state_of c.decide.new.self) c.decide.new.a.cursor c.decide.new.b c.decide.new.out.output c.in_err-decide.field-0.0 c.in_err-decide.ensures.joins c.in_err-decide.ensures.stops))
 
 pub returns-clause-gives : goal.returns-clause-gives
 returns-clause-gives g c = λ stage a st waits ordered.

@@ -3,14 +3,8 @@ use Rattle.std.specs.Prelude.{All, nat_lt}
 use Rattle.bt_bed.specs.model.feature.Feature.{Feature}
 use Rattle.bt_sweep.specs.calls.Held.{CanHit}
 use Rattle.bt_sweep.specs.inside.StateSteps.{are_on}
-use Rattle.bt_sweep.specs.calls.SweepState.{Sweeping}
-use Rattle.bt_sweep.proofs.lemmas.sweep.StateLemmas.{hits_kept, ready_none, on_one_filter}
+use Rattle.bt_sweep.proofs.lemmas.sweep.StateLemmas.{hits_kept}
 use Rattle.bt_sweep.proofs.sweep.state.State.enter.Goals as goal
-
-pub invariant_of-self : goal.invariant_of-self
-invariant_of-self g c =
-    ready_none c.self.inside.current _ (ap (λ (s : Sweeping). s.current) c.self.view_is ∙ c.requires)
-    (rw c.drop_ended.ensures (on_one_filter _ (g.H.Held.records c.self.inside.held) c.self.invariant.on_one))
 
 pub returns-then-are_on-clause-hits : goal.returns-then-are_on-clause-hits
 returns-then-are_on-clause-hits g c =

@@ -1,23 +1,12 @@
-use Rattle.std.proofs.Common.{◌≤◌, ◌∷◌, ◌++◌, ℕ, List, [], ap, filter, refl, subst, ◌∙◌}
+use Rattle.std.proofs.Common.{◌≤◌, ◌∷◌, ◌++◌, ℕ, List, [], ap, filter, subst, ◌∙◌}
 use Rattle.std.specs.Prelude.{nat_lt}
 use Rattle.std.proofs.lemmas.Result.{err_from_is_err_and}
 use Rattle.bt_lines.specs.calls.Names.{fault_value}
 use Rattle.bt_bed.specs.model.feature.Feature.{Feature}
 use Rattle.bt_sweep.specs.inside.Pending.{pending_in}
 use Rattle.bt_sweep.specs.calls.SweepState.{Sweeping}
-use Rattle.bt_sweep.proofs.lemmas.sweep.WriteLemmas.{cuts_off, writes_first, writes_last, writes_more}
+use Rattle.bt_sweep.proofs.lemmas.sweep.WriteLemmas.{cuts_off, writes_last, writes_more}
 use Rattle.bt_sweep.proofs.sweep.state.State.write_up_to.Goals as goal
-
-pub loop-self-init : goal.loop-self-init
-loop-self-init g c = record {
-  none = c.requires.none;
-  phase = refl;
-  on = refl;
-  line = c.requires.line;
-  quiet = c.requires.quiet;
-  going = writes_first g.A.Cursor.gives g.A.Cursor.has_ended g.met.A.Cursor.gives_none g.met.A.Cursor.gives_more c.args.place c.args.self.now (g.A.Record.Record.feature c.args.first)
-      c.args.firsts.now.cursor (pending_in (g.A.Cursor.consumed c.args.firsts.now.cursor) c.args.firsts.now.from c.args.firsts.now.to) c.args.out.now.output c.requires.hits;
-}
 
 pub returns-in_err-write-clause-writes : goal.returns-in_err-write-clause-writes
 returns-in_err-write-clause-writes g c =
