@@ -1,5 +1,5 @@
 -- Lemmas by theme.
-pub mod laws
+pub mod definitions
 pub mod order
 pub mod parse
 pub mod read

@@ -52,7 +52,7 @@ pub(crate) fn is_covered(spans: &[PlainSpan], position: u64) -> bool
 }
 
 /// Whether a covered position at or past this one is near `left`.
-#[tactic(auto, using(crate::proofs::lemmas::laws::PlainSpans::covered_at_true, crate::proofs::lemmas::laws::PlainSpans::bare_at_false, crate::proofs::lemmas::laws::PlainSpans::covered_below))]
+#[tactic(auto, using(crate::proofs::lemmas::definitions::PlainSpans::covered_at_true, crate::proofs::lemmas::definitions::PlainSpans::bare_at_false, crate::proofs::lemmas::definitions::PlainSpans::covered_below))]
 fn has_right(spans: &[PlainSpan], gap: u64, end: u64, left: u64, position: u64) -> bool
     requires past { left < position }
     requires ended { All (λ s. s.stop ≤ end) spans.now }
@@ -66,7 +66,7 @@ fn has_right(spans: &[PlainSpan], gap: u64, end: u64, left: u64, position: u64) 
     false
 }
 
-#[tactic(auto, using(crate::proofs::lemmas::merge::Bridging::bridged_here, crate::proofs::lemmas::laws::PlainSpans::covered_at_true, crate::proofs::lemmas::laws::PlainSpans::bare_at_false))]
+#[tactic(auto, using(crate::proofs::lemmas::merge::Bridging::bridged_here, crate::proofs::lemmas::definitions::PlainSpans::covered_at_true, crate::proofs::lemmas::definitions::PlainSpans::bare_at_false))]
 fn is_bridged(spans: &[PlainSpan], gap: u64, end: u64, position: u64) -> bool
     requires { All (λ s. s.stop ≤ end) spans.now }
     ensures { IsTrue result ↔ Bridged gap (spans_in spans.now) position }
@@ -83,7 +83,7 @@ fn is_bridged(spans: &[PlainSpan], gap: u64, end: u64, position: u64) -> bool
 }
 
 /// Adds the position to the last run if that ends there, and else as a run of its own.
-#[tactic(auto, using(crate::proofs::lemmas::laws::PlainSpans::next_joined, crate::proofs::lemmas::laws::PlainSpans::next_apart))]
+#[tactic(auto, using(crate::proofs::lemmas::definitions::PlainSpans::next_joined, crate::proofs::lemmas::definitions::PlainSpans::next_apart))]
 pub(crate) fn add_position(runs: &mut Vec<PlainSpan>, position: u64) -> Result<(), AllocError>
     requires { position + 1 < 2 ^ 64 }
     ensures { OnOk result (spans_in runs.new.items ≡ with_next (spans_in runs.old.items) position) }

@@ -1,5 +1,5 @@
 -- Lemmas by theme.
 pub mod bamtobed
-pub mod laws
+pub mod definitions
 pub mod mask
 pub mod sam

@@ -1,7 +1,7 @@
 -- Lemmas by theme.
 pub mod active
+pub mod definitions
 pub mod hits
-pub mod laws
 pub mod output
 pub mod plain
 pub mod sweep

@@ -1,6 +1,6 @@
 -- What a reader of records in blocks holds, and what its calls do.
-use Rattle.std.specs.Prelude.{◌≡◌, ℕ, Bool, true, false, List, Option, Some, None, option_map, Result, Ok, Err}
-use Rattle.std.specs.Prelude.{IfSome, take}
+use Rattle.std.specs.Prelude.{◌≡◌, ℕ, Bool, true, false, List, Option, Some, None, option_map}
+use Rattle.std.specs.Prelude.{Result, Ok, Err, IfSome, take}
 use Rattle.bt_lines.specs.declared.device.Source.{Ghosts as Source}
 use Rattle.bt_lines.specs.model.Fault.{FaultValue}
 use Rattle.bt_lines.specs.calls.Names.{fault_value}
@@ -8,7 +8,8 @@ use Rattle.bt_lines.specs.calls.Reader.{IsKept}
 use Rattle.bt_lines.specs.declared.fault.Fault.{Fault}
 use Rattle.bt_lines.specs.declared.reader.line_reader.LineReader.{LineReader}
 use Rattle.bt_bed.specs.calls.Bed.{feature_lent}
-use Rattle.bt_bed.specs.calls.SortedReader.{IsTaken as IsTakenIn, Lends as LendsFrom, count_in as count_from, view_in}
+use Rattle.bt_bed.specs.calls.SortedReader.{IsTaken as IsTakenIn, Lends as LendsFrom}
+use Rattle.bt_bed.specs.calls.SortedReader.{count_in as count_from, view_in}
 use Rattle.bt_bed.specs.model.feature.Feature.{Feature}
 use Rattle.bt_bed.specs.model.input.Good.{Good}
 use Rattle.bt_bed.specs.model.input.GoodBed.{locus_at}

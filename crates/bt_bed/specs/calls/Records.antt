@@ -1,6 +1,6 @@
 -- What a reader of records holds, and what its calls do.
-use Rattle.std.specs.Prelude.{◌≡◌, ℕ, Bool, true, false, IsTrue, List, Option, Some, None, option_map, Result}
-use Rattle.std.specs.Prelude.{Ok, Err, IfSome, take}
+use Rattle.std.specs.Prelude.{◌≡◌, ℕ, Bool, true, false, IsTrue, List, Option, Some, None}
+use Rattle.std.specs.Prelude.{option_map, Result, Ok, Err, IfSome, take}
 use Rattle.bt_lines.specs.declared.device.Source.{Ghosts as Source}
 use Rattle.bt_lines.specs.model.Fault.{FaultValue}
 use Rattle.bt_lines.specs.calls.Names.{fault_value}
@@ -8,14 +8,16 @@ use Rattle.bt_lines.specs.calls.Reader.{IsKept}
 use Rattle.bt_lines.specs.declared.fault.Fault.{Fault}
 use Rattle.bt_lines.specs.declared.reader.line_reader.LineReader.{LineReader}
 use Rattle.bt_bed.specs.calls.Bed.{feature_lent}
-use Rattle.bt_bed.specs.calls.SortedReader.{IsTaken as IsTakenIn, Lends as LendsFrom, count_in as count_from, view_in}
+use Rattle.bt_bed.specs.calls.SortedReader.{IsTaken as IsTakenIn, Lends as LendsFrom}
+use Rattle.bt_bed.specs.calls.SortedReader.{count_in as count_from, view_in}
 use Rattle.bt_bed.specs.model.feature.Feature.{Feature}
 use Rattle.bt_bed.specs.model.input.Good.{Good}
 use Rattle.bt_bed.specs.model.input.GoodBed.{locus_at}
 use Rattle.bt_bed.specs.model.order.Order.{Order}
 use Rattle.bt_bed.specs.model.order.Locus.{Locus, IsUpTo}
 use Rattle.bt_bed.specs.calls.Reading.{AnswersFault, EndsMembers, GivesMember, MemberReader, Takes}
-use Rattle.bt_bed.specs.calls.Reading.{TellsOwnFailure, ahead_in, good_coming, line_of_ahead, room as room_in}
+use Rattle.bt_bed.specs.calls.Reading.{TellsOwnFailure, ahead_in, good_coming, line_of_ahead}
+use Rattle.bt_bed.specs.calls.Reading.{room as room_in}
 use Rattle.bt_bed.specs.model.feature.Record.{IsFeature}
 use Rattle.bt_bed.specs.model.order.Sorting.{sorting_of}
 use Rattle.bt_bed.specs.declared.read.batch.Batch.{Batch}

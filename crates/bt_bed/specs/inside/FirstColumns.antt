@@ -1,6 +1,6 @@
 -- The first columns of a line that are in order.
-use Rattle.std.specs.Prelude.{◌≡◌, ℕ, ◌<◌, ◌≤◌, ◌+◌, ◌==◌, true, false, List, ◌∷◌, ◌++◌}
-use Rattle.std.specs.Prelude.{length, take, drop, get_or, Some}
+use Rattle.std.specs.Prelude.{◌≡◌, ℕ, ◌<◌, ◌≤◌, ◌+◌, ◌==◌, true, false, List, ◌∷◌, ◌++◌, length}
+use Rattle.std.specs.Prelude.{take, drop, get_or, Some}
 use Rattle.std.specs.Char.{is_ascii_digit}
 use Rattle.std.specs.List.{All, list_all}
 use Rattle.std.specs.Str.Parse.{digits_value}

@@ -1,5 +1,6 @@
 -- The name of a chromosome and the tab after it, as one number.
-use Rattle.std.specs.Prelude.{◌≡◌, ℕ, ◌+◌, ◌*◌, ◌%◌, ◌^◌, ◌<◌, ◌≤◌, List, [], ◌∷◌, ◌++◌, get_or, length}
+use Rattle.std.specs.Prelude.{◌≡◌, ℕ, ◌+◌, ◌*◌, ◌%◌, ◌^◌, ◌<◌, ◌≤◌, List, [], ◌∷◌, ◌++◌, get_or}
+use Rattle.std.specs.Prelude.{length}
 use Rattle.std.specs.Int.{from_le_bytes, w64}
 use Rattle.bt_bed.specs.declared.parse.packed_name.PackedName.{PackedName}
 

@@ -2,5 +2,4 @@
 pub mod Good
 pub mod GoodBed
 pub mod GoodBlocks
-pub mod GoodLines
 pub mod TwoInputReport

@@ -11,7 +11,8 @@ use Rattle.bt_laws.specs.parts.Parts.{AddUp, AreOfLines, StopWithin, joined, sai
 use Rattle.bt_tool.specs.model.report.Report.{chromosomes_of}
 use Rattle.bt_laws.specs.parts.SplitLaws.{on_text}
 use Rattle.bt_tool.specs.declared.planning.plan_type.Command.{Command}
-use Rattle.bt_tool.specs.declared.planning.plan_type.Command.TheVariants.{Complement, Coverage, Merge}
+use Rattle.bt_tool.specs.declared.planning.plan_type.Command.TheVariants.{Complement, Coverage}
+use Rattle.bt_tool.specs.declared.planning.plan_type.Command.TheVariants.{Merge}
 
 -- a part of a text, and its genome file with the chromosomes that this has
 pub record Shard : Type 0 where

@@ -1,6 +1,6 @@
 -- When FASTA text, and the records that mask it, may be divided into parts, as by sequence.
-use Rattle.std.specs.Prelude.{◌≡◌, ℕ, ◌==◌, Bool, true, IsTrue, IsFalse, ⊤, ◌⊎◌, List, [], ◌∷◌, ◌++◌}
-use Rattle.std.specs.Prelude.{flat_map, map, Some, None, option_map, if◌then◌else◌}
+use Rattle.std.specs.Prelude.{◌≡◌, ℕ, ◌==◌, Bool, true, IsTrue, IsFalse, ⊤, ◌⊎◌, List, [], ◌∷◌}
+use Rattle.std.specs.Prelude.{◌++◌, flat_map, map, Some, None, option_map, if◌then◌else◌}
 use Rattle.std.specs.List.{AllByRecursion}
 use Rattle.bt_lines.specs.model.Lines.{text_lines}
 use Rattle.bt_lines.specs.declared.fault.Kind.TheVariants.{NoSequence}

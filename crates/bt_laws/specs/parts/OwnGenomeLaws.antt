@@ -12,10 +12,12 @@ use Rattle.bt_laws.specs.parts.GenomeSplitLaws.{LiesWithin, Shard, all_entries, 
 use Rattle.bt_laws.specs.parts.Parts.{AddUp, AreOfLines, StopWithin, Suffice, joined}
 use Rattle.bt_tool.specs.model.report.RecordReport.{Report}
 use Rattle.bt_tool.specs.model.report.Report.{chromosomes_of}
-use Rattle.bt_laws.specs.parts.SplitLaws.{ArePairs, Texts, joined_texts, on_text, on_texts, records_of}
+use Rattle.bt_laws.specs.parts.SplitLaws.{ArePairs, Texts, joined_texts, on_text, on_texts}
+use Rattle.bt_laws.specs.parts.SplitLaws.{records_of}
 use Rattle.bt_tool.specs.declared.planning.plan_type.Command.{Command}
-use Rattle.bt_tool.specs.declared.planning.plan_type.Command.TheVariants.{Complement, Coverage, Intersect}
-use Rattle.bt_tool.specs.declared.planning.plan_type.Command.TheVariants.{Merge, Subtract}
+use Rattle.bt_tool.specs.declared.planning.plan_type.Command.TheVariants.{Complement, Coverage}
+use Rattle.bt_tool.specs.declared.planning.plan_type.Command.TheVariants.{Intersect, Merge}
+use Rattle.bt_tool.specs.declared.planning.plan_type.Command.TheVariants.{Subtract}
 
 -- a part of two texts, and its genome file with the chromosomes that this has
 pub record PairShard : Type 0 where

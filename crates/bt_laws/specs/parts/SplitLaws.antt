@@ -8,11 +8,13 @@ use Rattle.bt_runs.specs.declared.merge.merge_strand.MergeStrand.{MergeStrand}
 use Rattle.bt_sweep.specs.declared.hits.hit_rule.HitRule.{HitRule}
 use Rattle.bt_sweep.specs.declared.output.shape.Shape.{Shape}
 use Rattle.bt_tool.specs.model.report.Behaviour.{order_of}
-use Rattle.bt_laws.specs.parts.Parts.{AddUp, AreOfLines, ComeBefore, StopWithin, joined, said_records}
+use Rattle.bt_laws.specs.parts.Parts.{AddUp, AreOfLines, ComeBefore, StopWithin, joined}
+use Rattle.bt_laws.specs.parts.Parts.{said_records}
 use Rattle.bt_tool.specs.model.report.RecordReport.{Report}
 use Rattle.bt_tool.specs.model.report.Report.{chromosomes_of, report_of}
 use Rattle.bt_tool.specs.declared.planning.plan_type.Command.{Command}
-use Rattle.bt_tool.specs.declared.planning.plan_type.Command.TheVariants.{BamToBed, Intersect, Merge, Subtract}
+use Rattle.bt_tool.specs.declared.planning.plan_type.Command.TheVariants.{BamToBed, Intersect}
+use Rattle.bt_tool.specs.declared.planning.plan_type.Command.TheVariants.{Merge, Subtract}
 
 -- the report of a command of one input on a text
 abbrev pub on_text : Command → Option Handed → List ℕ → Report

@@ -1,5 +1,6 @@
 -- When the output of bamtobed goes on as an input of the next command.
-use Rattle.std.specs.Prelude.{◌≡◌, Bool, false, List, [], ◌∷◌, decimal, map, filter, None, if◌then◌else◌}
+use Rattle.std.specs.Prelude.{◌≡◌, Bool, false, List, [], ◌∷◌, decimal, map, filter, None}
+use Rattle.std.specs.Prelude.{if◌then◌else◌}
 use Rattle.bt_lines.specs.declared.fault.Input.TheVariants.{First}
 use Rattle.bt_bed.specs.model.input.Good.{items_in}
 use Rattle.bt_bed.specs.model.feature.Feature.{Feature}

@@ -14,7 +14,8 @@ use Rattle.bt_sweep.specs.declared.output.shape.Shape.TheVariants.{Cut, Once, Or
 use Rattle.bt_tool.specs.model.report.Inputs.{Inputs}
 use Rattle.bt_tool.specs.model.report.Report.{report_of}
 use Rattle.bt_tool.specs.declared.planning.plan_type.Command.{Command}
-use Rattle.bt_tool.specs.declared.planning.plan_type.Command.TheVariants.{BamToBed, Intersect, Subtract}
+use Rattle.bt_tool.specs.declared.planning.plan_type.Command.TheVariants.{BamToBed, Intersect}
+use Rattle.bt_tool.specs.declared.planning.plan_type.Command.TheVariants.{Subtract}
 use Rattle.bt_laws.specs.WholeRuns.{two_texts}
 
 -- the run writes these lines, and as an input they have a record that is out of order

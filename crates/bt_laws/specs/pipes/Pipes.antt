@@ -21,13 +21,14 @@ use Rattle.bt_sweep.specs.declared.output.shape.Shape.TheVariants.{Pieces, Whole
 use Rattle.bt_tool.specs.model.report.Behaviour.{entries_in, order_of}
 use Rattle.bt_tool.specs.model.report.Inputs.{Inputs}
 use Rattle.bt_tool.specs.model.report.Report.{report_of}
-use Rattle.bt_tool.specs.declared.planning.plan_type.Command.TheVariants.{Merge, Complement, Coverage}
-use Rattle.bt_tool.specs.declared.planning.plan_type.Command.TheVariants.{Intersect, Subtract}
+use Rattle.bt_tool.specs.declared.planning.plan_type.Command.TheVariants.{Merge, Complement}
+use Rattle.bt_tool.specs.declared.planning.plan_type.Command.TheVariants.{Coverage, Intersect}
+use Rattle.bt_tool.specs.declared.planning.plan_type.Command.TheVariants.{Subtract}
 use Rattle.bt_laws.specs.WholeRuns.{RunsWithoutFault, first_records, second_records}
 use Rattle.bt_laws.specs.pipes.SweepLines.{EndsPlain, KeepsStrand, TakesNoStrand, begins_with_a}
 use Rattle.bt_laws.specs.pipes.SweepLines.{copies_written, is_a_alone, records_for, records_written}
-use Rattle.bt_laws.specs.pipes.Taken.{AreDisjoint, AreSeparate, IsInput, four_columns}
-use Rattle.bt_laws.specs.pipes.Taken.{is_no_header, three_columns}
+use Rattle.bt_laws.specs.pipes.Taken.{AreDisjoint, AreSeparate, IsInput, four_columns, is_no_header}
+use Rattle.bt_laws.specs.pipes.Taken.{three_columns}
 
 -- the runs that merge writes, where they lie; with -s those of each strand
 abbrev pub runs_by : Order → ℕ → MergeStrand → List Feature → List Interval

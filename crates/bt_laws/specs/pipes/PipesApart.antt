@@ -8,7 +8,8 @@ use Rattle.bt_runs.specs.declared.merge.merge_strand.MergeStrand.{MergeStrand}
 use Rattle.bt_runs.specs.declared.merge.merge_strand.MergeStrand.TheVariants.{Each}
 use Rattle.bt_tool.specs.model.report.Inputs.{Inputs}
 use Rattle.bt_tool.specs.declared.planning.plan_type.Command.{Command}
-use Rattle.bt_tool.specs.declared.planning.plan_type.Command.TheVariants.{Merge, Complement, Coverage}
+use Rattle.bt_tool.specs.declared.planning.plan_type.Command.TheVariants.{Merge, Complement}
+use Rattle.bt_tool.specs.declared.planning.plan_type.Command.TheVariants.{Coverage}
 use Rattle.bt_laws.specs.WholeRuns.{RunsWithoutFault, first_records, piped}
 use Rattle.bt_laws.specs.pipes.Taken.{AreDisjoint}
 

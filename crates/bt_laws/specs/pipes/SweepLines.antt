@@ -10,8 +10,9 @@ use Rattle.bt_sweep.specs.model.IntersectLines.{cut}
 use Rattle.bt_sweep.specs.model.Pieces.{pieces}
 use Rattle.bt_sweep.specs.declared.hits.hit_rule.HitRule.{HitRule}
 use Rattle.bt_sweep.specs.declared.output.shape.Shape.{Shape}
-use Rattle.bt_sweep.specs.declared.output.shape.Shape.TheVariants.{Count, Cut, CutAndB, Missing, Once}
-use Rattle.bt_sweep.specs.declared.output.shape.Shape.TheVariants.{OrigA, OrigBoth, Overlap, Pieces, Whole}
+use Rattle.bt_sweep.specs.declared.output.shape.Shape.TheVariants.{Count, Cut, CutAndB, Missing}
+use Rattle.bt_sweep.specs.declared.output.shape.Shape.TheVariants.{Once, OrigA, OrigBoth, Overlap}
+use Rattle.bt_sweep.specs.declared.output.shape.Shape.TheVariants.{Pieces, Whole}
 
 -- a record with these columns from the fourth on, each with the tab before it
 abbrev pub with_rest : List ℕ → Feature → Feature

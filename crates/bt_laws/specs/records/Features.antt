@@ -1,16 +1,9 @@
 -- Laws of features: the bases of their intervals, and their bytes.
-use Rattle.std.specs.Prelude.{◌≡◌, ℕ, ◌-◌, ◌<◌, ◌≤◌, List, cond, max, min, bytes_eq, zero, suc, ◌+◌, Bool, ◌⊎◌, ⊤, IsTrue, [], ◌∷◌, ◌==◌, true, false, length, ◌++◌, codes, decimal, flat_map, Option, Some, None, Result, Ok, Err, nat_lt, if◌then◌else◌}
+use Rattle.std.specs.Prelude.{◌≡◌, ℕ, ◌<◌, ◌≤◌, List, max, min, Bool, IsTrue, false, Some, Ok}
 use Rattle.bt_bed.specs.model.feature.Interval.{Interval, Span}
 use Rattle.bt_bed.specs.model.feature.Stretches.{AreStretchesOf}
-use Rattle.std.specs.List.{All}
-use Rattle.bt_lines.specs.model.Lines.{pieces}
-use Rattle.bt_lines.specs.model.Number.{max_number, value_of}
-use Rattle.bt_lines.specs.declared.fault.Kind.{Kind}
-use Rattle.bt_lines.specs.declared.fault.Kind.TheVariants.{TooFewColumns, EmptyName, BadStart, BadStop, EmptyFeature}
 use Rattle.bt_bed.specs.model.feature.Feature.{Feature}
 use Rattle.bt_bed.specs.model.feature.Header.{is_header}
-use Rattle.bt_bed.specs.declared.record.strand.Strand.{Strand}
-use Rattle.bt_bed.specs.declared.record.strand.Strand.TheVariants.{Plus, Minus, Dot}
 use Rattle.bt_bed.specs.model.feature.Record.{IsFeature, bed_text, record_of}
 
 -- the position of the chromosome is one of the interval's bases

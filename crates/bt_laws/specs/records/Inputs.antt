@@ -1,27 +1,21 @@
 -- Laws of what inputs give.
-use Rattle.std.specs.Prelude.{◌≡◌, ℕ, ◌≤◌, All, List, ◌++◌, length, take, Option, Some, None, Result, Ok, Err, if◌then◌else◌, ◌≢◌, ⊤, IfSome, [], ◌∷◌, Bool, true, ◌==◌, IfErr, map, IsTrue, flat_map}
-use Rattle.bt_lines.specs.model.Handed.{Handed, cut_fault, lines_handed}
+use Rattle.std.specs.Prelude.{◌≡◌, ℕ, ◌≤◌, All, List, ◌++◌, length, take, Option, None, Ok, ◌≢◌}
+use Rattle.std.specs.Prelude.{IfSome, IfErr, IsTrue}
+use Rattle.bt_lines.specs.model.Handed.{Handed}
 use Rattle.bt_lines.specs.model.Fault.{FaultValue}
-use Rattle.bt_lines.specs.model.Lines.{text_lines, TextLine, pieces}
+use Rattle.bt_lines.specs.model.Lines.{text_lines, TextLine}
 use Rattle.bt_lines.specs.declared.fault.Input.{Input}
-use Rattle.bt_lines.specs.declared.fault.Kind.{Kind}
-use Rattle.bt_lines.specs.declared.fault.Kind.TheVariants.{UnknownChrom, OutOfOrder, TooFewColumns, EmptyName, BadLength, RepeatedChrom}
-use Rattle.bt_bed.specs.model.feature.Feature.{Feature, interval_of, intervals_of}
-use Rattle.bt_bed.specs.model.input.Good.{Format, Good, Member, good, good_handed, items_in}
-use Rattle.bt_bed.specs.model.input.GoodLines.{AreAscending, IsBeyond, IsFaultBeyond}
+use Rattle.bt_lines.specs.declared.fault.Kind.TheVariants.{UnknownChrom}
+use Rattle.bt_bed.specs.model.feature.Feature.{Feature, intervals_of}
+use Rattle.bt_bed.specs.model.input.Good.{Member, good, items_in}
+use Rattle.bt_bed.specs.calls.Reading.{AreAscending, IsBeyond, IsFaultBeyond}
 use Rattle.bt_bed.specs.model.feature.Interval.{AreNonEmpty}
-use Rattle.bt_bed.specs.model.feature.LineKind.{IsBedKind, fault_at_line}
-use Rattle.bt_bed.specs.model.order.Order.{Order, IsTotal}
-use Rattle.bt_bed.specs.model.order.Locus.{Locus, locus_of, ArePlaced}
-use Rattle.bt_bed.specs.model.feature.Record.{record_of, not_skipped}
-use Rattle.bt_bed.specs.model.order.Sorting.{Sorting, falls_in, sorting_of, block_sorting}
-use Rattle.bt_bed.specs.model.input.GoodBed.{bed_format, locus_at}
+use Rattle.bt_bed.specs.model.order.Order.{Order}
+use Rattle.bt_bed.specs.model.order.Sorting.{sorting_of}
+use Rattle.bt_bed.specs.model.input.GoodBed.{bed_format}
 use Rattle.bt_bed.specs.model.input.GoodBlocks.{block_format, block_good}
-use Rattle.bt_lines.specs.model.Number.{value_of}
-use Rattle.bt_bed.specs.model.order.Rank.{is_among, AreDistinct}
+use Rattle.bt_bed.specs.model.order.Rank.{AreDistinct}
 use Rattle.bt_bed.specs.model.order.Genome.{Entry, genome_names, genome_of}
-use Rattle.std.specs.List.{list_all, take_while}
-use Rattle.std.specs.Option.{option_or}
 use Rattle.bt_bed.specs.model.input.TwoInputReport.{Rule, join_report, written}
 
 -- each member of a text is on a line of its own, in their order

@@ -1,17 +1,11 @@
 -- Laws of orders: of names, and of sorted records.
-use Rattle.std.specs.Prelude.{◌≡◌, ◌≢◌, ℕ, ◌<◌, true, List, ◌∷◌, ◌++◌, ◌≤◌, Bool, false, ◌⊎◌, ◌||◌, ⊤, IsFalse, IfSome, [], bytes_eq}
-use Rattle.std.specs.Cmp.Lexicographic.{nat_list_cmp_total, same_text, slice_cmp, texts_ties}
-use Rattle.std.specs.Cmp.{tied_itself}
-use Rattle.std.specs.Ordering.{is_eq, nat_cmp}
+use Rattle.std.specs.Prelude.{◌≡◌, ◌≢◌, ℕ, ◌<◌, List, ◌∷◌, ◌++◌, ◌≤◌, ◌⊎◌, IsFalse, IfSome, []}
 use Rattle.std.specs.declared.cmp.Ordering.TheVariants.{Less}
-use Rattle.std.proofs.Common.{sym, ◌∙◌, ap}
 use Rattle.bt_lines.specs.declared.fault.Kind.{Kind}
 use Rattle.bt_lines.specs.declared.fault.Kind.TheVariants.{UnknownChrom}
 use Rattle.bt_bed.specs.model.feature.LineKind.{IsBedKind}
-use Rattle.bt_bed.specs.model.order.Order.{Order, IsTotal}
 use Rattle.bt_bed.specs.model.order.ByteOrder.{byte_order}
 use Rattle.bt_bed.specs.model.feature.Interval.{Interval, last_of}
-use Rattle.bt_bed.specs.model.order.Locus.{ArePlaced}
 use Rattle.bt_bed.specs.model.order.Contiguous.{AreContiguous, has_records}
 
 -- a name comes before the longer ones that it begins

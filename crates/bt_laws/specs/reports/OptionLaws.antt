@@ -1,10 +1,9 @@
 -- What holds of every command line.
-use Rattle.std.specs.Prelude.{◌≡◌, ◌≢◌, ◌↔◌, List, ◌∷◌, ◌++◌, ℕ, None, Some, Err, Result, All, length}
+use Rattle.std.specs.Prelude.{◌≡◌, ◌≢◌, ◌↔◌, List, ◌∷◌, ◌++◌, ℕ, None, Some, Err, Result, All}
+use Rattle.std.specs.Prelude.{length}
 use Rattle.bt_tool.specs.declared.options.usage.Usage.{Usage}
-use Rattle.bt_tool.specs.model.usage.Items.{Item, items_of, spelled}
-use Rattle.bt_tool.specs.model.usage.Items.{IsLongestDivision}
-use Rattle.bt_tool.specs.model.usage.Options.{AnswersAll}
-use Rattle.bt_tool.specs.model.usage.Options.{PlanSeen, last_item, options, word_fault}
+use Rattle.bt_tool.specs.model.usage.Items.{Item, items_of, spelled, IsLongestDivision}
+use Rattle.bt_tool.specs.model.usage.Options.{AnswersAll, PlanSeen, last_item, options, word_fault}
 use Rattle.bt_tool.specs.model.usage.Table.{Word, Table}
 use Rattle.bt_tool.specs.model.usage.Usage.{IsTellable}
 

@@ -2,7 +2,8 @@
 -- positions of a chromosome make up. The value of a coverage is the depth (bedtools manual,
 -- genomecov, option -bga). The merged runs are the intervals of the bridged positions, and the
 -- gaps those of the bare ones (bedtools manual, merge, complement).
-use Rattle.std.specs.Prelude.{◌≡◌, ℕ, ◌≤◌, Bool, true, false, not, cond, nat_lt, ◌==◌, List, filter, map, Option, Some, None}
+use Rattle.std.specs.Prelude.{◌≡◌, ℕ, ◌≤◌, Bool, true, false, not, cond, nat_lt, ◌==◌, List, filter}
+use Rattle.std.specs.Prelude.{map, Option, Some, None}
 use Rattle.bt_bed.specs.model.feature.Feature.{Feature}
 use Rattle.bt_bed.specs.model.order.Genome.{Entry}
 use Rattle.bt_bed.specs.model.feature.Interval.{Interval, Span}

@@ -4,7 +4,8 @@ use Rattle.bt_bed.specs.model.feature.Feature.{Feature}
 use Rattle.bt_bed.specs.model.feature.Strands.{is_strand}
 use Rattle.bt_bed.specs.declared.record.strand.Strand.{Strand}
 use Rattle.bt_runs.specs.model.MergedRuns.{AreTaken, kept_runs, merged_runs, settled_runs}
-use Rattle.bt_runs.specs.model.StrandRuns.{kept_strand_runs, runs_of_strand, settled_strand_runs, strand_runs}
+use Rattle.bt_runs.specs.model.StrandRuns.{kept_strand_runs, runs_of_strand, settled_strand_runs}
+use Rattle.bt_runs.specs.model.StrandRuns.{strand_runs}
 use Rattle.bt_runs.specs.declared.merge.merge_strand.MergeStrand.{MergeStrand}
 
 -- the settled runs and the kept ones are all, and one run at most is kept

@@ -1,7 +1,8 @@
 -- Positions of one chromosome of which some have a value, and the one list of intervals of equal
 -- value that they make up. A set of positions is the case of one
 -- value (see `stretches_are_levels`).
-use Rattle.std.specs.Prelude.{◌≡◌, ℕ, zero, suc, ◌+◌, ◌<◌, ◌≤◌, Bool, true, false, cond, ◌⊎◌, ⊤, IsTrue, List, [], ◌∷◌, ◌++◌, map, ◌==◌, Option, Some, None}
+use Rattle.std.specs.Prelude.{◌≡◌, ℕ, ◌<◌, ◌≤◌, Bool, cond, ◌⊎◌, ⊤, IsTrue, List, [], ◌∷◌, map}
+use Rattle.std.specs.Prelude.{Option, Some, None}
 use Rattle.bt_bed.specs.model.feature.Interval.{Span}
 use Rattle.bt_bed.specs.model.feature.Stretches.{AreStretchesOf}
 use Rattle.bt_runs.specs.model.Levels.{Level, levels_of}

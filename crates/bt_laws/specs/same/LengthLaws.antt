@@ -1,7 +1,6 @@
 -- Runs of merge, complement and genomecov that write the same bytes, as far as the lengths of the
 -- genome file go.
-use Rattle.std.specs.Prelude.{◌≡◌, ℕ, false, List, [], ◌∷◌, Some, None, flat_map, cond}
-use Rattle.std.specs.Prelude.{min, nat_lt}
+use Rattle.std.specs.Prelude.{◌≡◌, ℕ, false, List, [], ◌∷◌, Some, None, flat_map, cond, min, nat_lt}
 use Rattle.std.specs.List.{AllByRecursion}
 use Rattle.bt_bed.specs.model.order.Genome.{Entry}
 use Rattle.bt_bed.specs.model.feature.Header.{is_header}
@@ -13,7 +12,8 @@ use Rattle.bt_tool.specs.model.report.Behaviour.{order_of}
 use Rattle.bt_runs.specs.declared.merge.merge_strand.MergeStrand.TheVariants.{All}
 use Rattle.bt_tool.specs.model.report.Inputs.{Inputs}
 use Rattle.bt_tool.specs.model.report.Report.{report_of}
-use Rattle.bt_tool.specs.declared.planning.plan_type.Command.TheVariants.{Merge, Complement, Coverage}
+use Rattle.bt_tool.specs.declared.planning.plan_type.Command.TheVariants.{Merge, Complement}
+use Rattle.bt_tool.specs.declared.planning.plan_type.Command.TheVariants.{Coverage}
 use Rattle.bt_laws.specs.WholeRuns.{RunWrites, RunsWithoutFault, first_records, piped}
 use Rattle.bt_laws.specs.same.SameSweeps.{LieWithinLengths}
 

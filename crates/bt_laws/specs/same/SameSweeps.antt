@@ -10,8 +10,8 @@ use Rattle.bt_sweep.specs.declared.hits.hit_rule.HitRule.{HitRule}
 use Rattle.bt_sweep.specs.declared.output.shape.Shape.TheVariants.{Cut, Missing, Once}
 use Rattle.bt_tool.specs.model.report.Inputs.{Inputs}
 use Rattle.bt_tool.specs.model.report.Report.{report_of}
-use Rattle.bt_tool.specs.declared.planning.plan_type.Command.TheVariants.{Complement, Intersect, Merge}
-use Rattle.bt_tool.specs.declared.planning.plan_type.Command.TheVariants.{Subtract}
+use Rattle.bt_tool.specs.declared.planning.plan_type.Command.TheVariants.{Complement, Intersect}
+use Rattle.bt_tool.specs.declared.planning.plan_type.Command.TheVariants.{Merge, Subtract}
 use Rattle.bt_laws.specs.WholeRuns.{RunWrites, RunsWithoutFault, first_records, with_second}
 
 -- one shared base is enough; -r may be given, and says nothing without -f

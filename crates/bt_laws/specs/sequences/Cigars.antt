@@ -1,12 +1,14 @@
 -- Laws of the operations of alignments, and of their blocks.
-use Rattle.std.specs.Prelude.{◌≡◌, ℕ, ◌+◌, ◌<◌, ◌≤◌, ◌==◌, Bool, true, not, List, [], ◌∷◌, ◌++◌, flat_map, nat_lt, Option, Some, None, if◌then◌else◌, ◌&&◌, ◌||◌, IsTrue, codes, bytes_eq, min, sum_by, option_map}
-use Rattle.std.specs.List.{list_all, take_while}
+use Rattle.std.specs.Prelude.{◌≡◌, ℕ, ◌+◌, ◌<◌, ◌≤◌, Bool, true, not, List, [], ◌∷◌, ◌++◌, flat_map}
+use Rattle.std.specs.Prelude.{Some, ◌&&◌, IsTrue}
+use Rattle.std.specs.List.{list_all}
 use Rattle.bt_bed.specs.model.feature.Interval.{Span}
 use Rattle.bt_seq.specs.model.Alignment.{Alignment}
-use Rattle.bt_seq.specs.model.Cigar.{EndsAt, operations_of, reference_length, Part, each_operation, is_letter, operations_in}
+use Rattle.bt_seq.specs.model.Cigar.{EndsAt, reference_length, Part, each_operation, is_letter}
+use Rattle.bt_seq.specs.model.Cigar.{operations_in}
 use Rattle.bt_seq.specs.declared.sam.operation.Operation.{Operation}
 use Rattle.bt_seq.specs.model.AlignmentBlocks.{alignment_blocks, blocks_of, is_skip, with_bases}
-use Rattle.bt_lines.specs.model.Number.{is_number, value_of}
+use Rattle.bt_lines.specs.model.Number.{is_number}
 
 -- operations without an N are one block, if they cover a base
 abbrev pub unskipped_are_one_block : Type 0

@@ -1,33 +1,22 @@
 -- Laws of masked sequences.
-use Rattle.std.specs.Prelude.{◌≡◌, ℕ, true, List, [], ◌∷◌, ◌++◌, flat_map, Option, None, Some, is_some, map, ◌⊎◌, Bool, false, option_map, ◌||◌, length, nat_lt, not, cond, Result, Ok, Err}
+use Rattle.std.specs.Prelude.{◌≡◌, ℕ, true, List, [], ◌∷◌, ◌++◌, flat_map, Option, None, ◌⊎◌, Bool}
+use Rattle.std.specs.Prelude.{false, Result, Ok}
 use Rattle.bt_bed.specs.model.feature.Feature.{Feature}
-use Rattle.bt_bed.specs.model.input.Good.{Good, Member, items_in}
+use Rattle.bt_bed.specs.model.input.Good.{Good, items_in}
 use Rattle.bt_bed.specs.model.input.GoodBlocks.{AreInBlocks}
-use Rattle.bt_bed.specs.model.feature.LineKind.{fault_at_line}
 use Rattle.bt_bed.specs.model.input.TwoInputReport.{Rule, join_report, written}
-use Rattle.bt_lines.specs.model.Fault.{FaultValue, no_memory}
-use Rattle.bt_lines.specs.declared.fault.Input.TheVariants.{Second, First}
-use Rattle.bt_lines.specs.declared.fault.Kind.TheVariants.{NoSequence}
-use Rattle.bt_seq.specs.model.Masked.{decided, mask_rule, masked_line, no_sequence, is_unnamed, held_for}
-use Rattle.bt_seq.specs.model.Owners.{left_after}
-use Rattle.bt_seq.specs.model.Sequences.{SequenceLine, is_header, line_says}
+use Rattle.bt_lines.specs.model.Fault.{FaultValue}
+use Rattle.bt_seq.specs.model.Masked.{decided, mask_rule, masked_line, held_for}
+use Rattle.bt_seq.specs.model.Sequences.{SequenceLine}
 use Rattle.bt_seq.specs.declared.mask.mask_how.MaskHow.{MaskHow}
 use Rattle.std.specs.List.{AllByRecursion}
-use Rattle.bt_seq.specs.calls.HeldMasks.{extent_of}
-use Rattle.bt_seq.specs.inside.mask.MaskInside.{KnowsStage}
-use Rattle.bt_seq.specs.calls.MaskStage.{MaskStage, given, held_by, line_given_last, reached, want_at, is_written_at_once, with_bed_ended, with_decided, with_line, with_record}
-use Rattle.bt_seq.specs.calls.MaskState.{Masking, Waiting}
-use Rattle.bt_seq.specs.calls.MaskStanding.{IsOpen, MaskMovesTo}
-use Rattle.bt_lines.specs.model.Lines.{TextLine}
-use Rattle.bt_lines.specs.calls.Names.{fault_value}
+use Rattle.bt_seq.specs.calls.MaskStage.{MaskStage, line_given_last}
+use Rattle.bt_seq.specs.calls.MaskState.{Masking}
+use Rattle.bt_seq.specs.calls.MaskStanding.{IsOpen}
 use Rattle.bt_lines.specs.calls.Output.{Output}
-use Rattle.bt_lines.specs.calls.Putting.{FailsToAdd, Grown}
 use Rattle.bt_lines.specs.declared.fault.Fault.{Fault}
-use Rattle.bt_lines.specs.declared.fault.Kind.{Kind}
-use Rattle.bt_seq.specs.calls.MaskPrefixes.{LineBefore}
-use Rattle.bt_seq.specs.declared.mask.mask_want.MaskWant.TheVariants.{Nothing}
 use Rattle.bt_bed.specs.declared.record.taken.Taken.{Taken}
-use Rattle.bt_bed.specs.declared.record.taken.Taken.TheVariants.{Yes, No}
+use Rattle.bt_bed.specs.declared.record.taken.Taken.TheVariants.{Yes}
 use Rattle.bt_seq.specs.calls.MaskSteps.{GivesBed}
 
 -- what the first records of the second input make of the lines

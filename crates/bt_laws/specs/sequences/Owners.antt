@@ -1,8 +1,9 @@
 -- Which records mask which sequence. A block is a maximal run of records of one chromosome. It
 -- belongs to the first sequence of its name after that of the block before it. It belongs to none
 -- if there is no such sequence, or if the block before it belongs to none.
-use Rattle.std.specs.Prelude.{◌++◌, ◌≡◌, ◌≢◌, ◌↔◌, ℕ, ◌<◌, All, length, Bool, true, false, ⊤, List, [], ◌∷◌, Option, Some, None, bytes_eq, flat_map, nat_le, if◌then◌else◌}
-use Rattle.std.specs.List.{AllByRecursion, list_any}
+use Rattle.std.specs.Prelude.{◌++◌, ◌≡◌, ◌≢◌, ◌↔◌, ℕ, ◌<◌, All, length, false, ⊤, List, [], ◌∷◌}
+use Rattle.std.specs.Prelude.{Some, None, bytes_eq, flat_map}
+use Rattle.std.specs.List.{AllByRecursion}
 use Rattle.bt_bed.specs.model.feature.Feature.{Feature}
 use Rattle.bt_seq.specs.model.Owners.{Block, blocks_by, left_after, names_behind}
 

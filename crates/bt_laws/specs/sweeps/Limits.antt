@@ -1,7 +1,7 @@
 -- Laws of a limit on the held records.
-use Rattle.std.specs.Prelude.{◌≡◌, ℕ, ◌<◌, Bool, false, true, not, ◌&&◌, List, [], ◌∷◌, ◌++◌, Option, None, Some, bytes_eq, filter, if◌then◌else◌, length, map, nat_lt}
-use Rattle.std.specs.List.{find, list_all}
-use Rattle.bt_lines.specs.model.Fault.{FaultValue}
+use Rattle.std.specs.Prelude.{◌≡◌, ℕ, ◌<◌, false, true, List, [], ◌∷◌, ◌++◌, Some, filter, length}
+use Rattle.std.specs.Prelude.{map}
+use Rattle.std.specs.List.{list_all}
 use Rattle.bt_lines.specs.declared.fault.Input.TheVariants.{Second}
 use Rattle.bt_lines.specs.declared.fault.Kind.TheVariants.{TooManyHeld}
 use Rattle.bt_bed.specs.model.feature.Feature.{Feature}

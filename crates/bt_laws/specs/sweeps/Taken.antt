@@ -1,36 +1,23 @@
 -- Laws of what a sweep takes, and of what it writes early.
-use Rattle.std.specs.Prelude.{◌≡◌, ◌≤◌, Bool, true, false, not, IfSome, IsTrue, cond, List, [], ◌∷◌, ◌++◌, length, Option, Some, None, is_some, option_to_list, ◌⊎◌, ℕ, Result, Ok, Err, nat_lt, ◌*◌, ◌&&◌, ◌||◌, filter, nat_le, is_none}
-use Rattle.std.specs.List.{list_any, list_all, take_while}
-use Rattle.bt_bed.specs.model.feature.Feature.{Feature, intervals_of, interval_of}
-use Rattle.bt_bed.specs.model.order.Locus.{ArePlaced, Locus, is_below}
+use Rattle.std.specs.Prelude.{◌≡◌, Bool, false, IsTrue, List, [], ◌∷◌, ◌++◌, Option, None, ℕ}
+use Rattle.std.specs.Prelude.{Result, Ok}
+use Rattle.std.specs.List.{list_all, take_while}
+use Rattle.bt_bed.specs.model.feature.Feature.{Feature, intervals_of}
+use Rattle.bt_bed.specs.model.order.Locus.{ArePlaced}
 use Rattle.bt_bed.specs.model.order.Order.{Order, IsTotal}
 use Rattle.bt_sweep.specs.model.Deciding.{decides, decided}
 pub use Rattle.bt_sweep.specs.model.Limit.{is_held, held_for}
-use Rattle.bt_sweep.specs.calls.SweepState.{SameConfig, Sweeping, want_of, want_in}
-use Rattle.bt_sweep.specs.declared.sweep.phase.Phase.{Phase}
-use Rattle.bt_sweep.specs.declared.sweep.phase.Phase.TheVariants.{Both, First, Over}
-use Rattle.bt_sweep.specs.declared.sweep.want.Want.{Want}
-use Rattle.bt_sweep.specs.calls.Standing.{leaves_some, MovesTo, Stage, held_for, is_held, with_a, with_b, with_b_ended, with_lines}
-use Rattle.bt_lines.specs.model.Fault.{FaultValue, no_memory}
-use Rattle.bt_lines.specs.calls.Names.{fault_value}
+use Rattle.bt_sweep.specs.calls.SweepState.{Sweeping}
+use Rattle.bt_sweep.specs.calls.Standing.{leaves_some, Stage, is_held}
+use Rattle.bt_lines.specs.model.Fault.{FaultValue}
 use Rattle.bt_lines.specs.calls.Output.{Output}
-use Rattle.bt_lines.specs.calls.Putting.{FailsToAdd, Grown}
 use Rattle.bt_lines.specs.declared.fault.Fault.{Fault}
-use Rattle.bt_lines.specs.declared.fault.Input.TheVariants.{Second}
-use Rattle.bt_lines.specs.declared.fault.Kind.TheVariants.{TooManyHeld}
-use Rattle.bt_bed.specs.model.feature.LineKind.{fault_at_line}
-use Rattle.bt_sweep.specs.model.IntersectLines.{LinesBefore, lines_for, intersect}
 use Rattle.bt_bed.specs.declared.record.taken.Taken.{Taken}
-use Rattle.bt_bed.specs.declared.record.taken.Taken.TheVariants.{Yes, No}
-use Rattle.bt_sweep.specs.declared.sweep.want.Want.TheVariants.{Nothing}
+use Rattle.bt_bed.specs.declared.record.taken.Taken.TheVariants.{Yes}
 use Rattle.bt_sweep.specs.calls.Steps.{GivesB}
-use Rattle.bt_bed.specs.model.input.GoodBed.{locus_at}
-use Rattle.bt_bed.specs.model.feature.Bases.{length_of, shared}
-use Rattle.bt_bed.specs.model.feature.Strands.{is_strand}
 use Rattle.bt_sweep.specs.declared.hits.hit_rule.HitRule.{HitRule}
 use Rattle.bt_sweep.specs.model.Hits.{hits}
-use Rattle.bt_bed.specs.model.input.Good.{Good, items_in}
-use Rattle.bt_bed.specs.model.input.TwoInputReport.{Rule, Met, join_report, written}
+use Rattle.bt_bed.specs.model.input.TwoInputReport.{Rule, join_report, written}
 use Rattle.bt_sweep.specs.declared.output.shape.Shape.{Shape}
 use Rattle.bt_sweep.specs.model.SweepMeeting.{sweep_rule}
 

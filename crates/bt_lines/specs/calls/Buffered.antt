@@ -1,5 +1,6 @@
 -- The lines that are left of those buffered.
-use Rattle.std.specs.Prelude.{◌≡◌, ℕ, suc, ◌+◌, ◌-◌, ◌≤◌, Bool, true, false, List, ◌∷◌, drop, length, nat_lt, take}
+use Rattle.std.specs.Prelude.{◌≡◌, ℕ, suc, ◌+◌, ◌-◌, ◌≤◌, Bool, true, false, List, ◌∷◌, drop}
+use Rattle.std.specs.Prelude.{length, nat_lt, take}
 use Rattle.bt_lines.specs.calls.FirstLine.{Shown, ending_at}
 use Rattle.bt_lines.specs.model.Lines.{TextLine, line_feeds, lines_from, whole_lines_from}
 use Rattle.bt_lines.specs.inside.Shape.{is_fed}

@@ -1,7 +1,6 @@
 -- What calls of a device do.
 use Rattle.std.specs.Prelude.{◌≡◌, ℕ, ◌+◌, Bool, true, false, ◌||◌, ◌&&◌, List, length, ◌==◌}
-use Rattle.std.specs.Prelude.{nat_lt}
-use Rattle.std.specs.Prelude.{Option, Some, None, Result, MatchResult}
+use Rattle.std.specs.Prelude.{nat_lt, Option, Some, None, Result, MatchResult}
 
 -- a read reports the end by returning 0 for a block with room; once reported, it stays reported
 abbrev pub TellsEnd : {E : Type 0} → Bool → Bool → Result ℕ E → List ℕ → Type 0

@@ -1,5 +1,6 @@
 -- The first byte of a value among some bytes, as a line feed or a tab.
-use Rattle.std.specs.Prelude.{◌≡◌, ℕ, ◌+◌, ◌<◌, ◌≤◌, ◌==◌, false, List, ◌∷◌, ◌++◌, drop, length, take, Option, Some, None}
+use Rattle.std.specs.Prelude.{◌≡◌, ℕ, ◌+◌, ◌<◌, ◌≤◌, ◌==◌, false, List, ◌∷◌, ◌++◌, drop, length}
+use Rattle.std.specs.Prelude.{take, Option, Some, None}
 use Rattle.std.specs.List.{All}
 
 -- no byte has this value

@@ -1,11 +1,12 @@
 -- What a reader of lines holds, and what one call of `next` does.
-use Rattle.std.specs.Prelude.{◌≡◌, ◌≢◌, ℕ, suc, ◌+◌, ◌-◌, ◌^◌, ◌<◌, ◌≤◌, ◌⊎◌, Bool, true, false, List}
-use Rattle.std.specs.Prelude.{[], ◌++◌, length, Option, Some, None, option_map, Result, Ok, Err}
-use Rattle.std.specs.Prelude.{IfSome, IsSome, take, drop, ⊤}
+use Rattle.std.specs.Prelude.{◌≡◌, ◌≢◌, ℕ, suc, ◌+◌, ◌-◌, ◌^◌, ◌<◌, ◌≤◌, ◌⊎◌, Bool, true, false}
+use Rattle.std.specs.Prelude.{List, [], ◌++◌, length, Option, Some, None, option_map, Result, Ok}
+use Rattle.std.specs.Prelude.{Err, IfSome, IsSome, take, drop, ⊤}
 use Rattle.std.specs.Io.KnownBytes.{Consumes, IsAtEnd, prepend_known}
 use Rattle.bt_lines.specs.declared.device.Source.{Ghosts as Source}
 use Rattle.bt_lines.specs.inside.ReadBuffer.{complete, text_in, unread}
-use Rattle.bt_lines.specs.inside.ReaderState.{ended_at, fault_at, open_at, taken_at, text_at, told_at}
+use Rattle.bt_lines.specs.inside.ReaderState.{ended_at, fault_at, open_at, taken_at, text_at}
+use Rattle.bt_lines.specs.inside.ReaderState.{told_at}
 use Rattle.bt_lines.specs.inside.Shape.{held_at, is_fed}
 use Rattle.bt_lines.specs.calls.Buffered.{buffered_lines}
 use Rattle.bt_lines.specs.calls.Device.{ReadsCounted, ReadsFail}

@@ -1,10 +1,12 @@
 -- How far a reader is.
-use Rattle.std.specs.Prelude.{ℕ, suc, Bool, true, false, List, Option, Some, None, nat_lt, if◌then◌else◌}
+use Rattle.std.specs.Prelude.{ℕ, suc, Bool, true, false, List, Option, Some, None, nat_lt}
+use Rattle.std.specs.Prelude.{if◌then◌else◌}
 use Rattle.bt_lines.specs.model.Fault.{FaultValue, read_failed, no_memory}
 use Rattle.bt_lines.specs.declared.fault.Input.{Input}
 use Rattle.bt_lines.specs.declared.reader.line_reader.State.{State}
 use Rattle.bt_lines.specs.declared.reader.line_reader.State.TheVariants.{Reading, LastLine, Ended}
-use Rattle.bt_lines.specs.declared.reader.line_reader.State.TheVariants.{ReadFailed, TooLong, NoMemory}
+use Rattle.bt_lines.specs.declared.reader.line_reader.State.TheVariants.{ReadFailed, TooLong}
+use Rattle.bt_lines.specs.declared.reader.line_reader.State.TheVariants.{NoMemory}
 
 -- the fault that ended the reading, if one did
 abbrev pub fault_at : State → Input → ℕ → Option FaultValue

@@ -7,7 +7,8 @@ use Rattle.bt_lines.specs.calls.Names.{fault_value}
 use Rattle.bt_lines.specs.calls.Output.{Output}
 use Rattle.bt_lines.specs.declared.fault.Fault.{Fault}
 use Rattle.bt_bed.specs.model.feature.Feature.{Feature}
-use Rattle.bt_runs.specs.calls.Engine.{AfterEach, FailsToPutLeft, FailsToWrite, PutsLeft, RunsOut, TakesRecord}
+use Rattle.bt_runs.specs.calls.Engine.{AfterEach, FailsToPutLeft, FailsToWrite, PutsLeft, RunsOut}
+use Rattle.bt_runs.specs.calls.Engine.{TakesRecord}
 
 -- an engine that is after some records has returned no fault
 abbrev pub IsFaultless : {E : Type 0} → (E → List Feature → E → Type 0) → (E → Option FaultValue) → E → Type 0

@@ -1,12 +1,11 @@
 -- A count of depths as its callers see it.
-use Rattle.std.specs.Prelude.{◌≡◌, ℕ, ◌<◌, ⊤, Bool, true, false, List, [], length}
-use Rattle.std.specs.Prelude.{Option, Some, None, Result, Ok, Err, cond, nat_lt}
+use Rattle.std.specs.Prelude.{◌≡◌, ℕ, ◌<◌, ⊤, Bool, true, false, List, [], length, Option, Some}
+use Rattle.std.specs.Prelude.{None, Result, Ok, Err, cond, nat_lt}
 use Rattle.bt_bed.specs.model.feature.Feature.{Feature}
-use Rattle.bt_bed.specs.model.order.Genome.{Entry}
+use Rattle.bt_bed.specs.model.order.Genome.{Entry, genome_names}
 use Rattle.bt_bed.specs.model.feature.Interval.{Span}
 use Rattle.bt_bed.specs.model.order.Locus.{Locus}
 use Rattle.bt_bed.specs.declared.record.strand.Strand.{Strand}
-use Rattle.bt_bed.specs.model.order.Genome.{genome_names}
 use Rattle.bt_bed.specs.model.order.Rank.{rank_of}
 use Rattle.bt_runs.specs.inside.coverage.CountSeen.{begun_seen}
 use Rattle.bt_runs.specs.model.Depth.{DepthInterval, coverage, depth_lines, is_counted_by}

@@ -1,7 +1,9 @@
 -- What `bedtools genomecov` gives with -bg: the intervals of equal depth above 0 of each
 -- chromosome, in the order of the genome file. With -bga it gives those of depth 0 too (bedtools
 -- manual, genomecov, options -bg, -bga and -strand).
-use Rattle.std.specs.Prelude.{◌≡◌, ℕ, Bool, true, ◌&&◌, ◌||◌, nat_le, nat_lt, cond, min, List, [], ◌∷◌, ◌++◌, length, map, filter, flat_map, codes, decimal, Option, Some, None}
+use Rattle.std.specs.Prelude.{ℕ, Bool, true, ◌&&◌, ◌||◌, nat_le, nat_lt, cond, min, List, [], ◌∷◌}
+use Rattle.std.specs.Prelude.{◌++◌, length, map, filter, flat_map, codes, decimal, Option, Some}
+use Rattle.std.specs.Prelude.{None}
 use Rattle.bt_bed.specs.model.feature.Feature.{Feature, intervals_of}
 use Rattle.bt_bed.specs.model.order.Genome.{Entry, genome_names}
 use Rattle.bt_bed.specs.model.feature.Interval.{Interval, Span, last_of, spans_on}
@@ -9,7 +11,7 @@ use Rattle.bt_bed.specs.model.order.Locus.{Locus}
 use Rattle.bt_bed.specs.model.order.Rank.{rank_order}
 use Rattle.bt_bed.specs.model.feature.Strands.{is_strand}
 use Rattle.bt_bed.specs.declared.record.strand.Strand.{Strand}
-use Rattle.bt_runs.specs.model.Gaps.{AreTaken, is_over_at, length_in}
+use Rattle.bt_runs.specs.model.Gaps.{is_over_at, length_in}
 use Rattle.bt_runs.specs.model.Levels.{Begun, Level, levels_of}
 
 -- whether a span covers a position

@@ -1,12 +1,14 @@
 -- What `bedtools complement` gives: the parts of each chromosome that no feature covers, in the
 -- order of the genome file. With -L it gives only those of chromosomes that
 -- have records (bedtools manual, complement).
-use Rattle.std.specs.Prelude.{◌≡◌, ℕ, ◌<◌, ◌≤◌, length, Bool, true, false, not, ◌||◌, List, [], ◌∷◌, ◌++◌, map, filter, flat_map, cond, min, nat_le, bytes_eq, Option, Some, None}
+use Rattle.std.specs.Prelude.{◌≡◌, ℕ, ◌<◌, length, Bool, true, false, not, ◌||◌, List, [], ◌∷◌, map}
+use Rattle.std.specs.Prelude.{filter, flat_map, cond, min, nat_le, bytes_eq, Option, Some, None}
 use Rattle.std.specs.declared.cmp.Ordering.{Ordering}
 use Rattle.std.specs.declared.cmp.Ordering.TheVariants.{Less, Equal, Greater}
 use Rattle.bt_bed.specs.model.feature.Feature.{Feature, intervals_of}
 use Rattle.bt_bed.specs.model.order.Genome.{Entry, genome_names}
-use Rattle.bt_bed.specs.model.feature.Interval.{Interval, Span, AreNonEmpty, last_of, placed_on, spans_on}
+use Rattle.bt_bed.specs.model.feature.Interval.{Interval, Span, AreNonEmpty, last_of, placed_on}
+use Rattle.bt_bed.specs.model.feature.Interval.{spans_on}
 use Rattle.bt_bed.specs.model.order.Locus.{Locus, ArePlaced}
 use Rattle.bt_bed.specs.model.order.Rank.{AreDistinct, rank_order}
 use Rattle.bt_bed.specs.model.feature.Stretches.{IsCovered, AreStretchesOf, stretches_from}

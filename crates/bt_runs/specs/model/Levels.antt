@@ -1,9 +1,8 @@
 -- Positions of one chromosome of which some have a value, and the one list of intervals of equal
 -- value that they make up. A set of positions is the case of one
 -- value (see `stretches_are_levels`).
-use Rattle.std.specs.Prelude.{◌≡◌, ℕ, zero, suc, ◌+◌, ◌<◌, ◌≤◌, Bool, true, false, cond, ◌⊎◌, ⊤, IsTrue, List, [], ◌∷◌, ◌++◌, map, ◌==◌, Option, Some, None}
-use Rattle.bt_bed.specs.model.feature.Interval.{Span}
-use Rattle.bt_bed.specs.model.feature.Stretches.{AreStretchesOf}
+use Rattle.std.specs.Prelude.{ℕ, zero, suc, ◌+◌, Bool, true, false, cond, List, [], ◌∷◌, ◌++◌, ◌==◌}
+use Rattle.std.specs.Prelude.{Option, Some, None}
 
 -- an interval of positions that have one value
 pub record Level : Type 0 where

@@ -1,5 +1,6 @@
 -- What a merge writes, and which of its runs are settled: a later record can't change them.
-use Rattle.std.specs.Prelude.{◌≡◌, ℕ, ◌+◌, ◌≤◌, Bool, not, ◌||◌, List, [], ◌++◌, drop, length, filter, Option, Some, None, nat_lt, bytes_eq}
+use Rattle.std.specs.Prelude.{◌≡◌, ℕ, ◌+◌, Bool, not, ◌||◌, List, [], ◌++◌, drop, length, filter}
+use Rattle.std.specs.Prelude.{Option, Some, None, nat_lt, bytes_eq}
 use Rattle.bt_bed.specs.model.feature.Feature.{Feature, intervals_of}
 use Rattle.bt_bed.specs.model.feature.Interval.{Interval, AreNonEmpty, last_of}
 use Rattle.bt_bed.specs.model.order.Locus.{ArePlaced}

@@ -1,13 +1,10 @@
 -- The merged runs in an order of the chromosomes, as that of a genome file or of the names' bytes.
-use Rattle.std.specs.Prelude.{◌≡◌, ℕ, ⊤, IsTrue, List, [], ◌∷◌, if◌then◌else◌}
-use Rattle.std.specs.List.{AllByRecursion}
+use Rattle.std.specs.Prelude.{◌≡◌, ℕ, List, [], ◌∷◌, if◌then◌else◌}
 use Rattle.std.specs.Ordering.{is_lt}
-use Rattle.std.specs.declared.cmp.Ordering.TheVariants.{Less}
 use Rattle.bt_bed.specs.model.feature.Feature.{Feature, intervals_of}
 use Rattle.bt_bed.specs.model.feature.Interval.{Interval}
 use Rattle.bt_bed.specs.model.order.Locus.{ArePlaced}
 use Rattle.bt_bed.specs.model.order.Order.{Order, IsTotal}
-use Rattle.bt_bed.specs.model.order.Rank.{AreDistinct, is_among, rank_order}
 use Rattle.bt_runs.specs.model.Counted.{counted}
 use Rattle.bt_runs.specs.model.Merged.{chromosomes, merged}
 use Rattle.bt_runs.specs.model.MergedRuns.{merged_runs}

@@ -1,6 +1,7 @@
 -- What `bedtools merge -s` gives: the records of each strand are merged separately (bedtools
 -- manual, merge, option -s), and the runs of all strands are listed by their first records.
-use Rattle.std.specs.Prelude.{◌≡◌, ℕ, Bool, not, ◌&&◌, List, [], ◌∷◌, ◌++◌, drop, filter, length, map, Option, Some, None, nat_le, bytes_eq}
+use Rattle.std.specs.Prelude.{◌≡◌, ℕ, Bool, not, ◌&&◌, List, [], ◌∷◌, ◌++◌, drop, filter, length}
+use Rattle.std.specs.Prelude.{map, Option, Some, None, nat_le, bytes_eq}
 use Rattle.std.specs.List.{list_any, take_while}
 use Rattle.bt_bed.specs.model.feature.Feature.{Feature, interval_of, intervals_of}
 use Rattle.bt_bed.specs.model.feature.Interval.{Interval, last_of}

@@ -1,5 +1,6 @@
 -- What a masking engine does with lines and records that are given together.
-use Rattle.std.specs.Prelude.{◌≡◌, ◌⊎◌, ⊤, ℕ, ◌+◌, ◌*◌, length, Bool, List, [], ◌∷◌, ◌++◌, Option, None, Some, Result, Ok, Err}
+use Rattle.std.specs.Prelude.{◌≡◌, ◌⊎◌, ⊤, ℕ, ◌+◌, ◌*◌, length, Bool, List, [], ◌∷◌, ◌++◌, Option}
+use Rattle.std.specs.Prelude.{None, Some, Result, Ok, Err}
 use Rattle.bt_bed.specs.model.feature.Feature.{Feature}
 use Rattle.bt_lines.specs.calls.Buffered.{lines_in}
 use Rattle.bt_lines.specs.model.Fault.{FaultValue}
@@ -14,7 +15,8 @@ use Rattle.bt_seq.specs.calls.MaskSettles.{GoesOn}
 use Rattle.bt_seq.specs.calls.MaskStage.{IsNext, MaskStage, want_at}
 use Rattle.bt_seq.specs.calls.MaskStanding.{MaskMovesTo, MaskStandsAt}
 use Rattle.bt_seq.specs.calls.MaskState.{Masking}
-use Rattle.bt_seq.specs.calls.MaskSteps.{FailsToHoldRecord, FailsToWriteLine, FailsWithLine, LacksSequence, RefusesLine}
+use Rattle.bt_seq.specs.calls.MaskSteps.{FailsToHoldRecord, FailsToWriteLine, FailsWithLine}
+use Rattle.bt_seq.specs.calls.MaskSteps.{LacksSequence, RefusesLine}
 use Rattle.bt_seq.specs.model.Sequences.{SequenceLine}
 use Rattle.bt_seq.specs.declared.mask.mask_how.MaskHow.{MaskHow}
 use Rattle.bt_seq.specs.declared.mask.mask_want.MaskWant.{MaskWant}

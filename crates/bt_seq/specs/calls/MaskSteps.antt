@@ -1,5 +1,6 @@
 -- What the calls of a masking engine do.
-use Rattle.std.specs.Prelude.{◌≡◌, ◌⊎◌, ◌||◌, ℕ, length, nat_lt, not, Bool, true, false, cond, List, [], ◌∷◌, ◌++◌, Some, None, is_some, Result, Ok, Err}
+use Rattle.std.specs.Prelude.{◌≡◌, ◌⊎◌, ◌||◌, ℕ, length, nat_lt, not, Bool, true, false, cond, List}
+use Rattle.std.specs.Prelude.{[], ◌∷◌, ◌++◌, Some, None, is_some, Result, Ok, Err}
 use Rattle.bt_bed.specs.model.feature.Feature.{Feature}
 use Rattle.bt_bed.specs.model.feature.LineKind.{fault_at_line}
 use Rattle.bt_lines.specs.model.Fault.{FaultValue, no_memory}
@@ -11,7 +12,8 @@ use Rattle.bt_lines.specs.declared.fault.Fault.{Fault}
 use Rattle.bt_lines.specs.declared.fault.Input.TheVariants.{First, Second}
 use Rattle.bt_lines.specs.declared.fault.Kind.{Kind}
 use Rattle.bt_lines.specs.declared.fault.Kind.TheVariants.{NoSequence}
-use Rattle.bt_seq.specs.calls.MaskStage.{MaskStage, is_written_at_once, reached, with_bed_ended, with_decided, with_line, with_record}
+use Rattle.bt_seq.specs.calls.MaskStage.{MaskStage, is_written_at_once, reached, with_bed_ended}
+use Rattle.bt_seq.specs.calls.MaskStage.{with_decided, with_line, with_record}
 use Rattle.bt_seq.specs.calls.MaskStanding.{MaskMovesTo}
 use Rattle.bt_seq.specs.calls.MaskPrefixes.{LineBefore}
 use Rattle.bt_seq.specs.model.Masked.{decided, held_for, masked_line}

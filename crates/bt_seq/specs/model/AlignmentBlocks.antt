@@ -1,11 +1,12 @@
 -- The blocks of an alignment, one for each maximal list of its operations without N. An N is a
 -- region of the reference that the read skips (Sequence Alignment/Map Format Specification, section
 -- 1.4, field 6; bedtools manual, bamtobed, option -split).
-use Rattle.std.specs.Prelude.{◌≡◌, ℕ, ◌+◌, ◌<◌, ◌≤◌, ◌==◌, Bool, true, not, List, [], ◌∷◌, ◌++◌, flat_map, nat_lt, Option, Some, None, if◌then◌else◌}
-use Rattle.std.specs.List.{list_all, take_while}
+use Rattle.std.specs.Prelude.{ℕ, ◌+◌, ◌==◌, Bool, true, not, List, [], ◌∷◌, ◌++◌, flat_map, nat_lt}
+use Rattle.std.specs.Prelude.{Option, Some, None, if◌then◌else◌}
+use Rattle.std.specs.List.{take_while}
 use Rattle.bt_bed.specs.model.feature.Interval.{Span}
 use Rattle.bt_seq.specs.model.Alignment.{Alignment}
-use Rattle.bt_seq.specs.model.Cigar.{EndsAt, operations_of, reference_length}
+use Rattle.bt_seq.specs.model.Cigar.{operations_of, reference_length}
 use Rattle.bt_seq.specs.declared.sam.operation.Operation.{Operation}
 
 -- whether an operation is an N

@@ -1,8 +1,8 @@
 -- CIGAR strings (Sequence Alignment/Map Format Specification, section 1.4, field 6): `*`, or one or
 -- more operations, each a number and a letter.
-use Rattle.std.specs.Prelude.{◌≡◌, ℕ, ◌+◌, ◌==◌, ◌&&◌, ◌||◌, Bool, IsTrue, List, [], ◌∷◌, ◌++◌, codes, bytes_eq, flat_map, min, sum_by, Option, Some, None, option_map, if◌then◌else◌}
-use Rattle.std.specs.List.{list_all}
-use Rattle.bt_lines.specs.model.Number.{is_number, value_of}
+use Rattle.std.specs.Prelude.{◌≡◌, ℕ, ◌+◌, ◌==◌, ◌||◌, Bool, List, [], ◌∷◌, codes, bytes_eq, min}
+use Rattle.std.specs.Prelude.{sum_by, Option, Some, None, option_map, if◌then◌else◌}
+use Rattle.bt_lines.specs.model.Number.{value_of}
 use Rattle.bt_seq.specs.declared.sam.operation.Operation.{Operation}
 
 -- the letters of operations: M, I, D, N, S, H, P, = and X

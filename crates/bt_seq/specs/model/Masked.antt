@@ -13,7 +13,8 @@ use Rattle.bt_lines.specs.model.Lines.{end_bytes}
 use Rattle.bt_lines.specs.declared.fault.Input.TheVariants.{First, Second}
 use Rattle.bt_lines.specs.declared.fault.Kind.TheVariants.{NoSequence}
 use Rattle.bt_seq.specs.model.MaskHow.{masked_byte}
-use Rattle.bt_seq.specs.model.Owners.{Block, block_decides, blocks_by, first_unowned, own_records, owned, owned_from}
+use Rattle.bt_seq.specs.model.Owners.{Block, block_decides, blocks_by, first_unowned, own_records}
+use Rattle.bt_seq.specs.model.Owners.{owned, owned_from}
 use Rattle.bt_seq.specs.model.Sequences.{SequenceLine, bases_up_to, is_header, sequence_good}
 use Rattle.bt_seq.specs.declared.mask.mask_how.MaskHow.{MaskHow}
 

@@ -1,10 +1,11 @@
 -- After which records of both inputs a sweep is.
-use Rattle.std.specs.Prelude.{◌≡◌, ◌≤◌, Bool, true, false, not, IfSome, IsTrue, cond, List, [], ◌∷◌, ◌++◌, length, Option, Some, None, is_some, option_to_list}
-use Rattle.std.specs.List.{list_any, list_all, take_while}
+use Rattle.std.specs.Prelude.{◌≡◌, ◌≤◌, Bool, true, false, not, IfSome, IsTrue, cond, List, [], ◌∷◌}
+use Rattle.std.specs.Prelude.{◌++◌, length, Option, Some, None, is_some, option_to_list}
+use Rattle.std.specs.List.{list_any, list_all}
 use Rattle.bt_bed.specs.model.feature.Feature.{Feature, intervals_of}
 use Rattle.bt_bed.specs.model.order.Locus.{ArePlaced}
-use Rattle.bt_bed.specs.model.order.Order.{Order, IsTotal}
-use Rattle.bt_sweep.specs.model.Deciding.{decides, decided}
+use Rattle.bt_bed.specs.model.order.Order.{Order}
+use Rattle.bt_sweep.specs.model.Deciding.{decides}
 pub use Rattle.bt_sweep.specs.model.Limit.{is_held, held_for}
 use Rattle.bt_sweep.specs.calls.SweepState.{SameConfig, Sweeping, want_of}
 use Rattle.bt_sweep.specs.declared.sweep.phase.Phase.{Phase}

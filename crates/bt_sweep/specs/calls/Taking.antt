@@ -1,6 +1,6 @@
 -- How records of the second input meet those of the first: which they decide, and for which they are taken.
-use Rattle.std.specs.Prelude.{◌≡◌, ◌⊎◌, ℕ, ◌≤◌, ⊤, true, false, IfSome, List, [], ◌∷◌, ◌++◌, Option, filter}
-use Rattle.std.specs.Prelude.{Some, length}
+use Rattle.std.specs.Prelude.{◌≡◌, ◌⊎◌, ℕ, ◌≤◌, ⊤, true, false, IfSome, List, [], ◌∷◌, ◌++◌, Option}
+use Rattle.std.specs.Prelude.{filter, Some, length}
 use Rattle.std.specs.List.{list_all}
 use Rattle.bt_lines.specs.model.Fault.{FaultValue, no_memory}
 use Rattle.bt_lines.specs.declared.fault.Input.TheVariants.{Second}

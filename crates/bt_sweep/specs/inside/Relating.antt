@@ -7,7 +7,8 @@ use Rattle.bt_bed.specs.model.order.Order.{Order}
 use Rattle.bt_sweep.specs.declared.sweep.phase.Phase.{Phase}
 use Rattle.bt_sweep.specs.declared.sweep.phase.Phase.TheVariants.{First}
 use Rattle.bt_sweep.specs.declared.sweep.relation.Relation.{Relation}
-use Rattle.bt_sweep.specs.declared.sweep.relation.Relation.TheVariants.{Unknown, Before, Beside, After}
+use Rattle.bt_sweep.specs.declared.sweep.relation.Relation.TheVariants.{Unknown, Before, Beside}
+use Rattle.bt_sweep.specs.declared.sweep.relation.Relation.TheVariants.{After}
 
 module _ {B : Type 0} (gives : B → List Feature → B → Type 0) (has_ended : B → Type 0) (name : List ℕ)
     (order : Order) (phase : Phase) (chrom : List ℕ) (seconds : B) where

@@ -1,6 +1,6 @@
 -- What the steps of a sweep do to what it keeps. Callers know them by `Steps` and `Advancing`.
-use Rattle.std.specs.Prelude.{◌≡◌, ◌⊎◌, ◌<◌, ℕ, Bool, true, false, cond, decimal, List, [], ◌∷◌, ◌++◌}
-use Rattle.std.specs.Prelude.{Some, Result, Ok, Err, filter, length, nat_lt, bytes_eq}
+use Rattle.std.specs.Prelude.{◌≡◌, ◌⊎◌, ◌<◌, ℕ, Bool, true, false, cond, decimal, List, [], ◌∷◌}
+use Rattle.std.specs.Prelude.{◌++◌, Some, Result, Ok, Err, filter, length, nat_lt, bytes_eq}
 use Rattle.bt_lines.specs.model.Fault.{no_memory}
 use Rattle.bt_lines.specs.calls.Names.{fault_value}
 use Rattle.bt_lines.specs.declared.fault.Fault.{Fault}

@@ -1,6 +1,6 @@
 -- Which records of the second input decide one of the first: from there on, in sorted input,
 -- nothing can hit it (bedtools manual, intersect, sorted input).
-use Rattle.std.specs.Prelude.{Bool, not, IsTrue, List, ◌++◌}
+use Rattle.std.specs.Prelude.{Bool, not, List}
 use Rattle.std.specs.List.{list_any}
 use Rattle.bt_bed.specs.model.feature.Feature.{Feature}
 use Rattle.bt_bed.specs.model.input.GoodBed.{locus_at}

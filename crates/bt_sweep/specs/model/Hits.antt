@@ -1,6 +1,6 @@
 -- Which records hit one another: all pairs are compared
 -- (bedtools manual, intersect, options -f, -r and -s).
-use Rattle.std.specs.Prelude.{◌≡◌, ℕ, ◌*◌, Bool, false, not, ◌&&◌, ◌||◌, List, filter, nat_le, nat_lt}
+use Rattle.std.specs.Prelude.{ℕ, ◌*◌, Bool, false, not, ◌&&◌, ◌||◌, List, filter, nat_le, nat_lt}
 use Rattle.bt_bed.specs.model.feature.Bases.{length_of, shared}
 use Rattle.bt_bed.specs.model.feature.Feature.{Feature, interval_of}
 use Rattle.bt_bed.specs.model.feature.Strands.{is_strand}

@@ -13,8 +13,9 @@ use Rattle.bt_sweep.specs.model.Hits.{hits_among, shared_bases}
 use Rattle.bt_sweep.specs.model.Pieces.{pieces}
 use Rattle.bt_sweep.specs.declared.hits.hit_rule.HitRule.{HitRule}
 use Rattle.bt_sweep.specs.declared.output.shape.Shape.{Shape}
-use Rattle.bt_sweep.specs.declared.output.shape.Shape.TheVariants.{Cut, OrigA, CutAndB, OrigBoth, Overlap}
-use Rattle.bt_sweep.specs.declared.output.shape.Shape.TheVariants.{Once, Missing, Count, Pieces, Whole}
+use Rattle.bt_sweep.specs.declared.output.shape.Shape.TheVariants.{Cut, OrigA, CutAndB, OrigBoth}
+use Rattle.bt_sweep.specs.declared.output.shape.Shape.TheVariants.{Overlap, Once, Missing, Count}
+use Rattle.bt_sweep.specs.declared.output.shape.Shape.TheVariants.{Pieces, Whole}
 
 -- a line of these texts, with tabs between them
 abbrev pub line_with : List (List ℕ) → List ℕ

@@ -1,20 +1,17 @@
 -- A limit on how many records of the second input are held at a time, which is this program's own
 -- (option -held of intersect and subtract). If more would have to be held, that line of the
 -- second input is at fault.
-use Rattle.std.specs.Prelude.{◌≡◌, ℕ, ◌<◌, Bool, false, true, not, ◌&&◌, List, [], ◌∷◌, ◌++◌, Option, None, Some, bytes_eq, filter, if◌then◌else◌, length, map, nat_lt}
-use Rattle.std.specs.List.{find, list_all}
+use Rattle.std.specs.Prelude.{ℕ, Bool, not, ◌&&◌, List, [], ◌∷◌, ◌++◌, Option, None, Some, bytes_eq}
+use Rattle.std.specs.Prelude.{filter, if◌then◌else◌, length, map, nat_lt}
+use Rattle.std.specs.List.{find}
 use Rattle.bt_lines.specs.model.Fault.{FaultValue}
 use Rattle.bt_lines.specs.declared.fault.Input.TheVariants.{Second}
 use Rattle.bt_lines.specs.declared.fault.Kind.TheVariants.{TooManyHeld}
 use Rattle.bt_bed.specs.model.feature.Feature.{Feature}
-use Rattle.bt_bed.specs.model.input.Good.{Good, Member, items_in}
+use Rattle.bt_bed.specs.model.input.Good.{Good, Member}
 use Rattle.bt_bed.specs.model.feature.LineKind.{fault_at_line}
 use Rattle.bt_bed.specs.model.order.Order.{Order}
 use Rattle.bt_sweep.specs.model.Deciding.{decided}
-use Rattle.bt_sweep.specs.model.IntersectLines.{intersect}
-use Rattle.bt_sweep.specs.model.SweepMeeting.{intersect_met}
-use Rattle.bt_sweep.specs.declared.hits.hit_rule.HitRule.{HitRule}
-use Rattle.bt_sweep.specs.declared.output.shape.Shape.{Shape}
 
 -- Whether a or a later record of the first input can be hit by b, as far as a tells. It can if b lies on
 -- the chromosome of a, and ends above its start.

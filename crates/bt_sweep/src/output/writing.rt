@@ -92,7 +92,7 @@ fn put_hits<H: Held, K: Sink>(
 }
 
 // Puts the line of a held record, if there is one and it hits the record.
-#[tactic(auto, using(crate::proofs::lemmas::laws::RuleLemmas::hit_overlaps))]
+#[tactic(auto, using(crate::proofs::lemmas::definitions::RuleLemmas::hit_overlaps))]
 #[inline(always)]
 fn put_if_hit<K: Sink>(
     shape: Shape,

@@ -1,7 +1,5 @@
 -- The order of names by their bytes: which of two names comes first.
-use Rattle.std.proofs.Common.{◌≡◌, ℕ, List, subst, bytes_eq, true}
-use Rattle.std.specs.Cmp.{tied_itself}
-use Rattle.std.specs.Cmp.Lexicographic.{nat_list_cmp_total}
+use Rattle.bt_lines.proofs.Std.{◌≡◌, ℕ, List, subst, bytes_eq, true, tied_itself, nat_list_cmp_total}
 use Rattle.std.specs.declared.cmp.Ordering.TheVariants.{Equal}
 use Rattle.bt_bed.proofs.lemmas.parse.NameLemmas.{same_name}
 use Rattle.bt_bed.specs.model.order.ByteOrder.{byte_order}

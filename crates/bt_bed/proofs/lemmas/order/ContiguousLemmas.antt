@@ -1,8 +1,6 @@
 -- Lemmas on contiguous records, and on records in a total order of their chromosomes.
-use Rattle.std.proofs.Common.{◌≡◌, ℕ, ◌≤◌, ◌⊎◌, inl, inr, List, [], ◌∷◌, ◌++◌, refl, sym, ◌∙◌, subst, true, false, bytes_eq, Some}
-use Rattle.std.specs.Prelude.{IsTrue}
+use Rattle.bt_lines.proofs.Std.{◌≡◌, ℕ, ◌≤◌, ◌⊎◌, inl, inr, List, [], ◌∷◌, ◌++◌, refl, sym, ◌∙◌, subst, true, false, bytes_eq, Some, IsTrue, or_parts, or_from, or_left, or_right}
 use Rattle.std.specs.declared.cmp.Ordering.TheVariants.{Less, Equal}
-use Rattle.std.proofs.lemmas.Bool.{or_parts, or_from, or_left, or_right}
 use Rattle.bt_bed.specs.model.feature.Interval.{last_from, last_of, Interval}
 use Rattle.bt_bed.specs.model.order.Order.{Order, IsTotal}
 use Rattle.bt_bed.specs.model.order.Locus.{locus_of, IsUpTo, ArePlaced, placed_grows, prefixes_are_placed}

@@ -1,6 +1,5 @@
 -- Lemmas on lines that were given one after another.
-use Rattle.std.proofs.Common.{◌≡◌, ℕ, suc, ◌+◌, ◌-◌, ◌^◌, ◌<◌, ◌≤◌, List, [], ◌++◌, length, take, drop, Option, Some, None, arith}
-use Rattle.std.specs.Prelude.{IfSome}
+use Rattle.bt_lines.proofs.Std.{◌≡◌, ℕ, suc, ◌+◌, ◌-◌, ◌^◌, ◌<◌, ◌≤◌, List, [], ◌++◌, length, take, drop, Option, Some, None, arith, IfSome}
 use Rattle.bt_lines.specs.declared.device.Source.{Ghosts as Source}
 use Rattle.bt_lines.proofs.lemmas.reader.lines.ReaderLemmas.{given_drops, hands_none, hands_both, sound_near}
 use Rattle.bt_lines.proofs.lemmas.reader.lines.TakingLemmas.{taken_below}

@@ -1,6 +1,5 @@
 -- Lemmas on the ranks of names.
-use Rattle.std.proofs.Common.{arith, ◌≡◌, ℕ, suc, Bool, ◌||◌, cond, List, [], ◌∷◌, Option, Some, refl, ap, ◌∙◌}
-use Rattle.std.specs.Prelude.{bytes_eq, is_some, option_map}
+use Rattle.bt_lines.proofs.Std.{arith, ◌≡◌, ℕ, suc, Bool, ◌||◌, cond, List, [], ◌∷◌, Option, Some, refl, ap, ◌∙◌, bytes_eq, is_some, option_map}
 use Rattle.bt_bed.specs.model.order.Rank.{is_among, rank_of}
 
 is_some-cond : (b : Bool) (o : Option ℕ) → is_some (cond b (Some 0) (option_map (λ n. suc n) o)) ≡ (b || is_some o)

@@ -1,6 +1,5 @@
 -- Lemmas on results and options that are passed on.
-use Rattle.std.specs.Prelude.{◌≡◌, Result, Err, IsErrAnd, OnOk, OnErr}
-use Rattle.std.proofs.Common.{arith}
+use Rattle.bt_lines.proofs.Std.{◌≡◌, Result, Err, IsErrAnd, OnOk, OnErr, arith}
 
 -- what holds of the error holds of the result that passes it on
 pub passed_on : {T E : Type 0} (P : Result T E → Type 0) (result : Result T E) (error : E) → IsErrAnd result (λ e. e ≡ error) → P (Err error) → P result

@@ -1,10 +1,7 @@
 -- Lemmas on how records are sorted.
-use Rattle.std.proofs.Common.{◌≡◌, ℕ, Bool, true, false, cond, Option, Some, refl, sym, ◌∙◌, subst, arith}
-use Rattle.std.specs.Prelude.{IsTrue, IfSome, bytes_eq, nat_lt}
-use Rattle.std.specs.Cmp.Lexicographic.{bytes_decides}
+use Rattle.bt_lines.proofs.Std.{◌≡◌, ℕ, Bool, true, false, cond, Option, Some, refl, sym, ◌∙◌, subst, arith, IsTrue, IfSome, bytes_eq, nat_lt, bytes_decides, false≢true}
 use Rattle.std.specs.declared.cmp.Ordering.{Ordering}
 use Rattle.std.specs.declared.cmp.Ordering.TheVariants.{Equal}
-use Rattle.std.proofs.lemmas.Bool.{false≢true}
 use Rattle.bt_bed.specs.model.order.Order.{Order, IsTotal}
 use Rattle.bt_bed.specs.model.order.Locus.{Locus, is_below_at, falls_below, IsUpTo}
 use Rattle.bt_bed.specs.model.order.Sorting.{falls_in, is_less, sorted_by_places, sorting_of}

@@ -1,11 +1,5 @@
 -- Lemmas on a table of chromosomes and on reading one.
-use Rattle.std.proofs.Common.{◌≡◌, ℕ, zero, suc, ◌+◌, ◌-◌, Bool, true, false, cond, List, [], ◌∷◌, ◌++◌, map, length, take, Option, Some, None, Result, Ok, Err, refl, sym, ap, ◌∙◌, subst, append_assoc, append-nil, length-append, inl, inr, arith}
-use Rattle.std.proofs.lemmas.List.Elements.{All-push, All-head, All-tail}
-use Rattle.std.specs.Prelude.{◌⊎◌, ◌<◌, All, IfSome, Vec, bytes_eq, is_some, option_map, position, slice_get}
-use Rattle.std.specs.Option.{option_to_list}
-use Rattle.std.proofs.lemmas.List.{map-append}
-use Rattle.std.proofs.lemmas.Option.{slice_get-map}
-use Rattle.std.proofs.Math.Seq.{take-append_seam}
+use Rattle.bt_lines.proofs.Std.{◌≡◌, ℕ, zero, suc, ◌+◌, ◌-◌, Bool, true, false, cond, List, [], ◌∷◌, ◌++◌, map, length, take, Option, Some, None, Result, Ok, Err, refl, sym, ap, ◌∙◌, subst, append_assoc, append-nil, length-append, inl, inr, arith, All-push, All-head, All-tail, ◌⊎◌, ◌<◌, All, IfSome, Vec, bytes_eq, is_some, option_map, position, slice_get, option_to_list, map-append, slice_get-map, take-append_seam, position_from, keys_of, position_from-zero, or_parts}
 use Rattle.bt_lines.specs.model.Fault.{FaultValue, read_failed, no_memory}
 use Rattle.bt_lines.specs.calls.LentLine.{GivesFirst}
 use Rattle.bt_lines.specs.model.Lines.{TextLine}
@@ -18,11 +12,7 @@ use Rattle.bt_lines.specs.declared.reader.line_reader.LineReader.{LineReader}
 use Rattle.bt_bed.proofs.lemmas.order.GenomeLemmas.{before_err, before_ok, distinct_push, is_new, says_then}
 use Rattle.bt_bed.proofs.lemmas.order.RankLemmas.{among_ranked}
 use Rattle.bt_bed.proofs.lemmas.parse.NameLemmas.{name_eq-sym}
-use Rattle.std.specs.List.{position_from}
-use Rattle.std.specs.Map.{keys_of}
 use Rattle.std.specs.declared.alloc.Global.{Global}
-use Rattle.std.proofs.lemmas.Iterator.Adapters.{position_from-zero}
-use Rattle.std.proofs.lemmas.Bool.{or_parts}
 use Rattle.bt_lines.specs.declared.device.Source.{Ghosts as Source}
 use Rattle.bt_lines.proofs.lemmas.reader.lines.ReaderLemmas.{hands_both, not_told}
 use Rattle.indexmap.specs.IndexMap.{insert_entry}

@@ -1,9 +1,5 @@
 -- Lemmas on the feature that a line says.
-use Rattle.std.proofs.Common.{◌≡◌, ℕ, ◌+◌, ◌<◌, ◌≤◌, Bool, true, false, ◌&&◌, cond, List, [], ◌∷◌, ◌++◌, length, drop, Option, Some, None, Result, Ok, refl, sym, ap, ◌∙◌, subst, arith, ltb, leb}
-use Rattle.std.proofs.lemmas.Bool.{leb-true, and_parts}
-use Rattle.std.specs.List.{AllByRecursion, list_all}
-use Rattle.std.specs.Char.{is_ascii_digit}
-use Rattle.std.specs.Str.Parse.{digits_value}
+use Rattle.bt_lines.proofs.Std.{◌≡◌, ℕ, ◌+◌, ◌<◌, ◌≤◌, Bool, true, false, ◌&&◌, cond, List, [], ◌∷◌, ◌++◌, length, drop, Option, Some, None, Result, Ok, refl, sym, ap, ◌∙◌, subst, arith, ltb, leb, leb-true, and_parts, AllByRecursion, list_all, is_ascii_digit, digits_value}
 use Rattle.bt_lines.specs.model.Lines.{pieces}
 use Rattle.bt_lines.specs.model.Number.{value_of, is_number}
 use Rattle.bt_lines.specs.declared.fault.Kind.{Kind}

@@ -1,10 +1,5 @@
 -- Lemmas on the first word of a text.
-use Rattle.std.proofs.Common.{◌≡◌, ℕ, ◌<◌, ◌≤◌, Bool, true, false, cond, eqb, ◌||◌, List, [], ◌∷◌, ◌++◌, length, refl, sym, ap, ◌∙◌, arith, bytes_eq, take, drop, get_or, append-nil}
-use Rattle.std.proofs.lemmas.Bool.{false_from_ne_true}
-use Rattle.std.proofs.lemmas.List.{length-append, take-append-drop}
-use Rattle.std.proofs.lemmas.List.Elements.{All-head, All-tail}
-use Rattle.std.proofs.lemmas.Slice.Eq.{bytes_eq-Decides}
-use Rattle.std.specs.List.{All}
+use Rattle.bt_lines.proofs.Std.{◌≡◌, ℕ, ◌<◌, ◌≤◌, Bool, true, false, cond, eqb, ◌||◌, List, [], ◌∷◌, ◌++◌, length, refl, sym, ap, ◌∙◌, arith, bytes_eq, take, drop, get_or, append-nil, false_from_ne_true, length-append, take-append-drop, All-head, All-tail, bytes_eq-Decides, All}
 use Rattle.bt_bed.specs.model.feature.Header.{ends_word, first_word, is_header, is_header_word}
 
 -- the byte doesn't end a word

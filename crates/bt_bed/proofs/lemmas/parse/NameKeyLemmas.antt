@@ -1,11 +1,5 @@
 -- Lemmas on the name of a chromosome and the tab after it as one number.
-use Rattle.std.proofs.Common.{◌≡◌, ℕ, zero, suc, ◌+◌, ◌-◌, ◌*◌, ◌/◌, ◌%◌, ◌^◌, ◌<◌, ◌≤◌, List, [], ◌∷◌, ◌++◌, length, take, drop, get_or, inl, inr, refl, sym, ap, ◌∙◌, arith, append_assoc}
-use Rattle.std.proofs.Math.Nat.{add-mul-mod_self_right, eq_of_mul-eq-mul_left, mod-add-div, pow-succ'}
-use Rattle.std.proofs.lemmas.Bool.{cases_lt}
-use Rattle.std.proofs.lemmas.Nat.{one_shl, pow-add}
-use Rattle.std.proofs.lemmas.List.{length-append, take-append-drop, take-take}
-use Rattle.std.proofs.Math.Seq.{take-length}
-use Rattle.std.specs.Int.{from_le_bytes, w64}
+use Rattle.bt_lines.proofs.Std.{◌≡◌, ℕ, zero, suc, ◌+◌, ◌-◌, ◌*◌, ◌/◌, ◌%◌, ◌^◌, ◌<◌, ◌≤◌, List, [], ◌∷◌, ◌++◌, length, take, drop, get_or, inl, inr, refl, sym, ap, ◌∙◌, arith, append_assoc, add-mul-mod_self_right, eq_of_mul-eq-mul_left, mod-add-div, pow-succ', cases_lt, one_shl, pow-add, length-append, take-append-drop, take-take, take-length, from_le_bytes, w64}
 use Rattle.bt_bed.specs.inside.FirstColumns.{BeginsWithName}
 use Rattle.bt_bed.specs.inside.PackedName.{IsKey}
 use Rattle.bt_bed.specs.declared.parse.packed_name.PackedName.{PackedName}

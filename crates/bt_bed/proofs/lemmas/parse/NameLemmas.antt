@@ -1,10 +1,5 @@
 -- Names of chromosomes: whether two are one.
-use Rattle.std.proofs.Common.{◌≡◌, ℕ, ◌⊎◌, ◌+◌, ◌-◌, ◌<◌, ◌≤◌, ◌++◌, inl, inr, List, length, take, drop, get_or, refl, sym, ap, ◌∙◌, arith, true, false, eqb, bytes_eq, length-take, length-drop}
-use Rattle.std.proofs.lemmas.Bool.{cases_Bool, cases_lt, eq-eqb, eqb-true, false_from_ne_true, false≢true}
-use Rattle.std.proofs.lemmas.List.{drop-drop, get_or-drop, get_or-take, get_or_past, take-append-drop}
-use Rattle.std.proofs.lemmas.Nat.{le_bytes_4}
-use Rattle.std.proofs.lemmas.Slice.Eq.{bytes_eq-Decides}
-use Rattle.std.specs.Int.{from_le_bytes, w32}
+use Rattle.bt_lines.proofs.Std.{◌≡◌, ℕ, ◌⊎◌, ◌+◌, ◌-◌, ◌<◌, ◌≤◌, ◌++◌, inl, inr, List, length, take, drop, get_or, refl, sym, ap, ◌∙◌, arith, true, false, eqb, bytes_eq, length-take, length-drop, cases_Bool, cases_lt, eq-eqb, eqb-true, false_from_ne_true, false≢true, drop-drop, get_or-drop, get_or-take, get_or_past, take-append-drop, le_bytes_4, bytes_eq-Decides, from_le_bytes, w32}
 
 pub same_name : (a b : List ℕ) → bytes_eq a b ≡ true → a ≡ b
 same_name a b t = (bytes_eq-Decides a b).0 t

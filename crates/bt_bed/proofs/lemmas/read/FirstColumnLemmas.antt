@@ -1,21 +1,10 @@
 -- Lemmas on the first columns of a line that are in order.
-use Rattle.std.proofs.Common.{◌≡◌, ℕ, ◌+◌, ◌^◌, ◌<◌, ◌≤◌, Bool, true, false, List, [], ◌∷◌, ◌++◌, length, take, drop, get_or, Option, Some, Ok, refl, sym, ap, ◌∙◌, subst, arith, append_assoc, bytes_eq, eqb, ltb, length-take}
-use Rattle.std.specs.Char.{is_ascii_digit}
-use Rattle.std.specs.List.{list_all}
-use Rattle.std.specs.Str.Parse.{digits_value}
-use Rattle.std.proofs.lemmas.Bool.{eqb-true, and_parts}
-use Rattle.std.proofs.lemmas.Bool.Decides.{nat_tests}
-use Rattle.std.proofs.Math.Seq.{get_or-append_seam, take-append_seam}
-use Rattle.std.proofs.lemmas.List.{drop-drop, drop_more, drop_all, length-append, take_all, take-append-drop}
-use Rattle.std.proofs.lemmas.List.Elements.{All-nil, All-cons}
-use Rattle.std.proofs.lemmas.List.Splits.{slice_split_none, length-slice_split}
-use Rattle.std.proofs.lemmas.Slice.Eq.{bytes_eq-Decides}
-use Rattle.bt_lines.proofs.lemmas.reader.lines.ColumnLemmas.{cut_at}
+use Rattle.bt_lines.proofs.Std.{◌≡◌, ℕ, ◌+◌, ◌^◌, ◌<◌, ◌≤◌, Bool, true, false, List, [], ◌∷◌, ◌++◌, length, take, drop, get_or, Option, Some, Ok, refl, sym, ap, ◌∙◌, subst, arith, append_assoc, bytes_eq, eqb, ltb, length-take, is_ascii_digit, list_all, digits_value, eqb-true, and_parts, nat_tests, get_or-append_seam, take-append_seam, drop-drop, drop_more, drop_all, length-append, take_all, take-append-drop, All-nil, All-cons, slice_split_none, length-slice_split, bytes_eq-Decides}
+use Rattle.bt_lines.proofs.lemmas.reader.lines.ColumnLemmas.{cut_at, IsColumn, IsInside}
 use Rattle.bt_lines.proofs.lemmas.numbers.NumberLemmas.{digits_below, value_of_digits}
 use Rattle.bt_lines.specs.model.Lines.{pieces}
 use Rattle.bt_lines.specs.model.Number.{value_of}
 use Rattle.bt_bed.proofs.lemmas.parse.Kept.{cut_and_kept}
-use Rattle.bt_lines.proofs.lemmas.reader.lines.ColumnLemmas.{IsColumn, IsInside}
 use Rattle.bt_bed.proofs.lemmas.parse.FeatureLemmas.{record_said, said_is_feature, said_stands}
 use Rattle.bt_bed.proofs.lemmas.parse.HeaderLemmas.{header_before_tab}
 use Rattle.bt_bed.specs.model.feature.Feature.{Feature}

@@ -1,17 +1,10 @@
 -- Lemmas on the first columns of a line that was parsed.
-use Rattle.std.proofs.Common.{◌≡◌, ℕ, ◌+◌, ◌<◌, true, false, List, [], ◌∷◌, ◌++◌, length, take, drop, Option, Some, None, Result, Ok, Err, refl, sym, ap, ◌∙◌, subst, arith, append_assoc, length-append, ltb, eqb, inl, inr}
-use Rattle.std.specs.Prelude.{IfSome}
-use Rattle.std.proofs.lemmas.Bool.{cases_Bool, cases_lt, false≢true}
-use Rattle.std.proofs.lemmas.List.{drop_at, take_all}
-use Rattle.std.proofs.lemmas.List.Splits.{slice_split_none}
+use Rattle.bt_lines.proofs.Std.{◌≡◌, ℕ, ◌+◌, ◌<◌, true, false, List, [], ◌∷◌, ◌++◌, length, take, drop, Option, Some, None, Result, Ok, Err, refl, sym, ap, ◌∙◌, subst, arith, append_assoc, length-append, ltb, eqb, inl, inr, IfSome, cases_Bool, cases_lt, false≢true, drop_at, take_all, slice_split_none, AllByRecursion, bytes_eq-Decides, drop-drop}
 use Rattle.bt_lines.proofs.lemmas.reader.lines.ColumnLemmas.{IsColumn, cut_at}
 use Rattle.bt_lines.specs.model.Lines.{pieces}
 use Rattle.bt_lines.specs.model.Number.{value_of}
-use Rattle.std.specs.List.{AllByRecursion}
 use Rattle.bt_bed.proofs.lemmas.parse.Kept.{pieces_are_columns}
 use Rattle.bt_bed.specs.calls.Run.{is_on}
-use Rattle.std.proofs.lemmas.Slice.Eq.{bytes_eq-Decides}
-use Rattle.std.proofs.lemmas.List.{drop-drop}
 use Rattle.bt_lines.specs.declared.fault.Kind.{Kind}
 use Rattle.bt_bed.proofs.lemmas.parse.FeatureLemmas.{IsWhole, of_whole, record_said, said_is_feature, said_stands}
 use Rattle.bt_bed.proofs.lemmas.read.FirstColumnLemmas.{cut_by, name_ends}

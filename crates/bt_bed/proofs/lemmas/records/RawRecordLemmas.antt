@@ -1,15 +1,5 @@
 -- Lemmas on lines of which a record's bounds were read.
-use Rattle.std.proofs.Common.{◌≡◌, ℕ, ◌+◌, ◌-◌, ◌<◌, ◌≤◌, List, [], ◌∷◌, ◌++◌, length, take, drop, get_or, Some, Ok, false, refl, sym, ap, ◌∙◌, subst, arith, append_assoc, decimal, eq-eqb, eqb, length-append, length-drop}
-use Rattle.std.specs.Prelude.{IsTrue, not}
-use Rattle.std.specs.Char.{is_ascii_digit}
-use Rattle.std.specs.Io.BufRead.{strip_last}
-use Rattle.std.specs.List.{list_all}
-use Rattle.std.proofs.lemmas.List.Folds.{list_all_at}
-use Rattle.std.specs.Str.Parse.{AllDigits}
-use Rattle.std.proofs.lemmas.Fmt.{decimal-digits_value}
-use Rattle.std.proofs.lemmas.Bool.{false≢true}
-use Rattle.std.proofs.lemmas.List.{drop_more, get_or-drop, get_or-take, get_or_append_left, length-take-le, take-append-drop}
-use Rattle.std.proofs.lemmas.Str.Parse.{numerals_by_value, tells_digits}
+use Rattle.bt_lines.proofs.Std.{◌≡◌, ℕ, ◌+◌, ◌-◌, ◌<◌, ◌≤◌, List, [], ◌∷◌, ◌++◌, length, take, drop, get_or, Some, Ok, false, refl, sym, ap, ◌∙◌, subst, arith, append_assoc, decimal, eq-eqb, eqb, length-append, length-drop, IsTrue, not, is_ascii_digit, strip_last, list_all, list_all_at, AllDigits, decimal-digits_value, false≢true, drop_more, get_or-drop, get_or-take, get_or_append_left, length-take-le, take-append-drop, numerals_by_value, tells_digits}
 use Rattle.bt_lines.specs.model.Number.{value_of}
 use Rattle.bt_lines.proofs.lemmas.numbers.NumberLemmas.{all_digits_in, digits_denoting}
 use Rattle.bt_lines.proofs.lemmas.reader.lines.BufferedLemmas.{strip_begins}

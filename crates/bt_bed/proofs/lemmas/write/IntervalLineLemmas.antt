@@ -1,7 +1,5 @@
 -- The line of an interval, put column by column, and the lines of intervals one after another.
-use Rattle.std.proofs.Common.{◌≡◌, ℕ, [], ◌∷◌, ◌++◌, List, Result, false, ap, subst, true, ◌∙◌, append_assoc, codes, decimal, arith, drop, length, length-append, take, ◌-◌}
-use Rattle.std.proofs.lemmas.List.{length-drop, take_all}
-use Rattle.std.specs.Result.{is_ok}
+use Rattle.bt_lines.proofs.Std.{◌≡◌, ℕ, [], ◌∷◌, ◌++◌, List, Result, false, ap, subst, true, ◌∙◌, append_assoc, codes, decimal, arith, drop, length, length-append, take, ◌-◌, length-drop, take_all, is_ok}
 use Rattle.bt_lines.specs.model.Fault.{write_failed}
 use Rattle.bt_lines.specs.calls.Output.{Output}
 use Rattle.bt_lines.specs.calls.Putting.{Adds, FailsToPut, Puts, PutsAll, span_text}

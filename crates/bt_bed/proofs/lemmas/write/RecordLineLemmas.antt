@@ -1,6 +1,5 @@
 -- A record, put column by column, and what ends it.
-use Rattle.std.proofs.Common.{◌≡◌, ℕ, ◌-◌, List, [], ◌∷◌, ◌++◌, Result, ap, subst, ◌∙◌, append_assoc, arith, length, length-append, codes, drop, take}
-use Rattle.std.proofs.lemmas.List.{length-drop, take_at}
+use Rattle.bt_lines.proofs.Std.{◌≡◌, ℕ, ◌-◌, List, [], ◌∷◌, ◌++◌, Result, ap, subst, ◌∙◌, append_assoc, arith, length, length-append, codes, drop, take, length-drop, take_at}
 use Rattle.bt_lines.specs.model.Fault.{FaultValue}
 use Rattle.bt_lines.specs.calls.Output.{Output}
 use Rattle.bt_lines.specs.calls.Putting.{FailsToPut, Puts, PutsAll, span_text}

@@ -1,11 +1,14 @@
 -- What a line of a BED file says: nothing if it is blank or a header, or else a feature (UCSC
 -- BED description, fields chrom, chromStart, chromEnd and strand).
-use Rattle.std.specs.Prelude.{◌≡◌, ℕ, ◌<◌, ◌≤◌, ◌==◌, Bool, true, false, IsTrue, length, List, [], ◌∷◌, ◌++◌, codes, decimal, flat_map, bytes_eq, Option, Some, None, Result, Ok, Err, nat_lt, if◌then◌else◌}
+use Rattle.std.specs.Prelude.{◌≡◌, ℕ, ◌<◌, ◌≤◌, ◌==◌, Bool, true, false, IsTrue, length, List, []}
+use Rattle.std.specs.Prelude.{◌∷◌, ◌++◌, codes, decimal, flat_map, bytes_eq, Option, Some, None}
+use Rattle.std.specs.Prelude.{Result, Ok, Err, nat_lt, if◌then◌else◌}
 use Rattle.std.specs.List.{All}
 use Rattle.bt_lines.specs.model.Lines.{pieces}
 use Rattle.bt_lines.specs.model.Number.{max_number, value_of}
 use Rattle.bt_lines.specs.declared.fault.Kind.{Kind}
-use Rattle.bt_lines.specs.declared.fault.Kind.TheVariants.{TooFewColumns, EmptyName, BadStart, BadStop, EmptyFeature}
+use Rattle.bt_lines.specs.declared.fault.Kind.TheVariants.{TooFewColumns, EmptyName, BadStart}
+use Rattle.bt_lines.specs.declared.fault.Kind.TheVariants.{BadStop, EmptyFeature}
 use Rattle.bt_bed.specs.model.feature.Feature.{Feature}
 use Rattle.bt_bed.specs.model.feature.Header.{is_header}
 use Rattle.bt_bed.specs.declared.record.strand.Strand.{Strand}

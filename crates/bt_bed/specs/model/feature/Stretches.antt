@@ -1,5 +1,6 @@
 -- Sets of positions of one chromosome, and the one list of intervals that makes each of them up.
-use Rattle.std.specs.Prelude.{ℕ, zero, suc, ◌+◌, ◌<◌, ◌≤◌, Bool, cond, ◌⊎◌, ⊤, IsTrue, List, [], ◌∷◌, ◌==◌}
+use Rattle.std.specs.Prelude.{ℕ, zero, suc, ◌+◌, ◌<◌, ◌≤◌, Bool, cond, ◌⊎◌, ⊤, IsTrue, List, []}
+use Rattle.std.specs.Prelude.{◌∷◌, ◌==◌}
 use Rattle.bt_bed.specs.model.feature.Interval.{Span}
 
 -- the position lies in one of the spans

@@ -1,5 +1,6 @@
 -- Records of which those of one chromosome are contiguous, whatever the order of the chromosomes.
-use Rattle.std.specs.Prelude.{◌≡◌, ℕ, ◌≤◌, Bool, false, ◌⊎◌, ◌||◌, ⊤, IsFalse, ◌++◌, List, [], ◌∷◌, bytes_eq}
+use Rattle.std.specs.Prelude.{◌≡◌, ℕ, ◌≤◌, Bool, false, ◌⊎◌, ◌||◌, ⊤, IsFalse, ◌++◌, List, [], ◌∷◌}
+use Rattle.std.specs.Prelude.{bytes_eq}
 use Rattle.bt_bed.specs.model.feature.Interval.{Interval}
 use Rattle.bt_bed.specs.model.order.Order.{Order, IsTotal}
 use Rattle.bt_bed.specs.model.order.Locus.{ArePlaced}

@@ -1,14 +1,16 @@
 -- The chromosomes of a genome file, in its order: a name, a tab and a length on each line. Other
 -- columns are ignored, so that an index of samtools faidx is one too. Blank lines and lines that begin
 -- with `#` are skipped (bedtools manual, genome file format).
-use Rattle.std.specs.Prelude.{ℕ, Bool, true, ◌==◌, List, [], ◌∷◌, ◌++◌, map, Option, Some, None, Result, Ok, Err, if◌then◌else◌}
+use Rattle.std.specs.Prelude.{ℕ, Bool, true, ◌==◌, List, [], ◌∷◌, ◌++◌, map, Option, Some, None}
+use Rattle.std.specs.Prelude.{Result, Ok, Err, if◌then◌else◌}
 use Rattle.bt_lines.specs.model.Fault.{FaultValue}
 use Rattle.bt_lines.specs.model.Handed.{Handed, cut_fault, lines_handed}
 use Rattle.bt_lines.specs.model.Lines.{TextLine, pieces}
 use Rattle.bt_lines.specs.model.Number.{value_of}
 use Rattle.bt_lines.specs.declared.fault.Input.{Input}
 use Rattle.bt_lines.specs.declared.fault.Kind.{Kind}
-use Rattle.bt_lines.specs.declared.fault.Kind.TheVariants.{TooFewColumns, EmptyName, BadLength, RepeatedChrom}
+use Rattle.bt_lines.specs.declared.fault.Kind.TheVariants.{TooFewColumns, EmptyName, BadLength}
+use Rattle.bt_lines.specs.declared.fault.Kind.TheVariants.{RepeatedChrom}
 use Rattle.bt_bed.specs.model.feature.LineKind.{fault_at_line}
 use Rattle.bt_bed.specs.model.order.Rank.{is_among}
 use Rattle.bt_bed.specs.model.feature.Record.{not_skipped}

@@ -1,15 +1,10 @@
 -- Lines and numbers have no line feed.
-use Rattle.std.proofs.Common.{◌≡◌, ℕ, Bool, true, false, List, [], ◌∷◌, ◌++◌, refl, sym, subst, eqb, zero, suc, ◌+◌, ◌/◌, ◌%◌, ◌<◌, ◌≤◌, cond, arith, decimal}
-use Rattle.std.specs.List.{AllByRecursion}
-use Rattle.std.specs.Io.BufRead.{ends_with_byte, strip_last}
-use Rattle.std.proofs.lemmas.List.Elements.{All-append, All-cons, All-head, All-tail, All-nil, All-from_recursion}
+use Rattle.bt_lines.proofs.Std.{◌≡◌, ℕ, Bool, true, false, List, [], ◌∷◌, ◌++◌, refl, sym, subst, eqb, zero, suc, ◌+◌, ◌/◌, ◌%◌, ◌<◌, ◌≤◌, cond, arith, decimal, AllByRecursion, ends_with_byte, strip_last, All-append, All-cons, All-head, All-tail, All-nil, All-from_recursion, digit_glyph, digits_onto, lt-ltb, nat_tests}
 use Rattle.bt_lines.specs.calls.LentLine.{NoLineFeed}
 use Rattle.bt_lines.specs.model.Lines.{TextLine, last_line, lines_from, whole_lines_from}
 use Rattle.bt_lines.proofs.lemmas.reader.lines.LinesLemmas.{lines_from-fed, lines_from-last, strip_last-other, strip_last-push}
 use Rattle.bt_lines.proofs.lemmas.reader.lines.TextLemmas.{by_lines, whole_lines_from-fed, whole_lines_from-last}
-use Rattle.std.specs.Fmt.{digit_glyph, digits, digits_onto}
-use Rattle.std.proofs.lemmas.Bool.{lt-ltb}
-use Rattle.std.proofs.lemmas.Bool.Decides.{nat_tests}
+use Rattle.std.specs.Fmt.{digits}
 use Rattle.bt_laws.proofs.lemmas.Lists.{all_back}
 use Rattle.bt_lines.proofs.lemmas.reader.lines.ColumnLemmas.{IsColumn, IsInside}
 

@@ -1,11 +1,7 @@
 -- Lines of known records are an input without a fault.
-use Rattle.std.proofs.Common.{◌≡◌, ℕ, suc, ◌≤◌, false, cond, List, [], ◌∷◌, ◌++◌, Option, Some, None, Ok, Err, refl, sym, ap, ◌∙◌, subst, append_assoc, inl, inr, arith, ◌<◌, Bool, true, not, map, filter}
-use Rattle.std.specs.Prelude.{IsTrue, flat_map}
-use Rattle.std.specs.List.{AllByRecursion}
-use Rattle.std.specs.Io.BufRead.{strip_last}
+use Rattle.bt_lines.proofs.Std.{◌≡◌, ℕ, suc, ◌≤◌, false, cond, List, [], ◌∷◌, ◌++◌, Option, Some, None, Ok, Err, refl, sym, ap, ◌∙◌, subst, append_assoc, inl, inr, arith, ◌<◌, Bool, true, not, map, filter, IsTrue, flat_map, AllByRecursion, strip_last, nat_tests, flat_map-map}
 use Rattle.std.specs.declared.cmp.Ordering.{Ordering}
 use Rattle.std.specs.declared.cmp.Ordering.TheVariants.{Less, Equal, Greater}
-use Rattle.std.proofs.lemmas.Bool.Decides.{nat_tests}
 use Rattle.bt_lines.specs.calls.LentLine.{NoLineFeed}
 use Rattle.bt_lines.specs.model.Lines.{fed_line, lines_from, text_lines}
 use Rattle.bt_lines.specs.declared.fault.Input.{Input}
@@ -27,7 +23,6 @@ use Rattle.bt_laws.specs.pipes.Taken.{IsInput, is_no_header}
 use Rattle.bt_laws.proofs.lemmas.Lists.{all_so, all_any, all_map, map_map, flat_map_same}
 use Rattle.bt_laws.proofs.lemmas.back.TailSays.{columns_text, record_with, tail_clear, tail_says, unless_header}
 use Rattle.bt_tool.proofs.lemmas.running.members.CameMembers.{or_else_none}
-use Rattle.std.proofs.lemmas.List.Folds.{flat_map-map}
 
 -- the record that is said, if there is one
 abbrev pub some_said : Option Feature → List Feature

@@ -1,9 +1,5 @@
 -- What merge, complement and genomecov write is an input of the next command.
-use Rattle.std.proofs.Common.{◌≡◌, ℕ, ◌+◌, ◌-◌, ◌<◌, ◌≤◌, Bool, true, false, cond, not, List, [], ◌∷◌, ◌++◌, map, filter, refl, sym, ap, ◌∙◌, subst, inl, inr, arith, eqb, append-nil, decimal, Option, ap₂, append_assoc}
-use Rattle.std.specs.Prelude.{IsTrue, codes, if◌then◌else◌, bytes_eq, flat_map}
-use Rattle.std.specs.List.{AllByRecursion}
-use Rattle.std.specs.Ordering.{is_lt}
-use Rattle.std.proofs.lemmas.List.Elements.{All-nil}
+use Rattle.bt_lines.proofs.Std.{◌≡◌, ℕ, ◌+◌, ◌-◌, ◌<◌, ◌≤◌, Bool, true, false, cond, not, List, [], ◌∷◌, ◌++◌, map, filter, refl, sym, ap, ◌∙◌, subst, inl, inr, arith, eqb, append-nil, decimal, Option, ap₂, append_assoc, IsTrue, codes, if◌then◌else◌, bytes_eq, flat_map, AllByRecursion, is_lt, All-nil, map-id, map-append, slice_split_none}
 use Rattle.bt_lines.specs.calls.LentLine.{NoLineFeed}
 use Rattle.bt_bed.specs.model.feature.Feature.{Feature, interval_of, intervals_of}
 use Rattle.bt_bed.specs.model.feature.Header.{is_header}
@@ -13,7 +9,7 @@ use Rattle.bt_bed.specs.model.order.Locus.{ArePlaced, IsPlacedBefore}
 use Rattle.bt_bed.specs.model.order.Order.{Order, IsTotal}
 use Rattle.bt_bed.specs.model.feature.Record.{IsName, columns_in, strand_of}
 use Rattle.bt_bed.specs.model.feature.Stretches.{AreApartFrom, IsCovered, stretches_from}
-use Rattle.bt_bed.proofs.lemmas.laws.Scan.{scan_finds}
+use Rattle.bt_bed.proofs.lemmas.definitions.Scan.{scan_finds}
 use Rattle.bt_runs.specs.model.Counted.{counted, is_counted}
 use Rattle.bt_runs.specs.model.Merged.{chromosomes, end_of, merged, runs_of, runs_on}
 use Rattle.bt_runs.specs.model.MergedRuns.{merged_runs}
@@ -31,8 +27,6 @@ use Rattle.bt_laws.proofs.lemmas.back.LinesBack.{Columns, IsColumns, text_of_col
 use Rattle.bt_laws.proofs.lemmas.pipes.Placing.{Earlier, apart_pairs, ascending_pairs, on_name, parts_pairs, parts_placed, spans_apart, spans_placed, known_names, names_pairs, pairs_filter, pairs_from_map, pairs_map, pairs_so}
 use Rattle.bt_laws.proofs.lemmas.back.SaidWell.{IsSaid, IsChrom}
 use Rattle.bt_laws.proofs.lemmas.parts.report.PartMerge.{named_all, listed_all}
-use Rattle.std.proofs.lemmas.List.{map-id, map-append}
-use Rattle.std.proofs.lemmas.List.Splits.{slice_split_none}
 use Rattle.bt_lines.specs.model.Lines.{pieces}
 use Rattle.bt_bed.specs.model.order.Genome.{Entry, genome_names}
 use Rattle.bt_bed.specs.model.order.Rank.{AreDistinct, rank_order}

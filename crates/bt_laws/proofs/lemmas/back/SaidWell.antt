@@ -1,11 +1,5 @@
 -- What is known of each good record of an input, and of each chromosome of a genome file.
-use Rattle.std.proofs.Common.{◌≡◌, ℕ, ◌<◌, ◌≤◌, Bool, true, false, cond, ◌&&◌, List, [], ◌∷◌, ◌++◌, length, Option, Some, None, Result, Ok, Err, refl, sym, ap, ◌∙◌, subst, append_assoc, arith, eqb, ltb, leb}
-use Rattle.std.specs.Prelude.{if◌then◌else◌}
-use Rattle.std.specs.List.{AllByRecursion, list_all, join_with_byte}
-use Rattle.std.specs.Char.{is_ascii_digit}
-use Rattle.std.specs.Str.Parse.{digits_value}
-use Rattle.std.proofs.lemmas.Bool.{and_parts, leb-true}
-use Rattle.std.proofs.lemmas.List.Splits.{join_with_byte-slice_split}
+use Rattle.bt_lines.proofs.Std.{◌≡◌, ℕ, ◌<◌, ◌≤◌, Bool, true, false, cond, ◌&&◌, List, [], ◌∷◌, ◌++◌, length, Option, Some, None, Result, Ok, Err, refl, sym, ap, ◌∙◌, subst, append_assoc, arith, eqb, ltb, leb, if◌then◌else◌, AllByRecursion, list_all, join_with_byte, is_ascii_digit, digits_value, and_parts, leb-true, join_with_byte-slice_split}
 use Rattle.bt_lines.specs.model.Handed.{Handed, lines_handed}
 use Rattle.bt_lines.specs.model.Fault.{FaultValue}
 use Rattle.bt_lines.specs.calls.LentLine.{NoLineFeed}
@@ -26,7 +20,7 @@ use Rattle.bt_bed.specs.model.order.Rank.{is_among}
 use Rattle.bt_bed.specs.model.feature.Record.{IsFeature, IsName, not_skipped, record_of}
 use Rattle.bt_bed.specs.model.order.Sorting.{Sorting, sorting_of}
 use Rattle.bt_bed.proofs.lemmas.parse.FeatureLemmas.{record_said, said_is_feature, said_stands}
-use Rattle.bt_bed.proofs.lemmas.laws.GoodBedLemmas.{line_said}
+use Rattle.bt_bed.proofs.lemmas.definitions.GoodBedLemmas.{line_said}
 use Rattle.bt_bed.proofs.lemmas.parse.Kept.{pieces_are_columns}
 use Rattle.bt_laws.proofs.lemmas.back.Clear.{AreClear, clear_back, clear_front, clear_lines, clear_whole}
 use Rattle.bt_laws.proofs.lemmas.back.TailSays.{header_of_name}

@@ -1,10 +1,6 @@
 -- What intersect and subtract write is an input of the next command.
-use Rattle.std.proofs.Common.{◌≡◌, ℕ, zero, suc, ◌+◌, ◌-◌, ◌<◌, ◌≤◌, Bool, true, false, cond, not, List, [], ◌∷◌, ◌++◌, map, filter, length, max, min, refl, sym, ap, ap₂, ◌∙◌, subst, inl, inr, arith, append_assoc, append-nil, decimal}
-use Rattle.std.specs.Prelude.{IsTrue, flat_map, replicate}
-use Rattle.std.specs.List.{AllByRecursion}
-use Rattle.std.specs.Cmp.Lexicographic.{bytes_decides}
+use Rattle.bt_lines.proofs.Std.{◌≡◌, ℕ, zero, suc, ◌+◌, ◌-◌, ◌<◌, ◌≤◌, Bool, true, false, cond, not, List, [], ◌∷◌, ◌++◌, map, filter, length, max, min, refl, sym, ap, ap₂, ◌∙◌, subst, inl, inr, arith, append_assoc, append-nil, decimal, IsTrue, flat_map, replicate, AllByRecursion, bytes_decides, flat_map-append}
 use Rattle.std.specs.declared.cmp.Ordering.TheVariants.{Less, Equal}
-use Rattle.std.proofs.lemmas.Grind.{flat_map-append}
 use Rattle.bt_lines.specs.calls.LentLine.{NoLineFeed}
 use Rattle.bt_bed.specs.model.feature.Feature.{Feature, interval_of, intervals_of}
 use Rattle.bt_bed.specs.model.feature.Header.{is_header}
@@ -20,8 +16,8 @@ use Rattle.bt_sweep.specs.model.Pieces.{IsLeft, pieces}
 use Rattle.bt_sweep.specs.declared.hits.hit_rule.HitRule.{HitRule}
 use Rattle.bt_sweep.specs.declared.output.shape.Shape.{Shape}
 use Rattle.bt_sweep.specs.declared.output.shape.Shape.TheVariants.{Count, Cut, CutAndB, Missing, Once, OrigA, OrigBoth, Overlap, Pieces, Whole}
-use Rattle.bt_sweep.proofs.lemmas.laws.PieceLemmas.{are_pieces}
-use Rattle.bt_sweep.proofs.lemmas.laws.RuleLemmas.{hit_overlaps, overlap_parts}
+use Rattle.bt_sweep.proofs.lemmas.definitions.PieceLemmas.{are_pieces}
+use Rattle.bt_sweep.proofs.lemmas.definitions.RuleLemmas.{hit_overlaps, overlap_parts}
 use Rattle.bt_laws.specs.pipes.SweepLines.{begins_with_a, line_count}
 use Rattle.bt_laws.specs.pipes.Taken.{AreDisjoint, IsInput, is_no_header}
 use Rattle.bt_laws.proofs.lemmas.Lists.{EachPair, all_any, all_both, all_flat_map, all_map, all_so, filter_all, all_zip, map_flat, map_map, all_unmap}

@@ -1,10 +1,5 @@
 -- The records that the lines of intersect and subtract are read as.
-use Rattle.std.proofs.Common.{◌≡◌, ℕ, ◌<◌, Bool, true, false, List, [], ◌∷◌, ◌++◌, map, length, refl, sym, ap, ap₂, ◌∙◌, subst, arith, append_assoc, append-nil, decimal, eqb}
-use Rattle.std.specs.Prelude.{IsTrue, bytes_eq, flat_map, replicate, if◌then◌else◌}
-use Rattle.std.specs.List.{AllByRecursion}
-use Rattle.std.specs.Io.BufRead.{ends_with_byte, strip_last}
-use Rattle.std.proofs.lemmas.List.{map-append}
-use Rattle.std.proofs.lemmas.List.Splits.{slice_split_at}
+use Rattle.bt_lines.proofs.Std.{◌≡◌, ℕ, ◌<◌, Bool, true, false, List, [], ◌∷◌, ◌++◌, map, length, refl, sym, ap, ap₂, ◌∙◌, subst, arith, append_assoc, append-nil, decimal, eqb, IsTrue, bytes_eq, flat_map, replicate, if◌then◌else◌, AllByRecursion, ends_with_byte, strip_last, map-append, slice_split_at}
 use Rattle.bt_lines.specs.model.Lines.{pieces as columns_of}
 use Rattle.bt_lines.proofs.lemmas.reader.lines.ColumnLemmas.{IsColumn}
 use Rattle.bt_lines.proofs.lemmas.reader.lines.LinesLemmas.{strip_last-other}

@@ -1,10 +1,5 @@
 -- Depth times length, added up.
-use Rattle.std.proofs.Common.{◌≡◌, ◌&&◌, ℕ, zero, suc, ◌+◌, ◌-◌, ◌*◌, ◌<◌, ◌≤◌, Bool, true, false, cond, List, [], ◌∷◌, map, filter, length, max, min, Option, Some, None, inl, inr, refl, sym, ap, ap₂, ◌∙◌, arith, eqb}
-use Rattle.std.specs.Prelude.{◌⊎◌, bytes_eq, flat_map, nat_lt, sum_by}
-use Rattle.std.proofs.lemmas.Bool.{cases_lt, eqb-true, le-leb, le-ltb, lt-leb, lt-ltb, or_parts}
-use Rattle.std.proofs.lemmas.Bool.Decides.{nat_tests}
-use Rattle.std.proofs.Math.Nat.{mul-suc}
-use Rattle.std.proofs.lemmas.List.Sums.{sum_by-append, sum_by-cons}
+use Rattle.bt_lines.proofs.Std.{◌≡◌, ◌&&◌, ℕ, zero, suc, ◌+◌, ◌-◌, ◌*◌, ◌<◌, ◌≤◌, Bool, true, false, cond, List, [], ◌∷◌, map, filter, length, max, min, Option, Some, None, inl, inr, refl, sym, ap, ap₂, ◌∙◌, arith, eqb, ◌⊎◌, bytes_eq, flat_map, nat_lt, sum_by, cases_lt, eqb-true, le-leb, le-ltb, lt-leb, lt-ltb, or_parts, nat_tests, mul-suc, sum_by-append, sum_by-cons}
 use Rattle.bt_bed.specs.model.feature.Feature.{Feature, interval_of, intervals_of}
 use Rattle.bt_bed.specs.model.order.Genome.{Entry, genome_names}
 use Rattle.bt_bed.specs.model.feature.Interval.{Interval, Span, span_of, spans_on}

@@ -1,9 +1,5 @@
 -- Pairs of records that hit one another, from both sides.
-use Rattle.std.proofs.Common.{◌≡◌, ◌||◌, ◌&&◌, ℕ, suc, ◌-◌, Bool, true, false, cond, not, List, [], ◌∷◌, ◌++◌, append_assoc, map, filter, length, max, min, None, inl, inr, refl, sym, ap, ap₂, ◌∙◌, subst, arith, ltb}
-use Rattle.std.specs.Prelude.{IsPermutation, flat_map}
-use Rattle.std.proofs.lemmas.Grind.{flat_map-append}
-use Rattle.std.proofs.lemmas.List.{map-append}
-use Rattle.std.proofs.lemmas.List.Sorted.{IsPermutation-append_comm, IsPermutation-append_left, IsPermutation-append_right, IsPermutation-refl, IsPermutation-trans}
+use Rattle.bt_lines.proofs.Std.{◌≡◌, ◌||◌, ◌&&◌, ℕ, suc, ◌-◌, Bool, true, false, cond, not, List, [], ◌∷◌, ◌++◌, append_assoc, map, filter, length, max, min, None, inl, inr, refl, sym, ap, ap₂, ◌∙◌, subst, arith, ltb, IsPermutation, flat_map, flat_map-append, map-append, IsPermutation-append_comm, IsPermutation-append_left, IsPermutation-append_right, IsPermutation-refl, IsPermutation-trans, flat_map-map}
 use Rattle.bt_lines.specs.model.Fault.{read_failed}
 use Rattle.bt_lines.specs.model.Handed.{Handed, cut_fault, lines_handed}
 use Rattle.bt_lines.specs.model.Lines.{whole_lines}
@@ -21,7 +17,7 @@ use Rattle.bt_sweep.specs.model.Hits.{has_fraction, hits, hits_among, is_enough,
 use Rattle.bt_sweep.specs.model.IntersectLines.{intersect, lines_for}
 use Rattle.bt_sweep.specs.declared.hits.hit_rule.HitRule.{HitRule}
 use Rattle.bt_sweep.specs.declared.output.shape.Shape.TheVariants.{OrigBoth}
-use Rattle.bt_sweep.proofs.lemmas.laws.RuleLemmas.{enough_of_nothing}
+use Rattle.bt_sweep.proofs.lemmas.definitions.RuleLemmas.{enough_of_nothing}
 use Rattle.bt_tool.specs.model.report.Behaviour.{order_of}
 use Rattle.bt_tool.specs.model.report.Inputs.{or_empty}
 use Rattle.bt_tool.specs.declared.planning.plan_type.Command.TheVariants.{Intersect}
@@ -29,7 +25,6 @@ use Rattle.bt_laws.specs.counts.PairSides.{IsMutual, HitPair, exchanged, pair_li
 use Rattle.bt_laws.specs.WholeRuns.{first_records, second_records, RunWrites}
 use Rattle.bt_laws.proofs.lemmas.pipes.PipeLaws.{intersect_whole, well_there}
 use Rattle.bt_laws.proofs.lemmas.same.SameSweeps.{writes_lines, cut_none, like_from, met_faultless, met_none, other_input, sweeps_from, uncut}
-use Rattle.std.proofs.lemmas.List.Folds.{flat_map-map}
 
 -- ---- a rule that asks the same of both
 

@@ -1,7 +1,5 @@
 -- What is cut of records, and what is left of them.
-use Rattle.std.proofs.Common.{◌≡◌, ℕ, ◌<◌, ◌≤◌, false, cond, List, [], ◌∷◌, ◌++◌, map, inl, inr, refl, sym, ap, ◌∙◌, subst}
-use Rattle.std.specs.Prelude.{◌⊎◌, bytes_eq, flat_map}
-use Rattle.std.proofs.lemmas.Bool.{cases_Bool, false≢true}
+use Rattle.bt_lines.proofs.Std.{◌≡◌, ℕ, ◌<◌, ◌≤◌, false, cond, List, [], ◌∷◌, ◌++◌, map, inl, inr, refl, sym, ap, ◌∙◌, subst, ◌⊎◌, bytes_eq, flat_map, cases_Bool, false≢true}
 use Rattle.bt_bed.specs.model.feature.Feature.{Feature, interval_of, intervals_of}
 use Rattle.bt_bed.specs.model.feature.Interval.{Interval, Span, placed_on, span_of, spans_on}
 use Rattle.bt_bed.specs.model.feature.Record.{cut_to}
@@ -13,7 +11,7 @@ use Rattle.bt_runs.proofs.lemmas.order.ChromosomeLemmas.{spans_on-append}
 use Rattle.bt_sweep.specs.model.Hits.{any_overlap, hits_among}
 use Rattle.bt_sweep.specs.model.Pieces.{pieces, spans_of}
 use Rattle.bt_sweep.specs.declared.output.shape.Shape.TheVariants.{Cut, Pieces}
-use Rattle.bt_sweep.proofs.lemmas.laws.PieceLemmas.{are_pieces}
+use Rattle.bt_sweep.proofs.lemmas.definitions.PieceLemmas.{are_pieces}
 use Rattle.bt_tool.specs.model.report.RecordReport.{Report}
 use Rattle.bt_tool.specs.declared.planning.plan_type.Command.TheVariants.{Intersect, Subtract}
 use Rattle.bt_laws.specs.WholeRuns.{RunsWithoutFault, first_records, second_records}

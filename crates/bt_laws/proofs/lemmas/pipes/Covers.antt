@@ -1,7 +1,5 @@
 -- Spans that cover the same positions: the runs and the gaps are the same.
-use Rattle.std.proofs.Common.{◌≡◌, ℕ, ◌+◌, ◌<◌, List, ◌++◌, filter, length, Option, sym, ap, ◌∙◌, subst, inl, inr, arith, length-append}
-use Rattle.std.proofs.lemmas.Bool.{cases_eq, cases_lt, lt-ltb, ltb-true}
-use Rattle.std.proofs.lemmas.List.Elements.{filter-append}
+use Rattle.bt_lines.proofs.Std.{◌≡◌, ℕ, ◌+◌, ◌<◌, List, ◌++◌, filter, length, Option, sym, ap, ◌∙◌, subst, inl, inr, arith, length-append, cases_eq, cases_lt, lt-ltb, ltb-true, filter-append}
 use Rattle.bt_bed.specs.model.feature.Interval.{Span}
 use Rattle.bt_bed.specs.model.feature.Stretches.{IsCovered}
 use Rattle.bt_runs.specs.model.Depth.{covers, depth_at}

@@ -1,8 +1,5 @@
 -- The reports whose outputs go on as inputs.
-use Rattle.std.proofs.Common.{append-nil, append_assoc, ◌≡◌, ℕ, Bool, true, false, List, [], ◌∷◌, ◌++◌, map, filter, Option, Some, None, Ok, refl, sym, ap, ◌∙◌, subst}
-use Rattle.std.specs.Prelude.{◌≢◌, flat_map, if◌then◌else◌}
-use Rattle.std.specs.List.{AllByRecursion, AllPairs, list_all}
-use Rattle.std.specs.Option.{option_or}
+use Rattle.bt_lines.proofs.Std.{append-nil, append_assoc, ◌≡◌, ℕ, Bool, true, false, List, [], ◌∷◌, ◌++◌, map, filter, Option, Some, None, Ok, refl, sym, ap, ◌∙◌, subst, ◌≢◌, flat_map, if◌then◌else◌, AllByRecursion, AllPairs, list_all, option_or}
 use Rattle.bt_lines.specs.model.Fault.{FaultValue}
 use Rattle.bt_lines.specs.model.Handed.{Handed}
 use Rattle.bt_lines.specs.declared.fault.Input.TheVariants.{First, Genome, Second}
@@ -20,7 +17,7 @@ use Rattle.bt_bed.specs.model.input.TwoInputReport.{Met, join_report, written}
 use Rattle.bt_bed.specs.model.order.Order.{Order, IsTotal}
 use Rattle.bt_bed.specs.model.order.Rank.{AreDistinct}
 use Rattle.bt_bed.specs.declared.record.strand.Strand.{Strand}
-use Rattle.bt_bed.proofs.lemmas.laws.GoodBedLemmas.{non_empty_good, placed_good}
+use Rattle.bt_bed.proofs.lemmas.definitions.GoodBedLemmas.{non_empty_good, placed_good}
 use Rattle.bt_laws.specs.runs.CoveredLevels.{interval_at}
 use Rattle.bt_runs.specs.model.Depth.{coverage, depth_lines, DepthInterval}
 use Rattle.bt_runs.specs.model.Gaps.{complement}
@@ -36,7 +33,7 @@ use Rattle.bt_sweep.specs.model.SweepMeeting.{sweep_rule}
 use Rattle.bt_sweep.specs.declared.hits.hit_rule.HitRule.{HitRule}
 use Rattle.bt_sweep.specs.declared.output.shape.Shape.{Shape}
 use Rattle.bt_sweep.specs.declared.output.shape.Shape.TheVariants.{Pieces, Whole}
-use Rattle.bt_sweep.proofs.lemmas.laws.SweepsLemmas.{faultless_all}
+use Rattle.bt_sweep.proofs.lemmas.definitions.SweepsLemmas.{faultless_all}
 use Rattle.bt_tool.specs.model.report.Behaviour.{behaviour_of, entries_in, order_of}
 use Rattle.bt_tool.specs.model.report.Inputs.{Inputs, or_empty}
 use Rattle.bt_tool.specs.model.report.RecordReport.{Report, report_by}

@@ -1,9 +1,6 @@
 -- Intervals chromosome by chromosome: they are in order, and those of different chromosomes have nothing in common.
-use Rattle.std.proofs.Common.{◌≡◌, ℕ, suc, ◌+◌, ◌<◌, ◌≤◌, Bool, true, false, cond, List, [], ◌∷◌, ◌++◌, map, filter, Option, Some, None, refl, sym, ap, ◌∙◌, subst, inl, inr, arith}
-use Rattle.std.specs.Prelude.{IsTrue, flat_map, bytes_eq, is_some, option_map}
-use Rattle.std.specs.List.{AllByRecursion}
+use Rattle.bt_lines.proofs.Std.{◌≡◌, ℕ, suc, ◌+◌, ◌<◌, ◌≤◌, Bool, true, false, cond, List, [], ◌∷◌, ◌++◌, map, filter, Option, Some, None, refl, sym, ap, ◌∙◌, subst, inl, inr, arith, IsTrue, flat_map, bytes_eq, is_some, option_map, AllByRecursion, or_parts}
 use Rattle.std.specs.declared.cmp.Ordering.TheVariants.{Less, Equal}
-use Rattle.std.proofs.lemmas.Bool.{or_parts}
 use Rattle.bt_bed.specs.model.feature.Interval.{Interval, Span, placed_on}
 use Rattle.bt_bed.specs.model.order.Locus.{ArePlaced, IsPlacedBefore}
 use Rattle.bt_bed.specs.model.order.Order.{Order, IsTotal}
@@ -11,7 +8,7 @@ use Rattle.bt_bed.specs.model.order.Rank.{AreDistinct, compare_ranks, is_among, 
 use Rattle.bt_bed.specs.model.feature.Stretches.{AreApartFrom}
 use Rattle.bt_bed.proofs.lemmas.parse.NameLemmas.{name_ne-sym}
 use Rattle.bt_laws.specs.runs.RunOrder.{AreAscending, AreKnown}
-use Rattle.bt_runs.proofs.lemmas.laws.Standing.{cmp_less, less_cmp}
+use Rattle.bt_runs.proofs.lemmas.definitions.Standing.{cmp_less, less_cmp}
 use Rattle.bt_runs.proofs.lemmas.order.FileOrder.{rank_of-here, rank_of-later}
 use Rattle.bt_laws.specs.pipes.Taken.{AreSeparate, AreDisjoint}
 use Rattle.bt_laws.proofs.lemmas.Lists.{EachPair, all_any, all_both, all_filter, all_flat_map, all_map, all_so, all_unmap, all_zip}

@@ -1,11 +1,8 @@
 -- Lemmas on the bases of intervals.
-use Rattle.std.proofs.Common.{ℕ, List, arith, ◌≡◌, ◌+◌, ◌≤◌, inl, inr, [], ◌∷◌, refl, ap₂, IsTrue}
-use Rattle.bt_bed.specs.model.feature.Interval.{Interval, Span}
-use Rattle.bt_laws.specs.records.Features.{HasBase, HasShared, shared_are_common}
-use Rattle.std.proofs.lemmas.Bool.{cases_lt}
-use Rattle.bt_bed.specs.model.feature.Stretches.{IsCovered, AreApartFrom, AreStretchesOf}
-use Rattle.bt_bed.proofs.lemmas.laws.Apart.{stretches_are_same}
-use Rattle.bt_laws.specs.records.Features.{stretches_are_one}
+use Rattle.bt_lines.proofs.Std.{ℕ, List, arith, IsTrue}
+use Rattle.bt_bed.specs.model.feature.Interval.{Interval}
+use Rattle.bt_laws.specs.records.Features.{HasBase, HasShared, shared_are_common, stretches_are_one}
+use Rattle.bt_bed.proofs.lemmas.definitions.Apart.{stretches_are_same}
 
 both_share : (a b : Interval) (chrom : List ℕ) (p : ℕ) → HasBase a chrom p → HasBase b chrom p → HasShared a b chrom p
 both_share a b chrom p first second = record {

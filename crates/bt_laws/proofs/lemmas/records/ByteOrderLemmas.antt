@@ -1,11 +1,6 @@
 -- The order of names by their bytes: which of two names comes first.
-use Rattle.std.proofs.Common.{◌≡◌, ℕ, ◌<◌, List, [], ◌∷◌, ◌++◌, refl, sym, subst, ap, ◌∙◌, bytes_eq, true}
-use Rattle.std.proofs.lemmas.Bool.{lt-ltb, false≢true}
-use Rattle.std.specs.Cmp.{nat_cmp_total, tied_itself}
-use Rattle.std.specs.Cmp.Lexicographic.{slice_cmp, nat_list_cmp_total}
-use Rattle.std.specs.Ordering.{nat_cmp, ordering_then}
-use Rattle.std.specs.declared.cmp.Ordering.TheVariants.{Equal, Less}
-use Rattle.bt_bed.proofs.lemmas.parse.NameLemmas.{same_name}
+use Rattle.bt_lines.proofs.Std.{◌≡◌, ℕ, ◌<◌, List, [], ◌∷◌, ◌++◌, refl, sym, ap, ◌∙◌, lt-ltb, false≢true, nat_cmp_total, tied_itself, slice_cmp, nat_cmp, ordering_then}
+use Rattle.std.specs.declared.cmp.Ordering.TheVariants.{Less}
 use Rattle.bt_bed.specs.model.order.ByteOrder.{byte_order}
 use Rattle.bt_laws.specs.records.Orders.{bytes_know_each_chromosome, first_difference_decides, prefixes_come_first}
 

@@ -1,14 +1,9 @@
 -- Lemmas on contiguous records, and on records in a total order of their chromosomes.
-use Rattle.std.proofs.Common.{◌≡◌, ℕ, ◌≤◌, ◌⊎◌, inl, inr, List, [], ◌∷◌, ◌++◌, refl, sym, ap, ◌∙◌, subst, true, false, bytes_eq, Some}
-use Rattle.std.specs.Prelude.{IsTrue}
-use Rattle.std.specs.declared.cmp.Ordering.TheVariants.{Less, Equal}
-use Rattle.std.proofs.lemmas.Bool.{or_parts, or_from, or_left, or_right, false≢true}
-use Rattle.bt_bed.specs.model.feature.Interval.{last_from, last_of, Interval}
-use Rattle.bt_bed.specs.model.order.Order.{Order, IsTotal}
-use Rattle.bt_bed.specs.model.order.Locus.{locus_of, IsUpTo, ArePlaced, placed_grows, prefixes_are_placed}
-use Rattle.bt_bed.specs.model.order.Contiguous.{has_records, IsFollowed, AreContiguous, placed_are_contiguous, prefixes_are_contiguous}
+use Rattle.bt_lines.proofs.Std.{◌≡◌, ℕ, ◌≤◌, ◌⊎◌, inl, inr, List, [], ◌∷◌, ◌++◌, refl, sym, ap, ◌∙◌, false, bytes_eq, or_parts, or_from, false≢true}
+use Rattle.bt_bed.specs.model.feature.Interval.{last_from, Interval}
+use Rattle.bt_bed.specs.model.order.Contiguous.{has_records, IsFollowed, AreContiguous}
 use Rattle.bt_laws.specs.records.Orders.{contiguous_grows}
-use Rattle.bt_bed.proofs.lemmas.parse.NameLemmas.{name_eq, name_ne, other_name, name_ne-sym}
+use Rattle.bt_bed.proofs.lemmas.parse.NameLemmas.{name_ne, name_ne-sym}
 use Rattle.bt_bed.proofs.lemmas.order.ContiguousLemmas.{has_records-last}
 
 has_records-push : (name : List ℕ) (xs : List Interval) (r : Interval) → has_records name xs ≡ false → bytes_eq r.chrom name ≡ false → has_records name (xs ++ r ∷ []) ≡ false

@@ -1,18 +1,14 @@
 -- Lemmas on the entries of a genome file.
-use Rattle.std.proofs.Common.{◌≡◌, ℕ, zero, suc, ◌+◌, ◌<◌, ◌≤◌, arith, take, Bool, true, false, cond, List, [], ◌∷◌, ◌++◌, Option, Some, None, Result, Ok, Err, refl, sym, ap, ◌∙◌, subst, append_assoc, append-nil}
-use Rattle.std.specs.Prelude.{IfErr, bytes_eq}
-use Rattle.std.proofs.lemmas.Bool.{or_parts}
+use Rattle.bt_lines.proofs.Std.{◌≡◌, ℕ, zero, suc, ◌+◌, ◌<◌, ◌≤◌, arith, take, List, [], ◌∷◌, ◌++◌, Option, Some, None, Result, Ok, Err, refl, sym, ap, ◌∙◌, append_assoc, append-nil, IfErr}
 use Rattle.bt_lines.specs.model.Fault.{FaultValue}
 use Rattle.bt_lines.proofs.lemmas.reader.lines.TextLemmas.{lines_are_numbered}
 use Rattle.bt_lines.specs.model.Lines.{TextLine, AreNumbered, text_lines}
 use Rattle.bt_lines.specs.declared.fault.Input.{Input}
 use Rattle.bt_lines.specs.declared.fault.Kind.{Kind}
-use Rattle.bt_lines.specs.declared.fault.Kind.TheVariants.{RepeatedChrom}
-use Rattle.bt_bed.specs.model.input.GoodLines.{IsFaultBeyond}
-use Rattle.bt_bed.specs.model.order.Rank.{is_among, AreDistinct}
+use Rattle.bt_bed.specs.calls.Reading.{IsFaultBeyond}
+use Rattle.bt_bed.specs.model.order.Rank.{AreDistinct}
 use Rattle.bt_bed.specs.model.order.Genome.{Entry, genome_names, genome_from, genome_with, new_entry, entry_of, with_entry}
 use Rattle.bt_laws.specs.records.Inputs.{genome_names_are_distinct, first_lines_make_entries}
-use Rattle.bt_bed.proofs.lemmas.parse.NameLemmas.{name_ne-sym}
 use Rattle.bt_bed.proofs.lemmas.order.GenomeLemmas.{distinct_push, is_new, ok_entries}
 use Rattle.bt_laws.specs.parts.Parts.{joined}
 

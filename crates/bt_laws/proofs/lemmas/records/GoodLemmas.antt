@@ -1,30 +1,16 @@
 -- Lemmas on the lines and the bases of good records.
-use Rattle.std.proofs.Common.{◌≡◌, ℕ, ◌<◌, Bool, true, false, cond, List, [], ◌∷◌, Option, Some, None, Result, Ok, Err, refl, subst, ap, length, arith}
-use Rattle.std.specs.Prelude.{IsTrue, IfSome, bytes_eq, nat_lt}
-use Rattle.std.proofs.lemmas.List.Elements.{All-nil, All-cons}
+use Rattle.bt_lines.proofs.Std.{None, ap, length, arith}
 use Rattle.bt_lines.specs.model.Handed.{lines_handed}
 use Rattle.bt_lines.proofs.lemmas.reader.lines.TextLemmas.{lines_are_numbered}
-use Rattle.bt_lines.specs.model.Lines.{TextLine, text_lines}
-use Rattle.bt_lines.specs.declared.fault.Input.{Input}
-use Rattle.bt_lines.specs.declared.fault.Kind.{Kind}
-use Rattle.bt_lines.specs.declared.fault.Kind.TheVariants.{UnknownChrom, OutOfOrder}
-use Rattle.bt_bed.specs.model.feature.Feature.{Feature, interval_of, intervals_of}
-use Rattle.bt_bed.specs.model.input.Good.{good, Good, good_from, good_with, items_in}
-use Rattle.bt_bed.specs.model.input.GoodBed.{bed_format, good_are_placed, good_are_non_empty, line_says, said_after, locus_at}
-use Rattle.bt_laws.specs.records.Inputs.{good_stand_on_lines, first_lines_have_the_first}
-use Rattle.bt_bed.specs.model.feature.Interval.{AreNonEmpty}
-use Rattle.bt_bed.specs.model.order.Order.{Order, IsTotal}
-use Rattle.bt_bed.specs.model.order.Locus.{Locus, IsUpTo, ArePlaced, IsPlacedBefore}
-use Rattle.bt_bed.specs.model.feature.Record.{record_of}
-use Rattle.bt_bed.specs.model.order.Sorting.{Sorting, falls_in, sorting_of, block_sorting}
+use Rattle.bt_lines.specs.model.Lines.{text_lines}
+use Rattle.bt_bed.specs.model.feature.Feature.{Feature}
+use Rattle.bt_bed.specs.model.input.Good.{Good}
+use Rattle.bt_bed.specs.model.input.GoodBed.{bed_format}
+use Rattle.bt_laws.specs.records.Inputs.{good_stand_on_lines, first_lines_have_the_first, good_in_blocks_are_non_empty, good_in_blocks_stand_on_lines}
+use Rattle.bt_bed.specs.model.order.Sorting.{sorting_of, block_sorting}
 use Rattle.bt_bed.proofs.lemmas.read.good.GoodLemmas.{ascend_from, first_from, within_from}
-use Rattle.bt_bed.proofs.lemmas.read.good.SaidLemmas.{said_features}
-use Rattle.bt_bed.proofs.lemmas.order.SortingLemmas.{sorted_up_to}
-use Rattle.std.specs.Cmp.Lexicographic.{bytes_decides}
-use Rattle.std.proofs.lemmas.Bool.Decides.{nat_tests}
-use Rattle.bt_bed.specs.model.input.GoodBlocks.{AreInBlocks, IsBlockUpTo, block_format, good_are_in_blocks}
-use Rattle.bt_laws.specs.records.Inputs.{good_in_blocks_are_non_empty, good_in_blocks_stand_on_lines}
-use Rattle.bt_bed.proofs.lemmas.laws.GoodBedLemmas.{line_said, non_empty_from}
+use Rattle.bt_bed.specs.model.input.GoodBlocks.{block_format}
+use Rattle.bt_bed.proofs.lemmas.definitions.GoodBedLemmas.{non_empty_from}
 
 -- each is on a line of the text
 pub good_on_lines : good_stand_on_lines

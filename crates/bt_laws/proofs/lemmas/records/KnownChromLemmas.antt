@@ -1,6 +1,5 @@
 -- In blocks no chromosome is unknown.
-use Rattle.std.proofs.Common.{◌≡◌, ℕ, Bool, true, false, cond, List, [], ◌∷◌, Option, Some, None, Result, Ok, Err, refl, sym, ap, ◌∙◌}
-use Rattle.std.specs.Prelude.{⊤, ◌≢◌, IfSome, nat_lt}
+use Rattle.bt_lines.proofs.Std.{◌≡◌, ℕ, Bool, true, false, cond, List, [], ◌∷◌, Option, Some, None, Result, Ok, Err, refl, sym, ap, ◌∙◌, ⊤, ◌≢◌, IfSome, nat_lt}
 use Rattle.bt_lines.specs.model.Fault.{FaultValue, read_failed}
 use Rattle.bt_lines.specs.model.Handed.{cut_fault, lines_handed}
 use Rattle.bt_lines.specs.model.Lines.{TextLine, pieces}

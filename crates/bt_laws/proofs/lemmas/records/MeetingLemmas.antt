@@ -1,13 +1,7 @@
 -- Lemmas on what is written early of two inputs.
-use Rattle.std.proofs.Common.{◌≡◌, Bool, true, false, ◌&&◌, cond, List, [], ◌∷◌, ◌++◌, Option, refl, sym, ap, ◌∙◌, append_assoc, flat_map}
-use Rattle.std.specs.Prelude.{if◌then◌else◌}
-use Rattle.std.specs.List.{list_all, take_while, AllByRecursion}
-use Rattle.std.proofs.lemmas.Bool.{false≢true, and_parts, and_left, and_right}
-use Rattle.std.proofs.lemmas.List.Folds.{list_all-append}
-use Rattle.std.specs.Option.{option_or}
-use Rattle.std.proofs.lemmas.List.Sums.{take_while-cons}
-use Rattle.bt_bed.specs.model.input.TwoInputReport.{Rule, Met, join_report, written}
-use Rattle.bt_bed.proofs.lemmas.laws.MeetingLemmas.{met_lines, written_at}
+use Rattle.bt_lines.proofs.Std.{◌≡◌, Bool, true, false, List, [], ◌∷◌, ◌++◌, Option, refl, sym, ap, ◌∙◌, append_assoc, AllByRecursion}
+use Rattle.bt_bed.specs.model.input.TwoInputReport.{Rule, join_report, written}
+use Rattle.bt_bed.proofs.lemmas.definitions.MeetingLemmas.{met_lines, written_at}
 use Rattle.bt_laws.specs.records.Inputs.{StaysDecided}
 
 module _ {A L F : Type 0} where

@@ -1,14 +1,5 @@
 -- What a line says is said by its bytes, written anew.
-use Rattle.std.proofs.Common.{◌≡◌, ℕ, ◌<◌, ◌≤◌, true, ◌==◌, ◌||◌, cond, List, [], ◌∷◌, ◌++◌, length, Some, Ok, refl, sym, ap, ◌∙◌, arith, ltb, leb, decimal, append_assoc}
-use Rattle.std.proofs.lemmas.Bool.{lt-ltb}
-use Rattle.std.proofs.lemmas.Bool.Decides.{nat_tests}
-use Rattle.std.proofs.lemmas.Fmt.{decimal_is_IsNumeral}
-use Rattle.std.proofs.lemmas.List.Elements.{All-cons}
-use Rattle.std.proofs.lemmas.Str.Parse.{digit_from_value}
-use Rattle.std.specs.Char.{is_ascii_digit}
-use Rattle.std.specs.Int.{IsInRange}
-use Rattle.std.specs.List.{AllByRecursion, list_all}
-use Rattle.std.specs.Str.Parse.{AllDigits, digits_value}
+use Rattle.bt_lines.proofs.Std.{◌≡◌, ℕ, ◌<◌, ◌≤◌, true, ◌==◌, ◌||◌, cond, List, [], ◌∷◌, ◌++◌, length, Some, Ok, refl, sym, ap, ◌∙◌, arith, ltb, leb, decimal, append_assoc, lt-ltb, nat_tests, decimal_is_IsNumeral, All-cons, digit_from_value, is_ascii_digit, IsInRange, AllByRecursion, list_all, AllDigits, digits_value}
 use Rattle.bt_bed.proofs.lemmas.read.FirstColumnLemmas.{kept_again}
 use Rattle.bt_lines.specs.model.Lines.{pieces}
 use Rattle.bt_lines.specs.model.Number.{value_of}

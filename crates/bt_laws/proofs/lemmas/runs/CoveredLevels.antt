@@ -1,8 +1,5 @@
 -- The merged runs and the gaps of a chromosome are intervals of equal value.
-use Rattle.std.proofs.Common.{◌≡◌, ℕ, inl, inr, refl, sym, ap, ap₂, ◌∙◌, subst, arith, List, [], ◌∷◌, ◌++◌, map, filter, flat_map, length, Some, None, Bool, true, false, not, ◌||◌, ◌==◌, cond, nat_lt}
-use Rattle.std.proofs.lemmas.Bool.{cases_Bool, cases_eq, cond-true, cond-false, eq-eqb, eqb-true, lt-ltb, ltb-false, not-true, or_left}
-use Rattle.std.proofs.lemmas.List.{map-append}
-use Rattle.std.proofs.lemmas.List.Elements.{filter-append}
+use Rattle.bt_lines.proofs.Std.{◌≡◌, ℕ, inl, inr, refl, sym, ap, ap₂, ◌∙◌, subst, arith, List, [], ◌∷◌, ◌++◌, map, filter, flat_map, length, Some, None, Bool, true, false, not, ◌||◌, ◌==◌, cond, nat_lt, cases_Bool, cases_eq, cond-true, cond-false, eq-eqb, eqb-true, lt-ltb, ltb-false, not-true, or_left, map-append, filter-append}
 use Rattle.bt_bed.specs.model.feature.Feature.{Feature, intervals_of}
 use Rattle.bt_bed.specs.model.order.Genome.{Entry}
 use Rattle.bt_bed.specs.model.feature.Interval.{Interval, Span, placed_on, spans_on}
@@ -15,7 +12,7 @@ use Rattle.bt_runs.specs.model.Levels.{Level, levels_of}
 use Rattle.bt_runs.specs.model.Merged.{Bridged, is_bridged, is_covered, runs_of}
 use Rattle.bt_runs.proofs.lemmas.complement.OneGap.{are_gaps, is_bare-Decides}
 use Rattle.bt_runs.proofs.lemmas.merge.Bridging.{are_runs, covered_below_end, is_bridged-Decides, is_covered-Decides, bridged_here}
-use Rattle.bt_runs.proofs.lemmas.laws.EachLemmas.{each_all, filter_keeps}
+use Rattle.bt_runs.proofs.lemmas.definitions.EachLemmas.{each_all, filter_keeps}
 use Rattle.bt_laws.proofs.lemmas.runs.LevelLemmas.{are_levels, levels_of_stretches, looser, next_differs, only_levels, value_one}
 
 -- the merged runs

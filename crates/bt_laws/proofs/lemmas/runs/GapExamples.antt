@@ -1,5 +1,5 @@
 -- The definition of complement at small inputs, worked by hand.
-use Rattle.std.proofs.Common.{◌≡◌, ℕ, List, [], ◌∷◌, true, false, refl}
+use Rattle.bt_lines.proofs.Std.{◌≡◌, ℕ, List, [], ◌∷◌, true, false, refl}
 use Rattle.bt_bed.specs.model.feature.Feature.{Feature}
 use Rattle.bt_bed.specs.model.order.Genome.{Entry}
 use Rattle.bt_bed.specs.model.feature.Interval.{Interval}

@@ -1,11 +1,9 @@
 -- A scan of the positions finds the intervals of equal value, and no other list has them; scans in parts, and scans that see the same values.
-use Rattle.std.proofs.Common.{◌≡◌, ℕ, zero, suc, ◌+◌, ◌<◌, ◌≤◌, inl, inr, List, [], ◌∷◌, ◌++◌, refl, sym, ap, ap₂, ◌∙◌, subst, arith, append_assoc, map, cond, Bool, true, false, ◌==◌, Option, Some, None, IsTrue, append-nil}
-use Rattle.std.proofs.lemmas.Bool.{cases_Bool, cases_lt, cases_eq, cond-true, eq-eqb, eqb-true}
+use Rattle.bt_lines.proofs.Std.{◌≡◌, ℕ, zero, suc, ◌+◌, ◌<◌, ◌≤◌, inl, inr, List, [], ◌∷◌, ◌++◌, refl, sym, ap, ap₂, ◌∙◌, subst, arith, map, cond, Bool, true, false, ◌==◌, Option, Some, None, IsTrue, cases_Bool, cases_lt, cases_eq, cond-true, eq-eqb, eqb-true}
 use Rattle.bt_bed.specs.model.feature.Interval.{Span}
 use Rattle.bt_bed.specs.model.feature.Stretches.{AreApartFrom, IsCovered}
 use Rattle.bt_laws.specs.runs.Levels.{AreDisjointFrom, DiffersFromNext, HasValue, level_on, levels_are, levels_only, stretches_are_levels}
-use Rattle.bt_runs.specs.model.Levels.{Begun, Level, begun_after, ended_after, ended_at, levels_from, levels_of, next_begun, next_ended, begun_at, goes_on}
-use Rattle.std.specs.Prelude.{⊤}
+use Rattle.bt_runs.specs.model.Levels.{Begun, Level, begun_after, ended_after, ended_at, levels_from, levels_of, next_begun, next_ended}
 use Rattle.bt_runs.proofs.lemmas.coverage.LevelLemmas.{levels_more}
 
 -- two lists of intervals that have the same values are one list

@@ -1,26 +1,14 @@
 -- Names that are put in order: each comes before the next, and none is lost.
-use Rattle.std.proofs.Common.{◌≡◌, ℕ, Bool, true, false, ◌||◌, List, [], ◌∷◌, refl, sym, ap, ◌∙◌, inl, inr}
-use Rattle.std.proofs.lemmas.Bool.{false≢true, or_parts}
-use Rattle.std.specs.Cmp.Lexicographic.{bytes_decides}
-use Rattle.std.specs.Ordering.{is_lt, ordering_reverse}
-use Rattle.std.specs.Prelude.{IsTrue, bytes_eq, if◌then◌else◌}
+use Rattle.bt_lines.proofs.Std.{◌≡◌, ℕ, Bool, true, false, ◌||◌, List, [], ◌∷◌, refl, sym, ap, ◌∙◌, false≢true, or_parts, bytes_decides, is_lt, ordering_reverse, IsTrue, bytes_eq, if◌then◌else◌}
 use Rattle.std.specs.declared.cmp.Ordering.{Ordering}
 use Rattle.std.specs.declared.cmp.Ordering.TheVariants.{Equal, Greater, Less}
 use Rattle.bt_bed.specs.model.order.Order.{Order, IsTotal}
 use Rattle.bt_bed.specs.model.order.Rank.{AreDistinct, is_among, rank_order}
-use Rattle.bt_laws.specs.runs.RunOrder.{AreAscending, AreKnown, ComesBefore, names_come_in_order}
-use Rattle.bt_runs.specs.model.RunOrder.{in_order, put_in_order, ordered_runs, ordered_runs_come}
-use Rattle.bt_bed.specs.model.feature.Interval.{Interval}
-use Rattle.bt_bed.specs.model.order.Locus.{ArePlaced}
+use Rattle.bt_laws.specs.runs.RunOrder.{AreAscending, AreKnown, ComesBefore, names_come_in_order, file_runs_are_ordered}
+use Rattle.bt_runs.specs.model.RunOrder.{in_order, put_in_order}
 use Rattle.bt_bed.specs.inside.RankTotal.{ranks_total}
-use Rattle.bt_bed.specs.model.order.Contiguous.{has_records}
-use Rattle.bt_bed.proofs.lemmas.order.ContiguousLemmas.{placed_contiguous}
-use Rattle.bt_runs.specs.model.Counted.{counted, is_counted}
-use Rattle.bt_runs.specs.model.Merged.{chromosomes, merged, without}
-use Rattle.bt_runs.proofs.lemmas.order.ChromosomeLemmas.{among_chromosomes}
-use Rattle.bt_runs.proofs.lemmas.order.FileOrder.{in_file_order, same_chromosome, some_placed, without_absent}
+use Rattle.bt_runs.proofs.lemmas.order.FileOrder.{in_file_order}
 use Rattle.bt_runs.proofs.lemmas.order.RunOrder.{ordered_come}
-use Rattle.bt_laws.specs.runs.RunOrder.{file_runs_are_ordered}
 
 or_swap : (a b c : Bool) → (a || (b || c)) ≡ (b || (a || c))
 or_swap true true c = refl

@@ -1,5 +1,5 @@
 -- The definitions at small inputs, worked by hand.
-use Rattle.std.proofs.Common.{◌≡◌, ℕ, List, [], ◌∷◌, refl}
+use Rattle.bt_lines.proofs.Std.{◌≡◌, ℕ, List, [], ◌∷◌, refl}
 use Rattle.bt_bed.specs.model.feature.Feature.{Feature}
 use Rattle.bt_bed.specs.model.feature.Interval.{Interval, Span}
 use Rattle.bt_bed.specs.model.feature.Stretches.{with_position, stretches_from}

@@ -1,10 +1,5 @@
 -- The runs of several strands come in the order of their first records.
-use Rattle.std.proofs.Common.{◌≡◌, ℕ, zero, suc, ◌+◌, ◌<◌, ◌≤◌, inl, inr, refl, sym, ap, ap₂, ◌∙◌, arith, subst, List, [], ◌∷◌, ◌++◌, append_assoc, append-nil, length, map, Bool, true, false, not, Some, option_map}
-use Rattle.std.specs.Prelude.{IsTrue}
-use Rattle.std.specs.List.{find, list_any, position_or_len}
-use Rattle.std.specs.List.Sorted.{IsStrictlyIncreasing}
-use Rattle.std.proofs.lemmas.Bool.{cases_Bool, cond-true, cond-false, not_from_true, not_from_false}
-use Rattle.std.proofs.lemmas.List.{map-append}
+use Rattle.bt_lines.proofs.Std.{◌≡◌, ℕ, zero, suc, ◌+◌, ◌<◌, ◌≤◌, inl, inr, refl, sym, ap, ap₂, ◌∙◌, arith, subst, List, [], ◌∷◌, ◌++◌, append_assoc, append-nil, length, map, Bool, true, false, not, Some, option_map, IsTrue, find, list_any, position_or_len, IsStrictlyIncreasing, cases_Bool, cond-true, cond-false, not_from_true, not_from_false, map-append}
 use Rattle.bt_bed.specs.model.feature.Feature.{Feature, interval_of, intervals_of}
 use Rattle.bt_bed.specs.model.feature.Interval.{Interval}
 use Rattle.bt_bed.specs.model.order.Locus.{ArePlaced, IsPlacedBefore, IsUpTo, Locus, locus_of}
@@ -14,7 +9,7 @@ use Rattle.bt_runs.specs.model.MergedRuns.{AreTaken}
 use Rattle.bt_laws.specs.runs.StrandOrder.{first_place, first_start, strand_runs_come_in_order, strand_runs_come_in_turn, strand_runs_start_with_records}
 use Rattle.bt_runs.specs.model.StrandRuns.{StrandRun, is_in, places_of, strand_runs}
 use Rattle.bt_runs.specs.inside.merge.StrandStep.{run_from}
-use Rattle.bt_runs.proofs.lemmas.laws.EachLemmas.{Each, Some_of, each_append, each_map, each_weaker, each_both, none_each, some_weaker}
+use Rattle.bt_runs.proofs.lemmas.definitions.EachLemmas.{Each, Some_of, each_append, each_map, each_weaker, each_both, none_each, some_weaker}
 use Rattle.bt_runs.proofs.lemmas.order.FileOrder.{skips}
 use Rattle.bt_runs.proofs.lemmas.merge.OneStrand.{joined_to, new_run, reaches}
 use Rattle.bt_runs.proofs.lemmas.merge.SettledRuns.{taken_front}

@@ -1,9 +1,5 @@
 -- The blocks of records that are contiguous: one for each chromosome.
-use Rattle.std.proofs.Common.{◌≡◌, ◌||◌, ◌&&◌, ℕ, Bool, true, false, cond, not, List, [], ◌∷◌, map, filter, Option, Some, None, inl, inr, refl, sym, ap, ap₂, ◌∙◌, subst, leb, ltb}
-use Rattle.std.specs.Prelude.{bytes_eq, flat_map, if◌then◌else◌}
-use Rattle.std.specs.List.{AllByRecursion, list_any}
-use Rattle.std.proofs.lemmas.Bool.{or_parts}
-use Rattle.std.proofs.lemmas.List.Folds.{list_any-append}
+use Rattle.bt_lines.proofs.Std.{◌≡◌, ◌||◌, ◌&&◌, ℕ, Bool, true, false, cond, not, List, [], ◌∷◌, map, filter, Option, Some, None, inl, inr, refl, sym, ap, ap₂, ◌∙◌, subst, leb, ltb, bytes_eq, flat_map, if◌then◌else◌, AllByRecursion, list_any, or_parts, list_any-append}
 use Rattle.bt_bed.specs.model.feature.Feature.{Feature, interval_of, intervals_of}
 use Rattle.bt_bed.specs.model.feature.Interval.{span_of, spans_on}
 use Rattle.bt_bed.specs.model.order.Contiguous.{AreContiguous, IsFollowed, has_records}
@@ -15,7 +11,7 @@ use Rattle.bt_runs.proofs.lemmas.order.ChromosomeLemmas.{among_chromosomes}
 use Rattle.bt_runs.proofs.lemmas.order.FileOrder.{same_chromosome, without_absent}
 use Rattle.bt_seq.specs.model.Masked.{covers}
 use Rattle.bt_seq.specs.model.Owners.{Block, Owned, block_with, blocks_by, items_if_last, left_at_last, left_by, own_records, owned_from}
-use Rattle.bt_seq.proofs.lemmas.laws.LeftLemmas.{leave, leave_all}
+use Rattle.bt_seq.proofs.lemmas.definitions.LeftLemmas.{leave, leave_all}
 use Rattle.bt_laws.proofs.lemmas.Lists.{all_so}
 use Rattle.bt_laws.proofs.lemmas.pipes.Covers.{SameCover}
 use Rattle.bt_laws.proofs.lemmas.pipes.Placing.{others}

@@ -1,8 +1,5 @@
 -- What is left of a record lies in the gaps of the second input.
-use Rattle.std.proofs.Common.{◌≡◌, ℕ, ◌+◌, ◌<◌, ◌≤◌, true, false, cond, not, List, [], ◌∷◌, ◌++◌, append-nil, map, filter, max, min, Some, None, Ok, refl, sym, ap, ap₂, ◌∙◌, subst, inl, inr, arith}
-use Rattle.std.specs.Prelude.{bytes_eq, flat_map}
-use Rattle.std.specs.List.{AllByRecursion}
-use Rattle.std.proofs.lemmas.Bool.{cases_Bool, false≢true, or_parts}
+use Rattle.bt_lines.proofs.Std.{◌≡◌, ℕ, ◌+◌, ◌<◌, ◌≤◌, true, false, cond, not, List, [], ◌∷◌, ◌++◌, append-nil, map, filter, max, min, Some, None, Ok, refl, sym, ap, ap₂, ◌∙◌, subst, inl, inr, arith, bytes_eq, flat_map, AllByRecursion, cases_Bool, false≢true, or_parts, flat_map-map}
 use Rattle.bt_lines.specs.model.Handed.{whole_text}
 use Rattle.bt_lines.specs.declared.fault.Input.TheVariants.{First, Second}
 use Rattle.bt_bed.specs.model.feature.Feature.{Feature, interval_of, intervals_of}
@@ -23,7 +20,7 @@ use Rattle.bt_sweep.specs.model.Hits.{any_overlap, hits, hits_among}
 use Rattle.bt_sweep.specs.model.IntersectLines.{intersect, lines_for, piece_line}
 use Rattle.bt_sweep.specs.model.Pieces.{pieces, spans_of}
 use Rattle.bt_sweep.specs.declared.output.shape.Shape.TheVariants.{Cut, Pieces}
-use Rattle.bt_sweep.proofs.lemmas.laws.PieceLemmas.{only_pieces}
+use Rattle.bt_sweep.proofs.lemmas.definitions.PieceLemmas.{only_pieces}
 use Rattle.bt_tool.specs.model.report.Behaviour.{order_of}
 use Rattle.bt_tool.specs.model.report.Inputs.{Inputs, or_empty}
 use Rattle.bt_tool.specs.model.report.RecordReport.{Report}
@@ -41,7 +38,6 @@ use Rattle.bt_laws.proofs.lemmas.same.SameRuns.{here_all, none_there, report_the
 use Rattle.bt_laws.proofs.lemmas.back.SaidWell.{IsChrom, IsSaid, good_are_said}
 use Rattle.bt_laws.proofs.lemmas.same.SameSweeps.{hit_back, hit_to, met_none, nones, other_input, output_by, sweeps_from}
 use Rattle.bt_laws.proofs.lemmas.back.SweepBack.{Hit, all_hits, cut_bounds, same_name as hit_name}
-use Rattle.std.proofs.lemmas.List.Folds.{flat_map-map}
 
 -- ---- the gaps of one chromosome
 

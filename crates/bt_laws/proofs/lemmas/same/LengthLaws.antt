@@ -1,9 +1,5 @@
 -- Gaps of gaps, and merged depths.
-use Rattle.std.proofs.Common.{◌≡◌, ℕ, ◌+◌, ◌<◌, ◌≤◌, true, false, cond, List, [], ◌∷◌, ◌++◌, map, filter, min, Some, None, refl, sym, ap, ap₂, ◌∙◌, subst, inl, inr, arith, append-nil}
-use Rattle.std.specs.Prelude.{bytes_eq, flat_map, nat_lt}
-use Rattle.std.specs.List.{AllByRecursion}
-use Rattle.std.proofs.lemmas.Bool.{cases_Bool, cases_lt, false≢true, le-ltb, lt-ltb, or_parts}
-use Rattle.std.proofs.lemmas.Grind.{flat_map-append}
+use Rattle.bt_lines.proofs.Std.{◌≡◌, ℕ, ◌+◌, ◌<◌, ◌≤◌, true, false, cond, List, [], ◌∷◌, ◌++◌, map, filter, min, Some, None, refl, sym, ap, ap₂, ◌∙◌, subst, inl, inr, arith, append-nil, bytes_eq, flat_map, nat_lt, AllByRecursion, cases_Bool, cases_lt, false≢true, le-ltb, lt-ltb, or_parts, flat_map-append, map-append}
 use Rattle.bt_lines.specs.declared.fault.Input.TheVariants.{First}
 use Rattle.bt_bed.specs.model.feature.Feature.{Feature, intervals_of, interval_of}
 use Rattle.bt_bed.specs.model.order.Genome.{Entry, genome_names}
@@ -16,7 +12,7 @@ use Rattle.bt_bed.specs.model.order.Locus.{ArePlaced}
 use Rattle.bt_bed.specs.model.order.Order.{Order}
 use Rattle.bt_bed.specs.model.order.Rank.{AreDistinct, is_among, rank_order}
 use Rattle.bt_bed.specs.model.feature.Stretches.{AreApartFrom, IsCovered}
-use Rattle.bt_bed.proofs.lemmas.laws.GoodBedLemmas.{placed_good}
+use Rattle.bt_bed.proofs.lemmas.definitions.GoodBedLemmas.{placed_good}
 use Rattle.bt_bed.proofs.lemmas.parse.NameLemmas.{name_eq, name_ne-sym, cases_name}
 use Rattle.bt_runs.specs.model.Gaps.{complement, gaps_of, gaps_on, is_asked, length_in}
 use Rattle.bt_runs.specs.model.Merged.{is_covered, merged, runs_of, runs_on}
@@ -40,7 +36,6 @@ use Rattle.bt_laws.proofs.lemmas.pipes.PipeLaws.{chroms_of, complement_whole, me
 use Rattle.bt_laws.proofs.lemmas.same.AlikeRecords.{alike_merged}
 use Rattle.bt_laws.proofs.lemmas.same.SameRuns.{complement_on, fault_as, told_same, writes_is, here_all, merge_on, none_there, all_counted}
 use Rattle.bt_laws.proofs.lemmas.parts.text.PartTexts.{order_total}
-use Rattle.std.proofs.lemmas.List.{map-append}
 use Rattle.bt_lines.specs.model.Handed.{whole_text}
 use Rattle.bt_laws.specs.runs.CoveredLevels.{interval_at}
 use Rattle.bt_runs.specs.model.Depth.{DepthInterval, counted_on, coverage, depth_at, depth_of, depth_on, depths_on}

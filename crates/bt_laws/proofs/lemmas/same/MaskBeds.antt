@@ -1,8 +1,5 @@
 -- BEDs that mask the same: two and one, and a merged one.
-use Rattle.std.proofs.Common.{◌≡◌, ◌||◌, ℕ, ◌+◌, ◌<◌, ◌≤◌, length, arith, suc, Bool, true, false, List, [], ◌∷◌, ◌++◌, None, refl, sym, ap, ap₂, ◌∙◌, map, Option, Some, Result, Ok, Err, subst, ltb}
-use Rattle.std.specs.Prelude.{flat_map, if◌then◌else◌, bytes_eq, is_some}
-use Rattle.std.specs.List.{list_any, AllByRecursion}
-use Rattle.std.specs.Option.{option_or}
+use Rattle.bt_lines.proofs.Std.{◌≡◌, ◌||◌, ℕ, ◌+◌, ◌<◌, ◌≤◌, length, arith, suc, Bool, true, false, List, [], ◌∷◌, ◌++◌, None, refl, sym, ap, ap₂, ◌∙◌, map, Option, Some, Result, Ok, Err, subst, ltb, flat_map, if◌then◌else◌, bytes_eq, is_some, list_any, AllByRecursion, option_or, flat_map-map}
 use Rattle.bt_lines.specs.model.Fault.{FaultValue, read_failed}
 use Rattle.bt_bed.specs.model.input.TwoInputReport.{Met}
 use Rattle.bt_lines.specs.model.Handed.{whole_text, Handed, cut_fault, lines_handed}
@@ -27,7 +24,6 @@ use Rattle.bt_laws.proofs.lemmas.pipes.MaskPipes.{with_text}
 use Rattle.bt_laws.proofs.lemmas.same.MaskTwice.{header_from, masked_again, met_all, names_same, nones, output_there, read_items, read_none, second_none}
 use Rattle.bt_laws.proofs.lemmas.same.SameRuns.{report_there, writes_is, back, run_names, run_spans, all_counted}
 use Rattle.bt_laws.proofs.lemmas.Lists.{flat_map_same, all_so, all_any}
-use Rattle.std.proofs.lemmas.List.Folds.{flat_map-map}
 use Rattle.bt_lines.specs.declared.fault.Input.{Input}
 use Rattle.bt_lines.specs.declared.fault.Kind.{Kind}
 use Rattle.bt_lines.specs.declared.fault.Kind.TheVariants.{OutOfOrder, UnknownChrom}
@@ -39,13 +35,13 @@ use Rattle.bt_bed.specs.model.order.Genome.{Entry}
 use Rattle.bt_bed.specs.model.order.Locus.{ArePlaced, Locus}
 use Rattle.bt_bed.specs.model.order.Order.{Order, IsTotal}
 use Rattle.bt_bed.specs.model.order.Sorting.{block_sorting, falls_in, is_less, sorting_of}
-use Rattle.bt_bed.proofs.lemmas.laws.GoodBedLemmas.{placed_good}
+use Rattle.bt_bed.proofs.lemmas.definitions.GoodBedLemmas.{placed_good}
 use Rattle.bt_bed.proofs.lemmas.order.ContiguousLemmas.{placed_contiguous}
 use Rattle.bt_runs.specs.model.Counted.{counted}
 use Rattle.bt_runs.specs.model.Merged.{chromosomes, runs_of}
 use Rattle.bt_runs.specs.model.RunOrder.{ordered_runs}
 use Rattle.bt_runs.specs.declared.merge.merge_strand.MergeStrand.TheVariants.{All}
-use Rattle.bt_seq.proofs.lemmas.laws.LeftLemmas.{leave}
+use Rattle.bt_seq.proofs.lemmas.definitions.LeftLemmas.{leave}
 use Rattle.bt_tool.specs.model.report.Behaviour.{order_of}
 use Rattle.bt_tool.specs.model.report.Written.{Written, merge_written}
 use Rattle.bt_laws.specs.pipes.Taken.{IsInput, three_columns}

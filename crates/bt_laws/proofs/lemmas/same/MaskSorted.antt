@@ -1,11 +1,5 @@
 -- maskfasta by two BEDs, and by one that has the records of both.
-use Rattle.std.proofs.Common.{◌≡◌, ◌||◌, ◌&&◌, ℕ, ◌<◌, ◌≤◌, Bool, true, false, cond, List, [], ◌∷◌, ◌++◌, append_assoc, Option, Some, None, inl, inr, refl, sym, ap, ap₂, ◌∙◌, subst, length, filter, arith}
-use Rattle.std.specs.Prelude.{◌⊎◌, bytes_eq, flat_map, is_some, IsPermutation}
-use Rattle.std.specs.List.{AllByRecursion, list_any}
-use Rattle.std.proofs.lemmas.Bool.{cases_Bool, or_parts}
-use Rattle.std.proofs.lemmas.List.Elements.{recursion_from_All}
-use Rattle.std.proofs.lemmas.List.Folds.{list_any-append}
-use Rattle.std.proofs.lemmas.List.Sorted.{list_any-IsPermutation}
+use Rattle.bt_lines.proofs.Std.{◌≡◌, ◌||◌, ◌&&◌, ℕ, ◌<◌, ◌≤◌, Bool, true, false, cond, List, [], ◌∷◌, ◌++◌, append_assoc, Option, Some, None, inl, inr, refl, sym, ap, ap₂, ◌∙◌, subst, length, filter, arith, ◌⊎◌, bytes_eq, flat_map, is_some, IsPermutation, AllByRecursion, list_any, cases_Bool, or_parts, recursion_from_All, list_any-append, list_any-IsPermutation}
 use Rattle.bt_lines.specs.model.Handed.{lines_handed}
 use Rattle.bt_lines.specs.declared.fault.Input.TheVariants.{First}
 use Rattle.bt_bed.specs.model.feature.Feature.{Feature}
@@ -17,7 +11,7 @@ use Rattle.bt_laws.specs.sequences.Owners.{AreOfChrom, items_of}
 use Rattle.bt_seq.specs.model.Owners.{Block, Owned, blocks_by, items_if_last, left_at_last, names_behind, own_records, owned_from}
 use Rattle.bt_seq.specs.model.Sequences.{SequenceLine, bases_up_to}
 use Rattle.bt_seq.specs.declared.mask.mask_how.MaskHow.{MaskHow}
-use Rattle.bt_seq.proofs.lemmas.laws.LeftLemmas.{leave, leave_all}
+use Rattle.bt_seq.proofs.lemmas.definitions.LeftLemmas.{leave, leave_all}
 use Rattle.bt_laws.proofs.lemmas.sequences.OwnerLemmas.{maximal_runs}
 use Rattle.bt_tool.specs.model.report.Inputs.{Inputs}
 use Rattle.bt_tool.specs.declared.planning.plan_type.Command.TheVariants.{MaskFasta}

@@ -1,12 +1,5 @@
 -- What maskfasta writes has the lines of its input, and is masked already.
-use Rattle.std.proofs.Common.{◌≡◌, ◌||◌, ℕ, suc, ◌+◌, ◌≤◌, Bool, true, false, List, [], ◌∷◌, ◌++◌, map, length, Option, Some, None, refl, sym, ap, ap₂, ◌∙◌, arith, eqb, leb}
-use Rattle.std.specs.Prelude.{flat_map, if◌then◌else◌, is_none}
-use Rattle.std.specs.List.{list_all, list_any}
-use Rattle.std.specs.Option.{option_or}
-use Rattle.std.specs.Io.BufRead.{ends_with_byte}
-use Rattle.std.proofs.lemmas.Bool.{and_parts, false≢true, leb-true, ne_eqb}
-use Rattle.std.proofs.lemmas.Bool.Decides.{nat_tests}
-use Rattle.std.proofs.lemmas.List.Elements.{All-cons, All-head, All-nil, All-tail}
+use Rattle.bt_lines.proofs.Std.{◌≡◌, ◌||◌, ℕ, suc, ◌+◌, ◌≤◌, Bool, true, false, List, [], ◌∷◌, ◌++◌, map, length, Option, Some, None, refl, sym, ap, ap₂, ◌∙◌, arith, eqb, leb, flat_map, if◌then◌else◌, is_none, list_all, list_any, option_or, ends_with_byte, and_parts, false≢true, leb-true, ne_eqb, nat_tests, All-cons, All-head, All-nil, All-tail}
 use Rattle.bt_lines.specs.model.Fault.{FaultValue, read_failed}
 use Rattle.bt_lines.specs.model.Handed.{Handed, cut_fault, lines_handed, whole_text}
 use Rattle.bt_lines.specs.calls.LentLine.{NoLineFeed}

@@ -1,6 +1,5 @@
 -- Outputs of merge: merged again, and their gaps.
-use Rattle.std.proofs.Common.{◌≡◌, ◌||◌, ℕ, ◌<◌, Bool, true, false, cond, not, List, [], ◌∷◌, ◌++◌, map, filter, Option, refl, sym, ap, ◌∙◌, subst, arith, append-nil, inl, inr, Some, None, Ok, ap₂, length}
-use Rattle.std.specs.Prelude.{flat_map, bytes_eq}
+use Rattle.bt_lines.proofs.Std.{◌≡◌, ◌||◌, ℕ, ◌<◌, Bool, true, false, cond, not, List, [], ◌∷◌, ◌++◌, map, filter, Option, refl, sym, ap, ◌∙◌, subst, arith, append-nil, inl, inr, Some, None, Ok, ap₂, length, flat_map, bytes_eq, AllByRecursion, cases_Bool, or_parts}
 use Rattle.bt_bed.specs.model.feature.Feature.{Feature, interval_of, intervals_of}
 use Rattle.bt_bed.specs.model.order.Genome.{Entry}
 use Rattle.bt_bed.specs.model.feature.Interval.{Interval, placed_on, spans_on, Span, span_of}
@@ -25,8 +24,6 @@ use Rattle.bt_laws.specs.same.SameRuns.{complement_of_merge, merge_of_merge}
 use Rattle.bt_laws.proofs.lemmas.pipes.Covers.{SameCover, runs_again, runs_cover}
 use Rattle.bt_laws.proofs.lemmas.Lists.{all_any, filter_all, flat_map_same, all_filter, all_map, all_so}
 use Rattle.bt_laws.proofs.lemmas.pipes.PipeLaws.{complement_whole, merge_whole}
-use Rattle.std.specs.List.{AllByRecursion}
-use Rattle.std.proofs.lemmas.Bool.{cases_Bool, or_parts}
 use Rattle.bt_lines.specs.model.Fault.{FaultValue}
 use Rattle.bt_lines.specs.model.Handed.{whole_text}
 use Rattle.bt_lines.specs.declared.fault.Input.TheVariants.{First}
@@ -34,7 +31,7 @@ use Rattle.bt_bed.specs.model.input.Good.{items_in}
 use Rattle.bt_bed.specs.model.input.GoodBed.{bed_good}
 use Rattle.bt_bed.specs.model.order.Locus.{ArePlaced}
 use Rattle.bt_bed.specs.model.feature.Stretches.{IsCovered}
-use Rattle.bt_bed.proofs.lemmas.laws.GoodBedLemmas.{placed_good}
+use Rattle.bt_bed.proofs.lemmas.definitions.GoodBedLemmas.{placed_good}
 use Rattle.bt_bed.proofs.lemmas.parse.NameLemmas.{cases_name, name_eq}
 use Rattle.bt_runs.proofs.lemmas.merge.Bridging.{are_runs, bridged_here}
 use Rattle.bt_runs.proofs.lemmas.order.OwnOrder.{distinct_chromosomes}

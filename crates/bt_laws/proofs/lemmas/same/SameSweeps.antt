@@ -1,9 +1,5 @@
 -- Which runs of intersect and subtract write the same lines.
-use Rattle.std.proofs.Common.{◌≡◌, ℕ, Bool, true, false, cond, List, [], ◌∷◌, ◌++◌, map, filter, length, Option, Result, Ok, Err, refl, sym, ap, ap₂, ◌∙◌, subst, arith, decimal, ◌&&◌, suc, ◌-◌, ◌<◌, ◌≤◌, max, min, Some, None, inl, inr, ltb}
-use Rattle.std.proofs.lemmas.Bool.{lt-ltb, ne_eqb, cases_Bool}
-use Rattle.std.specs.Prelude.{flat_map, if◌then◌else◌, nat_lt, replicate, ◌==◌, bytes_eq}
-use Rattle.std.specs.List.{list_all, AllByRecursion}
-use Rattle.std.specs.Option.{option_or}
+use Rattle.bt_lines.proofs.Std.{◌≡◌, ℕ, Bool, true, false, cond, List, [], ◌∷◌, ◌++◌, map, filter, length, Option, Result, Ok, Err, refl, sym, ap, ap₂, ◌∙◌, subst, arith, decimal, ◌&&◌, suc, ◌-◌, ◌<◌, ◌≤◌, max, min, Some, None, inl, inr, ltb, lt-ltb, ne_eqb, cases_Bool, flat_map, if◌then◌else◌, nat_lt, replicate, ◌==◌, bytes_eq, list_all, AllByRecursion, option_or, map-id}
 use Rattle.bt_lines.specs.model.Fault.{FaultValue, read_failed}
 use Rattle.bt_lines.specs.model.Handed.{Handed, cut_fault, lines_handed, whole_text}
 use Rattle.bt_lines.specs.declared.fault.Input.TheVariants.{First, Second}
@@ -31,7 +27,6 @@ use Rattle.bt_laws.specs.same.SameLines.{Counted, counts_say_all, missing_is_who
 use Rattle.bt_laws.proofs.lemmas.Lists.{all_any, flat_map_same, map_map, all_so}
 use Rattle.bt_laws.proofs.lemmas.parts.report.PartSweep.{written_same, all_true}
 use Rattle.bt_laws.proofs.lemmas.pipes.PipeLaws.{intersect_whole, limit_whole, subtract_whole, well_there, either_met, either_fault}
-use Rattle.std.proofs.lemmas.List.{map-id}
 use Rattle.bt_lines.specs.model.Lines.{TextLine, whole_lines}
 use Rattle.bt_lines.specs.declared.fault.Input.{Input}
 use Rattle.bt_lines.specs.declared.fault.Kind.{Kind}
@@ -40,7 +35,7 @@ use Rattle.bt_bed.specs.model.feature.IntervalLine.{interval_lines}
 use Rattle.bt_bed.specs.model.order.Locus.{Locus}
 use Rattle.bt_bed.specs.model.order.Sorting.{Sorting, sorting_of}
 use Rattle.bt_bed.specs.model.feature.Stretches.{IsCovered}
-use Rattle.bt_bed.proofs.lemmas.laws.GoodBedLemmas.{placed_good}
+use Rattle.bt_bed.proofs.lemmas.definitions.GoodBedLemmas.{placed_good}
 use Rattle.bt_bed.proofs.lemmas.parse.NameLemmas.{cases_name, name_eq}
 use Rattle.bt_runs.specs.model.Counted.{counted}
 use Rattle.bt_runs.specs.model.Merged.{runs_of}
@@ -48,8 +43,8 @@ use Rattle.bt_runs.specs.model.RunOrder.{ordered_runs}
 use Rattle.bt_runs.specs.declared.merge.merge_strand.MergeStrand.TheVariants.{All}
 use Rattle.bt_runs.proofs.lemmas.order.ChromosomeLemmas.{spans_on-here, spans_on-elsewhere}
 use Rattle.bt_sweep.specs.model.Pieces.{IsLeft, pieces, spans_of}
-use Rattle.bt_sweep.proofs.lemmas.laws.PieceLemmas.{are_pieces, only_pieces}
-use Rattle.bt_sweep.proofs.lemmas.laws.RuleLemmas.{enough_of_nothing}
+use Rattle.bt_sweep.proofs.lemmas.definitions.PieceLemmas.{are_pieces, only_pieces}
+use Rattle.bt_sweep.proofs.lemmas.definitions.RuleLemmas.{enough_of_nothing}
 use Rattle.bt_laws.proofs.lemmas.sweeps.EarlyLemmas.{of_nothing}
 use Rattle.bt_tool.specs.model.report.RecordReport.{Report, report_by}
 use Rattle.bt_tool.specs.model.report.Written.{Written, merge_written}

@@ -1,6 +1,5 @@
 -- A block belongs to the same sequence among the names up to a line and among all names.
-use Rattle.std.proofs.Common.{◌≡◌, ℕ, ◌<◌, ◌≤◌, Bool, true, false, cond, List, [], ◌∷◌, ◌++◌, length, Option, Some, None, refl, sym, ap, ◌∙◌, length-append, arith, bytes_eq}
-use Rattle.std.proofs.lemmas.List.{append_cancel_right}
+use Rattle.bt_lines.proofs.Std.{◌≡◌, ℕ, ◌<◌, ◌≤◌, Bool, true, false, cond, List, [], ◌∷◌, ◌++◌, length, Option, Some, None, refl, sym, ap, ◌∙◌, length-append, arith, bytes_eq, append_cancel_right}
 use Rattle.bt_bed.specs.model.feature.Feature.{Feature}
 use Rattle.bt_seq.specs.model.Owners.{Block, blocks_by, left_at_last, names_behind, owned_from}
 use Rattle.bt_laws.specs.sequences.Owners.{owners_stay, owners_were}

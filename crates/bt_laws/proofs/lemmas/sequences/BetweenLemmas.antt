@@ -1,8 +1,5 @@
 -- The blocks of an alignment ascend, and lie within it.
-use Rattle.std.proofs.Common.{◌≡◌, ℕ, ◌+◌, ◌≤◌, Bool, true, false, List, [], ◌∷◌, ◌++◌, Option, Some, None, refl, sym, subst, arith, cond}
-use Rattle.std.specs.Prelude.{option_map}
-use Rattle.std.proofs.lemmas.Bool.Decides.{nat_tests}
-use Rattle.std.proofs.lemmas.List.Sums.{sum_by-cons}
+use Rattle.bt_lines.proofs.Std.{◌≡◌, ℕ, ◌+◌, ◌≤◌, Bool, true, false, List, [], ◌∷◌, ◌++◌, Option, Some, None, refl, sym, subst, arith, cond, option_map, nat_tests, sum_by-cons}
 use Rattle.bt_bed.specs.model.feature.Interval.{Span}
 use Rattle.bt_laws.specs.sequences.Cigars.{AreBetween, blocks_are_within}
 use Rattle.bt_seq.specs.model.AlignmentBlocks.{blocks_in, is_skip, with_bases}

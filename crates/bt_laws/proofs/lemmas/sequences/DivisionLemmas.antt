@@ -1,10 +1,5 @@
 -- A CIGAR's division into numbers and letters: there is one at most, and it is the one that is found.
-use Rattle.std.proofs.Common.{◌≡◌, ℕ, Bool, true, false, ◌&&◌, List, [], ◌∷◌, length, Option, Some, None, refl, sym, ap, ◌∙◌, cond, option_map, append_assoc, arith}
-use Rattle.std.specs.Prelude.{flat_map, nat_lt, nat_le}
-use Rattle.std.specs.Char.{is_ascii_digit}
-use Rattle.std.specs.List.{list_all}
-use Rattle.std.specs.Str.Parse.{digits_value}
-use Rattle.std.proofs.lemmas.Bool.{and_parts}
+use Rattle.bt_lines.proofs.Std.{◌≡◌, ℕ, Bool, true, false, ◌&&◌, List, [], ◌∷◌, length, Option, Some, None, refl, sym, ap, ◌∙◌, cond, option_map, append_assoc, arith, flat_map, nat_lt, nat_le, is_ascii_digit, list_all, digits_value, and_parts}
 use Rattle.bt_lines.specs.model.Number.{is_number, value_of}
 use Rattle.bt_laws.specs.sequences.Cigars.{Divides, division_is_found, division_is_one, is_operation, operations_are_divided, spelled}
 use Rattle.bt_seq.specs.model.Cigar.{Part, each_operation, is_letter, onto_part, operation_of, operations_in, operations_of_parts, parts_of, with_operation, with_part}

@@ -1,23 +1,12 @@
 -- Lemmas on what is written early of masked sequences.
-use Rattle.std.proofs.Common.{◌≡◌, ℕ, true, false, ◌&&◌, List, [], ◌∷◌, ◌++◌, Option, Some, None, map, refl, sym, ap, ◌∙◌}
-use Rattle.std.specs.Prelude.{is_none, is_some}
-use Rattle.std.specs.List.{AllByRecursion, list_all}
-use Rattle.std.proofs.lemmas.Bool.{or_left, or_right}
+use Rattle.bt_lines.proofs.Std.{◌≡◌, ℕ, true, ◌&&◌, List, [], ◌∷◌, ◌++◌, None, refl, sym, ap, ◌∙◌, is_none, AllByRecursion, list_all, or_left, or_right}
 use Rattle.bt_bed.specs.model.feature.Feature.{Feature}
-use Rattle.bt_bed.specs.model.input.Good.{Good, Member, items_in}
+use Rattle.bt_bed.specs.model.input.Good.{Good, items_in}
 use Rattle.bt_bed.specs.model.input.GoodBlocks.{AreInBlocks}
-use Rattle.bt_bed.specs.model.feature.LineKind.{fault_at_line}
-use Rattle.bt_bed.proofs.lemmas.laws.MeetingLemmas.{all_written, met_lines}
+use Rattle.bt_bed.proofs.lemmas.definitions.MeetingLemmas.{all_written, met_lines}
 use Rattle.bt_laws.proofs.lemmas.records.MeetingLemmas.{written_begins}
-use Rattle.bt_lines.specs.model.Fault.{FaultValue}
-use Rattle.bt_lines.specs.declared.fault.Input.TheVariants.{Second}
-use Rattle.bt_lines.specs.declared.fault.Kind.TheVariants.{NoSequence}
-use Rattle.bt_seq.proofs.lemmas.laws.LeftLemmas.{is_last, leave, leave_all}
-use Rattle.bt_seq.proofs.lemmas.laws.MaskPrefixLemmas.{decided_stays, masked_stay, none_next}
-use Rattle.bt_seq.proofs.lemmas.sam.TagLemmas.{AllHaveOne, HasOne, Tagged, blocks_have_one, next_left, spread, tag_items, tags, tags_all}
-use Rattle.bt_seq.specs.calls.MaskPrefixes.{first_unowned_is_told, owned_lack_none}
-use Rattle.bt_seq.specs.model.Masked.{decided, mask_rule, masked_line, no_sequence, no_sequence_for, told_at_first}
-use Rattle.bt_seq.specs.model.Owners.{Block, blocks_by, first_unowned, left_by, owned_from, unowned_or}
+use Rattle.bt_seq.proofs.lemmas.definitions.MaskPrefixLemmas.{decided_stays, masked_stay}
+use Rattle.bt_seq.specs.model.Masked.{decided, mask_rule, masked_line}
 use Rattle.bt_seq.specs.model.Sequences.{SequenceLine}
 use Rattle.bt_seq.specs.declared.mask.mask_how.MaskHow.{MaskHow}
 use Rattle.bt_laws.specs.records.Inputs.{StaysDecided}

@@ -1,9 +1,5 @@
 -- Lemmas on blocks of records, and on the sequences to which they belong.
-use Rattle.std.proofs.Common.{◌≡◌, ℕ, Bool, true, false, cond, List, [], ◌∷◌, ◌++◌, Some, None, refl, ap, arith}
-use Rattle.std.specs.List.{AllByRecursion}
-use Rattle.std.specs.Prelude.{bytes_eq, ◌≢◌}
-use Rattle.std.specs.Cmp.Lexicographic.{bytes_decides}
-use Rattle.std.proofs.lemmas.List.Elements.{All-nil, All-cons}
+use Rattle.bt_lines.proofs.Std.{◌≡◌, ℕ, Bool, true, false, cond, List, [], ◌∷◌, ◌++◌, Some, None, refl, ap, arith, AllByRecursion, bytes_eq, ◌≢◌, bytes_decides, All-nil, All-cons}
 use Rattle.bt_bed.specs.model.feature.Feature.{Feature}
 use Rattle.bt_laws.specs.sequences.Owners.{AreApart, AreOfChrom, DividesAt, blocks_are_maximal_runs, items_of, owners_are_first, unowned_find_no_name}
 use Rattle.bt_seq.specs.model.Owners.{Block, blocks_by, names_behind}

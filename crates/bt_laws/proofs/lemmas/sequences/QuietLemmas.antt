@@ -1,6 +1,5 @@
 -- Lemmas on records that change nothing.
-use Rattle.std.proofs.Common.{◌≡◌, ◌+◌, List, [], ◌∷◌, ◌++◌, length, Ok, Err, refl, sym, ap, ◌∙◌, inl, inr, arith, length-append}
-use Rattle.std.proofs.lemmas.Bool.{false≢true}
+use Rattle.bt_lines.proofs.Std.{◌≡◌, ◌+◌, List, [], ◌∷◌, ◌++◌, length, Ok, Err, refl, sym, ap, ◌∙◌, inl, inr, arith, length-append, false≢true}
 use Rattle.bt_bed.specs.model.feature.Feature.{Feature}
 use Rattle.bt_laws.specs.sequences.Masks.{quiet_records_are_taken}
 use Rattle.bt_bed.specs.declared.record.taken.Taken.TheVariants.{Yes, No}

@@ -1,10 +1,7 @@
 -- Of the records that a masking engine took no prefix decides all lines given.
-use Rattle.std.proofs.Common.{◌≡◌, true, List, [], ◌∷◌, ◌++◌, Option, Some, None, refl, sym, subst, ◌∙◌, inl, inr}
-use Rattle.std.specs.Prelude.{◌⊎◌}
-use Rattle.std.specs.List.{AllByRecursion}
-use Rattle.std.proofs.lemmas.Bool.{false≢true}
+use Rattle.bt_lines.proofs.Std.{◌≡◌, true, List, [], ◌∷◌, ◌++◌, Option, Some, None, refl, sym, subst, ◌∙◌, inl, inr, ◌⊎◌, AllByRecursion, false≢true}
 use Rattle.bt_bed.specs.model.feature.Feature.{Feature}
-use Rattle.bt_seq.proofs.lemmas.laws.MaskPrefixLemmas.{decided_stays}
+use Rattle.bt_seq.proofs.lemmas.definitions.MaskPrefixLemmas.{decided_stays}
 use Rattle.bt_seq.specs.model.Masked.{decided}
 use Rattle.bt_seq.specs.calls.MaskStage.{line_given_last}
 use Rattle.bt_seq.specs.calls.MaskStanding.{IsOpen}

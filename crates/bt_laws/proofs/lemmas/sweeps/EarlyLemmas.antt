@@ -1,31 +1,18 @@
 -- Lemmas on what a sweep decides and writes early.
-use Rattle.std.proofs.Common.{◌≡◌, Bool, true, false, ap₂, List, [], ◌∷◌, ◌++◌, Option, None, refl, sym, ◌∙◌, ℕ, ◌≤◌, ◌⊎◌, inl, inr, not, ◌||◌, ap, subst, arith, ◌-◌, ◌*◌, ◌<◌, ◌&&◌, le-leb, cond, ltb, max, min, bytes_eq}
-use Rattle.std.specs.Prelude.{is_none, IsTrue}
-use Rattle.std.specs.List.{AllByRecursion, list_all}
-use Rattle.std.proofs.lemmas.Bool.{or_right, false≢true, ltb-false, le-ltb, and_from, and_parts, or_left, or_from, ltb-true}
+use Rattle.bt_lines.proofs.Std.{false, List, [], ◌∷◌, ◌++◌, Option, refl, sym, ◌∙◌, not, ◌||◌, ap, ◌-◌, ◌&&◌, ltb, is_none, AllByRecursion, or_right, or_left, list_any-append}
 use Rattle.bt_lines.specs.model.Fault.{FaultValue}
-use Rattle.bt_bed.specs.model.feature.Feature.{Feature, intervals_of, interval_of}
-use Rattle.bt_bed.specs.model.order.Locus.{ArePlaced, is_below_at, IsUpTo}
+use Rattle.bt_bed.specs.model.feature.Feature.{Feature, intervals_of}
+use Rattle.bt_bed.specs.model.order.Locus.{ArePlaced}
 use Rattle.bt_bed.specs.model.order.Order.{Order, IsTotal}
-use Rattle.bt_bed.proofs.lemmas.laws.MeetingLemmas.{all_written, met_lines}
 use Rattle.bt_laws.proofs.lemmas.records.MeetingLemmas.{written_begins}
 use Rattle.bt_sweep.specs.model.Deciding.{decided, decides}
-use Rattle.bt_sweep.specs.model.Hits.{hits_among, has_fraction, hits, is_enough, shared_bases, strands_agree}
-use Rattle.bt_sweep.specs.model.IntersectLines.{intersect, lines_for, lines_of}
-use Rattle.bt_sweep.specs.model.Subtract.{left_are_lines, left_lines, subtract, subtract_is_met, subtract_shape}
-use Rattle.bt_sweep.specs.model.SweepMeeting.{faultless_are_all, sweep_rule}
+use Rattle.bt_sweep.specs.model.Hits.{hits, shared_bases, strands_agree}
+use Rattle.bt_sweep.specs.model.SweepMeeting.{sweep_rule}
 use Rattle.bt_sweep.specs.declared.hits.hit_rule.HitRule.{HitRule}
 use Rattle.bt_sweep.specs.declared.output.shape.Shape.{Shape}
-use Rattle.bt_sweep.specs.declared.output.shape.Shape.TheVariants.{Whole}
-use Rattle.bt_sweep.proofs.lemmas.laws.HitLemmas.{stay_lines}
-use Rattle.std.proofs.lemmas.List.Folds.{list_any-append, list_all-append}
-use Rattle.std.specs.Ordering.{ordering_reverse}
-use Rattle.std.specs.declared.cmp.Ordering.{Ordering}
-use Rattle.std.specs.declared.cmp.Ordering.TheVariants.{Less, Equal, Greater}
-use Rattle.bt_bed.specs.model.input.GoodBed.{locus_at}
-use Rattle.bt_bed.specs.model.feature.Bases.{length_of}
+use Rattle.bt_sweep.proofs.lemmas.definitions.HitLemmas.{stay_lines}
 use Rattle.bt_bed.specs.model.feature.Strands.{is_strand}
-use Rattle.bt_sweep.proofs.lemmas.laws.RuleLemmas.{enough_of_nothing}
+use Rattle.bt_sweep.proofs.lemmas.definitions.RuleLemmas.{enough_of_nothing}
 use Rattle.bt_laws.specs.records.Inputs.{StaysDecided}
 use Rattle.bt_laws.specs.sweeps.Taken.{both_of_nothing, decided_stays, early_rule, written_are_a_prefix}
 

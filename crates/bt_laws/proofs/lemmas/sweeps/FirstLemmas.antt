@@ -1,19 +1,14 @@
 -- The records taken are those before the first that decides all that was given.
-use Rattle.std.proofs.Common.{inl, inr, ◌≡◌, Bool, true, false, not, ◌||◌, cond, List, [], ◌∷◌, ◌++◌, refl, sym, ap, ◌∙◌, subst, append_assoc}
-use Rattle.std.specs.Prelude.{IsTrue}
-use Rattle.std.specs.List.{list_all, take_while}
-use Rattle.std.proofs.lemmas.Bool.{and_parts, or_from, cases_Bool}
-use Rattle.std.proofs.lemmas.List.Sums.{take_while-cons}
-use Rattle.std.proofs.lemmas.List.Folds.{list_any-append}
+use Rattle.bt_lines.proofs.Std.{inl, inr, ◌≡◌, Bool, true, false, not, ◌||◌, cond, List, [], ◌∷◌, ◌++◌, refl, sym, ap, ◌∙◌, subst, append_assoc, IsTrue, list_all, take_while, and_parts, or_from, cases_Bool, take_while-cons, list_any-append}
 use Rattle.bt_sweep.proofs.lemmas.hits.StartedLemmas.{only_one}
 use Rattle.bt_bed.specs.model.feature.Feature.{Feature, intervals_of}
 use Rattle.bt_bed.specs.model.order.Order.{Order, IsTotal}
 use Rattle.bt_bed.specs.model.order.Locus.{ArePlaced}
-use Rattle.bt_sweep.proofs.lemmas.laws.PlacedLemmas.{front_placed}
+use Rattle.bt_sweep.proofs.lemmas.definitions.PlacedLemmas.{front_placed}
 use Rattle.bt_sweep.specs.model.Deciding.{decides, decided}
 use Rattle.bt_sweep.specs.calls.Standing.{leaves_some}
 use Rattle.bt_laws.specs.sweeps.Taken.{taken_are_first}
-use Rattle.bt_sweep.proofs.lemmas.laws.DecidingLemmas.{later_decide}
+use Rattle.bt_sweep.proofs.lemmas.definitions.DecidingLemmas.{later_decide}
 
 last_of_some : (order : Order) (a : Feature) (taken : List Feature) (b : Feature) → IsTotal order → IsTrue (order.knows a.chrom) → ArePlaced order (intervals_of (taken ++ b ∷ [])) → decided order a (taken ++ b ∷ []) ≡ true → decides order a b ≡ true
 last_of_some order a taken b total ka placed some =

@@ -1,27 +1,22 @@
 -- Lemmas on a limit on how many records are held.
-use Rattle.std.proofs.Common.{◌≡◌, ℕ, ◌≤◌, Bool, true, false, not, cond, suc, List, [], ◌∷◌, ◌++◌, Option, Some, None, refl, sym, ap, ◌∙◌, arith, append_assoc, append-nil, filter, length, length-append, ltb, map}
-use Rattle.std.specs.Prelude.{IfSome, if◌then◌else◌, nat_lt}
-use Rattle.std.specs.List.{find, list_all}
-use Rattle.std.proofs.lemmas.Bool.{false≢true, and_from, and_parts, lt-ltb, le-ltb, ltb-true, false_from_ne_true}
+use Rattle.bt_lines.proofs.Std.{◌≡◌, ℕ, Bool, true, false, not, cond, List, [], ◌∷◌, ◌++◌, Option, Some, refl, sym, ap, ◌∙◌, append_assoc, filter, length, map, nat_lt, find, list_all, false≢true, and_from, lt-ltb, ltb-true, false_from_ne_true}
 use Rattle.bt_lines.specs.model.Fault.{FaultValue}
 use Rattle.bt_lines.specs.declared.fault.Input.TheVariants.{Second}
 use Rattle.bt_lines.specs.declared.fault.Kind.TheVariants.{TooManyHeld}
 use Rattle.bt_bed.specs.model.feature.Feature.{Feature}
-use Rattle.bt_bed.specs.model.input.Good.{Good, Member, items_in}
+use Rattle.bt_bed.specs.model.input.Good.{Good, items_in}
 use Rattle.bt_bed.specs.model.feature.LineKind.{fault_at_line}
 use Rattle.bt_bed.specs.model.input.TwoInputReport.{Met, join_report}
 use Rattle.bt_bed.specs.model.order.Order.{Order}
-use Rattle.bt_bed.proofs.lemmas.laws.MeetingLemmas.{all_stop, met_fault_stop, met_lines, written_stop}
+use Rattle.bt_bed.proofs.lemmas.definitions.MeetingLemmas.{all_stop, met_fault_stop, met_lines, written_stop}
 use Rattle.bt_sweep.specs.model.Deciding.{decided}
 use Rattle.bt_sweep.specs.model.IntersectLines.{intersect}
 use Rattle.bt_laws.specs.sweeps.Limits.{HoldsEnough, HoldsTooMany, limit_is_kept, limit_stops}
-use Rattle.bt_sweep.specs.model.Limit.{are_too_many, cut_behind, first_open, held_for, is_held, limited}
-use Rattle.bt_sweep.specs.inside.StateSteps.{are_on, held_with}
-use Rattle.bt_sweep.specs.calls.Steps.{has_room}
+use Rattle.bt_sweep.specs.model.Limit.{are_too_many, cut_behind, held_for, is_held, limited}
 use Rattle.bt_sweep.specs.model.SweepMeeting.{intersect_met, sweep_rule}
 use Rattle.bt_sweep.specs.declared.hits.hit_rule.HitRule.{HitRule}
 use Rattle.bt_sweep.specs.declared.output.shape.Shape.{Shape}
-use Rattle.bt_sweep.proofs.lemmas.laws.LimitLemmas.{cut_here, cut_none, cut_past, many_by, none_many}
+use Rattle.bt_sweep.proofs.lemmas.definitions.LimitLemmas.{cut_here, cut_none, cut_past, many_by, none_many}
 
 module _ (order : Order) (most : ℕ) (second : List Feature) where
   abbrev opens : Feature → Bool

@@ -1,6 +1,5 @@
 -- Records that change nothing but what was taken.
-use Rattle.std.proofs.Common.{inl, inr, Ok, Err, refl, sym, ◌∙◌}
-use Rattle.std.proofs.lemmas.Bool.{false≢true}
+use Rattle.bt_lines.proofs.Std.{inl, inr, Ok, Err, refl, sym, ◌∙◌, false≢true}
 use Rattle.bt_laws.specs.sweeps.Taken.{quiet_are_taken}
 use Rattle.bt_bed.specs.declared.record.taken.Taken.TheVariants.{Yes, No}
 

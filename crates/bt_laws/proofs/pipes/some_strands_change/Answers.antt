@@ -1,4 +1,4 @@
-use Rattle.std.proofs.Common.{refl}
+use Rattle.bt_lines.proofs.Std.{refl}
 use Rattle.std.specs.Fmt.{digits}
 use Rattle.bt_lines.specs.model.Lines.{lines_from}
 use Rattle.bt_lines.specs.model.Number.{value_of}

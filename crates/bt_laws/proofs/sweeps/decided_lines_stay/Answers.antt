@@ -1,5 +1,5 @@
 use Rattle.bt_laws.proofs.lemmas.sweeps.EarlyLemmas.{stays_decided}
-use Rattle.bt_sweep.proofs.lemmas.laws.HitLemmas.{before_lines, stay_lines}
+use Rattle.bt_sweep.proofs.lemmas.definitions.HitLemmas.{before_lines, stay_lines}
 use Rattle.bt_laws.proofs.sweeps.decided_lines_stay.Goals as goal
 
 pub returns-clause-decided : goal.returns-clause-decided

@@ -1,4 +1,4 @@
-use Rattle.bt_sweep.proofs.lemmas.laws.PieceLemmas.{are_pieces, only_pieces}
+use Rattle.bt_sweep.proofs.lemmas.definitions.PieceLemmas.{are_pieces, only_pieces}
 use Rattle.bt_laws.proofs.sweeps.pieces_are_stretches.Goals as goal
 
 pub returns-clause-are : goal.returns-clause-are

@@ -1,4 +1,4 @@
-use Rattle.std.proofs.Common.{refl}
+use Rattle.bt_lines.proofs.Std.{refl}
 use Rattle.std.specs.Fmt.{digits}
 use Rattle.bt_bed.specs.model.feature.Stretches.{stretches_from, with_position}
 use Rattle.bt_sweep.specs.model.Hits.{has_fraction, hits, is_enough, strands_agree}

@@ -1,6 +1,5 @@
 -- Lemmas on devices that play a script.
-use Rattle.std.proofs.Common.{◌≡◌, ℕ, ◌+◌, List, ◌++◌, drop, slice_range, ap, ◌∙◌, sym, arith}
-use Rattle.std.proofs.lemmas.List.Folds.{drop_split}
+use Rattle.bt_lines.proofs.Std.{◌≡◌, ℕ, ◌+◌, List, ◌++◌, drop, slice_range, ap, ◌∙◌, sym, arith, drop_split}
 
 -- the bytes that were handed over, and those still to come
 pub handed_on : (bytes front : List ℕ) (given count : ℕ) → front ≡ slice_range bytes given (given + count) → drop given bytes ≡ front ++ drop (given + count) bytes

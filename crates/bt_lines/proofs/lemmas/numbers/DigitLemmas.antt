@@ -1,13 +1,5 @@
 -- Lemmas on the digits that come first in some bytes.
-use Rattle.std.proofs.Common.{suc, ◌≡◌, ℕ, ◌+◌, ◌*◌, ◌^◌, ◌<◌, ◌≤◌, Bool, ◌||◌, true, false, not, cond, List, [], ◌∷◌, length, map, replicate, take, get_or, refl, sym, ap, subst, ◌∙◌, arith, bit_or}
-use Rattle.std.proofs.Math.Seq.{take-length}
-use Rattle.std.proofs.lemmas.Bool.Decides.{nat_tests}
-use Rattle.std.proofs.lemmas.List.Sums.{prefix_len-le-length, prefix_len_stops}
-use Rattle.std.proofs.lemmas.Nat.{or_block}
-use Rattle.std.proofs.lemmas.Simd.{first_set_mask_l, trailing_mask_l}
-use Rattle.std.specs.Char.{is_ascii_digit}
-use Rattle.std.specs.List.{list_all, prefix_len}
-use Rattle.std.specs.Simd.Lanes.{chunk, mask_l}
+use Rattle.bt_lines.proofs.Std.{suc, ◌≡◌, ℕ, ◌+◌, ◌*◌, ◌^◌, ◌<◌, ◌≤◌, Bool, ◌||◌, true, false, not, cond, List, [], ◌∷◌, length, map, replicate, take, get_or, refl, sym, ap, subst, ◌∙◌, arith, bit_or, take-length, nat_tests, prefix_len-le-length, prefix_len_stops, or_block, first_set_mask_l, trailing_mask_l, is_ascii_digit, list_all, prefix_len, chunk, mask_l}
 use Rattle.bt_lines.specs.inside.Digits.{is_other}
 use lib.Count.{count_trailing_zeros}
 use lib.Lanes.{zip2}

@@ -1,16 +1,5 @@
 -- Lemmas on eight bytes that are read as one number, the first in its lowest byte.
-use Rattle.std.proofs.Common.{zero, suc, inl, inr, ◌≡◌, ℕ, ◌+◌, ◌-◌, ◌*◌, ◌/◌, ◌%◌, ◌^◌, ◌<◌, ◌≤◌, true, false, List, [], ◌∷◌, ◌++◌, drop, length, get_or, length-take-le, subst, Some, None, refl, sym, ap, ◌∙◌, arith, bit_and, bit_or, bit_xor, take, w64, ltb, leb}
-use Rattle.std.proofs.lemmas.Bool.{cases_Bool, and_parts}
-use Rattle.std.proofs.lemmas.Bool.Decides.{nat_tests}
-use Rattle.std.proofs.lemmas.Nat.{and_assoc, and_block, and_comm, and_le_l, and_le_r, and_mask, and_or_apart, and_or_self, mod_below, or_comm, pow-add, shr_split, xor_block, xor_of_8}
-use Rattle.std.proofs.lemmas.Nat.Bits.{and_high}
-use Rattle.std.proofs.Math.Nat.{mul_assoc, pow-suc}
-use Rattle.std.proofs.lemmas.List.{take-append-drop}
-use Rattle.std.specs.Char.{is_ascii_digit, digit_value}
-use Rattle.std.specs.Int.{from_le_bytes}
-use Rattle.std.specs.Int.Bits.{and_zero_r, xor_add_and, xor_zero_r}
-use Rattle.std.specs.List.{list_all}
-use Rattle.std.specs.Str.Parse.{digits_value}
+use Rattle.bt_lines.proofs.Std.{zero, suc, inl, inr, ◌≡◌, ℕ, ◌+◌, ◌-◌, ◌*◌, ◌/◌, ◌%◌, ◌^◌, ◌<◌, ◌≤◌, true, false, List, [], ◌∷◌, ◌++◌, drop, length, get_or, length-take-le, subst, Some, None, refl, sym, ap, ◌∙◌, arith, bit_and, bit_or, bit_xor, take, w64, ltb, leb, cases_Bool, and_parts, nat_tests, and_assoc, and_block, and_comm, and_le_l, and_le_r, and_mask, and_or_apart, and_or_self, mod_below, or_comm, pow-add, shr_split, xor_block, xor_of_8, and_high, mul_assoc, pow-suc, take-append-drop, is_ascii_digit, digit_value, from_le_bytes, and_zero_r, xor_add_and, xor_zero_r, list_all, digits_value}
 use Rattle.bt_lines.proofs.lemmas.numbers.NumberLemmas.{digit_is, refused_second, value_of_digits}
 use Rattle.bt_lines.specs.inside.Digits.{AreOnes}
 use Rattle.bt_lines.specs.model.Number.{value_of}

@@ -1,15 +1,5 @@
 -- Lemmas on the number that a text denotes.
-use Rattle.std.proofs.Common.{[], ◌∷◌, ◌≡◌, ℕ, ◌+◌, ◌-◌, ◌*◌, ◌<◌, ◌≤◌, Bool, true, false, ◌&&◌, List, ◌++◌, length, take, drop, get_or, Some, None, refl, sym, ap, ◌∙◌, arith, ltb, leb, cond, map, ◌^◌, pow-suc, add-one}
-use Rattle.std.proofs.Math.Nat.{pow-le-pow_right}
-use Rattle.std.proofs.lemmas.List.{take-append-drop, map-append, take_all}
-use Rattle.std.proofs.lemmas.List.Folds.{list_all_more, list_all_at}
-use Rattle.std.proofs.lemmas.Bool.{and_parts}
-use Rattle.std.proofs.lemmas.Int.Digits.{digits_value-lt, digits_value_is, digits_value_more, number_after_append, number_after_ge}
-use Rattle.std.proofs.lemmas.Bool.Decides.{nat_tests}
-use Rattle.std.specs.List.{list_all}
-use Rattle.std.specs.Char.{is_ascii_digit, digit_value}
-use Rattle.std.specs.Str.Parse.{AllDigits, digits_value}
-use Rattle.std.specs.Int.Digits.{number_from_digits, number_from_digits_after}
+use Rattle.bt_lines.proofs.Std.{[], ◌∷◌, ◌≡◌, ℕ, ◌+◌, ◌-◌, ◌*◌, ◌<◌, ◌≤◌, Bool, true, false, ◌&&◌, List, ◌++◌, length, take, drop, get_or, Some, None, refl, sym, ap, ◌∙◌, arith, ltb, leb, cond, map, ◌^◌, pow-suc, add-one, pow-le-pow_right, take-append-drop, map-append, take_all, list_all_more, list_all_at, and_parts, digits_value-lt, digits_value_is, digits_value_more, number_after_append, number_after_ge, nat_tests, list_all, is_ascii_digit, digit_value, AllDigits, digits_value, number_from_digits, number_from_digits_after}
 use Rattle.bt_lines.specs.model.Number.{value_of}
 
 -- a chosen value, by the three tests

@@ -1,7 +1,5 @@
 -- Lemmas on what was put and what was taken.
-use Rattle.std.proofs.Common.{◌≡◌, ◌≤◌, ℕ, length, List, ◌++◌, Option, None, Some, refl, sym, ap, ◌∙◌, append_assoc, take, drop, take-append-drop}
-use Rattle.std.proofs.KnownBytes.{Appends-trans}
-use Rattle.std.specs.Io.KnownBytes.{Appends, Keeps, append_known}
+use Rattle.bt_lines.proofs.Std.{◌≡◌, ◌≤◌, ℕ, length, List, ◌++◌, Option, None, Some, refl, sym, ap, ◌∙◌, append_assoc, take, drop, take-append-drop, Appends-trans, Appends, Keeps, append_known}
 use Rattle.bt_lines.specs.calls.Output.{IsPrefixOf, Grows, HoldsBlock, block_size}
 
 -- a part of the piece was taken, and then nothing

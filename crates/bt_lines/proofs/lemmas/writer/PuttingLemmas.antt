@@ -1,10 +1,5 @@
 -- What one put after another does to an output.
-use Rattle.std.proofs.Common.{◌≡◌, ◌≤◌, ◌+◌, arith, length-append, ℕ, Bool, length, List, [], ◌∷◌, ◌++◌, Option, None, Some, Result, Ok, Err, true, false, refl, sym, ap, ◌∙◌, append_assoc, append-nil}
-use Rattle.std.specs.Prelude.{OnOk, OnErr, IfErr, IsErr, flat_map}
-use Rattle.std.proofs.lemmas.Grind.{flat_map-append}
-use Rattle.std.proofs.KnownBytes.{Appends-trans, Appends-nil}
-use Rattle.std.proofs.lemmas.Bool.{false≢true}
-use Rattle.std.specs.Io.KnownBytes.{Appends, append_known}
+use Rattle.bt_lines.proofs.Std.{◌≡◌, ◌≤◌, ◌+◌, arith, length-append, ℕ, Bool, length, List, [], ◌∷◌, ◌++◌, Option, None, Some, Result, Ok, Err, true, false, refl, sym, ap, ◌∙◌, append_assoc, append-nil, OnOk, OnErr, IfErr, IsErr, flat_map, flat_map-append, Appends-trans, Appends-nil, false≢true, Appends, append_known}
 use Rattle.bt_lines.proofs.lemmas.writer.OutputLemmas.{holds_held, grows_both}
 use Rattle.bt_lines.specs.model.Fault.{FaultValue, write_failed}
 use Rattle.bt_lines.specs.calls.Names.{fault_value}

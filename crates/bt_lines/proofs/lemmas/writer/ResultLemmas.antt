@@ -1,5 +1,5 @@
 -- Lemmas on clauses that speak of one outcome.
-use Rattle.std.specs.Prelude.{Result, Ok, Err, OnErr}
+use Rattle.bt_lines.proofs.Std.{Result, Ok, Err, OnErr}
 
 -- what always holds, holds at an error
 pub always_err : {T E P : Type 0} (r : Result T E) → P → OnErr r P

@@ -1,11 +1,5 @@
 -- A start and a stop that are written to the right of where they belong, and moved there.
-use Rattle.std.proofs.Common.{◌≡◌, ℕ, ◌+◌, ◌-◌, ◌^◌, ◌<◌, ◌≤◌, List, [], ◌∷◌, ◌++◌, sym, ap, ◌∙◌, append_assoc, arith, decimal, drop, length, length-append, length-take-le, refl, set, take}
-use Rattle.std.proofs.lemmas.Fmt.{length-decimal-le}
-use Rattle.std.proofs.Math.Seq.{take-add}
-use Rattle.std.proofs.lemmas.List.{drop-set, drop_at, length-drop, take-append-le, take-take, take_at}
-use Rattle.std.proofs.lemmas.Simd.{length-chunk, take_more_put_chunk}
-use Rattle.std.proofs.lemmas.Slice.{take-put_mid, take-put_mid_below}
-use Rattle.std.specs.Simd.Lanes.{chunk, put_chunk}
+use Rattle.bt_lines.proofs.Std.{◌≡◌, ℕ, ◌+◌, ◌-◌, ◌^◌, ◌<◌, ◌≤◌, List, [], ◌∷◌, ◌++◌, sym, ap, ◌∙◌, append_assoc, arith, decimal, drop, length, length-append, length-take-le, refl, set, take, length-decimal-le, take-add, drop-set, drop_at, length-drop, take-append-le, take-take, take_at, length-chunk, take_more_put_chunk, take-put_mid, take-put_mid_below, chunk, put_chunk}
 use Rattle.bt_lines.specs.calls.Putting.{span_text}
 use borrow.Rule.Slice.PartMut.{put_mid}
 

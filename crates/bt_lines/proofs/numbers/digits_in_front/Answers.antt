@@ -1,4 +1,4 @@
-use Rattle.std.proofs.Common.{arith}
+use Rattle.bt_lines.proofs.Std.{arith}
 use Rattle.bt_lines.proofs.lemmas.numbers.DigitLemmas.{front_part, front_whole}
 use Rattle.bt_lines.proofs.numbers.digits_in_front.Goals as goal
 

@@ -1,4 +1,4 @@
-use Rattle.std.proofs.Common.{Some, ap, bit_xor, subst, ◌∙◌, ◌≡◌, ℕ}
+use Rattle.bt_lines.proofs.Std.{Some, ap, bit_xor, subst, ◌∙◌, ◌≡◌, ℕ}
 use Rattle.bt_lines.proofs.lemmas.numbers.EightLemmas.{are_bytes, digits_by_halves, halves_in, none_by_halves, ones_read, value_of_eight_digits}
 use Rattle.bt_lines.proofs.numbers.eight_digits.Goals as goal
 

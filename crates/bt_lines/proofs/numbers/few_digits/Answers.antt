@@ -1,4 +1,4 @@
-use Rattle.std.proofs.Common.{◌∙◌}
+use Rattle.bt_lines.proofs.Std.{◌∙◌}
 use Rattle.bt_lines.proofs.lemmas.numbers.EightLemmas.{are_bytes, few_read, padded, padded_value, shifted}
 use Rattle.bt_lines.proofs.numbers.few_digits.Goals as goal
 

@@ -1,7 +1,4 @@
-use Rattle.std.proofs.Common.{◌≡◌, ◌≤◌, true, take}
-use Rattle.std.specs.Char.{is_ascii_digit}
-use Rattle.std.specs.List.{list_all}
-use Rattle.std.specs.Str.Parse.{digits_value}
+use Rattle.bt_lines.proofs.Std.{◌≡◌, ◌≤◌, true, take, is_ascii_digit, list_all, digits_value}
 use Rattle.bt_lines.proofs.numbers.long_number.Given as goal
 
 -- the value so far is that of the digits so far

@@ -1,7 +1,4 @@
-use Rattle.std.proofs.Common.{◌%◌, ◌^◌, ◌∙◌, ap, arith, ltb, replicate, sym, w8}
-use Rattle.std.proofs.lemmas.List.{length-map}
-use Rattle.std.proofs.lemmas.Simd.{mask_l-mod, tops_compared, zip2_splat}
-use Rattle.std.specs.Simd.Lanes.{mask_l}
+use Rattle.bt_lines.proofs.Std.{◌%◌, ◌^◌, ◌∙◌, ap, arith, ltb, replicate, sym, w8, length-map, mask_l-mod, tops_compared, zip2_splat, mask_l}
 use Rattle.bt_lines.proofs.lemmas.numbers.DigitLemmas.{or_masks, splat_before}
 use Rattle.bt_lines.proofs.numbers.other_bits.Goals as goal
 use lib.Lanes.{zip2}

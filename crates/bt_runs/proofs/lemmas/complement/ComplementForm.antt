@@ -1,7 +1,6 @@
 -- What a complement says of one chromosome: its gaps, if they are wanted; those that are done by the last start, and the place up to which they are.
 -- The file has what it owes of one chromosome.
-use Rattle.std.proofs.Common.{◌≡◌, ℕ, ◌<◌, inl, inr, List, [], ◌∷◌, ◌++◌, refl, ap, ◌∙◌, map, filter, flat_map, cond, not, nat_le, nat_lt, Bool, true, false, bytes_eq, ◌≤◌, sym, arith, max, min}
-use Rattle.std.proofs.lemmas.Bool.{cases_Bool, cases_lt, cond-true, or_right, lt-ltb, le-ltb, lt-leb, le-leb}
+use Rattle.bt_lines.proofs.Std.{◌≡◌, ℕ, ◌<◌, inl, inr, List, [], ◌∷◌, ◌++◌, refl, ap, ◌∙◌, map, filter, flat_map, cond, not, nat_le, nat_lt, Bool, true, false, bytes_eq, ◌≤◌, sym, arith, max, min, cases_Bool, cases_lt, cond-true, or_right, lt-ltb, le-ltb, lt-leb, le-leb, map-append}
 use Rattle.std.specs.declared.cmp.Ordering.TheVariants.{Less, Equal, Greater}
 use Rattle.bt_bed.specs.model.feature.Feature.{Feature, intervals_of, interval_of}
 use Rattle.bt_bed.specs.model.order.Genome.{Entry, genome_names}
@@ -10,11 +9,10 @@ use Rattle.bt_bed.specs.model.order.Rank.{rank_order}
 use Rattle.bt_bed.specs.model.order.Contiguous.{has_records}
 use Rattle.bt_runs.specs.model.Gaps.{gaps_of, gaps_on, is_asked, is_over, is_over_at, complement, over_by, settled_gaps}
 use Rattle.bt_runs.specs.inside.walk.GapStep.{bare_gap, gap_between, gap_walk}
-use Rattle.bt_runs.proofs.lemmas.laws.EachLemmas.{filter_map_all, filter_map_none}
-use Rattle.bt_runs.proofs.lemmas.laws.Standing.{has_records-push, compare_same}
+use Rattle.bt_runs.proofs.lemmas.definitions.EachLemmas.{filter_map_all, filter_map_none}
+use Rattle.bt_runs.proofs.lemmas.definitions.Standing.{has_records-push, compare_same}
 use Rattle.bt_runs.proofs.lemmas.order.ChromosomeLemmas.{spans_on-push_elsewhere, spans_on-none, spans_on-push_here}
 use Rattle.bt_runs.proofs.lemmas.complement.OneGap.{OneGap, no_gap, one_gaps, span_between, EndBy, cover_gap, end_between, end_both, end_later}
-use Rattle.std.proofs.lemmas.List.{map-append}
 use Rattle.bt_runs.proofs.lemmas.order.ByChromosome.{Divides, NoRecords, Owes, Written, intervals_next, picks_by}
 use Rattle.bt_runs.proofs.lemmas.complement.Walks.{Walked, form_of}
 

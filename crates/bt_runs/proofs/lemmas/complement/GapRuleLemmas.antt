@@ -1,8 +1,5 @@
 -- What the rule of a complement does with a record: by the step of its walk, and so after every past.
-use Rattle.std.proofs.Common.{◌≡◌, ◌⊎◌, ℕ, List, [], ◌∷◌, ◌++◌, refl, sym, ap, ap₂, ◌∙◌, inl, inr, arith, suc, min, max, length, nat_lt, bytes_eq, eqb, Bool, true, false, Option, None, Some, Result, Ok, Err, OnOk, option_map}
-use Rattle.std.specs.Option.{option_eq}
-use Rattle.std.proofs.lemmas.Bool.{cases_Bool, cond-true, cond-false, eqb-false, eqb-true, le-ltb}
-use Rattle.std.proofs.lemmas.Grind.{flat_map-append}
+use Rattle.bt_lines.proofs.Std.{◌≡◌, ◌⊎◌, ℕ, List, [], ◌∷◌, ◌++◌, refl, sym, ap, ap₂, ◌∙◌, inl, inr, arith, suc, min, max, length, nat_lt, bytes_eq, eqb, Bool, true, false, Option, None, Some, Result, Ok, Err, OnOk, option_map, option_eq, cases_Bool, cond-true, cond-false, eqb-false, eqb-true, le-ltb, flat_map-append}
 use Rattle.bt_lines.specs.calls.Names.{fault_value}
 use Rattle.bt_lines.specs.calls.Output.{Output}
 use Rattle.bt_lines.specs.calls.Putting.{Adds, FailsToAdd, Grown}
@@ -27,7 +24,7 @@ use Rattle.bt_runs.specs.declared.complement.gap_cursor.GapCursor.{GapCursor}
 use Rattle.bt_runs.proofs.lemmas.complement.GapSteps.{held_kept, leaves, moves}
 use Rattle.bt_runs.proofs.lemmas.order.GenomeRanks.{found_at, found_entry, name_at, size_ranked}
 use Rattle.bt_runs.proofs.lemmas.engine.EnterLemmas.{enters, enters_cut, none_more}
-use Rattle.bt_runs.proofs.lemmas.laws.Standing.{found}
+use Rattle.bt_runs.proofs.lemmas.definitions.Standing.{found}
 use Rattle.bt_runs.proofs.lemmas.complement.Walks.{entered_steps, going_on, going_to, step_goes, step_starts}
 
 none_mapped : (o : Option ℕ) → option_map (λ n. suc n) o ≡ None → o ≡ None

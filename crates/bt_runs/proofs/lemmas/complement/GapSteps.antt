@@ -1,8 +1,8 @@
 -- What a complement keeps shows which chromosome its walk has reached, and up to where; so its exact step writes what the records settle.
-use Rattle.std.proofs.Common.{◌≡◌, ℕ, List, [], ◌∷◌, ◌++◌, refl, ◌∙◌, subst, sym, flat_map, Bool, true, Option, Some, ◌≤◌, ap₂, arith, length, None}
+use Rattle.bt_lines.proofs.Std.{◌≡◌, ℕ, List, [], ◌∷◌, ◌++◌, refl, ◌∙◌, subst, sym, flat_map, Bool, true, Option, Some, ap₂, length, None}
 use Rattle.bt_bed.specs.model.feature.Feature.{Feature, intervals_of}
 use Rattle.bt_bed.specs.model.order.Genome.{Entry, genome_names}
-use Rattle.bt_bed.specs.model.feature.Interval.{Interval, last_of}
+use Rattle.bt_bed.specs.model.feature.Interval.{last_of}
 use Rattle.bt_bed.specs.model.order.Locus.{Locus}
 use Rattle.bt_bed.specs.model.order.Rank.{AreDistinct}
 use Rattle.bt_runs.specs.inside.walk.GapStep.{bare_gap, last_gap}
@@ -11,7 +11,7 @@ use Rattle.bt_runs.specs.calls.Settling.{Settles}
 use Rattle.bt_runs.specs.inside.walk.Walk.{AreReached, Place, left_before, places}
 use Rattle.bt_runs.proofs.lemmas.complement.ComplementForm.{Own, gaps, owes, written}
 use Rattle.bt_runs.proofs.lemmas.order.GenomeRanks.{name_at, size_there}
-use Rattle.bt_runs.proofs.lemmas.laws.Standing.{apart}
+use Rattle.bt_runs.proofs.lemmas.definitions.Standing.{apart}
 use Rattle.bt_runs.proofs.lemmas.complement.Walks.{Held, Steps, ends, rank_entry, reaches, same_place, settles_items, steps, taken_front}
 
 -- with -L no chromosome without records is written

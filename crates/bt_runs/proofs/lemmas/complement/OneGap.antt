@@ -1,15 +1,12 @@
 -- The gaps of a chromosome are the stretches of its bare positions, and the only list that is. With starts that don't fall one of them is open: the one that the last record's end begins.
-use Rattle.std.proofs.Common.{ℕ, List, not, Decides, ◌≡◌, ◌+◌, ◌<◌, ◌≤◌, inl, inr, [], ◌∷◌, ◌++◌, sym, arith, max, min, cond, nat_lt, append_assoc}
-use Rattle.std.proofs.lemmas.Bool.Decides.{Decides-not}
+use Rattle.bt_lines.proofs.Std.{ℕ, List, not, Decides, ◌≡◌, ◌+◌, ◌<◌, ◌≤◌, inl, inr, [], ◌∷◌, ◌++◌, sym, arith, max, min, cond, nat_lt, append_assoc, Decides-not, ⊤, cases_lt, cond-true, cond-false, lt-ltb, le-ltb}
 use Rattle.bt_bed.specs.model.feature.Interval.{Span}
 use Rattle.bt_bed.specs.model.feature.Stretches.{IsCovered, AreApartFrom, AreStretchesOf}
 use Rattle.bt_runs.specs.model.Merged.{is_covered, end_of}
 use Rattle.bt_runs.specs.model.Gaps.{IsBare, gaps_of, gaps_are, gaps_only}
-use Rattle.bt_bed.proofs.lemmas.laws.Apart.{stretches_are_same}
-use Rattle.bt_bed.proofs.lemmas.laws.Scan.{scan_finds}
+use Rattle.bt_bed.proofs.lemmas.definitions.Apart.{stretches_are_same}
+use Rattle.bt_bed.proofs.lemmas.definitions.Scan.{scan_finds}
 use Rattle.bt_runs.proofs.lemmas.merge.Bridging.{is_covered-Decides, covered_last, covered_left, covered_parts, covered_right}
-use Rattle.std.specs.Prelude.{⊤}
-use Rattle.std.proofs.lemmas.Bool.{cases_lt, cond-true, cond-false, lt-ltb, le-ltb}
 
 pub is_bare-Decides : (spans : List Span) (p : ℕ) → Decides (not (is_covered spans p)) (IsCovered spans p → ⊥)
 is_bare-Decides spans p = Decides-not (is_covered spans p) (is_covered-Decides spans p)

@@ -1,5 +1,5 @@
 -- An engine that goes through the chromosomes of a genome file. One more record moves what is settled and what is reached as its walk's step says. At the end what its walk leaves is left. Complement and coverage are such engines; `ComplementForm` and `CoverageForm` have what each owes of one chromosome.
-use Rattle.std.proofs.Common.{◌≡◌, ℕ, ◌+◌, ◌≤◌, inl, inr, List, [], ◌∷◌, ◌++◌, refl, sym, ap, ap₂, ◌∙◌, subst, arith, append-nil, append_assoc, flat_map, length, length-append, slice_range, true, false, Option, Some, None}
+use Rattle.bt_lines.proofs.Std.{◌≡◌, ℕ, ◌+◌, ◌≤◌, inl, inr, List, [], ◌∷◌, ◌++◌, refl, sym, ap, ap₂, ◌∙◌, subst, arith, append-nil, append_assoc, flat_map, length, length-append, slice_range, true, false, Option, Some, None}
 use Rattle.bt_bed.specs.model.feature.Feature.{Feature, interval_of, intervals_of}
 use Rattle.bt_bed.specs.model.order.Genome.{Entry, genome_names}
 use Rattle.bt_bed.specs.model.feature.Interval.{Interval}
@@ -11,7 +11,7 @@ use Rattle.bt_runs.specs.calls.Settling.{Settles}
 use Rattle.bt_runs.specs.inside.walk.Walk.{AreReached, IsPlaced, Place, Walk, entry_at, going, going_at, is_on, left_before, places, step_from, taking, walk_step}
 use Rattle.bt_runs.proofs.lemmas.order.ByChromosome.{Begun, Form, InOrder, Moves, Owes, Standing, Written, begun, full_last, goes_first, goes_next, goes_on, goes_to, order_front, parts_none, settling, whole_left}
 use Rattle.bt_runs.proofs.lemmas.order.GenomeRanks.{entry_there, name_at, slice_between}
-use Rattle.bt_runs.proofs.lemmas.laws.Standing.{GoesTo, begins_at, last_rank, none_at_first}
+use Rattle.bt_runs.proofs.lemmas.definitions.Standing.{GoesTo, begins_at, last_rank, none_at_first}
 
 -- what such an engine says of its items: how it walks, and what else its `Form` has
 pub record Walked (T S : Type 0) : Type 0 where

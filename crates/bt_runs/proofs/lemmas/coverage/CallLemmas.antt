@@ -1,6 +1,5 @@
 -- What a call of an engine does, taken apart: from `Feeds` and `Finishes` to a fact for each clause, and back.
-use Rattle.std.proofs.Common.{◌≡◌, ℕ, List, Option, None, Some, Result, Ok, Err, IfErr, sym, ap, ◌∙◌, inl, inr}
-use Rattle.std.specs.Prelude.{MatchResult}
+use Rattle.bt_lines.proofs.Std.{◌≡◌, ℕ, List, Option, None, Some, Result, Ok, Err, IfErr, sym, ap, ◌∙◌, inl, inr, MatchResult}
 use Rattle.bt_lines.specs.model.Fault.{FaultValue, no_memory, write_failed}
 use Rattle.bt_lines.specs.calls.Names.{fault_value}
 use Rattle.bt_lines.specs.calls.Output.{Output}

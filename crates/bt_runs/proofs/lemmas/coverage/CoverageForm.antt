@@ -1,7 +1,5 @@
 -- What a count of depths says of one chromosome, and what it owes of it. It says which intervals are settled by the last start, and what is known for the rest.
-use Rattle.std.proofs.Common.{◌≡◌, ℕ, ◌<◌, ◌≤◌, ◌+◌, List, [], ◌∷◌, ◌++◌, refl, sym, ap, ap₂, ◌∙◌, filter, nat_lt, Bool, true, false, append-nil, Option}
-use Rattle.std.proofs.lemmas.Bool.{lt-ltb, le-ltb}
-use Rattle.std.proofs.lemmas.List.{map-append}
+use Rattle.bt_lines.proofs.Std.{◌≡◌, ℕ, ◌<◌, ◌≤◌, ◌+◌, List, [], ◌∷◌, ◌++◌, refl, sym, ap, ap₂, ◌∙◌, filter, nat_lt, Bool, true, false, append-nil, Option, lt-ltb, le-ltb, map-append}
 use Rattle.std.specs.declared.cmp.Ordering.TheVariants.{Equal}
 use Rattle.bt_bed.specs.model.feature.Feature.{Feature, interval_of, intervals_of}
 use Rattle.bt_bed.specs.model.order.Genome.{Entry, genome_names}
@@ -15,8 +13,8 @@ use Rattle.bt_runs.specs.model.Levels.{Level, levels_of}
 use Rattle.bt_runs.proofs.lemmas.order.ByChromosome.{Divides, NoRecords, Owes, Written, picks_by}
 use Rattle.bt_runs.proofs.lemmas.coverage.DepthLemmas.{counted_elsewhere, counted_here, counted_append, counted_none}
 use Rattle.bt_runs.specs.model.Gaps.{is_over_at}
-use Rattle.bt_runs.proofs.lemmas.laws.EachLemmas.{filter_map_all, filter_map_none}
-use Rattle.bt_runs.proofs.lemmas.laws.Standing.{compare_same}
+use Rattle.bt_runs.proofs.lemmas.definitions.EachLemmas.{filter_map_all, filter_map_none}
+use Rattle.bt_runs.proofs.lemmas.definitions.Standing.{compare_same}
 use Rattle.bt_runs.proofs.lemmas.coverage.OneDepth.{bare_levels, known_at, known_first, known_next, left_end, settled_and_left, settled_at, settled_end, settled_first, settled_next, start_same, with_counted}
 use Rattle.bt_runs.proofs.lemmas.coverage.LevelLemmas.{StopIn}
 use Rattle.bt_runs.proofs.lemmas.complement.Walks.{Walked, form_of}

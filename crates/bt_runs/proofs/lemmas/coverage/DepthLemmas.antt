@@ -1,8 +1,5 @@
 -- The depth of the positions past the last start: that of the records that are open there.
-use Rattle.std.proofs.Common.{◌≡◌, ℕ, ◌+◌, ◌<◌, ◌≤◌, inl, inr, List, [], ◌∷◌, ◌++◌, refl, sym, ap, ap₂, ◌∙◌, arith, length, length-append, map, filter, min, cond, nat_le, nat_lt, Bool, true, false, bytes_eq, Option}
-use Rattle.std.proofs.lemmas.Bool.{cases_Bool, cases_lt, or_parts, lt-ltb, le-ltb, lt-leb}
-use Rattle.std.proofs.lemmas.List.{map-append}
-use Rattle.std.proofs.lemmas.List.Elements.{filter-append}
+use Rattle.bt_lines.proofs.Std.{◌≡◌, ℕ, ◌+◌, ◌<◌, ◌≤◌, inl, inr, List, [], ◌∷◌, ◌++◌, refl, sym, ap, ap₂, ◌∙◌, arith, length, length-append, map, filter, min, cond, nat_le, nat_lt, Bool, true, false, bytes_eq, Option, cases_Bool, cases_lt, or_parts, lt-ltb, le-ltb, lt-leb, map-append, filter-append}
 use Rattle.bt_bed.specs.model.feature.Feature.{Feature, interval_of, intervals_of}
 use Rattle.bt_bed.specs.model.feature.Interval.{Span, span_of, spans_on}
 use Rattle.bt_bed.specs.model.order.Contiguous.{has_records}

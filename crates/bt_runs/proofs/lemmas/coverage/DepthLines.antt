@@ -1,16 +1,13 @@
 -- The lines of intervals with their depths, and what the private calls of a coverage write of them.
-use Rattle.std.proofs.Common.{◌≡◌, ℕ, List, [], ◌∷◌, ◌++◌, Result, Err, sym, ap, ◌∙◌, append_assoc, codes, decimal, arith, length, length-append, ◌<◌, refl, Bool, true, false}
-use Rattle.std.proofs.lemmas.List.{map-append}
+use Rattle.bt_lines.proofs.Std.{◌≡◌, ℕ, List, [], ◌∷◌, ◌++◌, Result, Err, sym, ap, ◌∙◌, append_assoc, codes, decimal, arith, length, length-append, ◌<◌, refl, Bool, true, false, map-append, lt-ltb}
 use Rattle.bt_lines.specs.calls.Names.{fault_value}
 use Rattle.bt_lines.specs.calls.Output.{Output}
 use Rattle.bt_lines.specs.calls.Putting.{Adds, FailsToAdd, Grown, Puts}
 use Rattle.bt_lines.specs.declared.fault.Fault.{Fault}
 use Rattle.bt_lines.proofs.lemmas.writer.PuttingLemmas.{line_alone, adds_lines, cut_lines}
 use Rattle.bt_runs.specs.model.Depth.{DepthInterval, depth_line, depth_lines, depth_on}
-use Rattle.bt_runs.specs.inside.coverage.DepthStep.{levels_on, bare_of}
-use Rattle.bt_runs.specs.inside.coverage.DepthStep.{depth_text}
+use Rattle.bt_runs.specs.inside.coverage.DepthStep.{levels_on, bare_of, depth_text}
 use Rattle.bt_runs.specs.model.Levels.{Level}
-use Rattle.std.proofs.lemmas.Bool.{lt-ltb}
 use Rattle.bt_bed.specs.model.order.Genome.{Entry}
 use Rattle.bt_runs.specs.inside.walk.Walk.{entry_at}
 

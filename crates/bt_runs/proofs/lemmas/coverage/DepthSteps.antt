@@ -1,5 +1,5 @@
 -- A coverage walks as any engine that goes through a genome file. What it holds is what the definitions keep of the records of the past, and so its exact step writes what they settle.
-use Rattle.std.proofs.Common.{◌≡◌, List, [], ◌∷◌, ◌++◌, length, Bool, true, false, Option, ℕ, inl, inr, refl, sym, ap, ap₂, ◌∙◌, subst, arith, min, Some, None, Result, Ok, Err}
+use Rattle.bt_lines.proofs.Std.{◌≡◌, List, [], ◌∷◌, ◌++◌, length, Bool, true, false, Option, ℕ, inl, inr, refl, sym, ap, ap₂, ◌∙◌, subst, arith, min, Some, None, Result, Ok, Err, cases_lt, lt-ltb, le-ltb, flat_map-append}
 use Rattle.bt_bed.specs.model.feature.Feature.{Feature, intervals_of}
 use Rattle.bt_bed.specs.model.order.Genome.{Entry, genome_names}
 use Rattle.bt_bed.specs.model.order.Rank.{AreDistinct, rank_of}
@@ -12,8 +12,6 @@ use Rattle.bt_runs.specs.inside.walk.Walk.{AreReached, Place, is_on, left_before
 use Rattle.bt_runs.proofs.lemmas.coverage.CoverageForm.{Own, depths, owes, written}
 use Rattle.bt_runs.proofs.lemmas.complement.Walks.{Held, Steps, ends, entered_steps, going_on, going_to, reaches, settles_items, step_goes, steps, rank_entry, same_place, taken_front}
 use Rattle.bt_lines.proofs.lemmas.writer.PuttingLemmas.{grown_none}
-use Rattle.std.proofs.lemmas.Bool.{cases_lt, lt-ltb, le-ltb}
-use Rattle.std.proofs.lemmas.Grind.{flat_map-append}
 use Rattle.bt_lines.specs.calls.Output.{Output}
 use Rattle.bt_lines.specs.calls.Putting.{Adds, FailsToAdd, Grown}
 use Rattle.bt_lines.specs.calls.Names.{fault_value}
@@ -27,7 +25,7 @@ use Rattle.bt_runs.proofs.lemmas.coverage.DepthLemmas.{none_open}
 use Rattle.bt_runs.proofs.lemmas.complement.GapRuleLemmas.{on_found}
 use Rattle.bt_runs.proofs.lemmas.engine.EnterLemmas.{enters, enters_cut}
 use Rattle.bt_runs.proofs.lemmas.order.GenomeRanks.{found_at, name_at, size_there}
-use Rattle.bt_runs.proofs.lemmas.laws.Standing.{apart}
+use Rattle.bt_runs.proofs.lemmas.definitions.Standing.{apart}
 
 module _ (zeros : Bool) (strand : Option Strand) (entries : List Entry) where
   abbrev pub Reaches : List Feature → Option (Place Known) → Type 0

@@ -1,5 +1,5 @@
 -- The walk over the positions of a chromosome, from one where the depth changes to the next.
-use Rattle.std.proofs.Common.{◌≡◌, ℕ, ◌+◌, ◌-◌, ◌<◌, ◌≤◌, List, [], ◌++◌, refl, sym, ap, ap₂, ◌∙◌, append_assoc, append-nil, arith, length, Bool, Option, All}
+use Rattle.bt_lines.proofs.Std.{◌≡◌, ℕ, ◌+◌, ◌-◌, ◌<◌, ◌≤◌, List, [], ◌++◌, refl, sym, ap, ap₂, ◌∙◌, append_assoc, append-nil, arith, length, Bool, Option, All}
 use Rattle.bt_bed.specs.model.feature.Interval.{Span}
 use Rattle.bt_runs.specs.model.Depth.{depth_of, reported}
 use Rattle.bt_runs.specs.inside.coverage.DepthStep.{still_open}

@@ -1,10 +1,6 @@
 -- A scan of the positions finds the intervals of equal value, and no other list has them; scans in parts, and scans that see the same values.
-use Rattle.std.proofs.Common.{◌≡◌, ℕ, zero, suc, ◌+◌, ◌<◌, ◌≤◌, inl, inr, List, [], ◌∷◌, ◌++◌, refl, sym, ap, ap₂, ◌∙◌, subst, arith, append_assoc, map, cond, Bool, true, false, ◌==◌, Option, Some, None, IsTrue, append-nil}
-use Rattle.std.proofs.lemmas.Bool.{cases_Bool, cases_lt, cases_eq, cond-true, eq-eqb, eqb-true}
-use Rattle.bt_bed.specs.model.feature.Interval.{Span}
-use Rattle.bt_bed.specs.model.feature.Stretches.{AreApartFrom, IsCovered}
-use Rattle.bt_runs.specs.model.Levels.{Begun, Level, begun_after, ended_after, ended_at, levels_from, levels_of, next_begun, next_ended, begun_at, goes_on}
-use Rattle.std.specs.Prelude.{⊤}
+use Rattle.bt_lines.proofs.Std.{◌≡◌, ℕ, zero, suc, ◌+◌, ◌<◌, ◌≤◌, inl, inr, List, [], ◌∷◌, ◌++◌, refl, sym, ap, ◌∙◌, arith, append_assoc, true, ◌==◌, Option, Some, None, append-nil, cases_Bool, eq-eqb, ⊤}
+use Rattle.bt_runs.specs.model.Levels.{Begun, Level, begun_after, ended_after, ended_at, levels_from, next_begun, next_ended, begun_at, goes_on}
 
 pub levels_more : (value : ℕ → Option ℕ) (p n : ℕ) (begun : Option Begun) → levels_from value p (suc n) begun ≡ next_ended p (value p) begun ++ levels_from value (p + 1) n (next_begun p (value p) begun)
 unfolding begun_after ended_after

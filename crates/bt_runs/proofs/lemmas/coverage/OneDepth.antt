@@ -1,6 +1,5 @@
 -- The depths of one chromosome whose starts don't fall: those that are settled by the last start, what is known for the rest, and which interval is unfinished there.
-use Rattle.std.proofs.Common.{◌≡◌, ℕ, ◌+◌, ◌-◌, ◌<◌, ◌≤◌, inl, inr, List, [], ◌∷◌, ◌++◌, refl, sym, ap, ap₂, ◌∙◌, subst, arith, append_assoc, append-nil, cond, nat_lt, Bool, true, false, Option, None, zero, suc, Some}
-use Rattle.std.proofs.lemmas.Bool.{cases_Bool, cases_lt, lt-ltb, le-ltb, lt-leb, le-leb}
+use Rattle.bt_lines.proofs.Std.{◌≡◌, ℕ, ◌+◌, ◌-◌, ◌<◌, ◌≤◌, inl, inr, List, [], ◌∷◌, ◌++◌, refl, sym, ap, ap₂, ◌∙◌, subst, arith, append_assoc, append-nil, cond, nat_lt, Bool, true, false, Option, None, zero, suc, Some, cases_Bool, cases_lt, lt-ltb, le-ltb, lt-leb, le-leb}
 use Rattle.bt_bed.specs.model.feature.Interval.{Span}
 use Rattle.bt_runs.specs.model.Depth.{depth_of, open_at, reported, begun_across}
 use Rattle.bt_runs.specs.inside.coverage.DepthStep.{Known, bare_level, known_by, levels_by, levels_left, opened, start_from, still_open, unknown}

@@ -1,21 +1,12 @@
 -- The records that are open at a position and at later ones, how many of them cover a position, and their ends, counted by every test of an end.
-use Rattle.std.proofs.Common.{◌≡◌, ℕ, ◌+◌, ◌<◌, ◌≤◌, inl, inr, List, [], ◌∷◌, ◌++◌, refl, sym, ap, ◌∙◌, arith, All, filter, length, max, nat_le, not, leb-true, false, cond, ◌&&◌, nat_lt, slice_index_or, subst, drop, Bool, MatchBool, true, IfSome, IsSome, Option, Some, None}
-use Rattle.std.proofs.lemmas.Bool.{cases_Bool, cases_lt, lt-ltb, le-ltb, lt-leb, le-leb}
-use Rattle.std.proofs.lemmas.List.{length-map, map-append}
-use Rattle.std.proofs.lemmas.List.Filters.{length-filter_both}
-use Rattle.std.proofs.lemmas.List.Elements.{All-cons, All-filter, All-head, All-nil, All-tail, All-weaker, filter-append, filter_agree, filter_passes}
+use Rattle.bt_lines.proofs.Std.{◌≡◌, ℕ, ◌+◌, ◌<◌, ◌≤◌, inl, inr, List, [], ◌∷◌, ◌++◌, refl, sym, ap, ◌∙◌, arith, All, filter, length, max, nat_le, not, leb-true, false, cond, ◌&&◌, nat_lt, slice_index_or, subst, drop, Bool, MatchBool, true, IfSome, IsSome, Option, Some, None, cases_Bool, cases_lt, lt-ltb, le-ltb, lt-leb, le-leb, length-map, map-append, length-filter_both, All-cons, All-filter, All-head, All-nil, All-tail, All-weaker, filter-append, filter_agree, filter_passes, IsUpperBound, PopsGreatest, IsPermutation, is_lt, nat_cmp, IsPermutation-map, sum_by-IsPermutation, length-filter}
 use Rattle.bt_bed.specs.model.feature.Interval.{Span}
 use Rattle.bt_runs.specs.model.Depth.{covers, depth_at}
 use Rattle.bt_runs.specs.inside.coverage.DepthStep.{still_open}
 use Rattle.bt_runs.specs.inside.coverage.OpenEnds.{CountsFrom, IsLeastFirst, StartsBelow, ends_of}
 use Rattle.bt_runs.specs.inside.coverage.OpenRecords.{CountsEnds, KeepsOpen, span_open, spans_open}
 use Rattle.bt_runs.specs.declared.coverage.open_records.OpenSpan.{OpenSpan}
-use Rattle.std.specs.BinaryHeap.{IsUpperBound, PopsGreatest}
-use Rattle.std.specs.List.Sorted.{IsPermutation}
-use Rattle.std.specs.Ordering.{is_lt, nat_cmp}
 use Rattle.std.specs.declared.cmp.Reverse.{Reverse}
-use Rattle.std.proofs.lemmas.List.Sorted.{IsPermutation-map, sum_by-IsPermutation}
-use Rattle.std.proofs.lemmas.List.Sums.{length-filter}
 
 -- what a filter keeps
 module _ {X : Type 0} (p : X → Bool) where

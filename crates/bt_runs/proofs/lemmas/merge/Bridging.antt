@@ -1,14 +1,12 @@
 -- The runs of one chromosome are the stretches of its bridged positions, and the only list that is.
 -- With starts that don't fall one of them is open: the one that holds the start of the last record.
 -- What two lists of spans together cover comes first.
-use Rattle.std.proofs.Common.{ℕ, ◌<◌, ◌≤◌, ◌⊎◌, inl, inr, List, [], ◌∷◌, ◌++◌, ◌≡◌, ◌+◌, ◌-◌, refl, arith, Bool, ◌&&◌, Decides, nat_le, nat_lt, leb-true, le-leb, max}
+use Rattle.bt_lines.proofs.Std.{ℕ, ◌<◌, ◌≤◌, ◌⊎◌, inl, inr, List, [], ◌∷◌, ◌++◌, ◌≡◌, ◌+◌, ◌-◌, refl, arith, Bool, ◌&&◌, Decides, nat_le, nat_lt, leb-true, le-leb, max, false≢true, cases_lt, Decides-and, Decides-or, Decides-ltb, Decides-like, Decides-below_or}
 use Rattle.bt_bed.specs.model.feature.Interval.{Span}
 use Rattle.bt_bed.specs.model.feature.Stretches.{IsCovered, AreApartFrom}
-use Rattle.std.proofs.lemmas.Bool.{false≢true, cases_lt}
-use Rattle.std.proofs.lemmas.Bool.Decides.{Decides-and, Decides-or, Decides-ltb, Decides-like, Decides-below_or}
 use Rattle.bt_runs.specs.model.Merged.{Bridged, some_below, is_covered, is_bridged, end_of, runs_of, runs_are, runs_only}
-use Rattle.bt_bed.proofs.lemmas.laws.Apart.{IsWithin, covered_from, stretches_are_same}
-use Rattle.bt_bed.proofs.lemmas.laws.Scan.{scan_finds}
+use Rattle.bt_bed.proofs.lemmas.definitions.Apart.{IsWithin, covered_from, stretches_are_same}
+use Rattle.bt_bed.proofs.lemmas.definitions.Scan.{scan_finds}
 
 pub covered_left : (xs ys : List Span) (p : ℕ) → IsCovered xs p → IsCovered (xs ++ ys) p
 covered_left [] ys p c = absurd c

@@ -1,8 +1,5 @@
 -- What a merge says of one chromosome, and what it owes of it: the runs that are done by the last start, and the one that it keeps.
-use Rattle.std.proofs.Common.{◌≡◌, ℕ, ◌+◌, ◌<◌, ◌≤◌, ◌⊎◌, inl, inr, List, [], ◌∷◌, ◌++◌, append-nil, refl, sym, ap, ap₂, ◌∙◌, arith, length, map, filter, not, false, bytes_eq}
-use Rattle.std.proofs.lemmas.Bool.{cases_Bool, cases_lt, cond-true, cond-false, not_from_true, not_from_false}
-use Rattle.std.proofs.lemmas.List.{map-append}
-use Rattle.std.proofs.lemmas.List.Elements.{filter-append}
+use Rattle.bt_lines.proofs.Std.{◌≡◌, ℕ, ◌+◌, ◌<◌, ◌≤◌, ◌⊎◌, inl, inr, List, [], ◌∷◌, ◌++◌, append-nil, refl, sym, ap, ap₂, ◌∙◌, arith, length, map, filter, not, false, bytes_eq, cases_Bool, cases_lt, cond-true, cond-false, not_from_true, not_from_false, map-append, filter-append}
 use Rattle.bt_bed.specs.model.feature.Feature.{Feature, interval_of, intervals_of}
 use Rattle.bt_bed.specs.model.feature.Interval.{Interval, Span, placed_on, span_of, spans_on}
 use Rattle.bt_bed.specs.model.order.Contiguous.{has_records}
@@ -14,9 +11,9 @@ use Rattle.bt_runs.specs.inside.merge.MergeStep.{kept_by, left_by, settled_by, w
 use Rattle.bt_runs.specs.declared.merge.merge_strand.MergeStrand.{MergeStrand}
 use Rattle.bt_runs.proofs.lemmas.order.ByChromosome.{Divides, Form, NoRecords, Owes, picks_by}
 use Rattle.bt_runs.proofs.lemmas.order.ChromosomeLemmas.{runs_on-push_elsewhere, spans_on-none, spans_on-push_here}
-use Rattle.bt_runs.proofs.lemmas.laws.Passing.{counted_absent, counted_next, counted_same, not_passed, passed_before, passed_elsewhere, passed_far, placed_elsewhere}
+use Rattle.bt_runs.proofs.lemmas.definitions.Passing.{counted_absent, counted_next, counted_same, not_passed, passed_before, passed_elsewhere, passed_far, placed_elsewhere}
 use Rattle.bt_runs.proofs.lemmas.order.FileOrder.{runs_of-nil, runs_on-none}
-use Rattle.bt_runs.proofs.lemmas.laws.Standing.{not_less}
+use Rattle.bt_runs.proofs.lemmas.definitions.Standing.{not_less}
 use Rattle.bt_runs.proofs.lemmas.merge.Bridging.{OneOpen, first_open, join_open, longer, next_open, open_runs}
 
 -- no record was merged on the chromosome

@@ -1,6 +1,5 @@
 -- What the calls of a merge do is what those of the engine inside it do, of whichever of the two kinds it is.
-use Rattle.std.proofs.Common.{◌≡◌, ℕ, inl, inr, List, [], ◌∷◌, ◌++◌, ap, refl, sym, subst, Option, None, Result, Ok, Err}
-use Rattle.std.specs.Prelude.{IsOk}
+use Rattle.bt_lines.proofs.Std.{◌≡◌, ℕ, inl, inr, List, [], ◌∷◌, ◌++◌, ap, refl, sym, subst, Option, None, Result, Ok, Err, IsOk}
 use Rattle.bt_lines.specs.model.Fault.{FaultValue}
 use Rattle.bt_lines.specs.calls.Names.{fault_value}
 use Rattle.bt_lines.specs.calls.Output.{Output}

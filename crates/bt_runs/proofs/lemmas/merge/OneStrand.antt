@@ -1,8 +1,5 @@
 -- The runs of several strands, listed by their first records: what one more record does to the list.
-use Rattle.std.proofs.Common.{◌≡◌, ℕ, ◌≤◌, inl, inr, List, [], ◌∷◌, ◌++◌, append-nil, refl, sym, ap, ap₂, ◌∙◌, subst, arith, cond, filter, length, map, Bool, true, false, not, ◌&&◌, ◌||◌}
-use Rattle.std.specs.List.{list_any}
-use Rattle.std.proofs.lemmas.Bool.{cases_Bool, cond-true, cond-false, false≢true, not_from_true, not_from_false}
-use Rattle.std.proofs.lemmas.List.{length-map, map-append}
+use Rattle.bt_lines.proofs.Std.{◌≡◌, ℕ, ◌≤◌, inl, inr, List, [], ◌∷◌, ◌++◌, append-nil, refl, sym, ap, ap₂, ◌∙◌, subst, arith, cond, filter, length, map, Bool, true, false, not, ◌&&◌, ◌||◌, list_any, cases_Bool, cond-true, cond-false, false≢true, not_from_true, not_from_false, length-map, map-append}
 use Rattle.bt_bed.specs.model.feature.Feature.{Feature, interval_of, intervals_of}
 use Rattle.bt_bed.specs.model.feature.Interval.{Interval, last_from, last_of}
 use Rattle.bt_bed.specs.model.order.Contiguous.{has_records, AreContiguous}
@@ -18,10 +15,10 @@ use Rattle.bt_runs.specs.model.StrandRuns.{StrandRun, runs_of_strand}
 use Rattle.bt_runs.specs.inside.merge.StrandStep.{run_from, run_with}
 use Rattle.bt_runs.specs.declared.merge.merge_strand.MergeStrand.TheVariants.{One}
 use Rattle.bt_runs.proofs.lemmas.order.ByChromosome.{intervals_next}
-use Rattle.bt_runs.proofs.lemmas.laws.Passing.{counted_same}
-use Rattle.bt_runs.proofs.lemmas.laws.EachLemmas.{Each, any_from, each_append, each_front, each_map, each_weaker, filter_passes, map_leaves, none_from, some_right}
+use Rattle.bt_runs.proofs.lemmas.definitions.Passing.{counted_same}
+use Rattle.bt_runs.proofs.lemmas.definitions.EachLemmas.{Each, any_from, each_append, each_front, each_map, each_weaker, filter_passes, map_leaves, none_from, some_right}
 use Rattle.bt_runs.proofs.lemmas.merge.SettledRuns.{next_taken, taken_front, whole_taken}
-use Rattle.bt_runs.proofs.lemmas.laws.Standing.{has_records-here}
+use Rattle.bt_runs.proofs.lemmas.definitions.Standing.{has_records-here}
 
 -- strands that are one
 pub strand_self : (s : Strand) → is_strand s s ≡ true

@@ -1,9 +1,5 @@
 -- The place of each strand's last run, as runs are added, joined and taken off, and what is written of those that a record closes.
-use Rattle.std.proofs.Common.{◌≡◌, ℕ, ◌<◌, ◌≤◌, ◌-◌, List, [], ◌∷◌, ◌++◌, refl, sym, ap, ◌∙◌, cond, get_or, length, set, arith, Bool, true, false, nat_lt, lt-ltb, le-ltb, Option, Some, None, zero, suc, ◌⊎◌, inl, inr, append_assoc, append-nil, not, ◌||◌, drop, Result, Err}
-use Rattle.std.specs.List.{slice_get}
-use Rattle.std.proofs.lemmas.Bool.{cond-true, cond-false, not_from_false, not_from_true, or_from, or_left, or_right}
-use Rattle.std.proofs.lemmas.List.{set-get_or, map-append}
-use Rattle.std.proofs.lemmas.Option.{get_or_from_slice_get, slice_get_read, slice_get_within}
+use Rattle.bt_lines.proofs.Std.{◌≡◌, ℕ, ◌<◌, ◌≤◌, ◌-◌, List, [], ◌∷◌, ◌++◌, refl, sym, ap, ◌∙◌, cond, get_or, length, set, arith, Bool, true, false, nat_lt, lt-ltb, le-ltb, Option, Some, None, zero, suc, ◌⊎◌, inl, inr, append_assoc, append-nil, not, ◌||◌, drop, Result, Err, slice_get, cond-true, cond-false, not_from_false, not_from_true, or_from, or_left, or_right, set-get_or, map-append, get_or_from_slice_get, slice_get_read, slice_get_within}
 use Rattle.bt_lines.proofs.lemmas.writer.PuttingLemmas.{adds_lines, cut_lines}
 use Rattle.bt_bed.specs.declared.record.strand.Strand.{Strand}
 use Rattle.bt_bed.specs.declared.record.strand.Strand.TheVariants.{Plus, Minus, Dot}

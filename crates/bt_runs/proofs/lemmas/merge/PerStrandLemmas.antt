@@ -1,11 +1,5 @@
 -- What a merge that keeps the strands apart does with one more record is what the definitions say, whatever the past.
-use Rattle.std.proofs.Common.{codes, decimal, ◌≡◌, ◌⊎◌, ℕ, ◌+◌, ◌-◌, ◌<◌, ◌≤◌, List, [], ◌∷◌, ◌++◌, append-nil, length, length-append, inl, inr, not, cond, ◌||◌, drop, get_or, map, set, take, Bool, true, false, bytes_eq, nat_lt, lt-ltb, le-ltb, Option, None, Some, Result, Ok, Err, refl, sym, ap, ap₂, ◌∙◌, subst, arith}
-use Rattle.std.specs.List.{prefix_len, slice_get}
-use Rattle.std.specs.Prelude.{is_err, OnOk}
-use Rattle.std.proofs.lemmas.Bool.{cases_Bool, cases_lt, cond-true, cond-false, false≢true, not_from_true}
-use Rattle.std.proofs.lemmas.Grind.{flat_map-append}
-use Rattle.std.proofs.lemmas.List.{drop-map, get_or-map, length-map, map-append, map-set, take-map}
-use Rattle.std.proofs.lemmas.Option.{get_or_from_slice_get, slice_get-get_or, slice_get_within}
+use Rattle.bt_lines.proofs.Std.{codes, decimal, ◌≡◌, ◌⊎◌, ℕ, ◌+◌, ◌-◌, ◌<◌, ◌≤◌, List, [], ◌∷◌, ◌++◌, append-nil, length, length-append, inl, inr, not, cond, ◌||◌, drop, get_or, map, set, take, Bool, true, false, bytes_eq, nat_lt, lt-ltb, le-ltb, Option, None, Some, Result, Ok, Err, refl, sym, ap, ap₂, ◌∙◌, subst, arith, prefix_len, slice_get, is_err, OnOk, cases_Bool, cases_lt, cond-true, cond-false, false≢true, not_from_true, flat_map-append, drop-map, get_or-map, length-map, map-append, map-set, take-map, get_or_from_slice_get, slice_get-get_or, slice_get_within}
 use Rattle.bt_lines.specs.model.Fault.{no_memory}
 use Rattle.bt_lines.specs.calls.Names.{fault_value}
 use Rattle.bt_lines.specs.calls.Output.{Output}

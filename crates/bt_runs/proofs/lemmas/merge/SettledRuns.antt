@@ -1,6 +1,5 @@
 -- The settled runs and the kept ones, and what one more record does to them.
-use Rattle.std.proofs.Common.{◌≡◌, ℕ, ◌≤◌, inl, inr, List, [], ◌∷◌, ◌++◌, append-nil, refl, sym, ap, subst, ◌∙◌, arith, cond, drop, length, filter, map}
-use Rattle.std.proofs.lemmas.List.{drop_at, map-append}
+use Rattle.bt_lines.proofs.Std.{◌≡◌, ℕ, ◌≤◌, inl, inr, List, [], ◌∷◌, ◌++◌, append-nil, refl, sym, ap, subst, ◌∙◌, arith, cond, drop, length, filter, map, drop_at, map-append}
 use Rattle.bt_bed.specs.model.feature.Feature.{Feature, interval_of, intervals_of}
 use Rattle.bt_bed.specs.model.feature.Interval.{Interval}
 use Rattle.bt_bed.specs.model.order.Locus.{ArePlaced}
@@ -17,8 +16,8 @@ use Rattle.bt_runs.proofs.lemmas.order.ByChromosome.{Begun, InOrder, Moves, Orde
 use Rattle.bt_runs.proofs.lemmas.order.FileOrder.{in_file_order}
 use Rattle.bt_runs.proofs.lemmas.merge.MergeForm.{At, few, form, gone, owes}
 use Rattle.bt_runs.proofs.lemmas.order.OwnOrder.{distinct_chromosomes, placed_own}
-use Rattle.bt_runs.proofs.lemmas.laws.SettlingLemmas.{stays, begins}
-use Rattle.bt_runs.proofs.lemmas.laws.Standing.{begins_at}
+use Rattle.bt_runs.proofs.lemmas.definitions.SettlingLemmas.{stays, begins}
+use Rattle.bt_runs.proofs.lemmas.definitions.Standing.{begins_at}
 
 -- names are their own names
 same_names : (names : List (List ℕ)) → map (λ name. name) names ≡ names

@@ -1,10 +1,5 @@
 -- The runs of several strands, listed by their first records: what one more record does to the list.
-use Rattle.std.proofs.Common.{◌≡◌, ℕ, ◌+◌, ◌<◌, ◌≤◌, ◌⊎◌, inl, inr, List, [], ◌∷◌, ◌++◌, append_assoc, append-nil, refl, sym, ap, ap₂, ◌∙◌, subst, arith, cond, filter, map, Bool, true, false, not, ◌&&◌, bytes_eq, nat_le, nat_lt, le-leb, leb-true}
-use Rattle.std.specs.List.{list_any}
-use Rattle.std.proofs.lemmas.Bool.{and_parts, and_from, and_left, and_right, cases_Bool, cases_lt, cond-true, cond-false, false≢true, false_from_ne_true, ltb-false, not-true, not-false, not_from_true, not_from_false, or_parts}
-use Rattle.std.proofs.lemmas.List.{map-append}
-use Rattle.std.proofs.lemmas.List.Elements.{filter-append, recursion_from_All}
-use Rattle.std.proofs.lemmas.Map.Views.{any-filter_same}
+use Rattle.bt_lines.proofs.Std.{◌≡◌, ℕ, ◌+◌, ◌<◌, ◌≤◌, ◌⊎◌, inl, inr, List, [], ◌∷◌, ◌++◌, append_assoc, append-nil, refl, sym, ap, ap₂, ◌∙◌, subst, arith, cond, filter, map, Bool, true, false, not, ◌&&◌, bytes_eq, nat_le, nat_lt, le-leb, leb-true, list_any, and_parts, and_from, and_left, and_right, cases_Bool, cases_lt, cond-true, cond-false, false≢true, false_from_ne_true, ltb-false, not-true, not-false, not_from_true, not_from_false, or_parts, map-append, filter-append, recursion_from_All, any-filter_same}
 use Rattle.bt_bed.specs.model.feature.Feature.{Feature, interval_of, intervals_of}
 use Rattle.bt_bed.specs.model.feature.Interval.{Interval}
 use Rattle.bt_bed.specs.model.order.Contiguous.{AreContiguous}
@@ -18,9 +13,9 @@ use Rattle.bt_runs.specs.model.StrandRuns.{StrandRun, begun_by, is_in, lies_in, 
 use Rattle.bt_runs.specs.inside.merge.StrandStep.{run_from, run_with}
 use Rattle.bt_runs.specs.declared.merge.merge_strand.MergeStrand.TheVariants.{One}
 use Rattle.bt_runs.proofs.lemmas.order.ByChromosome.{full_front, full_last, intervals_next}
-use Rattle.bt_runs.proofs.lemmas.laws.EachLemmas.{Each, Some_of, any_from, any_same, any_some, each_all, each_append, each_both, each_filter, each_map, each_swap, each_unmap, each_weaker, filter_changed, filter_drops, filter_passes, none_each, none_from, some_each, some_left, some_map, some_out, some_right, some_weaker}
+use Rattle.bt_runs.proofs.lemmas.definitions.EachLemmas.{Each, Some_of, any_from, any_same, any_some, each_all, each_append, each_both, each_filter, each_map, each_swap, each_unmap, each_weaker, filter_changed, filter_drops, filter_passes, none_each, none_from, some_each, some_left, some_map, some_out, some_right, some_weaker}
 use Rattle.bt_runs.proofs.lemmas.merge.OneStrand.{joined_to, new_run, on_strand, other_next, reaches, same_next, same_strand, strand_self, up_to}
-use Rattle.bt_runs.proofs.lemmas.laws.Passing.{not_passed}
+use Rattle.bt_runs.proofs.lemmas.definitions.Passing.{not_passed}
 use Rattle.bt_runs.proofs.lemmas.merge.SettledRuns.{taken_front}
 
 -- a record of a run

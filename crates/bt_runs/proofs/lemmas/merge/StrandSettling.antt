@@ -1,11 +1,5 @@
 -- The settled runs of several strands and the kept ones, and what one more record does to them.
-use Rattle.std.proofs.Common.{◌≡◌, ℕ, ◌+◌, ◌≤◌, inl, inr, List, [], ◌∷◌, ◌++◌, append_assoc, append-nil, refl, sym, ap, ap₂, ◌∙◌, subst, arith, cond, drop, filter, get_or, length, map, set, take, Bool, true, false, not, ◌||◌, bytes_eq, nat_lt, Option, Some, None}
-use Rattle.std.specs.List.{list_any, prefix_len, take_while}
-use Rattle.std.specs.Prelude.{⊤, is_some}
-use Rattle.std.proofs.lemmas.Bool.{and_from, and_left, and_right, cases_Bool, cond-true, cond-false, false≢true, ltb-true, not-true, not_from_true, not_from_false, or_cases, or_left}
-use Rattle.std.proofs.lemmas.List.{drop_at, map-append, take-append-drop, take_at}
-use Rattle.std.proofs.lemmas.List.Folds.{length-prefix_len, list_any-append}
-use Rattle.std.proofs.lemmas.List.Sums.{take_while-cons}
+use Rattle.bt_lines.proofs.Std.{◌≡◌, ℕ, ◌+◌, ◌≤◌, inl, inr, List, [], ◌∷◌, ◌++◌, append_assoc, append-nil, refl, sym, ap, ap₂, ◌∙◌, subst, arith, cond, drop, filter, get_or, length, map, set, take, Bool, true, false, not, ◌||◌, bytes_eq, nat_lt, Option, Some, None, list_any, prefix_len, take_while, ⊤, is_some, and_from, and_left, and_right, cases_Bool, cond-true, cond-false, false≢true, ltb-true, not-true, not_from_true, not_from_false, or_cases, or_left, drop_at, map-append, take-append-drop, take_at, length-prefix_len, list_any-append, take_while-cons}
 use Rattle.bt_bed.specs.model.feature.Feature.{Feature, interval_of, intervals_of}
 use Rattle.bt_bed.specs.model.feature.Interval.{Interval, last_from, last_of}
 use Rattle.bt_bed.specs.model.order.Contiguous.{AreContiguous}
@@ -17,11 +11,11 @@ use Rattle.bt_runs.specs.calls.Settling.{Settles}
 use Rattle.bt_runs.specs.model.StrandRuns.{StrandRun, kept_strand_runs, closed_prefix, settled_strand_runs, strand_runs, strand_runs_begin, strand_runs_stay}
 use Rattle.bt_runs.specs.inside.merge.StrandStep.{added_at, left_unsettled, settled_prefix, kept_with, last_place, place_among, run_from, run_with, with_added}
 use Rattle.bt_runs.proofs.lemmas.order.ByChromosome.{full_last, intervals_next}
-use Rattle.bt_runs.proofs.lemmas.laws.EachLemmas.{Each, Some_of, each_append, each_both, each_front, each_unmap, each_weaker, map_leaves, none_each, none_from, some_each, some_out}
+use Rattle.bt_runs.proofs.lemmas.definitions.EachLemmas.{Each, Some_of, each_append, each_both, each_front, each_unmap, each_weaker, map_leaves, none_each, none_from, some_each, some_out}
 use Rattle.bt_runs.proofs.lemmas.merge.OneStrand.{joined_to, last_there, new_run, parted, reaches}
-use Rattle.bt_runs.proofs.lemmas.laws.Passing.{not_passed, passed_elsewhere, passed_far}
+use Rattle.bt_runs.proofs.lemmas.definitions.Passing.{not_passed, passed_elsewhere, passed_far}
 use Rattle.bt_runs.proofs.lemmas.merge.SettledRuns.{taken_front}
-use Rattle.bt_runs.proofs.lemmas.laws.SettlingLemmas.{begins, stays}
+use Rattle.bt_runs.proofs.lemmas.definitions.SettlingLemmas.{begins, stays}
 use Rattle.bt_runs.proofs.lemmas.merge.StrandListing.{Lies, Listed, are_listed, join_is, join_not, listing_next, reached}
 
 -- the longest prefix that passes a test

@@ -9,12 +9,7 @@
 --
 -- It is given what one more record settles and what is kept then, on the same chromosome or a later one (`goes_first`, `goes_on`, `goes_to`). That is what `feed` has to do. It is also given what is left for `finish` (`whole_left`), and `Settles` (`settling`), from which settled items stay and begin the whole (`SettlingLemmas`).
 -- `MergeForm`, `ComplementForm` and `CoverageForm` are the engines' forms. Merge takes `SettledRuns` from here, and the two others take `Walks`.
-use Rattle.std.proofs.Common.{◌≡◌, ◌⊎◌, ℕ, ◌<◌, ◌≤◌, inl, inr, List, [], ◌∷◌, ◌++◌, append_assoc, append-nil, refl, sym, ap, ap₂, ◌∙◌, subst, arith, length, length-append, map, filter, flat_map, Bool, true, false, bytes_eq, Some}
-use Rattle.std.specs.Prelude.{⊤}
-use Rattle.std.proofs.lemmas.Bool.{or_parts}
-use Rattle.std.proofs.lemmas.Grind.{flat_map-append}
-use Rattle.std.proofs.lemmas.List.{map-append, take_at}
-use Rattle.std.proofs.lemmas.List.Elements.{filter-append, All-contains, All-take, Contains-push}
+use Rattle.bt_lines.proofs.Std.{◌≡◌, ◌⊎◌, ℕ, ◌<◌, ◌≤◌, inl, inr, List, [], ◌∷◌, ◌++◌, append_assoc, append-nil, refl, sym, ap, ap₂, ◌∙◌, subst, arith, length, length-append, map, filter, flat_map, Bool, true, false, bytes_eq, Some, ⊤, or_parts, flat_map-append, map-append, take_at, filter-append, All-contains, All-take, Contains-push}
 use Rattle.std.specs.declared.cmp.Ordering.TheVariants.{Less, Greater}
 use Rattle.bt_bed.specs.model.feature.Feature.{Feature, interval_of, intervals_of}
 use Rattle.bt_bed.specs.model.feature.Interval.{Interval, AreNonEmpty, last_of}
@@ -24,7 +19,7 @@ use Rattle.bt_bed.specs.model.order.Contiguous.{has_records}
 use Rattle.bt_bed.proofs.lemmas.parse.NameLemmas.{name_ne-sym}
 use Rattle.bt_bed.proofs.lemmas.order.ContiguousLemmas.{placed_prefix}
 use Rattle.bt_runs.specs.calls.Settling.{Settles}
-use Rattle.bt_runs.proofs.lemmas.laws.Standing.{AllCompare, all_after, all_before, Arrives, GoesTo, NoneOn, Stand, begins_at, elsewhere_of, goes, last_rank, none_at_first, stand_at}
+use Rattle.bt_runs.proofs.lemmas.definitions.Standing.{AllCompare, all_after, all_before, Arrives, GoesTo, NoneOn, Stand, begins_at, elsewhere_of, goes, last_rank, none_at_first, stand_at}
 
 -- what an engine says of its items: K are the chromosomes, T the items, and S is what is open on a chromosome
 pub record Form (K T S : Type 0) : Type 0 where

@@ -1,6 +1,5 @@
 -- The records of one chromosome, and the names of the chromosomes that have some, in a past that grows at its end.
-use Rattle.std.proofs.Common.{◌≡◌, ℕ, inl, inr, List, [], ◌∷◌, ◌++◌, append-nil, refl, sym, ap, ◌∙◌, map, false, not, ◌||◌, bytes_eq}
-use Rattle.std.proofs.lemmas.Bool.{cond-true, cond-false, or_parts, or_left, not_from_true, not_from_false}
+use Rattle.bt_lines.proofs.Std.{◌≡◌, ℕ, inl, inr, List, [], ◌∷◌, ◌++◌, append-nil, refl, sym, ap, ◌∙◌, map, false, not, ◌||◌, bytes_eq, cond-true, cond-false, or_parts, or_left, not_from_true, not_from_false}
 use Rattle.bt_bed.specs.model.feature.Interval.{Interval, span_of, placed_on, spans_on}
 use Rattle.bt_bed.specs.model.order.Rank.{is_among}
 use Rattle.bt_bed.specs.model.order.Contiguous.{has_records}

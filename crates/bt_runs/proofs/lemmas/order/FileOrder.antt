@@ -1,9 +1,6 @@
 -- Records in the order of a genome file: their chromosomes come in that order, each once.
-use Rattle.std.proofs.Common.{◌≡◌, ℕ, suc, ◌<◌, ◌≤◌, ◌⊎◌, inl, inr, List, [], ◌∷◌, ◌++◌, refl, sym, ap, subst, ◌∙◌, arith, map, filter, cond, Bool, true, false, ◌||◌, bytes_eq, Option, Some, option_map}
-use Rattle.std.specs.Prelude.{IsTrue}
-use Rattle.std.specs.Cmp.{ranked}
+use Rattle.bt_lines.proofs.Std.{◌≡◌, ℕ, suc, ◌<◌, ◌≤◌, ◌⊎◌, inl, inr, List, [], ◌∷◌, ◌++◌, refl, sym, ap, subst, ◌∙◌, arith, map, filter, cond, Bool, true, false, ◌||◌, bytes_eq, Option, Some, option_map, IsTrue, ranked, cases_Bool, cond-true, cond-false, or_parts, or_from, or_left}
 use Rattle.std.specs.declared.cmp.Ordering.TheVariants.{Less}
-use Rattle.std.proofs.lemmas.Bool.{cases_Bool, cond-true, cond-false, or_parts, or_from, or_left}
 use Rattle.bt_bed.specs.model.feature.Feature.{Feature, interval_of, intervals_of}
 use Rattle.bt_bed.specs.model.feature.Interval.{Interval, placed_on}
 use Rattle.bt_bed.specs.model.order.Order.{Order, IsTotal}
@@ -16,8 +13,8 @@ use Rattle.bt_bed.proofs.lemmas.parse.NameLemmas.{name_eq, name_ne, name_ne-sym,
 use Rattle.bt_runs.specs.model.Counted.{is_counted, counted}
 use Rattle.bt_runs.specs.model.Merged.{runs_of, runs_on, merged, without, chromosomes}
 use Rattle.bt_runs.specs.model.MergedRuns.{runs_come_in_order}
-use Rattle.bt_runs.proofs.lemmas.laws.EachLemmas.{each_all, filter_drops}
-use Rattle.bt_runs.proofs.lemmas.laws.Standing.{known_rank, later_rank}
+use Rattle.bt_runs.proofs.lemmas.definitions.EachLemmas.{each_all, filter_drops}
+use Rattle.bt_runs.proofs.lemmas.definitions.Standing.{known_rank, later_rank}
 use Rattle.bt_runs.proofs.lemmas.order.ChromosomeLemmas.{spans_on-none, among_chromosomes, without-here, without-other}
 
 -- a record up to the next one but one

@@ -1,16 +1,11 @@
 -- The chromosomes of a genome file by their ranks, and what is written of those of some ranks, whatever the line of an item is.
-use Rattle.std.proofs.Common.{◌≡◌, ℕ, zero, suc, ◌+◌, ◌-◌, ◌<◌, ◌≤◌, List, [], ◌∷◌, ◌++◌, ap, sym, ◌∙◌, arith, length, length-append, length-drop, get_or, take, drop, false, bytes_eq, Some, option_map, slice_range, inl, inr, append-nil, min, flat_map, Option, Result, Ok, Err}
-use Rattle.std.specs.List.{slice_get}
-use Rattle.std.proofs.lemmas.Bool.{cond-true, cond-false, or_parts, cases_lt}
-use Rattle.std.proofs.lemmas.Grind.{take_at_read, flat_map-append}
-use Rattle.std.proofs.lemmas.List.{take_at, drop_at, get_or-drop, drop-drop}
-use Rattle.std.proofs.Math.Seq.{get_or-append_seam, take-add}
+use Rattle.bt_lines.proofs.Std.{◌≡◌, ℕ, zero, suc, ◌+◌, ◌-◌, ◌<◌, ◌≤◌, List, [], ◌∷◌, ◌++◌, ap, sym, ◌∙◌, arith, length, length-append, length-drop, get_or, take, drop, false, bytes_eq, Some, option_map, slice_range, inl, inr, append-nil, min, flat_map, Option, Result, Ok, Err, slice_get, cond-true, cond-false, or_parts, cases_lt, take_at_read, flat_map-append, take_at, drop_at, get_or-drop, drop-drop, get_or-append_seam, take-add}
 use Rattle.bt_bed.specs.model.order.Genome.{Entry, genome_names}
 use Rattle.bt_bed.specs.model.order.Rank.{is_among, rank_of}
 use Rattle.bt_bed.proofs.lemmas.parse.NameLemmas.{name_eq}
 use Rattle.bt_runs.specs.model.Gaps.{length_in}
 use Rattle.bt_runs.specs.inside.walk.Walk.{IsPlaced, entry_at, Place, begun, left_before, left_of}
-use Rattle.bt_runs.proofs.lemmas.laws.Standing.{Found, found}
+use Rattle.bt_runs.proofs.lemmas.definitions.Standing.{Found, found}
 use Rattle.bt_lines.specs.calls.Output.{Output}
 use Rattle.bt_lines.specs.calls.Putting.{Adds, Grown}
 use Rattle.bt_lines.specs.declared.fault.Fault.{Fault}

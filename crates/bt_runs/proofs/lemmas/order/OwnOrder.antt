@@ -1,8 +1,6 @@
 -- Contiguous records are in the order in which their chromosomes come.
-use Rattle.std.proofs.Common.{◌≡◌, ℕ, suc, inl, inr, List, [], ◌∷◌, refl, sym, ap, ◌∙◌, subst, arith, true, false, bytes_eq, Option, Some, None, option_map}
-use Rattle.std.specs.Prelude.{is_some}
+use Rattle.bt_lines.proofs.Std.{◌≡◌, ℕ, suc, inl, inr, List, [], ◌∷◌, refl, sym, ap, ◌∙◌, subst, arith, true, false, bytes_eq, Option, Some, None, option_map, is_some, or_parts, or_from}
 use Rattle.std.specs.declared.cmp.Ordering.TheVariants.{Less}
-use Rattle.std.proofs.lemmas.Bool.{or_parts, or_from}
 use Rattle.bt_bed.specs.model.feature.Interval.{Interval}
 use Rattle.bt_bed.specs.model.order.Locus.{ArePlaced}
 use Rattle.bt_bed.specs.model.order.Rank.{is_among, AreDistinct, compare_ranks, rank_of, rank_order}
@@ -11,7 +9,7 @@ use Rattle.bt_bed.proofs.lemmas.parse.NameLemmas.{cases_name, name_ne-sym}
 use Rattle.bt_runs.specs.model.Merged.{chromosomes, without}
 use Rattle.bt_runs.proofs.lemmas.order.ChromosomeLemmas.{among_chromosomes, among_without, without-here, without-other}
 use Rattle.bt_runs.proofs.lemmas.order.FileOrder.{rank_of-here, rank_of-later, same_chromosome, without_absent}
-use Rattle.bt_runs.proofs.lemmas.laws.Standing.{cmp_less, less_cmp}
+use Rattle.bt_runs.proofs.lemmas.definitions.Standing.{cmp_less, less_cmp}
 
 -- a name that was left out isn't among the others
 absent_without : (name : List ℕ) (names : List (List ℕ)) → is_among (without name names) name ≡ false

@@ -1,20 +1,16 @@
 -- Records in a total order: the names of their chromosomes come in that order.
-use Rattle.std.proofs.Common.{◌≡◌, ℕ, inl, inr, List, [], ◌∷◌, refl, sym, ap, ◌∙◌, false}
-use Rattle.std.specs.Prelude.{if◌then◌else◌}
-use Rattle.std.specs.Ordering.{is_lt}
+use Rattle.bt_lines.proofs.Std.{◌≡◌, ℕ, inl, inr, List, [], ◌∷◌, refl, sym, ap, ◌∙◌, false, if◌then◌else◌, is_lt}
 use Rattle.std.specs.declared.cmp.Ordering.TheVariants.{Equal, Less}
 use Rattle.bt_bed.specs.model.feature.Interval.{Interval}
 use Rattle.bt_bed.specs.model.order.Locus.{ArePlaced}
 use Rattle.bt_bed.specs.model.order.Order.{Order, IsTotal}
-use Rattle.bt_bed.specs.model.order.Rank.{rank_order}
-use Rattle.bt_bed.specs.inside.RankTotal.{ranks_total}
 use Rattle.bt_bed.specs.model.order.Contiguous.{has_records}
 use Rattle.bt_bed.proofs.lemmas.order.ContiguousLemmas.{placed_contiguous}
 use Rattle.bt_runs.specs.model.Counted.{counted, is_counted}
 use Rattle.bt_runs.specs.model.Merged.{chromosomes, merged, without}
 use Rattle.bt_runs.specs.model.RunOrder.{in_order, ordered_runs, ordered_runs_come, put_in_order}
 use Rattle.bt_runs.proofs.lemmas.order.ChromosomeLemmas.{among_chromosomes}
-use Rattle.bt_runs.proofs.lemmas.order.FileOrder.{in_file_order, same_chromosome, some_placed, without_absent}
+use Rattle.bt_runs.proofs.lemmas.order.FileOrder.{same_chromosome, some_placed, without_absent}
 
 module _ (order : Order) (total : IsTotal order) where
   stands_first : (name n : List ℕ) (ns : List (List ℕ)) → order.compare name n ≡ Less

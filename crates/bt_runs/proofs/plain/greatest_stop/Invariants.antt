@@ -1,4 +1,4 @@
-use Rattle.std.proofs.Common.{ℕ, ◌<◌, ◌≤◌, get_or}
+use Rattle.bt_lines.proofs.Std.{ℕ, ◌<◌, ◌≤◌, get_or}
 use Rattle.bt_runs.specs.declared.plain.PlainSpan.{PlainSpan}
 use Rattle.bt_runs.proofs.plain.greatest_stop.Given as goal
 

@@ -1,6 +1,5 @@
-use Rattle.std.proofs.Common.{◌<◌, arith}
-use Rattle.std.proofs.lemmas.Bool.{false≢true}
-use Rattle.bt_runs.proofs.lemmas.laws.PlainSpans.{covered_below}
+use Rattle.bt_lines.proofs.Std.{◌<◌, arith, false≢true}
+use Rattle.bt_runs.proofs.lemmas.definitions.PlainSpans.{covered_below}
 use Rattle.bt_runs.proofs.plain.has_right.Goals as goal
 
 pub returns : goal.returns

@@ -1,4 +1,4 @@
-use Rattle.std.proofs.Common.{ℕ, ◌+◌, ◌-◌, ◌<◌, ◌≤◌}
+use Rattle.bt_lines.proofs.Std.{ℕ, ◌+◌, ◌-◌, ◌<◌, ◌≤◌}
 use Rattle.bt_bed.specs.model.feature.Stretches.{IsCovered}
 use Rattle.bt_runs.specs.inside.plain.PlainRuns.{spans_in}
 use Rattle.bt_runs.proofs.plain.has_right.Given as goal

@@ -1,5 +1,5 @@
 use Rattle.bt_runs.specs.inside.plain.PlainRuns.{spans_in}
-use Rattle.bt_runs.proofs.lemmas.laws.PlainSpans.{AreRunsBelow}
+use Rattle.bt_runs.proofs.lemmas.definitions.PlainSpans.{AreRunsBelow}
 use Rattle.bt_runs.proofs.plain.plain_runs.Given as goal
 
 -- the runs so far are those of the positions so far

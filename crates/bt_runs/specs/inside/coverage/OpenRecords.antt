@@ -1,6 +1,5 @@
 -- The records that are open at a position of a chromosome, and how the code keeps them.
-use Rattle.std.specs.Prelude.{◌≡◌, ℕ, ◌≤◌, Bool}
-use Rattle.std.specs.Prelude.{List, [], All, filter, length, map}
+use Rattle.std.specs.Prelude.{◌≡◌, ℕ, ◌≤◌, Bool, List, [], All, filter, length, map}
 use Rattle.bt_bed.specs.model.feature.Interval.{Span}
 use Rattle.bt_runs.specs.inside.coverage.DepthStep.{still_open}
 use Rattle.bt_runs.specs.declared.coverage.open_records.OpenSpan.{OpenSpan}

@@ -1,7 +1,7 @@
 -- The runs that wait, without their chromosome: the place of the last one of each strand, how one more
 -- record is joined to it, and which of them are closed.
-use Rattle.std.specs.Prelude.{ℕ, suc, Bool, true, false, not, cond, ◌||◌, List, [], ◌∷◌}
-use Rattle.std.specs.Prelude.{drop, length, map, max, set, Option, Some, None, nat_lt}
+use Rattle.std.specs.Prelude.{ℕ, suc, Bool, true, false, not, cond, ◌||◌, List, [], ◌∷◌, drop}
+use Rattle.std.specs.Prelude.{length, map, max, set, Option, Some, None, nat_lt}
 use Rattle.std.specs.List.{slice_get, take_while}
 use Rattle.bt_bed.specs.model.feature.Feature.{Feature}
 use Rattle.bt_bed.specs.declared.record.strand.Strand.{Strand}

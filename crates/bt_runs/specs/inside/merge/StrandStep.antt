@@ -1,6 +1,6 @@
 -- What one more record does to the runs of several strands that a merge keeps.
-use Rattle.std.specs.Prelude.{ℕ, suc, Bool, cond, List, [], ◌∷◌, ◌++◌, drop}
-use Rattle.std.specs.Prelude.{get_or, length, set, Option, Some, None}
+use Rattle.std.specs.Prelude.{ℕ, suc, Bool, cond, List, [], ◌∷◌, ◌++◌, drop, get_or, length, set}
+use Rattle.std.specs.Prelude.{Option, Some, None}
 use Rattle.bt_bed.specs.model.feature.Feature.{Feature, interval_of}
 use Rattle.bt_bed.specs.model.feature.Strands.{is_strand}
 use Rattle.bt_runs.specs.model.MergedRuns.{is_closed}

@@ -1,11 +1,14 @@
 -- What a merge that keeps the strands apart does with one more record, exactly.
-use Rattle.std.specs.Prelude.{◌≡◌, ℕ, ◌⊎◌, Bool, true, false, cond, List, [], ◌∷◌, ◌++◌, Result, Ok, Err}
+use Rattle.std.specs.Prelude.{◌≡◌, ℕ, ◌⊎◌, Bool, true, false, cond, List, [], ◌∷◌, ◌++◌, Result, Ok}
+use Rattle.std.specs.Prelude.{Err}
 use Rattle.bt_lines.specs.model.Fault.{write_failed}
 use Rattle.bt_lines.specs.calls.Output.{Output}
 use Rattle.bt_lines.specs.calls.Putting.{FailsToAdd, Grown}
 use Rattle.bt_bed.specs.model.feature.Feature.{Feature}
-use Rattle.bt_runs.specs.inside.merge.PendingRuns.{left_runs, passed_runs, place_of, placed_runs, with_joined}
-use Rattle.bt_runs.specs.inside.merge.StrandStep.{left_unsettled, settled_prefix, kept_with, run_from, with_added}
+use Rattle.bt_runs.specs.inside.merge.PendingRuns.{left_runs, passed_runs, place_of, placed_runs}
+use Rattle.bt_runs.specs.inside.merge.PendingRuns.{with_joined}
+use Rattle.bt_runs.specs.inside.merge.StrandStep.{left_unsettled, settled_prefix, kept_with}
+use Rattle.bt_runs.specs.inside.merge.StrandStep.{run_from, with_added}
 use Rattle.bt_runs.specs.calls.Stranding.{Stranding, strand_lines}
 use Rattle.bt_runs.specs.declared.engine.failure.Failure.{Failure}
 use Rattle.bt_runs.specs.declared.engine.failure.Failure.TheVariants.{Write, Memory}

@@ -1,8 +1,5 @@
 -- The BED line of an alignment, put piece by piece.
-use Rattle.std.proofs.Common.{◌≡◌, ℕ, Bool, true, false, List, [], ◌∷◌, ◌++◌, Result, sym, ap, subst, ◌∙◌, append_assoc, append-nil, codes, length, arith, map, length-append}
-use Rattle.std.specs.Prelude.{flat_map}
-use Rattle.std.proofs.lemmas.Grind.{flat_map-append}
-use Rattle.std.proofs.lemmas.List.{map-append}
+use Rattle.bt_lines.proofs.Std.{◌≡◌, ℕ, Bool, true, false, List, [], ◌∷◌, ◌++◌, Result, sym, ap, subst, ◌∙◌, append_assoc, append-nil, codes, length, arith, map, length-append, flat_map, flat_map-append, map-append}
 use Rattle.bt_bed.specs.model.feature.Interval.{Span}
 use Rattle.bt_lines.specs.model.Fault.{FaultValue}
 use Rattle.bt_lines.specs.calls.Output.{Output}

@@ -1,11 +1,9 @@
 -- Lemmas on lines that are put.
-use Rattle.std.proofs.Common.{◌≡◌, ℕ, ◌<◌, length, List, ◌++◌, ap, max, arith}
-use Rattle.std.proofs.lemmas.List.{length-append}
+use Rattle.bt_lines.proofs.Std.{◌≡◌, ℕ, ◌<◌, length, List, ◌++◌, ap, max, arith, length-append, Result}
 use Rattle.bt_lines.proofs.lemmas.writer.PuttingLemmas.{adds_some}
 use Rattle.bt_lines.specs.calls.Output.{Output}
 use Rattle.bt_lines.specs.calls.Putting.{Adds, Puts}
 use Rattle.bt_lines.specs.declared.fault.Fault.{Fault}
-use Rattle.std.specs.Prelude.{Result}
 
 -- some bytes are put of two others
 pub some_put : {A : Type 0} (old new : Output) (text end : List ℕ) (r : Result A Fault) → 0 < max (length text) (length end) → Puts old (text ++ end) r new → Adds old (text ++ end) r new

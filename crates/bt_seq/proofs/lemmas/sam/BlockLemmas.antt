@@ -1,10 +1,5 @@
 -- The blocks of an alignment, as they are found in one pass over its operations.
-use Rattle.std.proofs.Common.{◌≡◌, ℕ, ◌+◌, ◌≤◌, Bool, true, false, List, [], ◌∷◌, ◌++◌, length, Option, Some, None, refl, sym, ap, ◌∙◌, arith, cond, append-nil, add-zero, append_assoc}
-use Rattle.std.specs.Prelude.{flat_map, nat_lt, not}
-use Rattle.std.specs.List.{list_all}
-use Rattle.std.proofs.lemmas.Bool.{false≢true, not-true, and_parts}
-use Rattle.std.proofs.lemmas.Bool.Decides.{nat_tests}
-use Rattle.std.proofs.lemmas.List.Sums.{sum_by-cons, sum_by_push, take_while-cons}
+use Rattle.bt_lines.proofs.Std.{◌≡◌, ℕ, ◌+◌, ◌≤◌, Bool, true, false, List, [], ◌∷◌, ◌++◌, length, Option, Some, None, refl, sym, ap, ◌∙◌, arith, cond, append-nil, add-zero, append_assoc, flat_map, nat_lt, not, false≢true, nat_tests, sum_by-cons, sum_by_push, take_while-cons}
 use Rattle.bt_bed.specs.model.feature.Interval.{Span}
 use Rattle.bt_seq.specs.model.AlignmentBlocks.{begins_block, block_at, blocks_in, blocks_of, cuts, is_skip, up_to_skip, with_bases}
 use Rattle.bt_seq.specs.model.Cigar.{covered_by, operations_in, reference_length, with_operation}

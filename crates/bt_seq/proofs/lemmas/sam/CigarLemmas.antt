@@ -1,13 +1,5 @@
 -- Lemmas on the operations of a CIGAR.
-use Rattle.std.proofs.Common.{◌≡◌, ℕ, ◌+◌, ◌<◌, ◌≤◌, Bool, true, false, List, [], ◌∷◌, ◌++◌, length, take, drop, get_or, Option, Some, None, refl, sym, ap, ◌∙◌, arith, cond, option_map, append-nil, length-append, length-take}
-use Rattle.std.specs.Prelude.{IfSome}
-use Rattle.std.specs.Char.{is_ascii_digit}
-use Rattle.std.specs.List.{list_all}
-use Rattle.std.proofs.lemmas.List.Folds.{list_all_more}
-use Rattle.std.specs.Str.Parse.{digits_value}
-use Rattle.std.proofs.lemmas.Bool.Decides.{nat_tests}
-use Rattle.std.proofs.lemmas.Bool.{and_parts}
-use Rattle.std.proofs.lemmas.List.{take-append-drop, take_more, drop_more, take-append-le, get_or_append_left, take_all}
+use Rattle.bt_lines.proofs.Std.{◌≡◌, ℕ, ◌+◌, ◌<◌, ◌≤◌, Bool, true, false, List, [], ◌∷◌, ◌++◌, length, take, drop, get_or, Option, Some, None, refl, sym, ap, ◌∙◌, arith, cond, option_map, append-nil, length-append, length-take, IfSome, is_ascii_digit, list_all, list_all_more, digits_value, nat_tests, and_parts, take-append-drop, take_more, drop_more, take-append-le, get_or_append_left, take_all}
 use Rattle.bt_lines.proofs.lemmas.numbers.NumberLemmas.{digits_below, digits_denoting, value_of_digits, value_of_empty, value_of_large, value_of_other, value_short}
 use Rattle.bt_lines.specs.model.Number.{value_of}
 use Rattle.bt_seq.specs.model.Cigar.{Part, is_letter, onto_part, operation_of, operations_in, operations_of_parts, parts_of, covered_by, with_operation, with_part, span_with}

@@ -1,8 +1,5 @@
 -- Lemmas on masked extents.
-use Rattle.std.proofs.Common.{◌≡◌, ℕ, ◌+◌, ◌-◌, ◌≤◌, zero, suc, min, Bool, true, false, cond, ◌||◌, map, length, List, [], ◌∷◌, ◌++◌, take, drop, refl, ap, sym, ◌∙◌, arith}
-use Rattle.std.specs.List.{list_any}
-use Rattle.std.proofs.lemmas.Bool.Decides.{nat_tests}
-use Rattle.std.proofs.lemmas.List.Folds.{list_any-append}
+use Rattle.bt_lines.proofs.Std.{◌≡◌, ℕ, ◌+◌, ◌-◌, ◌≤◌, zero, suc, min, Bool, true, false, cond, ◌||◌, map, length, List, [], ◌∷◌, ◌++◌, take, drop, refl, ap, sym, ◌∙◌, arith, list_any, nat_tests, list_any-append}
 use Rattle.bt_seq.specs.model.MaskHow.{masked_byte}
 use Rattle.bt_seq.specs.inside.mask.MaskedBases.{has_position, masked_in}
 use Rattle.bt_seq.specs.declared.mask.mask_how.MaskHow.{MaskHow}

@@ -1,12 +1,7 @@
 -- Lemmas on blocks, record by record: each with the names that its block leaves.
-use Rattle.std.proofs.Common.{◌≡◌, ℕ, Bool, true, false, cond, ◌||◌, nat_le, List, [], ◌∷◌, ◌++◌, Option, Some, None, map, flat_map, refl, sym, ap, ◌∙◌, bytes_eq, arith}
-use Rattle.std.specs.Cmp.Lexicographic.{bytes_decides}
-use Rattle.std.specs.List.{list_any}
-use Rattle.std.specs.Prelude.{⊤}
-use Rattle.std.proofs.lemmas.Grind.{flat_map-append}
-use Rattle.std.proofs.lemmas.List.Folds.{list_any-append}
+use Rattle.bt_lines.proofs.Std.{◌≡◌, ℕ, Bool, true, false, cond, ◌||◌, nat_le, List, [], ◌∷◌, ◌++◌, Option, Some, None, map, flat_map, refl, sym, ap, ◌∙◌, bytes_eq, arith, bytes_decides, list_any, ⊤, flat_map-append, list_any-append}
 use Rattle.bt_bed.specs.model.feature.Feature.{Feature}
-use Rattle.bt_seq.proofs.lemmas.laws.LeftLemmas.{is_last, leave}
+use Rattle.bt_seq.proofs.lemmas.definitions.LeftLemmas.{is_last, leave}
 use Rattle.bt_seq.specs.model.Owners.{Block, Owned, block_decides, block_with, blocks_by, items_if_last, left_by, own_records, owned, owned_from}
 
 -- a record, and the names that its block leaves

@@ -1,5 +1,6 @@
 -- Lines of bases that are copied through, several at once.
-use Rattle.std.specs.Prelude.{◌≡◌, ⊤, ℕ, ◌+◌, ◌≤◌, List, [], ◌∷◌, ◌++◌, flat_map, length, false, true, Result, Ok, Err}
+use Rattle.std.specs.Prelude.{◌≡◌, ⊤, ℕ, ◌+◌, ◌≤◌, List, [], ◌∷◌, ◌++◌, flat_map, length, false}
+use Rattle.std.specs.Prelude.{true, Result, Ok, Err}
 use Rattle.bt_lines.specs.calls.Buffered.{PassesLine, rest_in}
 use Rattle.bt_lines.specs.model.Lines.{TextLine, spelled}
 use Rattle.bt_lines.specs.calls.Names.{fault_value}

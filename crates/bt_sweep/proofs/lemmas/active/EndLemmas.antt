@@ -1,10 +1,5 @@
 -- Lemmas on how many held records end where.
-use Rattle.std.proofs.Common.{◌≡◌, ℕ, ◌<◌, Bool, true, false, ◌&&◌, cond, List, [], ◌∷◌, None, Some, refl, sym, ap, ◌∙◌, subst, arith, rules, filter, length, nat_eq, nat_lt}
-use Rattle.std.specs.Prelude.{IsSome}
-use Rattle.std.specs.BTreeMap.{BTreeMap, get}
-use Rattle.std.specs.Ordering.{nat_cmp}
-use Rattle.std.proofs.lemmas.Bool.{eq-eqb, eqb-true, false≢true, lt-ltb}
-use Rattle.std.proofs.lemmas.List.Sums.{length-filter}
+use Rattle.bt_lines.proofs.Std.{◌≡◌, ℕ, ◌<◌, Bool, true, false, ◌&&◌, cond, List, [], ◌∷◌, None, Some, refl, sym, ap, ◌∙◌, subst, arith, rules, filter, length, nat_eq, nat_lt, IsSome, BTreeMap, get, nat_cmp, eq-eqb, eqb-true, false≢true, lt-ltb, length-filter}
 use Rattle.bt_bed.specs.model.feature.Feature.{Feature}
 use Rattle.bt_sweep.specs.inside.Ends.{CountsEnds, ending_at, if_some}
 use Rattle.bt_sweep.proofs.lemmas.active.FilterLemmas.{filter-both, filter-wider}

@@ -1,14 +1,5 @@
 -- Lemmas on a queue of held records.
-use Rattle.std.proofs.Common.{◌≡◌, cond, subst, nat_lt, ℕ, ◌+◌, ◌-◌, ◌<◌, ◌≤◌, Bool, true, false, List, [], ◌∷◌, ◌++◌, zero, suc, refl, sym, ap, ◌∙◌, add-one, append_assoc, arith, drop, filter, length, length-append, nat_le, option_to_list, slice_index_or, take}
-use Rattle.std.proofs.Math.Bool.{or-false}
-use Rattle.std.proofs.lemmas.Bool.{le-ltb, leb-false, lt-ltb, ltb-false, ltb-true, or_parts}
-use Rattle.std.specs.Prelude.{All}
-use Rattle.std.specs.List.{AllByRecursion, list_any, slice_get}
-use Rattle.std.specs.List.Sorted.{IsNonDecreasingBy, IsPartitionPoint}
-use Rattle.std.proofs.lemmas.List.{get_or-drop, get_or_default, length-drop, take-append-drop}
-use Rattle.std.proofs.lemmas.List.Elements.{All-filter, filter-append, recursion_from_All}
-use Rattle.std.proofs.lemmas.List.Kept.{IsNonDecreasingBy-filter}
-use Rattle.std.proofs.lemmas.List.Sorted.{IsNonDecreasingBy-push}
+use Rattle.bt_lines.proofs.Std.{◌≡◌, cond, subst, nat_lt, ℕ, ◌+◌, ◌-◌, ◌<◌, ◌≤◌, Bool, true, false, List, [], ◌∷◌, ◌++◌, zero, suc, refl, sym, ap, ◌∙◌, add-one, append_assoc, arith, drop, filter, length, length-append, nat_le, option_to_list, slice_index_or, take, or-false, le-ltb, leb-false, lt-ltb, ltb-false, ltb-true, or_parts, All, AllByRecursion, list_any, slice_get, IsNonDecreasingBy, IsPartitionPoint, get_or-drop, get_or_default, length-drop, take-append-drop, All-filter, filter-append, recursion_from_All, IsNonDecreasingBy-filter, IsNonDecreasingBy-push}
 use Rattle.bt_bed.specs.model.feature.Feature.{Feature}
 use Rattle.bt_sweep.specs.calls.Held.{HaveBases}
 

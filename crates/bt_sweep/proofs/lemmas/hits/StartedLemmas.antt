@@ -1,8 +1,5 @@
 -- Lemmas on records that come by their starts, and where those begin that start at a place or after it.
-use Rattle.std.proofs.Common.{◌≡◌, ℕ, ◌+◌, ◌<◌, ◌≤◌, Bool, true, false, ◌||◌, List, [], ◌∷◌, zero, suc, add-one, arith, drop, length, nat_le, leb-true, option_to_list, take}
-use Rattle.std.specs.List.{AllByRecursion, list_any, slice_get}
-use Rattle.std.proofs.lemmas.Bool.{leb-false, or_parts}
-use Rattle.std.proofs.lemmas.List.Elements.{All-from_recursion}
+use Rattle.bt_lines.proofs.Std.{◌≡◌, ℕ, ◌+◌, ◌<◌, ◌≤◌, Bool, true, false, ◌||◌, List, [], ◌∷◌, zero, suc, add-one, arith, drop, length, nat_le, leb-true, option_to_list, take, AllByRecursion, list_any, slice_get, leb-false, or_parts, All-from_recursion}
 use Rattle.bt_bed.specs.model.feature.Feature.{Feature}
 use Rattle.bt_sweep.specs.calls.Held.{AreRising, AreRisingFrom, StartBefore, StartFrom}
 

@@ -1,8 +1,5 @@
 -- Lemmas on a walk through what is held, which puts the pieces before each record that hits one.
-use Rattle.std.proofs.Common.{◌≡◌, ℕ, ◌+◌, ◌≤◌, List, [], ◌∷◌, ◌++◌, Result, Ok, Err, refl, sym, ap, ◌∙◌, subst, append_assoc, filter, flat_map, take, drop, length, max, option_to_list}
-use Rattle.std.specs.List.{slice_get}
-use Rattle.std.proofs.lemmas.List.{take-append-drop}
-use Rattle.std.proofs.lemmas.List.Elements.{filter-append}
+use Rattle.bt_lines.proofs.Std.{◌≡◌, ℕ, ◌+◌, ◌≤◌, List, [], ◌∷◌, ◌++◌, Result, Ok, Err, refl, sym, ap, ◌∙◌, subst, append_assoc, filter, flat_map, take, drop, length, max, option_to_list, slice_get, take-append-drop, filter-append}
 use Rattle.bt_lines.specs.calls.Names.{fault_value}
 use Rattle.bt_lines.specs.calls.Output.{Output}
 use Rattle.bt_lines.specs.calls.Putting.{Adds, FailsToAdd, Grown}
@@ -16,7 +13,7 @@ use Rattle.bt_sweep.specs.model.Pieces.{pieces}
 use Rattle.bt_sweep.specs.inside.Walking.{free_after, gap_lines, lines_before}
 use Rattle.bt_sweep.specs.declared.hits.hit_rule.HitRule.{HitRule}
 use Rattle.bt_sweep.proofs.lemmas.output.HeldLemmas.{take_next, take_whole}
-use Rattle.bt_sweep.proofs.lemmas.laws.PieceLemmas.{walked}
+use Rattle.bt_sweep.proofs.lemmas.definitions.PieceLemmas.{walked}
 
 free_append : (free : ℕ) (xs ys : List Feature) → free_after free (xs ++ ys) ≡ free_after (free_after free xs) ys
 free_append free [] ys = refl

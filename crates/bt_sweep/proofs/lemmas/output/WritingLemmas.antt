@@ -1,6 +1,5 @@
 -- Lemmas on the lines of a record.
-use Rattle.std.proofs.Common.{◌≡◌, ◌⊎◌, inl, inr, ℕ, ◌<◌, arith, ◌-◌, Bool, cond, List, [], ◌∷◌, ◌++◌, Result, refl, sym, ap, ◌∙◌, subst, max, min, bytes_eq, decimal, filter, flat_map, length, not, ◌||◌}
-use Rattle.std.specs.List.{list_any}
+use Rattle.bt_lines.proofs.Std.{◌≡◌, ◌⊎◌, inl, inr, ℕ, ◌<◌, arith, ◌-◌, Bool, cond, List, [], ◌∷◌, ◌++◌, Result, refl, sym, ap, ◌∙◌, subst, max, min, bytes_eq, decimal, filter, flat_map, length, not, ◌||◌, list_any}
 use Rattle.bt_lines.specs.calls.Output.{Output}
 use Rattle.bt_lines.specs.calls.Putting.{Adds, Puts}
 use Rattle.bt_lines.specs.declared.fault.Fault.{Fault}

@@ -1,6 +1,5 @@
 -- Lemmas on what an advance is where one waits, and where none does.
-use Rattle.std.proofs.Common.{◌≡◌, inl, inr, ℕ, true, Option, List, [], Ok, Err, Result, sym, subst, arith}
-use Rattle.std.specs.Prelude.{is_some, ⊤}
+use Rattle.bt_lines.proofs.Std.{◌≡◌, inl, inr, ℕ, true, Option, List, [], Ok, Err, Result, sym, subst, arith, is_some, ⊤}
 use Rattle.bt_lines.specs.calls.Output.{Output}
 use Rattle.bt_lines.specs.declared.fault.Fault.{Fault}
 use Rattle.bt_bed.specs.model.feature.Feature.{Feature}

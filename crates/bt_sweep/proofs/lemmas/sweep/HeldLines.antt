@@ -1,6 +1,5 @@
 -- What is held is all that the lines of a record come from.
-use Rattle.std.proofs.Common.{◌≡◌, true, List, ap, ltb, arith, filter, bytes_eq}
-use Rattle.std.proofs.lemmas.Bool.{lt-ltb, and_from}
+use Rattle.bt_lines.proofs.Std.{◌≡◌, true, List, ap, ltb, arith, filter, bytes_eq, lt-ltb, and_from}
 use Rattle.bt_bed.specs.model.feature.Feature.{Feature}
 use Rattle.bt_sweep.specs.model.Hits.{hits}
 use Rattle.bt_sweep.specs.model.IntersectLines.{lines_of, lines_for}
@@ -8,7 +7,7 @@ use Rattle.bt_sweep.specs.calls.Standing.{is_held}
 use Rattle.bt_sweep.specs.declared.hits.hit_rule.HitRule.{HitRule}
 use Rattle.bt_sweep.specs.declared.output.shape.Shape.{Shape}
 use Rattle.bt_sweep.proofs.lemmas.active.FilterLemmas.{filter-wider}
-use Rattle.bt_sweep.proofs.lemmas.laws.RuleLemmas.{hit_overlaps, overlap_parts}
+use Rattle.bt_sweep.proofs.lemmas.definitions.RuleLemmas.{hit_overlaps, overlap_parts}
 
 hit_is_held : (rule : HitRule) (a b : Feature) → hits rule a b ≡ true → is_held a b ≡ true
 hit_is_held rule a b e =

@@ -1,11 +1,5 @@
 -- Lemmas on what is held.
-use Rattle.std.proofs.Common.{◌≡◌, ℕ, ◌≤◌, inl, inr, Bool, true, false, not, ◌&&◌, ◌||◌, cond, List, [], ◌∷◌, ◌++◌, Option, None, Some, refl, sym, ap, ◌∙◌, subst, ltb, arith, filter, bytes_eq}
-use Rattle.std.specs.Prelude.{IsTrue}
-use Rattle.std.specs.List.{list_all}
-use Rattle.std.specs.Ordering.{ordering_reverse}
-use Rattle.std.proofs.lemmas.Bool.{false≢true, and_from, and_parts, or_parts, or_left, or_right, cases_Bool}
-use Rattle.std.proofs.lemmas.List.Elements.{filter-append}
-use Rattle.std.proofs.lemmas.List.Folds.{list_any-append, list_all-append}
+use Rattle.bt_lines.proofs.Std.{◌≡◌, ℕ, ◌≤◌, inl, inr, Bool, true, false, not, ◌&&◌, ◌||◌, cond, List, [], ◌∷◌, ◌++◌, Option, None, Some, refl, sym, ap, ◌∙◌, subst, ltb, arith, filter, bytes_eq, IsTrue, list_all, ordering_reverse, false≢true, and_from, and_parts, or_parts, or_left, or_right, cases_Bool, filter-append, list_any-append, list_all-append}
 use Rattle.std.specs.declared.cmp.Ordering.{Ordering}
 use Rattle.std.specs.declared.cmp.Ordering.TheVariants.{Less, Greater}
 use Rattle.bt_bed.specs.model.feature.Feature.{Feature, intervals_of}
@@ -18,7 +12,7 @@ use Rattle.bt_sweep.specs.model.Deciding.{decides}
 use Rattle.bt_sweep.specs.calls.Standing.{is_held, held_for, last_after, last_given, leaves_some, HoldsFor}
 use Rattle.bt_sweep.specs.inside.StateSteps.{held_with}
 use Rattle.bt_sweep.proofs.lemmas.active.FilterLemmas.{filter-both}
-use Rattle.bt_sweep.proofs.lemmas.laws.PlacedLemmas.{last_given-push, last_is_there, next_lies}
+use Rattle.bt_sweep.proofs.lemmas.definitions.PlacedLemmas.{last_given-push, last_is_there, next_lies}
 
 -- what is held once a is given, after the one that was given last
 abbrev pub held_behind : Option Feature → List Feature → Feature → List Feature

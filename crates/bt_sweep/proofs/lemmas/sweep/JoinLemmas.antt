@@ -1,9 +1,5 @@
 -- Lemmas on records of both inputs that are joined.
-use Rattle.std.proofs.Common.{◌≡◌, ◌<◌, ◌≤◌, inl, inr, ℕ, true, false, List, [], ◌∷◌, ◌++◌, Option, Some, None, Ok, Err, Result, option_map, refl, sym, ap, ◌∙◌, subst, append-nil, append_assoc, option_to_list, bytes_eq, length, ltb, arith}
-use Rattle.std.specs.Prelude.{All, IfSome}
-use Rattle.std.specs.List.{list_all}
-use Rattle.std.proofs.lemmas.Bool.{and_from, and_parts, ltb-true, or_left, or_right}
-use Rattle.std.proofs.lemmas.List.Folds.{list_any-append}
+use Rattle.bt_lines.proofs.Std.{◌≡◌, ◌<◌, ◌≤◌, inl, inr, ℕ, true, false, List, [], ◌∷◌, ◌++◌, Option, Some, None, Ok, Err, Result, option_map, refl, sym, ap, ◌∙◌, subst, append-nil, append_assoc, option_to_list, bytes_eq, length, ltb, arith, All, IfSome, list_all, and_from, and_parts, ltb-true, or_left, or_right, list_any-append}
 use Rattle.bt_lines.specs.model.Fault.{FaultValue}
 use Rattle.bt_lines.specs.calls.Names.{fault_value}
 use Rattle.bt_lines.specs.calls.Output.{Output}
@@ -23,10 +19,10 @@ use Rattle.bt_sweep.specs.calls.Steps.{has_room}
 use Rattle.bt_sweep.specs.calls.SweepState.{Sweeping}
 use Rattle.bt_sweep.specs.declared.hits.hit_rule.HitRule.{HitRule}
 use Rattle.bt_sweep.specs.declared.output.shape.Shape.{Shape}
-use Rattle.bt_sweep.proofs.lemmas.laws.DecidingLemmas.{placed_back}
+use Rattle.bt_sweep.proofs.lemmas.definitions.DecidingLemmas.{placed_back}
 use Rattle.bt_sweep.proofs.lemmas.sweep.KeepLemmas.{cut_both, decided_before, decided_behind, decided_both, decides_beside, keeps_held, keeps_taken, lines_both, lines_stay_so, undecided_beside}
 use Rattle.bt_sweep.proofs.lemmas.sweep.PendingLemmas.{fails_again, with_none, with_rest, with_rest_cut}
-use Rattle.bt_sweep.proofs.lemmas.laws.PlacedLemmas.{front_placed, last_given-push}
+use Rattle.bt_sweep.proofs.lemmas.definitions.PlacedLemmas.{front_placed, last_given-push}
 use Rattle.bt_sweep.proofs.lemmas.sweep.WriteLemmas.{front_of, split_last, split_more}
 
 -- the chromosome of the next record is known

@@ -1,12 +1,7 @@
 -- Lemmas on what a sweep keeps as records are given and taken.
-use Rattle.std.proofs.Common.{◌≡◌, ◌≤◌, ◌<◌, inl, inr, ℕ, Bool, true, false, not, ◌||◌, cond, List, [], ◌∷◌, ◌++◌, Option, refl, sym, ap, ◌∙◌, subst, filter, append-nil, length, ltb}
-use Rattle.std.specs.Prelude.{IsTrue}
-use Rattle.std.specs.List.{list_all}
+use Rattle.bt_lines.proofs.Std.{◌≡◌, ◌≤◌, ◌<◌, inl, inr, ℕ, Bool, true, false, not, ◌||◌, cond, List, [], ◌∷◌, ◌++◌, Option, refl, sym, ap, ◌∙◌, subst, filter, append-nil, length, ltb, IsTrue, list_all, lt-ltb, and_parts, and_from, or_left, or_right, cases_Bool, flat_map-append, list_any-append, list_all-append}
 use Rattle.std.specs.declared.cmp.Ordering.{Ordering}
 use Rattle.std.specs.declared.cmp.Ordering.TheVariants.{Equal}
-use Rattle.std.proofs.lemmas.Bool.{lt-ltb, and_parts, and_from, or_left, or_right, cases_Bool}
-use Rattle.std.proofs.lemmas.Grind.{flat_map-append}
-use Rattle.std.proofs.lemmas.List.Folds.{list_any-append, list_all-append}
 use Rattle.bt_lines.specs.model.Fault.{FaultValue}
 use Rattle.bt_lines.specs.calls.Output.{Output}
 use Rattle.bt_lines.specs.calls.Putting.{FailsToAdd}
@@ -25,14 +20,14 @@ use Rattle.bt_sweep.specs.calls.Steps.{has_room}
 use Rattle.bt_sweep.specs.calls.SweepState.{Sweeping}
 use Rattle.bt_sweep.specs.declared.hits.hit_rule.HitRule.{HitRule}
 use Rattle.bt_sweep.specs.declared.output.shape.Shape.{Shape}
-use Rattle.bt_sweep.proofs.lemmas.laws.DecidingLemmas.{decides_from}
+use Rattle.bt_sweep.proofs.lemmas.definitions.DecidingLemmas.{decides_from}
 use Rattle.bt_sweep.proofs.lemmas.sweep.HeldLines.{held_lines}
-use Rattle.bt_sweep.proofs.lemmas.laws.HitLemmas.{before_lines, stay_lines}
+use Rattle.bt_sweep.proofs.lemmas.definitions.HitLemmas.{before_lines, stay_lines}
 use Rattle.bt_sweep.proofs.lemmas.sweep.HoldLemmas.{held_behind, held_is_behind, holds_a, holds_b}
-use Rattle.bt_sweep.proofs.lemmas.laws.LimitLemmas.{filter_less, held_less, within_less, within_more}
+use Rattle.bt_sweep.proofs.lemmas.definitions.LimitLemmas.{filter_less, held_less, within_less, within_more}
 use Rattle.bt_sweep.proofs.lemmas.sweep.PendingLemmas.{with_cut, with_more}
-use Rattle.bt_sweep.proofs.lemmas.laws.PlacedLemmas.{last_given-push}
-use Rattle.bt_sweep.proofs.lemmas.laws.RisingLemmas.{rising_held}
+use Rattle.bt_sweep.proofs.lemmas.definitions.PlacedLemmas.{last_given-push}
+use Rattle.bt_sweep.proofs.lemmas.definitions.RisingLemmas.{rising_held}
 
 module _ (order : Order) (shape : Shape) (rule : HitRule) (limit : Option ℕ) where
   module _ (gs : List Feature) (a : Feature) (taken : List Feature) (s : Sweeping) (kept : Keeps order shape rule limit (gs ++ a ∷ []) taken s) where

@@ -1,8 +1,5 @@
 -- Lemmas on cursors that give records on known chromosomes.
-use Rattle.std.proofs.Common.{◌≡◌, true, ◌&&◌, not, Option, Some, List, [], ◌∷◌, ◌++◌, refl, sym, ap, ◌∙◌, subst}
-use Rattle.std.specs.List.{list_all}
-use Rattle.std.proofs.lemmas.Bool.{and_from, and_parts}
-use Rattle.std.proofs.lemmas.List.Folds.{list_all-append}
+use Rattle.bt_lines.proofs.Std.{◌≡◌, true, ◌&&◌, not, Option, Some, List, [], ◌∷◌, ◌++◌, refl, sym, ap, ◌∙◌, subst, list_all, and_from, and_parts, list_all-append}
 use Rattle.bt_bed.specs.calls.Batch.{Passes, left as left_in}
 use Rattle.bt_bed.specs.model.feature.Feature.{Feature}
 use Rattle.bt_bed.specs.model.input.GoodBed.{locus_at}

@@ -1,9 +1,5 @@
 -- Lemmas on lines that are pending.
-use Rattle.std.proofs.Common.{◌≡◌, ◌⊎◌, ◌<◌, inl, inr, ℕ, Bool, true, false, cond, List, [], ◌∷◌, ◌++◌, Ok, Err, Result, sym, ap, ◌∙◌, subst, append-nil, append_assoc, arith, decimal, length}
-use Rattle.std.specs.Prelude.{OnOk}
-use Rattle.std.specs.Result.{is_ok}
-use Rattle.std.proofs.lemmas.Bool.{false≢true, lt-ltb}
-use Rattle.std.proofs.lemmas.Fmt.{decimal_digit}
+use Rattle.bt_lines.proofs.Std.{◌≡◌, ◌⊎◌, ◌<◌, inl, inr, ℕ, Bool, true, false, cond, List, [], ◌∷◌, ◌++◌, Ok, Err, Result, sym, ap, ◌∙◌, subst, append-nil, append_assoc, arith, decimal, length, OnOk, is_ok, false≢true, lt-ltb, decimal_digit}
 use Rattle.bt_lines.specs.model.Fault.{FaultValue, write_failed}
 use Rattle.bt_lines.specs.calls.Names.{fault_value}
 use Rattle.bt_lines.specs.calls.Output.{Output}
@@ -20,7 +16,7 @@ use Rattle.bt_sweep.specs.calls.SweepState.{Sweeping}
 use Rattle.bt_sweep.specs.declared.hits.hit_rule.HitRule.{HitRule}
 use Rattle.bt_sweep.specs.declared.output.shape.Shape.{Shape}
 use Rattle.bt_sweep.specs.declared.output.shape.Shape.TheVariants.{Missing, Pieces, Whole}
-use Rattle.bt_sweep.proofs.lemmas.laws.PieceLemmas.{walked_alone}
+use Rattle.bt_sweep.proofs.lemmas.definitions.PieceLemmas.{walked_alone}
 use Rattle.bt_sweep.proofs.lemmas.sweep.StateLemmas.{none_against}
 use Rattle.bt_sweep.proofs.lemmas.output.WritingLemmas.{line_adds}
 

@@ -1,10 +1,7 @@
 -- Lemmas on records of the second input on one chromosome beside those of the first on one.
-use Rattle.std.proofs.Common.{◌≡◌, inl, inr, ℕ, Bool, true, false, not, ◌&&◌, cond, List, [], ◌∷◌, ◌++◌, Option, Some, None, Ok, Err, Result, refl, sym, ap, ◌∙◌, subst, append-nil, append_assoc, arith, filter, length, ◌≤◌, ltb, option_map, option_to_list}
-use Rattle.std.specs.Prelude.{All, IfSome}
-use Rattle.std.specs.List.{list_all}
+use Rattle.bt_lines.proofs.Std.{◌≡◌, inl, inr, ℕ, Bool, true, false, not, ◌&&◌, cond, List, [], ◌∷◌, ◌++◌, Option, Some, None, Ok, Err, Result, refl, sym, ap, ◌∙◌, subst, append-nil, append_assoc, arith, filter, length, ◌≤◌, ltb, option_map, option_to_list, All, IfSome, list_all, and_from, or_left}
 use Rattle.std.specs.declared.cmp.Ordering.{Ordering}
 use Rattle.std.specs.declared.cmp.Ordering.TheVariants.{Less, Equal, Greater}
-use Rattle.std.proofs.lemmas.Bool.{and_from, or_left}
 use Rattle.bt_lines.specs.calls.Names.{fault_value}
 use Rattle.bt_lines.specs.model.Number.{max_number}
 use Rattle.bt_lines.specs.calls.Output.{Output}
@@ -27,7 +24,7 @@ use Rattle.bt_sweep.specs.declared.hits.hit_rule.HitRule.{HitRule}
 use Rattle.bt_sweep.specs.declared.sweep.phase.Phase.TheVariants.{First}
 use Rattle.bt_sweep.specs.declared.sweep.relation.Relation.TheVariants.{After}
 use Rattle.bt_sweep.specs.declared.output.shape.Shape.{Shape}
-use Rattle.bt_sweep.proofs.lemmas.laws.DecidingLemmas.{decides_from}
+use Rattle.bt_sweep.proofs.lemmas.definitions.DecidingLemmas.{decides_from}
 use Rattle.bt_sweep.proofs.lemmas.sweep.HoldLemmas.{holds_b}
 use Rattle.bt_sweep.proofs.lemmas.sweep.JoinLemmas.{joins_first, leaves_none}
 use Rattle.bt_sweep.proofs.lemmas.sweep.KeepLemmas.{keeps_held}

@@ -1,7 +1,5 @@
 -- Lemmas on calls with one record: they are calls with cursors over one record, or over none.
-use Rattle.std.proofs.Common.{◌≡◌, ◌⊎◌, inl, inr, ℕ, Bool, true, false, cond, ◌&&◌, ◌||◌, List, [], ◌∷◌, ◌++◌, Option, Some, None, Ok, Err, Result, refl, sym, ap, ◌∙◌, subst, append-nil, length, option_to_list, bytes_eq, ltb, ◌<◌, ◌≤◌, arith}
-use Rattle.std.specs.Prelude.{OnErr, IfSome, is_some}
-use Rattle.std.proofs.lemmas.Bool.{and_from, false≢true, lt-ltb}
+use Rattle.bt_lines.proofs.Std.{◌≡◌, ◌⊎◌, inl, inr, ℕ, Bool, true, false, cond, ◌&&◌, ◌||◌, List, [], ◌∷◌, ◌++◌, Option, Some, None, Ok, Err, Result, refl, sym, ap, ◌∙◌, subst, append-nil, length, option_to_list, bytes_eq, ltb, ◌<◌, ◌≤◌, arith, OnErr, IfSome, is_some, and_from, false≢true, lt-ltb}
 use Rattle.bt_lines.specs.model.Fault.{FaultValue}
 use Rattle.bt_lines.specs.calls.Names.{fault_value}
 use Rattle.bt_lines.specs.calls.Output.{Output}
@@ -32,8 +30,8 @@ use Rattle.bt_sweep.specs.declared.sweep.phase.Phase.TheVariants.{Both, First, O
 use Rattle.bt_sweep.specs.declared.output.shape.Shape.{Shape}
 use Rattle.bt_sweep.specs.declared.sweep.want.Want.{Want}
 use Rattle.bt_sweep.specs.declared.sweep.want.Want.TheVariants.{A as WantA, B as WantB, Nothing}
-use Rattle.bt_sweep.proofs.lemmas.laws.HitLemmas.{before_lines}
-use Rattle.bt_sweep.proofs.lemmas.laws.PlacedLemmas.{front_placed}
+use Rattle.bt_sweep.proofs.lemmas.definitions.HitLemmas.{before_lines}
+use Rattle.bt_sweep.proofs.lemmas.definitions.PlacedLemmas.{front_placed}
 use Rattle.bt_sweep.proofs.lemmas.sweep.KeepLemmas.{undecided_beside}
 use Rattle.bt_sweep.proofs.lemmas.sweep.PendingLemmas.{with_no_pending}
 use Rattle.bt_sweep.proofs.lemmas.sweep.StandLemmas.{keeps_of, none_waits, not_over, single_none, want_a, want_b}

@@ -1,6 +1,5 @@
 -- Lemmas on where a sweep is once records of both inputs were given and taken.
-use Rattle.std.proofs.Common.{◌≡◌, inl, inr, ℕ, Bool, true, false, List, [], ◌∷◌, ◌++◌, Option, Some, None, Ok, Err, Result, refl, sym, ap, ◌∙◌, subst, append-nil, append_assoc, option_to_list, length, ◌≤◌, arith}
-use Rattle.std.specs.Prelude.{IfSome, is_some}
+use Rattle.bt_lines.proofs.Std.{◌≡◌, inl, inr, ℕ, Bool, true, false, List, [], ◌∷◌, ◌++◌, Option, Some, None, Ok, Err, Result, refl, sym, ap, ◌∙◌, subst, append-nil, append_assoc, option_to_list, length, ◌≤◌, arith, IfSome, is_some}
 use Rattle.bt_lines.specs.model.Fault.{FaultValue, no_memory}
 use Rattle.bt_lines.specs.calls.Names.{fault_value}
 use Rattle.bt_lines.specs.declared.fault.Fault.{Fault}
@@ -28,7 +27,7 @@ use Rattle.bt_sweep.specs.declared.sweep.want.Want.TheVariants.{A as WantA, B as
 use Rattle.bt_sweep.proofs.lemmas.sweep.JoinLemmas.{leaves_none}
 use Rattle.bt_sweep.proofs.lemmas.sweep.KeepLemmas.{keeps_first}
 use Rattle.bt_sweep.proofs.lemmas.sweep.PendingLemmas.{with_no_pending}
-use Rattle.bt_sweep.proofs.lemmas.laws.PlacedLemmas.{front_placed}
+use Rattle.bt_sweep.proofs.lemmas.definitions.PlacedLemmas.{front_placed}
 
 pub keeps_of : (order : Order) (stage : Stage) (s : Sweeping) → StandsAt order stage s → Keeps order s.shape s.rule s.limit (given stage) stage.taken s
 keeps_of order stage s st = record { shape_is = refl; rule_is = refl; limit_is = refl; holds = st.holds; within = st.within }

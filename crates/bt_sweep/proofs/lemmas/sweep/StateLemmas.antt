@@ -1,9 +1,5 @@
 -- Lemmas on what a sweep keeps.
-use Rattle.std.proofs.Common.{◌≡◌, ◌<◌, ℕ, Bool, true, cond, List, [], ◌∷◌, length, Option, Some, None, refl, sym, ◌∙◌, ltb, arith, filter}
-use Rattle.std.specs.Prelude.{All, IfSome, slice_index_or}
-use Rattle.std.specs.List.{AllByRecursion}
-use Rattle.std.proofs.lemmas.Bool.{false≢true}
-use Rattle.std.proofs.lemmas.List.Elements.{All-filter, All-from_recursion, recursion_from_All}
+use Rattle.bt_lines.proofs.Std.{◌≡◌, ◌<◌, ℕ, Bool, true, cond, List, [], ◌∷◌, length, Option, Some, None, refl, sym, ◌∙◌, ltb, arith, filter, All, IfSome, slice_index_or, AllByRecursion, false≢true, All-filter, All-from_recursion, recursion_from_All}
 use Rattle.bt_bed.specs.model.feature.Feature.{Feature}
 use Rattle.bt_bed.proofs.lemmas.parse.NameLemmas.{same_name}
 use Rattle.bt_sweep.specs.calls.Held.{AreReady, AreOnOne, CanHit, CanHitAt}

@@ -1,6 +1,5 @@
 -- Lemmas on records of the first input that are written one after another.
-use Rattle.std.proofs.Common.{◌≡◌, ◌≤◌, ℕ, List, [], ◌∷◌, ◌++◌, Option, Some, None, refl, sym, ap, ◌∙◌, subst, filter, append-nil, append_assoc, ltb}
-use Rattle.std.specs.Prelude.{All}
+use Rattle.bt_lines.proofs.Std.{◌≡◌, ◌≤◌, ℕ, List, [], ◌∷◌, ◌++◌, Option, Some, None, refl, sym, ap, ◌∙◌, subst, filter, append-nil, append_assoc, ltb, All}
 use Rattle.bt_lines.specs.calls.Output.{Output}
 use Rattle.bt_lines.specs.calls.Putting.{FailsToAdd, Grown}
 use Rattle.bt_lines.specs.model.Fault.{FaultValue}
@@ -16,7 +15,7 @@ use Rattle.bt_sweep.specs.declared.output.shape.Shape.{Shape}
 use Rattle.bt_sweep.proofs.lemmas.sweep.KeepLemmas.{cut_then, keeps_lines, keeps_next, keeps_rising, lines_then}
 use Rattle.bt_sweep.proofs.lemmas.output.OpenLemmas.{open_kept}
 use Rattle.bt_sweep.proofs.lemmas.sweep.PendingLemmas.{with_none, with_rest, with_rest_cut}
-use Rattle.bt_sweep.proofs.lemmas.laws.PlacedLemmas.{front_placed}
+use Rattle.bt_sweep.proofs.lemmas.definitions.PlacedLemmas.{front_placed}
 
 -- ---- lists, after others
 

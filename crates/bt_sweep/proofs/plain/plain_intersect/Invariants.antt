@@ -1,4 +1,4 @@
-use Rattle.std.proofs.Common.{◌≡◌, take}
+use Rattle.bt_lines.proofs.Std.{◌≡◌, take}
 use Rattle.bt_sweep.specs.model.IntersectLines.{intersect}
 use Rattle.bt_sweep.proofs.plain.plain_intersect.Given as goal
 

@@ -1,5 +1,4 @@
-use Rattle.std.proofs.Common.{ℕ, List, [], ◌∷◌, ◌++◌, ap, sym, ◌∙◌, append-nil}
-use Rattle.std.proofs.lemmas.Result.{on_ok_weaker}
+use Rattle.bt_lines.proofs.Std.{ℕ, List, [], ◌∷◌, ◌++◌, ap, sym, ◌∙◌, append-nil, on_ok_weaker}
 use Rattle.bt_bed.specs.model.feature.Feature.{Feature}
 use Rattle.bt_bed.specs.model.feature.Record.{bed_text}
 use Rattle.bt_sweep.specs.model.IntersectLines.{line_with}

@@ -1,4 +1,4 @@
-use Rattle.std.proofs.Common.{◌≡◌, ◌++◌, flat_map, length}
+use Rattle.bt_lines.proofs.Std.{◌≡◌, ◌++◌, flat_map, length}
 use Rattle.bt_bed.specs.calls.Bed.{feature_lent}
 use Rattle.bt_sweep.specs.model.IntersectLines.{piece_line}
 use Rattle.bt_sweep.specs.inside.PlainPieces.{pieces_in}

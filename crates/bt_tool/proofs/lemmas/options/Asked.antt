@@ -1,7 +1,5 @@
 -- What a list of words means, from the parts of it that the code finds one after another.
-use Rattle.std.proofs.Common.{◌≡◌, ℕ, ◌+◌, ◌<◌, ◌≤◌, Bool, true, false, List, [], ◌∷◌, length, Option, Some, None, Err, drop, refl, sym, ap, ◌∙◌, arith, length-drop, Result, Ok}
-use Rattle.std.specs.Prelude.{IsTrue, is_some, if◌then◌else◌, IfOk, IfErr}
-use Rattle.std.proofs.lemmas.Bool.Decides.{nat_tests}
+use Rattle.bt_lines.proofs.Std.{◌≡◌, ℕ, ◌+◌, ◌<◌, ◌≤◌, Bool, true, false, List, [], ◌∷◌, length, Option, Some, None, Err, drop, refl, sym, ap, ◌∙◌, arith, length-drop, Result, Ok, IsTrue, is_some, if◌then◌else◌, IfOk, IfErr, nat_tests}
 use Rattle.bt_tool.specs.declared.planning.tool.Tool.{Tool}
 use Rattle.bt_tool.specs.declared.options.usage.Usage.{Usage}
 use Rattle.bt_tool.specs.model.usage.Items.{Item, items_of, spelled}

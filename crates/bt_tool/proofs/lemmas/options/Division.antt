@@ -1,17 +1,8 @@
 -- The words of a command line divide into items in one way.
-use Rattle.std.proofs.Common.{◌≡◌, ◌≢◌, ℕ, ◌+◌, ◌≤◌, Bool, true, false, List, [], ◌∷◌, ◌++◌, length, Option, Some, None, drop, refl, sym, ap, ◌∙◌, subst, arith, append_assoc, length-append}
-use Rattle.std.specs.Prelude.{All, bytes_eq, Result, ◌↔◌}
-use Rattle.std.proofs.lemmas.List.Concat.{flat_map-append}
-use Rattle.std.proofs.lemmas.List.Elements.{All-nil, All-cons, All-head, All-tail}
-use Rattle.std.proofs.Math.Seq.{drop-append_seam, drop-length}
-use Rattle.bt_tool.specs.model.usage.Items.{Item, IsItem, items_of, words_of, spelled}
-use Rattle.std.proofs.lemmas.Slice.Eq.{bytes_eq-Decides}
-use Rattle.bt_tool.specs.model.usage.Options.{PlanSeen, asked, command_of, fault_at, last_item, options, word_fault}
-use Rattle.bt_tool.specs.model.usage.Table.{Word, Table, fits, table_of, takes}
+use Rattle.bt_lines.proofs.Std.{◌≡◌, ◌+◌, Bool, true, false, List, [], ◌∷◌, ◌++◌, Option, Some, None, refl, All, All-nil, All-cons}
+use Rattle.bt_tool.specs.model.usage.Items.{Item, IsItem, items_of, words_of}
+use Rattle.bt_tool.specs.model.usage.Table.{Word, Table, fits, takes}
 use Rattle.bt_tool.specs.declared.options.takes.Takes.{Takes}
-use Rattle.bt_tool.specs.declared.planning.tool.Tool.{Tool}
-use Rattle.bt_tool.specs.declared.options.usage.Usage.{Usage}
-use Rattle.bt_tool.proofs.lemmas.options.Reading.{items_of-item}
 
 -- an induction over the division
 module _ (table : Table) (P : List Word → List Item → Type 0)

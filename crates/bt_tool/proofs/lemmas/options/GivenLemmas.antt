@@ -1,16 +1,6 @@
 -- Lemmas on the items of a command line.
-use Rattle.std.proofs.Common.{◌≡◌, ℕ, ◌≤◌, ◌&&◌, Bool, true, false, cond, List, [], ◌∷◌, length, Option, Some, None, Ok, Err, drop, refl, sym, ap, subst, ◌∙◌, ltb, leb, leb-true}
-use Rattle.std.specs.Prelude.{All, String, bytes_eq, option_and_then, string_bytes, unwrap_or}
-use Rattle.std.specs.Char.{is_ascii_digit}
-use Rattle.std.specs.List.{list_all}
-use Rattle.std.specs.Str.Parse.{digits_value}
-use Rattle.std.proofs.lemmas.Bool.{le-leb, and_parts}
-use Rattle.std.specs.Option.{option_or}
+use Rattle.bt_lines.proofs.Std.{◌≡◌, ℕ, ◌≤◌, ◌&&◌, Bool, true, false, cond, List, [], ◌∷◌, length, Option, Some, None, Ok, Err, drop, refl, sym, ap, subst, ◌∙◌, ltb, leb, leb-true, All, String, bytes_eq, option_and_then, string_bytes, unwrap_or, is_ascii_digit, list_all, digits_value, le-leb, and_parts, option_or, cond_some, length-map, All-head, All-tail, bytes_eq-Decides}
 use Rattle.std.specs.declared.alloc.Global.{Global}
-use Rattle.std.proofs.lemmas.Option.{cond_some}
-use Rattle.std.proofs.lemmas.List.{length-map}
-use Rattle.std.proofs.lemmas.List.Elements.{All-head, All-tail}
-use Rattle.std.proofs.lemmas.Slice.Eq.{bytes_eq-Decides}
 use Rattle.bt_lines.specs.model.Number.{is_number, max_number, value_of as number_of}
 use Rattle.bt_tool.specs.calls.words.Given.{items_in}
 use Rattle.bt_tool.specs.calls.words.Lent.{table_lent}

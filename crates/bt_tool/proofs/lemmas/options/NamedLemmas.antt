@@ -1,10 +1,6 @@
 -- Lemmas on the names of a plan: an option that is required names something.
-use Rattle.std.proofs.Common.{◌≡◌, Bool, true, false, cond, List, [], ◌∷◌, Option, Some, None, refl, sym, ap, ◌∙◌, subst}
-use Rattle.std.specs.Prelude.{◌||◌, not, bytes_eq, codes, is_some, option_map, string_bytes, String, IsTrue, IsSome, IsNone}
-use Rattle.std.specs.List.{list_any}
+use Rattle.bt_lines.proofs.Std.{◌≡◌, Bool, true, false, cond, List, [], ◌∷◌, Option, Some, None, refl, sym, ap, ◌∙◌, subst, ◌||◌, not, bytes_eq, codes, is_some, option_map, string_bytes, String, IsTrue, IsSome, IsNone, list_any, false≢true, not-false, or_parts, bytes_eq-Decides}
 use Rattle.std.specs.declared.alloc.Global.{Global}
-use Rattle.std.proofs.lemmas.Bool.{false≢true, not-false, or_parts}
-use Rattle.std.proofs.lemmas.Slice.Eq.{bytes_eq-Decides}
 use Rattle.bt_tool.specs.calls.words.Given.{items_in}
 use Rattle.bt_tool.specs.calls.words.Lent.{table_lent}
 use Rattle.bt_tool.specs.model.usage.Items.{Item}

@@ -1,16 +1,11 @@
 -- How a list of words is divided, one item after another.
-use Rattle.std.proofs.Common.{ap, ◌≡◌, ℕ, ◌+◌, ◌<◌, ◌≤◌, true, false, List, [], ◌∷◌, ◌++◌, length, Option, Some, None, drop, refl, sym, ◌∙◌, arith, length-append, add_assoc, add-zero, add-one}
-use Rattle.std.proofs.Math.ListN.{drop_of_length-le}
-use Rattle.std.proofs.Math.Seq.{drop-append-add, drop-cons}
-use Rattle.std.specs.Prelude.{String, option_to_list, string_bytes, get_or, bytes_eq, if◌then◌else◌}
+use Rattle.bt_lines.proofs.Std.{ap, ◌≡◌, ℕ, ◌+◌, ◌<◌, ◌≤◌, true, false, List, [], ◌∷◌, ◌++◌, length, Option, Some, None, drop, refl, sym, ◌∙◌, arith, length-append, add_assoc, add-zero, add-one, drop_of_length-le, drop-append-add, drop-cons, String, option_to_list, string_bytes, get_or, bytes_eq, if◌then◌else◌, option_or, drop-map}
 use Rattle.bt_tool.specs.model.usage.Items.{Item, IsItem, items_of, words_of, spelled}
-use Rattle.std.specs.Option.{option_or}
 use Rattle.bt_tool.specs.declared.options.takes.Takes.{Takes}
 use Rattle.bt_tool.specs.declared.options.takes.Takes.TheVariants.{Nothing, FileName, Number, Fraction, Strand, Character}
 use Rattle.bt_tool.specs.model.usage.Options.{last_item, word_fault}
 use Rattle.bt_tool.specs.calls.words.Plan.{words_seen}
 use Rattle.std.specs.declared.alloc.Global.{Global}
-use Rattle.std.proofs.lemmas.List.{drop-map}
 use Rattle.bt_tool.specs.model.usage.Table.{Word, Table, fits, takes}
 use Rattle.bt_tool.specs.model.usage.Usage.{unknown_option, value_missing, bad_value}
 

@@ -1,16 +1,11 @@
 -- Lemmas on lists of options that are borrowed, and on the first of them that passes a test.
-use Rattle.std.proofs.Common.{◌≡◌, ℕ, Bool, true, false, cond, List, [], ◌∷◌, Option, Some, None, map, refl, sym, ap, ◌∙◌, arith}
-use Rattle.std.specs.Prelude.{find, option_map, ◌||◌}
-use Rattle.std.specs.Prelude.{bytes_eq, not, ◌&&◌, ◌==◌, length}
-use Rattle.std.specs.List.{list_any}
+use Rattle.bt_lines.proofs.Std.{◌≡◌, ℕ, Bool, true, false, cond, List, [], ◌∷◌, Option, Some, None, map, refl, sym, ap, ◌∙◌, arith, find, option_map, ◌||◌, bytes_eq, not, ◌&&◌, ◌==◌, length, list_any, false≢true, nat_tests}
 use Rattle.bt_tool.specs.model.usage.Items.{Item}
 use Rattle.bt_tool.specs.model.usage.Options.{fault_together, has_exclusive, is_given, lacks_one_of, lacks_option, named_by, overwrites, reads_twice}
 use Rattle.bt_tool.specs.model.usage.Usage.{input_named_twice, options_exclusive}
 use Rattle.bt_tool.specs.model.usage.Table.{Row, Table, Word, takes}
 use Rattle.bt_tool.specs.calls.words.Lent.{row_lent, table_lent}
 use Rattle.bt_tool.specs.declared.options.table.Table.{Table as Lent}
-use Rattle.std.proofs.lemmas.Bool.{false≢true}
-use Rattle.std.proofs.lemmas.Bool.Decides.{nat_tests}
 use denote.Ref.{Bor}
 
 pub list_any_of-map : {X Y : Type 0} (h : Y → X) (p : X → Bool) (ys : List Y)

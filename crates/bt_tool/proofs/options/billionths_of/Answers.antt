@@ -1,5 +1,4 @@
-use Rattle.std.proofs.Common.{sym, ap, ◌∙◌, ◌≤◌, subst}
-use Rattle.std.specs.Prelude.{unwrap_or}
+use Rattle.bt_lines.proofs.Std.{sym, ap, ◌∙◌, ◌≤◌, subst, unwrap_or}
 use Rattle.bt_tool.specs.model.usage.Fraction.{one_in_billionths}
 use Rattle.bt_tool.proofs.lemmas.options.FractionLemmas.{fraction-limit-or}
 use Rattle.bt_tool.proofs.options.billionths_of.Goals as goal

@@ -1,5 +1,4 @@
-use Rattle.std.proofs.Common.{sym, subst}
-use Rattle.std.specs.Prelude.{IsTrue}
+use Rattle.bt_lines.proofs.Std.{sym, subst, IsTrue}
 use Rattle.bt_tool.specs.calls.words.Limits.{is_limit}
 use Rattle.bt_tool.proofs.lemmas.options.GivenLemmas.{number-is_limit}
 use Rattle.bt_tool.proofs.options.limit_of.Goals as goal

@@ -1,4 +1,4 @@
-use Rattle.std.proofs.Common.{◌≡◌, ◌∙◌, ap}
+use Rattle.bt_lines.proofs.Std.{◌≡◌, ◌∙◌, ap}
 use Rattle.bt_tool.specs.calls.words.Given.{items_in}
 use Rattle.bt_tool.specs.model.usage.Options.{Named, named_by}
 use Rattle.bt_tool.specs.model.usage.Table.{table_of, tool_of}

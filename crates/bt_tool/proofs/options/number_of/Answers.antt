@@ -1,5 +1,4 @@
-use Rattle.std.proofs.Common.{sym, ap, ◌∙◌, ◌≤◌, subst}
-use Rattle.std.specs.Prelude.{unwrap_or}
+use Rattle.bt_lines.proofs.Std.{sym, ap, ◌∙◌, ◌≤◌, subst, unwrap_or}
 use Rattle.bt_lines.specs.model.Number.{max_number}
 use Rattle.bt_tool.proofs.lemmas.options.GivenLemmas.{number-limit-or}
 use Rattle.bt_tool.proofs.options.number_of.Goals as goal

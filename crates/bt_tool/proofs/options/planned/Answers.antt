@@ -1,6 +1,4 @@
-use Rattle.std.proofs.Common.{Ok, Err, ◌∙◌, ap, sym}
-use Rattle.std.specs.Prelude.{is_ok}
-use Rattle.std.proofs.lemmas.Result.{err_from_is_err_and}
+use Rattle.bt_lines.proofs.Std.{Ok, Err, ◌∙◌, ap, sym, is_ok, err_from_is_err_and}
 use Rattle.bt_tool.specs.calls.words.Plan.{words_seen}
 use Rattle.bt_tool.specs.model.usage.Table.{table_of}
 use Rattle.bt_tool.proofs.lemmas.options.Asked.{options-no_command}

@@ -1,4 +1,4 @@
-use Rattle.std.specs.Prelude.{option_map}
+use Rattle.bt_lines.proofs.Std.{option_map}
 use Rattle.bt_lines.specs.calls.Names.{fault_value}
 use Rattle.bt_bed.specs.model.order.ByteOrder.{byte_order, bytes_total}
 use Rattle.bt_bed.specs.model.feature.Feature.{intervals_of}

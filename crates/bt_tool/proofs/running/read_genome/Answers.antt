@@ -1,4 +1,4 @@
-use Rattle.std.proofs.Common.{Some, ap, subst, sym}
+use Rattle.bt_lines.proofs.Std.{Some, ap, subst, sym}
 use Rattle.bt_lines.specs.calls.Names.{fault_value}
 use Rattle.bt_tool.specs.calls.run.Chromosomes.{KnowsChromosomes, LacksChromosomes}
 use Rattle.bt_tool.specs.calls.run.OwnReads.{IsOwnFailureIf, TellsOwnReads}

@@ -1,5 +1,4 @@
-use Rattle.std.proofs.Common.{ap}
-use Rattle.std.specs.Prelude.{option_map}
+use Rattle.bt_lines.proofs.Std.{ap, option_map}
 use Rattle.bt_lines.specs.calls.Names.{fault_value}
 use Rattle.bt_tool.proofs.lemmas.running.whole.RunningLemmas.{runs_by}
 use Rattle.bt_tool.proofs.lemmas.running.whole.OwnFailureLemmas.{all_own, flushed_no_read, flushed_own, genome_no_read}

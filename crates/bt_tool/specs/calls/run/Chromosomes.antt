@@ -1,6 +1,6 @@
 -- What reading the genome file of a run does, if it has one.
-use Rattle.std.specs.Prelude.{◌≡◌, ◌≢◌, ◌⊎◌, Option, Some, Ok, Err, Result, is_some}
-use Rattle.std.specs.Prelude.{IfSome, option_map}
+use Rattle.std.specs.Prelude.{◌≡◌, ◌≢◌, ◌⊎◌, Option, Some, Ok, Err, Result, is_some, IfSome}
+use Rattle.std.specs.Prelude.{option_map}
 use Rattle.bt_lines.specs.declared.device.Source.{Ghosts as Source}
 use Rattle.bt_lines.specs.model.Fault.{FaultValue, no_memory, write_failed}
 use Rattle.bt_lines.specs.model.Handed.{Handed}

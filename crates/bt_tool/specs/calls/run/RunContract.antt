@@ -14,9 +14,11 @@ use Rattle.bt_bed.specs.model.order.Genome.{Entry}
 use Rattle.bt_bed.specs.model.feature.LineKind.{is_genome_kind}
 use Rattle.bt_tool.specs.model.report.Behaviour.{behaviour_of}
 use Rattle.bt_tool.specs.model.usage.Kinds.{IsOneOf}
-use Rattle.bt_tool.specs.calls.run.FaultSource.{IsFaultButWrite, IsOfInput, IsWithin, ReadsNoFurther, TellsDevice}
-use Rattle.bt_tool.specs.calls.run.FaultSource.{TellsInput, TellsInputIf}
-use Rattle.bt_tool.specs.model.report.Inputs.{HandsUpToIf, HoldsIf, Holds, Inputs, Reads, ReadsIf, ServesIf}
+use Rattle.bt_tool.specs.calls.run.FaultSource.{IsFaultButWrite, IsOfInput, IsWithin}
+use Rattle.bt_tool.specs.calls.run.FaultSource.{ReadsNoFurther, TellsDevice, TellsInput}
+use Rattle.bt_tool.specs.calls.run.FaultSource.{TellsInputIf}
+use Rattle.bt_tool.specs.model.report.Inputs.{HandsUpToIf, HoldsIf, Holds, Inputs, Reads, ReadsIf}
+use Rattle.bt_tool.specs.model.report.Inputs.{ServesIf}
 use Rattle.bt_tool.specs.model.report.Report.{chromosomes_of, reaches_on, report_of, settles_on}
 use Rattle.bt_tool.specs.declared.planning.plan_type.Command.{Command}
 

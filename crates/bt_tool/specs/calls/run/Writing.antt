@@ -1,6 +1,5 @@
 -- What a command does with its inputs, by what they hand over; the second may not be there.
-use Rattle.std.specs.Prelude.{◌≡◌, ◌≢◌, ℕ, ◌+◌, ◌⊎◌, true, List, [], ◌++◌, take, Option, Some}
-use Rattle.std.specs.Prelude.{None}
+use Rattle.std.specs.Prelude.{◌≡◌, ◌≢◌, ℕ, ◌+◌, ◌⊎◌, true, List, [], ◌++◌, take, Option, Some, None}
 use Rattle.bt_lines.specs.declared.device.Source.{Ghosts as Source}
 use Rattle.bt_lines.specs.model.Fault.{FaultValue, no_memory, write_failed}
 use Rattle.bt_lines.specs.model.Handed.{Handed}
@@ -9,8 +8,9 @@ use Rattle.bt_lines.specs.calls.Output.{Output, IsPrefixOf, Grows, block_size}
 use Rattle.bt_lines.specs.declared.fault.Input.TheVariants.{First, Second}
 use Rattle.bt_tool.specs.model.report.Behaviour.{Behaviour}
 use Rattle.bt_tool.specs.model.report.Inputs.{HandsUpToIf, Holds, HoldsIf, Reads, ReadsIf, ServesIf}
-use Rattle.bt_tool.specs.calls.run.FaultSource.{IsFaultButWrite, IsOfInput, IsReported, IsWithin, ReadsNoFurther}
-use Rattle.bt_tool.specs.calls.run.FaultSource.{TellsDevice, TellsInput, TellsInputIf}
+use Rattle.bt_tool.specs.calls.run.FaultSource.{IsFaultButWrite, IsOfInput, IsReported, IsWithin}
+use Rattle.bt_tool.specs.calls.run.FaultSource.{ReadsNoFurther, TellsDevice, TellsInput}
+use Rattle.bt_tool.specs.calls.run.FaultSource.{TellsInputIf}
 
 module _ {A B : Type 0} (source_a : Source A) (source_b : Source B) (behaviour : Behaviour) where
   -- the inputs were read, and what they make a command write was written:

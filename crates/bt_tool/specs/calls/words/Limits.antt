@@ -6,8 +6,9 @@ use Rattle.bt_seq.specs.declared.mask.mask_how.MaskHow.TheVariants.{Soft, Hard}
 use Rattle.bt_tool.specs.model.usage.Character.{is_printable}
 use Rattle.bt_tool.specs.model.usage.Fraction.{one_in_billionths}
 use Rattle.bt_tool.specs.declared.planning.plan_type.Command.{Command}
-use Rattle.bt_tool.specs.declared.planning.plan_type.Command.TheVariants.{Merge, Complement, Intersect}
-use Rattle.bt_tool.specs.declared.planning.plan_type.Command.TheVariants.{Subtract, Coverage, BamToBed}
+use Rattle.bt_tool.specs.declared.planning.plan_type.Command.TheVariants.{Merge, Complement}
+use Rattle.bt_tool.specs.declared.planning.plan_type.Command.TheVariants.{Intersect, Subtract}
+use Rattle.bt_tool.specs.declared.planning.plan_type.Command.TheVariants.{Coverage, BamToBed}
 use Rattle.bt_tool.specs.declared.planning.plan_type.Command.TheVariants.{MaskFasta}
 
 -- whether a masked base can be shown so

@@ -1,13 +1,13 @@
 -- What feeding an engine with the members of a reader does to the devices.
-use Rattle.std.specs.Prelude.{◌≡◌, ◌≢◌, ℕ, ◌+◌, ◌^◌, ◌<◌, ◌≤◌, ◌⊎◌, true, List, [], ◌++◌}
-use Rattle.std.specs.Prelude.{length, Some, None, Result, Ok, Err, IfSome}
+use Rattle.std.specs.Prelude.{◌≡◌, ◌≢◌, ℕ, ◌+◌, ◌^◌, ◌<◌, ◌≤◌, ◌⊎◌, true, List, [], ◌++◌, length}
+use Rattle.std.specs.Prelude.{Some, None, Result, Ok, Err, IfSome}
 use Rattle.bt_lines.specs.declared.device.Source.{Ghosts as Source}
 use Rattle.bt_lines.specs.model.Fault.{FaultValue, write_failed}
 use Rattle.bt_lines.specs.calls.Names.{fault_value}
 use Rattle.bt_lines.specs.calls.Output.{Output, IsPrefixOf, Grows, HoldsBlock, block_size}
 use Rattle.bt_lines.specs.calls.Putting.{WorksAsBefore}
-use Rattle.bt_lines.specs.calls.Reader.{Hands, IsSound, source_of, bytes_taken}
-use Rattle.bt_lines.specs.calls.Reader.{feeds_taken, lines_given}
+use Rattle.bt_lines.specs.calls.Reader.{Hands, IsSound, source_of, bytes_taken, feeds_taken}
+use Rattle.bt_lines.specs.calls.Reader.{lines_given}
 use Rattle.bt_lines.specs.declared.fault.Fault.{Fault}
 use Rattle.bt_lines.specs.declared.fault.Kind.{Kind}
 use Rattle.bt_bed.specs.model.feature.Feature.{Feature, intervals_of}

@@ -1,17 +1,20 @@
 -- What a reader of members has consumed, and why it stops.
-use Rattle.std.specs.Prelude.{◌≡◌, ℕ, suc, ◌+◌, ◌^◌, ◌<◌, ◌≤◌, ◌⊎◌, ⊤, All, true, List, [], ◌∷◌, ◌++◌, drop, length, map, Option, Some, None, IfSome, IsSome}
+use Rattle.std.specs.Prelude.{◌≡◌, ℕ, suc, ◌+◌, ◌^◌, ◌<◌, ◌≤◌, ◌⊎◌, ⊤, All, true, List, [], ◌∷◌}
+use Rattle.std.specs.Prelude.{◌++◌, drop, length, map, Option, Some, None, IfSome, IsSome}
 use Rattle.bt_lines.specs.declared.device.Source.{Ghosts as Source}
 use Rattle.bt_lines.specs.model.Fault.{FaultValue, read_failed, no_memory}
 use Rattle.bt_lines.specs.model.Lines.{bytes_in}
 use Rattle.bt_lines.specs.calls.Output.{block_size}
-use Rattle.bt_lines.specs.calls.Reader.{CutsOff, Hands, IsKept, IsUnread, source_of, input_of, bytes_taken, fault_kept as line_fault, lines_given, lines_left}
+use Rattle.bt_lines.specs.calls.Reader.{CutsOff, Hands, IsKept, IsUnread, source_of, input_of}
+use Rattle.bt_lines.specs.calls.Reader.{bytes_taken, fault_kept as line_fault, lines_given}
+use Rattle.bt_lines.specs.calls.Reader.{lines_left}
 use Rattle.bt_lines.specs.declared.fault.Input.{Input}
 use Rattle.bt_lines.specs.declared.fault.Kind.{Kind}
 use Rattle.bt_lines.specs.declared.reader.line_reader.LineReader.{LineReader}
 use Rattle.bt_bed.specs.model.input.Good.{Format, Good, Member}
-use Rattle.bt_bed.specs.model.input.GoodLines.{IsBeyond}
+use Rattle.bt_bed.specs.calls.Reading.{IsBeyond, AreSaid, MemberReader, Takes, ahead_in}
+use Rattle.bt_bed.specs.calls.Reading.{good_coming, state_behind}
 use Rattle.bt_bed.specs.model.feature.LineKind.{fault_at_line}
-use Rattle.bt_bed.specs.calls.Reading.{AnswersFault, AreSaid, EndsMembers, GivesMember, MemberReader, Takes, ahead_in, good_coming, state_behind}
 
 -- these members came first of what was to come, and the others are still to come
 abbrev pub ComeFirst : {A : Type 0} → Option (Good A) → List (Member A) → Option (Good A) → Type 0

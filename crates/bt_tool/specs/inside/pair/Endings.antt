@@ -13,7 +13,8 @@ use Rattle.bt_bed.specs.model.feature.LineKind.{fault_at_line}
 use Rattle.bt_bed.specs.calls.Reading.{MemberReader, good_coming}
 use Rattle.bt_tool.specs.inside.feed.Feeding.{CutsLines, PutsLines, TookButBlock, member_items}
 use Rattle.bt_tool.specs.inside.pair.Pair.{JoinDef, Pair, Serves, SettlesPair}
-use Rattle.bt_tool.specs.inside.feed.Passed.{AreAll, HasFaultBehind, IsReadFor, IsReadTo, KeepsOwnFault}
+use Rattle.bt_tool.specs.inside.feed.Passed.{AreAll, HasFaultBehind, IsReadFor, IsReadTo}
+use Rattle.bt_tool.specs.inside.feed.Passed.{KeepsOwnFault}
 use Rattle.bt_tool.specs.calls.run.FaultSource.{IsFaultButWrite}
 use Rattle.bt_tool.specs.calls.run.OwnReads.{TellsNoRead}
 

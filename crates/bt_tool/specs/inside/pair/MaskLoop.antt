@@ -25,9 +25,11 @@ use Rattle.bt_seq.specs.model.Owners.{left_after}
 use Rattle.bt_seq.specs.model.Sequences.{Reached, SequenceLine, sequence_format}
 use Rattle.bt_seq.specs.declared.mask.mask_how.MaskHow.{MaskHow}
 use Rattle.bt_seq.specs.declared.mask.mask_want.MaskWant.{MaskWant}
-use Rattle.bt_seq.specs.declared.mask.mask_want.MaskWant.TheVariants.{Line as WantLine, Bed as WantBed, Nothing}
+use Rattle.bt_seq.specs.declared.mask.mask_want.MaskWant.TheVariants.{Line as WantLine}
+use Rattle.bt_seq.specs.declared.mask.mask_want.MaskWant.TheVariants.{Bed as WantBed, Nothing}
 use Rattle.bt_sweep.specs.declared.sweep.want.Want.{Want}
-use Rattle.bt_sweep.specs.declared.sweep.want.Want.TheVariants.{A as WantA, B as WantB, Nothing as WantNothing}
+use Rattle.bt_sweep.specs.declared.sweep.want.Want.TheVariants.{A as WantA, B as WantB}
+use Rattle.bt_sweep.specs.declared.sweep.want.Want.TheVariants.{Nothing as WantNothing}
 use Rattle.bt_tool.specs.declared.loops.masking.MaskRun.{MaskRun}
 use Rattle.bt_tool.specs.model.usage.Kinds.{IsOneOf}
 use Rattle.bt_tool.specs.model.report.SweepReport.{bytes_up_to}

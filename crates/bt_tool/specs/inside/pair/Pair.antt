@@ -1,14 +1,14 @@
 -- Two readers of members, and what a command makes of the members of the first by those
 -- of the second.
-use Rattle.std.specs.Prelude.{◌≡◌, ℕ, ◌^◌, ◌<◌, ◌||◌, Bool, true, List, ◌++◌, flat_map, Option, None, is_none, option_map}
+use Rattle.std.specs.Prelude.{◌≡◌, ℕ, ◌^◌, ◌<◌, ◌||◌, Bool, true, List, ◌++◌, flat_map, Option}
+use Rattle.std.specs.Prelude.{None, is_none, option_map}
 use Rattle.std.specs.List.{list_all}
 use Rattle.bt_lines.specs.declared.device.Source.{Ghosts as Source}
 use Rattle.bt_lines.specs.model.Fault.{FaultValue}
 use Rattle.bt_lines.specs.model.Lines.{TextLine}
 use Rattle.bt_lines.specs.calls.Reader.{bytes_taken, source_of}
 use Rattle.bt_lines.specs.declared.fault.Kind.{Kind}
-use Rattle.bt_bed.specs.model.input.Good.{Good, Member, items_in, or_else}
-use Rattle.bt_bed.specs.model.input.TwoInputReport.{Met, Rule, join_report}
+use Rattle.bt_bed.specs.model.input.Good.{Good, Member}
 use Rattle.bt_bed.specs.calls.Reading.{MemberReader, ahead_in}
 
 -- what a command makes of the members of the first input by good members of the second

@@ -1,9 +1,8 @@
 -- How far a run over two readers of members has come.
-use Rattle.std.specs.Prelude.{◌≡◌, ℕ, Bool, true, List, [], ◌∷◌, ◌++◌, Option, None}
+use Rattle.std.specs.Prelude.{◌≡◌, ℕ, Bool, true, List, [], ◌++◌, Option, None}
 use Rattle.std.specs.Option.{option_to_list}
-use Rattle.bt_lines.specs.declared.device.Source.{Ghosts as Source}
 use Rattle.bt_lines.specs.calls.Output.{Output}
-use Rattle.bt_lines.specs.calls.Reader.{end_told, source_of}
+use Rattle.bt_lines.specs.calls.Reader.{end_told}
 use Rattle.bt_bed.specs.model.input.Good.{Member}
 use Rattle.bt_bed.specs.calls.Reading.{MemberReader}
 use Rattle.bt_tool.specs.inside.feed.Feeding.{HasPut, member_items}

@@ -20,16 +20,18 @@ use Rattle.bt_sweep.specs.declared.output.shape.Shape.{Shape}
 use Rattle.bt_tool.specs.model.report.ConvertReport.{bamtobed_report, bamtobed_settles}
 use Rattle.bt_tool.specs.model.report.Inputs.{or_empty}
 use Rattle.bt_tool.specs.model.usage.Kinds.{IsNoKind, IsOneOf}
-use Rattle.bt_tool.specs.model.report.MaskReport.{is_fasta_kind, is_mask_kind, mask_reaches, mask_report}
-use Rattle.bt_tool.specs.model.report.MaskReport.{mask_settles}
+use Rattle.bt_tool.specs.model.report.MaskReport.{is_fasta_kind, is_mask_kind, mask_reaches}
+use Rattle.bt_tool.specs.model.report.MaskReport.{mask_report, mask_settles}
 use Rattle.bt_tool.specs.model.report.RecordReport.{Report, members_report, members_settle}
 use Rattle.bt_tool.specs.model.report.SweepReport.{IsSweptKind, intersect_reaches, intersect_report}
-use Rattle.bt_tool.specs.model.report.SweepReport.{intersect_settles}
-use Rattle.bt_tool.specs.model.report.SweepReport.{subtract_reaches, subtract_report, subtract_settles}
-use Rattle.bt_tool.specs.model.report.Written.{Written, complement_written, coverage_written, merge_written}
+use Rattle.bt_tool.specs.model.report.SweepReport.{intersect_settles, subtract_reaches}
+use Rattle.bt_tool.specs.model.report.SweepReport.{subtract_report, subtract_settles}
+use Rattle.bt_tool.specs.model.report.Written.{Written, complement_written, coverage_written}
+use Rattle.bt_tool.specs.model.report.Written.{merge_written}
 use Rattle.bt_tool.specs.declared.planning.plan_type.Command.{Command}
-use Rattle.bt_tool.specs.declared.planning.plan_type.Command.TheVariants.{Merge, Complement, Intersect}
-use Rattle.bt_tool.specs.declared.planning.plan_type.Command.TheVariants.{Subtract, Coverage, BamToBed}
+use Rattle.bt_tool.specs.declared.planning.plan_type.Command.TheVariants.{Merge, Complement}
+use Rattle.bt_tool.specs.declared.planning.plan_type.Command.TheVariants.{Intersect, Subtract}
+use Rattle.bt_tool.specs.declared.planning.plan_type.Command.TheVariants.{Coverage, BamToBed}
 use Rattle.bt_tool.specs.declared.planning.plan_type.Command.TheVariants.{MaskFasta}
 
 -- what a command does; a second input that it doesn't have isn't read

@@ -1,7 +1,7 @@
 -- What a run gives: the bytes written, the fault reported and the exit status, from the words of the
 -- command line and what its inputs hand over.
-use Rattle.std.specs.Prelude.{◌≡◌, ℕ, List, [], Option, Some, None, Result, Ok, Err}
-use Rattle.std.specs.Prelude.{option_map, unwrap_or}
+use Rattle.std.specs.Prelude.{◌≡◌, ℕ, List, [], Option, Some, None, Result, Ok, Err, option_map}
+use Rattle.std.specs.Prelude.{unwrap_or}
 use Rattle.bt_lines.specs.model.Fault.{FaultValue, InputNames, line_of}
 use Rattle.bt_lines.specs.model.Handed.{Handed, whole_text}
 use Rattle.bt_lines.specs.model.Lines.{TextLine}

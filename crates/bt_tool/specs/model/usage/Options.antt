@@ -14,13 +14,14 @@ use Rattle.bt_seq.specs.declared.mask.mask_how.MaskHow.{MaskHow}
 use Rattle.bt_seq.specs.declared.mask.mask_how.MaskHow.TheVariants.{Soft, Hard}
 use Rattle.bt_sweep.specs.declared.hits.hit_rule.HitRule.{HitRule}
 use Rattle.bt_sweep.specs.declared.output.shape.Shape.{Shape}
-use Rattle.bt_sweep.specs.declared.output.shape.Shape.TheVariants.{Cut, OrigA, CutAndB, OrigBoth, Overlap}
-use Rattle.bt_sweep.specs.declared.output.shape.Shape.TheVariants.{Once, Missing, Count}
+use Rattle.bt_sweep.specs.declared.output.shape.Shape.TheVariants.{Cut, OrigA, CutAndB, OrigBoth}
+use Rattle.bt_sweep.specs.declared.output.shape.Shape.TheVariants.{Overlap, Once, Missing, Count}
 use Rattle.bt_tool.specs.declared.planning.plan_type.Command.{Command}
 use Rattle.bt_tool.specs.declared.planning.plan_type.Command.TheVariants as does
 use Rattle.bt_tool.specs.declared.planning.tool.Tool.{Tool}
-use Rattle.bt_tool.specs.declared.planning.tool.Tool.TheVariants.{Merge, Complement, Intersect, Subtract}
-use Rattle.bt_tool.specs.declared.planning.tool.Tool.TheVariants.{Coverage, BamToBed, MaskFasta}
+use Rattle.bt_tool.specs.declared.planning.tool.Tool.TheVariants.{Merge, Complement, Intersect}
+use Rattle.bt_tool.specs.declared.planning.tool.Tool.TheVariants.{Subtract, Coverage, BamToBed}
+use Rattle.bt_tool.specs.declared.planning.tool.Tool.TheVariants.{MaskFasta}
 use Rattle.bt_tool.specs.declared.options.usage.Usage.{Usage}
 use Rattle.bt_tool.specs.model.usage.Character.{character_of}
 use Rattle.bt_tool.specs.model.usage.Fraction.{fraction_of}

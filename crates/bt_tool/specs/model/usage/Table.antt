@@ -12,11 +12,12 @@ use Rattle.bt_tool.specs.model.usage.Fraction.{fraction_of}
 use Rattle.bt_tool.specs.declared.planning.plan_type.Command.{Command}
 use Rattle.bt_tool.specs.declared.planning.plan_type.Command.TheVariants as does
 use Rattle.bt_tool.specs.declared.options.takes.Takes.{Takes}
-use Rattle.bt_tool.specs.declared.options.takes.Takes.TheVariants.{Nothing, FileName, Number, Fraction}
-use Rattle.bt_tool.specs.declared.options.takes.Takes.TheVariants.{Strand, Character}
+use Rattle.bt_tool.specs.declared.options.takes.Takes.TheVariants.{Nothing, FileName, Number}
+use Rattle.bt_tool.specs.declared.options.takes.Takes.TheVariants.{Fraction, Strand, Character}
 use Rattle.bt_tool.specs.declared.planning.tool.Tool.{Tool}
-use Rattle.bt_tool.specs.declared.planning.tool.Tool.TheVariants.{Merge, Complement, Intersect, Subtract}
-use Rattle.bt_tool.specs.declared.planning.tool.Tool.TheVariants.{Coverage, BamToBed, MaskFasta}
+use Rattle.bt_tool.specs.declared.planning.tool.Tool.TheVariants.{Merge, Complement, Intersect}
+use Rattle.bt_tool.specs.declared.planning.tool.Tool.TheVariants.{Subtract, Coverage, BamToBed}
+use Rattle.bt_tool.specs.declared.planning.tool.Tool.TheVariants.{MaskFasta}
 
 -- a word of the command line, as its bytes
 abbrev pub Word : Type 0

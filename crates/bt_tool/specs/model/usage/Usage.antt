@@ -5,7 +5,8 @@ use Rattle.bt_tool.specs.declared.options.usage.Usage.{Usage}
 use Rattle.bt_tool.specs.declared.options.usage.UsageKind.{UsageKind}
 use Rattle.bt_tool.specs.declared.options.usage.UsageKind.TheVariants.{NoCommand, UnknownOption}
 use Rattle.bt_tool.specs.declared.options.usage.UsageKind.TheVariants.{ValueMissing, BadValue}
-use Rattle.bt_tool.specs.declared.options.usage.UsageKind.TheVariants.{RequiredMissing, OptionsExclusive}
+use Rattle.bt_tool.specs.declared.options.usage.UsageKind.TheVariants.{RequiredMissing}
+use Rattle.bt_tool.specs.declared.options.usage.UsageKind.TheVariants.{OptionsExclusive}
 use Rattle.bt_tool.specs.declared.options.usage.UsageKind.TheVariants.{InputNamedTwice}
 use Rattle.bt_tool.specs.model.usage.Table.{Word}
 

@@ -1,9 +1,5 @@
 -- Lemmas on the next record of a batch.
-use Rattle.std.proofs.Common.{◌≡◌, ℕ, ◌+◌, ◌<◌, ◌≤◌, true, false, List, [], ◌∷◌, ◌++◌, drop, length, length-append, take, Option, sym, ap, ◌∙◌, arith, nat_lt}
-use Rattle.std.proofs.lemmas.Bool.Decides.{nat_tests}
-use Rattle.std.specs.Prelude.{IfNone}
-use Rattle.std.specs.Io.BufRead.{strip_last}
-use Rattle.std.proofs.Math.Seq.{take-append-add, take-append_seam, take-nil}
+use Rattle.bt_lines.proofs.Std.{◌≡◌, ℕ, ◌+◌, ◌<◌, ◌≤◌, true, false, List, [], ◌∷◌, ◌++◌, drop, length, length-append, take, Option, sym, ap, ◌∙◌, arith, nat_lt, nat_tests, IfNone, strip_last, take-append-add, take-append_seam, take-nil}
 use Rattle.bt_lines.specs.calls.Buffered.{lines_in, lines_after, line_of, rest_in}
 use Rattle.bt_lines.specs.calls.FirstLine.{Cut, shown_of}
 use Rattle.bt_lines.specs.model.Lines.{TextLine}

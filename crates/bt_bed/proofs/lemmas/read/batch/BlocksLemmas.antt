@@ -1,10 +1,9 @@
 -- Lemmas on the reader of records in blocks.
-use Rattle.std.proofs.Common.{arith, ◌≡◌, ℕ, Bool, true, false, List, ◌∷◌, Option, Some, Ok, Err, take, refl, ◌∙◌}
-use Rattle.std.specs.Prelude.{Result, option_map}
+use Rattle.bt_lines.proofs.Std.{arith, ◌≡◌, ℕ, Bool, true, false, List, ◌∷◌, Option, Some, Ok, Err, take, refl, ◌∙◌, Result, option_map}
 use Rattle.bt_lines.specs.declared.device.Source.{Ghosts as Source}
 use Rattle.bt_lines.specs.declared.fault.Fault.{Fault}
-use Rattle.bt_bed.proofs.lemmas.laws.GoodBedLemmas.{line_said}
-use Rattle.bt_bed.proofs.lemmas.laws.GoodBlocksLemmas.{block_up_to}
+use Rattle.bt_bed.proofs.lemmas.definitions.GoodBedLemmas.{line_said}
+use Rattle.bt_bed.proofs.lemmas.definitions.GoodBlocksLemmas.{block_up_to}
 use Rattle.bt_bed.proofs.lemmas.read.good.SaidLemmas.{said_features}
 use Rattle.bt_bed.specs.calls.Blocks.{FillAnswers, FillsBlocks, GivesRecord, PassesBlocks, TakesBlocks, view_of}
 use Rattle.bt_bed.specs.calls.SortedReader.{buffered_in as records_in, view_in, view_with}

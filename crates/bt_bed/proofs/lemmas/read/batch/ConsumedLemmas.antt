@@ -1,8 +1,5 @@
 -- Lemmas on the bytes of lines that were consumed.
-use Rattle.std.proofs.Common.{◌≡◌, ◌∙◌, ◌+◌, ◌-◌, ◌≤◌, ℕ, List, ◌++◌, ap, arith, drop, length, sym, take}
-use Rattle.std.specs.List.{slice_range}
-use Rattle.std.proofs.Math.Seq.{take-add}
-use Rattle.std.proofs.lemmas.List.{take-append-drop, take-append-le, length-take-le}
+use Rattle.bt_lines.proofs.Std.{◌≡◌, ◌∙◌, ◌+◌, ◌-◌, ◌≤◌, ℕ, List, ◌++◌, ap, arith, drop, length, sym, take, slice_range, take-add, take-append-drop, take-append-le, length-take-le}
 
 -- one more line was consumed
 pub one_more : (at size : ℕ) (bytes line : List ℕ) → take size (drop at bytes) ≡ line → take (at + size) bytes ≡ take at bytes ++ line

@@ -1,11 +1,7 @@
 -- Lemmas on what a line says after the last place, and on the chromosome of the record ahead.
-use Rattle.std.proofs.Common.{◌≡◌, ℕ, ◌≤◌, Bool, true, false, cond, List, Option, Some, None, Result, Ok, Err, refl, sym, ap, ◌∙◌, subst, arith, bytes_eq}
-use Rattle.std.specs.Prelude.{◌&&◌, IsTrue, is_some, nat_lt}
+use Rattle.bt_lines.proofs.Std.{◌≡◌, ℕ, ◌≤◌, Bool, true, false, cond, List, Option, Some, None, Result, Ok, Err, refl, sym, ap, ◌∙◌, subst, arith, bytes_eq, ◌&&◌, IsTrue, is_some, nat_lt, false≢true, nat_tests, bytes_eq-Decides}
 use Rattle.bt_lines.specs.declared.fault.Kind.{Kind}
 use Rattle.bt_lines.specs.declared.fault.Kind.TheVariants.{UnknownChrom, OutOfOrder}
-use Rattle.std.proofs.lemmas.Bool.{false≢true}
-use Rattle.std.proofs.lemmas.Bool.Decides.{nat_tests}
-use Rattle.std.proofs.lemmas.Slice.Eq.{bytes_eq-Decides}
 use Rattle.bt_bed.proofs.lemmas.read.good.SaidLemmas.{wrong_is_of_line, wrong_is_of_record}
 use Rattle.bt_bed.specs.model.feature.Feature.{Feature}
 use Rattle.bt_bed.specs.model.input.GoodBed.{line_says, said_after, in_order, locus_at, wrong_lines_are_of_bed}

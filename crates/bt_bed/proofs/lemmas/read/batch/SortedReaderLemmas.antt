@@ -1,7 +1,5 @@
 -- Lemmas on a reader of sorted records.
-use Rattle.std.proofs.Common.{◌≡◌, ℕ, suc, ◌+◌, ◌-◌, ◌<◌, ◌≤◌, Bool, true, false, List, [], ◌∷◌, ◌++◌, length, take, drop, Option, Some, None, Ok, refl, sym, ap, ◌∙◌, subst, arith, length-take, take-append-drop}
-use Rattle.std.specs.Prelude.{if◌then◌else◌, IfSome, IsTrue, is_some, option_map}
-use Rattle.std.specs.Option.{ForSome}
+use Rattle.bt_lines.proofs.Std.{◌≡◌, ℕ, suc, ◌+◌, ◌-◌, ◌<◌, ◌≤◌, Bool, true, false, List, [], ◌∷◌, ◌++◌, length, take, drop, Option, Some, None, Ok, refl, sym, ap, ◌∙◌, subst, arith, length-take, take-append-drop, if◌then◌else◌, IfSome, IsTrue, is_some, option_map, ForSome}
 use Rattle.bt_lines.specs.declared.device.Source.{Ghosts as Source}
 use Rattle.bt_lines.proofs.lemmas.reader.lines.TakingLemmas.{is_prefix}
 use Rattle.bt_lines.specs.calls.Buffered.{buffered_lines}
@@ -11,7 +9,7 @@ use Rattle.bt_lines.specs.calls.Reader.{DropsLines, TakesLines, bytes_left, buff
 use Rattle.bt_lines.specs.declared.fault.Input.{Input}
 use Rattle.bt_lines.specs.declared.reader.line_reader.LineReader.{LineReader}
 use Rattle.bt_bed.proofs.lemmas.read.good.CameLemmas.{drops_pass, left_numbered, some_bytes}
-use Rattle.bt_bed.proofs.lemmas.laws.GoodBedLemmas.{line_said}
+use Rattle.bt_bed.proofs.lemmas.definitions.GoodBedLemmas.{line_said}
 use Rattle.bt_bed.proofs.lemmas.read.batch.NeighbourLemmas.{fits_above}
 use Rattle.bt_bed.proofs.lemmas.read.batch.RunLemmas.{placed_there, run_some}
 use Rattle.bt_bed.proofs.lemmas.read.good.SaidRuns.{LinesSay, good_said, order_behind, order_is_said, place_behind, run_behind, run_is_said, run_says, said_fewer, said_in_order, say_fewer, say_front}

@@ -1,7 +1,5 @@
 -- Lemmas on failed reads that are reported for the first time.
-use Rattle.std.proofs.Common.{◌≡◌, ℕ, List, Option, Some, None, Err, ap, sym, subst, ◌∙◌, true, inl, inr}
-use Rattle.std.specs.Prelude.{◌⊎◌}
-use Rattle.std.proofs.lemmas.Bool.{false≢true}
+use Rattle.bt_lines.proofs.Std.{◌≡◌, ℕ, List, Option, Some, None, Err, ap, sym, subst, ◌∙◌, true, inl, inr, ◌⊎◌, false≢true}
 use Rattle.bt_lines.proofs.lemmas.reader.block.ReadsLemmas.{some_is, tells_no_memory, tells_read, tells_then}
 use Rattle.bt_lines.specs.model.Fault.{FaultValue, no_memory, read_failed}
 use Rattle.bt_lines.specs.calls.Names.{fault_value}

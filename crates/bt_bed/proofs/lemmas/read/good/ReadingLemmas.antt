@@ -1,8 +1,7 @@
 -- Lemmas on a step of a reader of members, whatever the lines say.
-use Rattle.std.proofs.Common.{◌≡◌, ℕ, suc, ◌-◌, ◌^◌, ◌<◌, ◌≤◌, true, false, List, [], ◌∷◌, ◌++◌, drop, take, length, Option, Some, None, Ok, Err, refl, sym, ap, ◌∙◌, arith, inl, inr}
-use Rattle.std.specs.Prelude.{◌⊎◌, IsSome, IfSome, option_map}
+use Rattle.bt_lines.proofs.Std.{◌≡◌, ℕ, suc, ◌-◌, ◌^◌, ◌<◌, ◌≤◌, true, false, List, [], ◌∷◌, ◌++◌, drop, take, length, Option, Some, None, Ok, Err, refl, sym, ap, ◌∙◌, arith, inl, inr, ◌⊎◌, IsSome, IfSome, option_map}
 use Rattle.bt_lines.specs.declared.device.Source.{Ghosts as Source}
-use Rattle.bt_lines.proofs.lemmas.reader.lines.ReaderLemmas.{not_told}
+use Rattle.bt_lines.proofs.lemmas.reader.lines.ReaderLemmas.{not_told, hands_none, hands_both}
 use Rattle.bt_lines.specs.model.Fault.{FaultValue, read_failed, no_memory}
 use Rattle.bt_lines.specs.calls.LentLine.{GivesFirst}
 use Rattle.bt_lines.specs.model.Lines.{TextLine, AreNumbered}
@@ -11,13 +10,11 @@ use Rattle.bt_lines.specs.declared.fault.Input.{Input}
 use Rattle.bt_lines.specs.declared.fault.Kind.{Kind}
 use Rattle.bt_lines.specs.declared.reader.line_reader.LineReader.{LineReader}
 use Rattle.bt_bed.proofs.lemmas.read.good.GoodLemmas.{beyond_from}
-use Rattle.bt_lines.proofs.lemmas.reader.lines.ReaderLemmas.{hands_none, hands_both}
 use Rattle.bt_bed.proofs.lemmas.read.good.CameLemmas.{Came, LineCame, came_line, came_made, came_none, cut_fault, left_numbered, near_came, near_fault, same_room}
 use Rattle.bt_lines.proofs.lemmas.reader.lines.TakingLemmas.{given_below, is_prefix, next_below}
 use Rattle.bt_bed.specs.model.input.Good.{with_member, Format, Good, Member, ends_with, good, good_from}
-use Rattle.bt_bed.specs.model.input.GoodLines.{IsBeyond}
+use Rattle.bt_bed.specs.calls.Reading.{IsBeyond, MemberReader, Remains, first_from, good_behind, good_coming, with_members, Stays, Takes, GivesMember, EndsMembers, LineIsWrong, RunsOut, Cause, AnswersFault}
 use Rattle.bt_bed.specs.model.feature.LineKind.{fault_at_line, is_of_line}
-use Rattle.bt_bed.specs.calls.Reading.{MemberReader, Remains, first_from, good_behind, good_coming, with_members, Stays, Takes, GivesMember, EndsMembers, LineIsWrong, RunsOut, Cause, AnswersFault}
 
 pub remains_same : {A : Type 0} (a : Option (Good A)) → Remains a a
 remains_same a = grind arith

@@ -1,15 +1,11 @@
 -- Lemmas on records that lines say one after another, and on what is good of such lines.
-use Rattle.std.proofs.Common.{◌≡◌, ℕ, suc, ◌≤◌, Bool, true, false, cond, List, [], ◌∷◌, ◌++◌, length, take, drop, Option, Some, None, Result, Ok, Err, refl, sym, ap, ◌∙◌, subst, arith, bytes_eq, nat_lt}
-use Rattle.std.specs.Prelude.{⊤, ◌&&◌, not, IsTrue}
+use Rattle.bt_lines.proofs.Std.{◌≡◌, ℕ, suc, ◌≤◌, Bool, true, false, cond, List, [], ◌∷◌, ◌++◌, length, take, drop, Option, Some, None, Result, Ok, Err, refl, sym, ap, ◌∙◌, subst, arith, bytes_eq, nat_lt, ⊤, ◌&&◌, not, IsTrue, false≢true, nat_tests, bytes_eq-Decides}
 use Rattle.bt_bed.specs.calls.SortedReader.{are_in_order}
-use Rattle.std.proofs.lemmas.Bool.{false≢true}
-use Rattle.std.proofs.lemmas.Bool.Decides.{nat_tests}
-use Rattle.std.proofs.lemmas.Slice.Eq.{bytes_eq-Decides}
 use Rattle.bt_lines.specs.model.Lines.{AreNumbered, TextLine}
 use Rattle.bt_lines.specs.declared.fault.Input.{Input}
 use Rattle.bt_lines.specs.declared.fault.Kind.{Kind}
 use Rattle.bt_lines.specs.declared.fault.Kind.TheVariants.{OutOfOrder, UnknownChrom}
-use Rattle.bt_bed.proofs.lemmas.laws.GoodBedLemmas.{line_said}
+use Rattle.bt_bed.proofs.lemmas.definitions.GoodBedLemmas.{line_said}
 use Rattle.bt_bed.specs.model.feature.Feature.{Feature}
 use Rattle.bt_bed.specs.model.input.Good.{Format, good_from}
 use Rattle.bt_bed.specs.model.input.GoodBed.{bed_format, line_says, locus_at, said_after}

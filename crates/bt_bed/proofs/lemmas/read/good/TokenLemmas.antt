@@ -1,8 +1,5 @@
 -- What was consumed of a batch that a reader gave is a token that it takes.
-use Rattle.std.proofs.Common.{◌≡◌, ◌+◌, ◌-◌, Bool, true, false, List, [], ◌∷◌, ◌++◌, Option, Some, None, length, take, drop, refl, sym, ap, ◌∙◌, subst, arith, length-append, length-take}
-use Rattle.std.specs.Prelude.{IfNone, IfSome}
-use Rattle.std.proofs.Math.Seq.{take-append_seam}
-use Rattle.std.proofs.lemmas.List.{drop_at, length-drop}
+use Rattle.bt_lines.proofs.Std.{◌≡◌, ◌+◌, ◌-◌, Bool, true, false, List, [], ◌∷◌, ◌++◌, Option, Some, None, length, take, drop, refl, sym, ap, ◌∙◌, subst, arith, length-append, length-take, IfNone, IfSome, take-append_seam, drop_at, length-drop}
 use Rattle.bt_lines.proofs.lemmas.reader.block.BufferLemmas.{fed_none}
 use Rattle.bt_lines.proofs.lemmas.reader.lines.PassingLemmas.{lines_taken}
 use Rattle.bt_lines.specs.calls.Buffered.{PassesLines, rest_in}

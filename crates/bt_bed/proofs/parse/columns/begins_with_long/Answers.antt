@@ -1,6 +1,4 @@
-use Rattle.std.proofs.Common.{◌≡◌, ◌+◌, ◌<◌, ◌∙◌, ap, arith, drop, get_or, length, sym}
-use Rattle.std.proofs.Math.Seq.{get_or-append_seam}
-use Rattle.std.proofs.lemmas.Slice.Eq.{bytes_eq-Decides}
+use Rattle.bt_lines.proofs.Std.{◌≡◌, ◌+◌, ◌<◌, ◌∙◌, ap, arith, drop, get_or, length, sym, get_or-append_seam, bytes_eq-Decides}
 use Rattle.bt_bed.proofs.lemmas.read.FirstColumnLemmas.{front_is_name, name_in_front}
 use Rattle.bt_bed.proofs.parse.columns.begins_with_long.Goals as goal
 

@@ -1,4 +1,4 @@
-use Rattle.std.proofs.Common.{◌≤◌, arith, drop, length, length-drop}
+use Rattle.bt_lines.proofs.Std.{◌≤◌, arith, drop, length, length-drop}
 use Rattle.bt_bed.proofs.lemmas.parse.ColumnsLemmas.{few_begin}
 use Rattle.bt_bed.proofs.parse.columns.number_at.Goals as goal
 

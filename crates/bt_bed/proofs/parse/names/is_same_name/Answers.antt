@@ -1,4 +1,4 @@
-use Rattle.std.proofs.Common.{ℕ, ◌<◌, get_or, arith}
+use Rattle.bt_lines.proofs.Std.{ℕ, ◌<◌, get_or, arith}
 use Rattle.bt_bed.proofs.lemmas.parse.NameLemmas.{ends_tell}
 use Rattle.bt_bed.proofs.parse.names.is_same_name.Goals as goal
 

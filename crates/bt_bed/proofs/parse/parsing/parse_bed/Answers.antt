@@ -1,5 +1,4 @@
-use Rattle.std.proofs.Common.{ℕ, List, Err, ◌∙◌, sym, ap, arith, rules}
-use Rattle.std.proofs.lemmas.Result.{err_from_is_err_and}
+use Rattle.bt_lines.proofs.Std.{ℕ, List, Err, ◌∙◌, sym, ap, arith, rules, err_from_is_err_and}
 use Rattle.bt_lines.specs.declared.fault.Kind.TheVariants.{TooFewColumns}
 use Rattle.bt_bed.proofs.lemmas.parse.Kept.{taken_in_turn, taken_are_within}
 use Rattle.bt_bed.proofs.lemmas.parse.FeatureLemmas.{header_says, made_is_feature, made_is_said, said_by_columns}

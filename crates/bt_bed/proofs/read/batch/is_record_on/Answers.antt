@@ -1,4 +1,4 @@
-use Rattle.std.proofs.Common.{ap, arith, ◌∙◌}
+use Rattle.bt_lines.proofs.Std.{ap, arith, ◌∙◌}
 use Rattle.bt_bed.specs.calls.Run.{is_on}
 use Rattle.bt_bed.specs.inside.FirstColumns.{BeginsWithName}
 use Rattle.bt_bed.specs.model.feature.Record.{record_of}

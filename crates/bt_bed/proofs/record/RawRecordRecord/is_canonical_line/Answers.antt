@@ -1,4 +1,4 @@
-use Rattle.std.proofs.Common.{◌∙◌, ◌∷◌, ◌++◌, [], ap, sym}
+use Rattle.bt_lines.proofs.Std.{◌∙◌, ◌∷◌, ◌++◌, [], ap, sym}
 use Rattle.bt_lines.proofs.lemmas.reader.lines.LinesLemmas.{strip_last-other}
 use Rattle.bt_bed.specs.calls.RawRecord.{raw_in, text_in}
 use Rattle.bt_bed.proofs.lemmas.records.RawRecordLemmas.{text_written}

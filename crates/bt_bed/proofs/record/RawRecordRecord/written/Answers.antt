@@ -1,4 +1,4 @@
-use Rattle.std.proofs.Common.{◌∙◌}
+use Rattle.bt_lines.proofs.Std.{◌∙◌}
 use Rattle.bt_bed.proofs.lemmas.records.RawRecordLemmas.{text_written}
 use Rattle.bt_bed.proofs.record.RawRecordRecord.written.Goals as goal
 

@@ -1,5 +1,4 @@
-use Rattle.std.proofs.Common.{◌<◌, length, arith}
-use Rattle.std.proofs.lemmas.List.{drop_more}
+use Rattle.bt_lines.proofs.Std.{◌<◌, length, arith, drop_more}
 use Rattle.bt_bed.proofs.record.kept_strand.kept_strand.Goals as goal
 
 pub returns : goal.returns

@@ -1,4 +1,4 @@
-use Rattle.std.proofs.Common.{arith, refl, take}
+use Rattle.bt_lines.proofs.Std.{arith, refl, take}
 use Rattle.bt_lines.proofs.lemmas.reader.lines.PiecesLemmas.{before_tab, without_tab}
 use Rattle.bt_bed.proofs.record.kept_strand.third_column.Goals as goal
 

@@ -1,5 +1,4 @@
-use Rattle.std.proofs.Common.{arith}
-use Rattle.std.proofs.lemmas.List.{drop-set, drop_all, length-set}
+use Rattle.bt_lines.proofs.Std.{arith, drop-set, drop_all, length-set}
 use Rattle.bt_bed.proofs.write.interval_line.write_span.Goals as goal
 
 pub returns-clause-written : goal.returns-clause-written

@@ -1,4 +1,4 @@
-use Rattle.std.proofs.lemmas.Result.{err_from_is_err_and}
+use Rattle.bt_lines.proofs.Std.{err_from_is_err_and}
 use Rattle.bt_bed.specs.calls.Bed.{feature_lent}
 use Rattle.bt_bed.specs.model.feature.Record.{cut_to}
 use Rattle.bt_bed.proofs.lemmas.write.RecordLineLemmas.{cut_in_front, puts_record}

@@ -1,17 +1,12 @@
 -- Records of parts, each with its own part of the genome file.
-use Rattle.std.proofs.Common.{◌≡◌, ℕ, suc, ◌+◌, ◌<◌, Bool, true, false, cond, List, [], ◌∷◌, ◌++◌, ◌||◌, ◌⊎◌, length, Option, Some, None, inl, inr, refl, sym, ap, ap₂, ◌∙◌, arith, Result, Ok, Err, subst}
-use Rattle.std.specs.Prelude.{IsTrue, bytes_eq, is_some, option_map, nat_lt}
-use Rattle.std.specs.Ordering.{nat_cmp}
+use Rattle.bt_lines.proofs.Std.{◌≡◌, ℕ, suc, ◌+◌, ◌<◌, Bool, true, false, cond, List, [], ◌∷◌, ◌++◌, ◌||◌, ◌⊎◌, length, Option, Some, None, inl, inr, refl, sym, ap, ap₂, ◌∙◌, arith, Result, Ok, Err, subst, IsTrue, bytes_eq, is_some, option_map, nat_lt, nat_cmp, cases_lt, or_parts, cases_Bool, or_right, AllByRecursion, map-append, flat_map-append}
 use Rattle.std.specs.declared.cmp.Ordering.TheVariants.{Less}
-use Rattle.std.proofs.lemmas.Bool.{cases_lt, or_parts, cases_Bool, or_right}
 use Rattle.bt_bed.specs.model.order.Order.{Order}
 use Rattle.bt_bed.specs.model.order.Rank.{AreDistinct, compare_ranks, is_among, rank_of, rank_order}
 use Rattle.bt_bed.proofs.lemmas.parse.NameLemmas.{same_name}
 use Rattle.bt_bed.proofs.lemmas.order.RankLemmas.{among_ranked}
 use Rattle.bt_runs.proofs.lemmas.order.FileOrder.{rank_of-later}
-use Rattle.bt_runs.proofs.lemmas.laws.Standing.{cmp_equal, cmp_greater, cmp_less, known_rank}
-use Rattle.std.specs.List.{AllByRecursion}
-use Rattle.std.proofs.lemmas.List.{map-append}
+use Rattle.bt_runs.proofs.lemmas.definitions.Standing.{cmp_equal, cmp_greater, cmp_less, known_rank}
 use Rattle.bt_lines.specs.model.Lines.{TextLine, lines_from, text_lines}
 use Rattle.bt_lines.specs.declared.fault.Input.{Input}
 use Rattle.bt_lines.specs.declared.fault.Kind.{Kind}
@@ -28,7 +23,6 @@ use Rattle.bt_laws.specs.parts.Parts.{ComeBefore, StandsBefore, said_record, sai
 use Rattle.bt_laws.proofs.lemmas.parts.text.PartBed.{alike_records, records_on}
 use Rattle.bt_laws.proofs.lemmas.parts.text.PartLines.{alike_lines, lines_join}
 use Rattle.bt_laws.proofs.lemmas.Lists.{all_back, all_front, all_so}
-use Rattle.std.proofs.lemmas.Grind.{flat_map-append}
 
 abbrev shifted : ℕ → Option ℕ → Option ℕ
 shifted k rank = option_map (λ r. k + r) rank

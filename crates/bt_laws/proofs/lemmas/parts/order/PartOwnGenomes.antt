@@ -1,10 +1,6 @@
 -- Two inputs of which each part has its own part of the genome file.
-use Rattle.std.proofs.Common.{◌≡◌, ℕ, Bool, cond, not, ◌&&◌, ◌||◌, List, [], ◌∷◌, ◌++◌, map, append-nil, append_assoc, Option, Some, None, Ok, refl, sym, ap, ap₂, ◌∙◌, subst, true, false, Result, Err}
-use Rattle.std.specs.Prelude.{IsTrue, flat_map, is_none}
-use Rattle.std.specs.List.{AllByRecursion, list_all, list_any}
-use Rattle.std.specs.Option.{option_or}
+use Rattle.bt_lines.proofs.Std.{◌≡◌, ℕ, Bool, cond, not, ◌&&◌, ◌||◌, List, [], ◌∷◌, ◌++◌, map, append-nil, append_assoc, Option, Some, None, Ok, refl, sym, ap, ap₂, ◌∙◌, subst, true, false, Result, Err, IsTrue, flat_map, is_none, AllByRecursion, list_all, list_any, option_or, or_left, or_right}
 use Rattle.std.specs.declared.cmp.Ordering.TheVariants.{Less}
-use Rattle.std.proofs.lemmas.Bool.{or_left, or_right}
 use Rattle.bt_lines.specs.model.Fault.{FaultValue}
 use Rattle.bt_lines.specs.model.Handed.{Handed, whole_text}
 use Rattle.bt_lines.specs.model.Lines.{lines_from, text_lines, TextLine}

@@ -1,17 +1,12 @@
 -- Which sequences the records of two parts belong to, record by record.
-use Rattle.std.proofs.Common.{◌≡◌, ℕ, Bool, true, false, cond, ◌||◌, List, [], ◌∷◌, ◌++◌, append-nil, Option, Some, None, refl, sym, ap, ◌∙◌, subst, bytes_eq}
-use Rattle.std.specs.Prelude.{⊤, is_some}
-use Rattle.std.specs.List.{AllByRecursion, list_any}
-use Rattle.std.proofs.lemmas.Bool.{or_parts}
-use Rattle.std.proofs.lemmas.Grind.{flat_map-append}
-use Rattle.std.proofs.lemmas.List.Folds.{list_any-append}
+use Rattle.bt_lines.proofs.Std.{◌≡◌, ℕ, Bool, true, false, cond, ◌||◌, List, [], ◌∷◌, ◌++◌, append-nil, Option, Some, None, refl, sym, ap, ◌∙◌, subst, bytes_eq, ⊤, is_some, AllByRecursion, list_any, or_parts, flat_map-append, list_any-append}
 use Rattle.bt_bed.specs.model.feature.Feature.{Feature}
 use Rattle.bt_bed.specs.model.order.Rank.{is_among}
 use Rattle.bt_bed.proofs.lemmas.parse.NameLemmas.{same_name}
 use Rattle.bt_laws.proofs.lemmas.sequences.AgreeLemmas.{owners_stay_so}
-use Rattle.bt_seq.proofs.lemmas.laws.LeftLemmas.{is_last, leave, one_leaves}
-use Rattle.bt_seq.proofs.lemmas.laws.MaskPrefixLemmas.{chrom_of, none_next}
-use Rattle.bt_seq.proofs.lemmas.laws.MaskMetLemmas.{none_leaves}
+use Rattle.bt_seq.proofs.lemmas.definitions.LeftLemmas.{is_last, leave, one_leaves}
+use Rattle.bt_seq.proofs.lemmas.definitions.MaskPrefixLemmas.{chrom_of, none_next}
+use Rattle.bt_seq.proofs.lemmas.definitions.MaskMetLemmas.{none_leaves}
 use Rattle.bt_seq.proofs.lemmas.sam.TagLemmas.{Tagged, last_from, next_left, own_in, own_tagged, tag_decides, tag_items, tags, tags_append, tags_of}
 use Rattle.bt_seq.specs.model.Owners.{items_if_last, names_behind, own_records}
 

@@ -1,7 +1,5 @@
 -- maskfasta over any number of parts.
-use Rattle.std.proofs.Common.{◌≡◌, ℕ, Bool, ◌⊎◌, List, [], ◌∷◌, ◌++◌, map, append-nil, append_assoc, Option, Some, None, inl, inr, refl, sym, ap, ap₂, ◌∙◌, subst}
-use Rattle.std.specs.Prelude.{IsTrue, flat_map}
-use Rattle.std.specs.List.{AllByRecursion}
+use Rattle.bt_lines.proofs.Std.{◌≡◌, ℕ, Bool, ◌⊎◌, List, [], ◌∷◌, ◌++◌, map, append-nil, append_assoc, Option, Some, None, inl, inr, refl, sym, ap, ap₂, ◌∙◌, subst, IsTrue, flat_map, AllByRecursion, flat_map-map}
 use Rattle.bt_lines.specs.model.Fault.{FaultValue}
 use Rattle.bt_lines.specs.model.Lines.{lines_from}
 use Rattle.bt_bed.specs.model.input.Good.{good_from}
@@ -17,7 +15,6 @@ use Rattle.bt_laws.proofs.lemmas.parts.report.PartReports.{nothing, parts_add, s
 use Rattle.bt_laws.proofs.lemmas.parts.text.PartTexts.{lines_less, join_one}
 use Rattle.bt_laws.proofs.lemmas.parts.report.PartSweep.{unless_none}
 use Rattle.bt_laws.proofs.lemmas.Lists.{all_unmap}
-use Rattle.std.proofs.lemmas.List.Folds.{flat_map-map}
 
 module _ (how : MaskHow) (full : Bool) where
   abbrev T : Texts → Report

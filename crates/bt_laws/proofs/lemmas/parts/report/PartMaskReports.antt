@@ -1,6 +1,5 @@
 -- The reports of maskfasta on two parts, and on both.
-use Rattle.std.proofs.Common.{◌≡◌, ℕ, Bool, true, false, List, [], ◌∷◌, ◌++◌, map, Option, Some, None, refl, sym, ap, ap₂, ◌∙◌, subst, cond, ◌||◌, ◌⊎◌, append-nil, inl, inr}
-use Rattle.std.specs.Prelude.{IsTrue, flat_map, is_some, is_none, option_map}
+use Rattle.bt_lines.proofs.Std.{◌≡◌, ℕ, Bool, true, false, List, [], ◌∷◌, ◌++◌, map, Option, Some, None, refl, sym, ap, ap₂, ◌∙◌, subst, cond, ◌||◌, ◌⊎◌, append-nil, inl, inr, IsTrue, flat_map, is_some, is_none, option_map, AllByRecursion, list_all, list_any, option_or, or_left, flat_map-append}
 use Rattle.bt_laws.proofs.lemmas.parts.order.PartGood.{none_like}
 use Rattle.bt_seq.proofs.lemmas.mask.steps.LineStepLemmas.{some_list}
 use Rattle.bt_lines.specs.model.Fault.{FaultValue}
@@ -9,8 +8,8 @@ use Rattle.bt_lines.specs.declared.fault.Input.TheVariants.{First, Second}
 use Rattle.bt_bed.specs.model.feature.Feature.{Feature}
 use Rattle.bt_bed.specs.model.input.Good.{Good, good, items_in, or_else}
 use Rattle.bt_bed.specs.model.input.GoodBlocks.{block_format}
-use Rattle.bt_seq.proofs.lemmas.laws.LeftLemmas.{leave, leave_all}
-use Rattle.bt_seq.proofs.lemmas.laws.MaskMetLemmas.{none_leaves}
+use Rattle.bt_seq.proofs.lemmas.definitions.LeftLemmas.{leave, leave_all}
+use Rattle.bt_seq.proofs.lemmas.definitions.MaskMetLemmas.{none_leaves}
 use Rattle.bt_seq.proofs.lemmas.sam.TagLemmas.{last_from, tag_decides, tags_of}
 use Rattle.bt_seq.specs.model.Masked.{masked_line, names_of, decided, is_unnamed, mask_rule, masked_from}
 use Rattle.bt_seq.specs.model.Sequences.{SequenceLine, sequence_format, bases_up_to, is_header}
@@ -24,14 +23,10 @@ use Rattle.bt_laws.proofs.lemmas.parts.report.PartMasked.{IsSound, lines_both, m
 use Rattle.bt_laws.proofs.lemmas.parts.order.PartOwners.{AreOff, IsLost, apart_next, both_owned, leave_append, lost_more, lost_off, any_behind, any_first, any_lost, any_second, later_leave, lost_behind, lost_fewer, none_behind, or_true}
 use Rattle.bt_laws.proofs.lemmas.parts.report.PartReports.{Adds, Stops}
 use Rattle.bt_laws.proofs.lemmas.parts.text.PartSequences.{AreBothBy, fasta_both, line_after, names_begin, names_both, names_grown, second_named, second_sound, unnamed_from}
-use Rattle.std.specs.List.{AllByRecursion, list_all, list_any}
-use Rattle.std.specs.Option.{option_or}
-use Rattle.std.proofs.lemmas.Bool.{or_left}
-use Rattle.std.proofs.lemmas.Grind.{flat_map-append}
 use Rattle.bt_lines.specs.declared.fault.Kind.TheVariants.{NoSequence}
 use Rattle.bt_bed.specs.model.input.TwoInputReport.{Rule, join_report, written}
-use Rattle.bt_bed.proofs.lemmas.laws.MeetingLemmas.{all_written, met_fault_all, met_lines, written_at, written_past}
-use Rattle.bt_seq.proofs.lemmas.laws.MaskPrefixLemmas.{decided_by_tags, unnamed_own}
+use Rattle.bt_bed.proofs.lemmas.definitions.MeetingLemmas.{all_written, met_fault_all, met_lines, written_at, written_past}
+use Rattle.bt_seq.proofs.lemmas.definitions.MaskPrefixLemmas.{decided_by_tags, unnamed_own}
 use Rattle.bt_seq.specs.model.Owners.{block_decides, own_records, owned}
 use Rattle.bt_laws.proofs.lemmas.Lists.{all_so, flat_map_same, all_map}
 use Rattle.bt_laws.proofs.lemmas.parts.report.PartSweep.{all_true, take_front, unless_none, written_before}

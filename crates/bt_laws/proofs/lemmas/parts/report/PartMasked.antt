@@ -1,9 +1,5 @@
 -- What maskfasta writes and tells of two parts.
-use Rattle.std.proofs.Common.{◌≡◌, ℕ, Bool, true, false, cond, List, [], ◌∷◌, ◌++◌, map, append-nil, append_assoc, Option, Some, None, refl, sym, ap, ap₂, ◌∙◌, subst}
-use Rattle.std.specs.Prelude.{flat_map, is_some}
-use Rattle.std.specs.List.{AllByRecursion, list_all}
-use Rattle.std.specs.Option.{option_or}
-use Rattle.std.proofs.lemmas.Grind.{flat_map-append}
+use Rattle.bt_lines.proofs.Std.{◌≡◌, ℕ, Bool, true, false, cond, List, [], ◌∷◌, ◌++◌, map, append-nil, append_assoc, Option, Some, None, refl, sym, ap, ap₂, ◌∙◌, subst, flat_map, is_some, AllByRecursion, list_all, option_or, flat_map-append, flat_map-map}
 use Rattle.bt_lines.specs.model.Fault.{FaultValue}
 use Rattle.bt_lines.specs.model.Lines.{end_bytes, text_lines}
 use Rattle.bt_lines.specs.declared.fault.Input.TheVariants.{First, Second}
@@ -13,10 +9,10 @@ use Rattle.bt_bed.specs.model.input.Good.{Good, Member, good, items_in, or_else}
 use Rattle.bt_bed.specs.model.input.GoodBlocks.{block_format}
 use Rattle.bt_bed.specs.model.feature.LineKind.{fault_at_line}
 use Rattle.bt_bed.specs.model.input.TwoInputReport.{Rule, join_report}
-use Rattle.bt_bed.proofs.lemmas.laws.MeetingLemmas.{met_fault_all, met_fault_stop}
-use Rattle.bt_seq.proofs.lemmas.laws.LeftLemmas.{leave, leave_all}
+use Rattle.bt_bed.proofs.lemmas.definitions.MeetingLemmas.{met_fault_all, met_fault_stop}
+use Rattle.bt_seq.proofs.lemmas.definitions.LeftLemmas.{leave, leave_all}
 use Rattle.bt_laws.proofs.lemmas.sequences.MaskMetLemmas.{faultless_masked}
-use Rattle.bt_seq.proofs.lemmas.laws.MaskMetLemmas.{first_is_told, lack_none, items}
+use Rattle.bt_seq.proofs.lemmas.definitions.MaskMetLemmas.{first_is_told, lack_none, items}
 use Rattle.bt_seq.specs.model.Masked.{is_unnamed, mask_met, mask_rule, masked_from, masked_line, names_of, no_sequence}
 use Rattle.bt_seq.specs.model.Owners.{own_records}
 use Rattle.bt_seq.specs.model.Sequences.{SequenceLine, is_header, sequence_format}
@@ -30,7 +26,6 @@ use Rattle.bt_tool.proofs.lemmas.running.members.CameMembers.{good_whole}
 use Rattle.bt_laws.proofs.lemmas.Lists.{all_so, flat_map_same}
 use Rattle.bt_laws.proofs.lemmas.parts.order.PartOwners.{IsLost, lost_fewer, own_first, own_second}
 use Rattle.bt_laws.proofs.lemmas.parts.text.PartSequences.{line_after}
-use Rattle.std.proofs.lemmas.List.Folds.{flat_map-map}
 
 -- ---- which fault is reported
 

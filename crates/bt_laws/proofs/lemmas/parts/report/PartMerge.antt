@@ -1,10 +1,5 @@
 -- Merged runs of records of two parts, and those of each strand.
-use Rattle.std.proofs.Common.{◌≡◌, ℕ, Bool, false, List, [], ◌∷◌, ◌++◌, map, filter, append-nil, refl, sym, ap, ap₂, ◌∙◌, subst, true, ◌&&◌, not, cond, append_assoc}
-use Rattle.std.specs.Prelude.{bytes_eq, flat_map, nat_le}
-use Rattle.std.specs.List.{AllByRecursion, list_any, take_while}
-use Rattle.std.proofs.lemmas.Grind.{flat_map-append}
-use Rattle.std.proofs.lemmas.List.{map-append}
-use Rattle.std.proofs.lemmas.List.Elements.{filter-append}
+use Rattle.bt_lines.proofs.Std.{◌≡◌, ℕ, Bool, false, List, [], ◌∷◌, ◌++◌, map, filter, append-nil, refl, sym, ap, ap₂, ◌∙◌, subst, true, ◌&&◌, not, cond, append_assoc, bytes_eq, flat_map, nat_le, AllByRecursion, list_any, take_while, flat_map-append, map-append, filter-append, take_while-cons, and_left}
 use Rattle.bt_bed.specs.model.feature.Feature.{Feature, interval_of, intervals_of}
 use Rattle.bt_bed.specs.model.feature.Interval.{AreNonEmpty, Interval, last_from, last_of, placed_on, spans_on}
 use Rattle.bt_bed.specs.model.feature.IntervalLine.{interval_lines, interval_line}
@@ -19,7 +14,7 @@ use Rattle.bt_runs.specs.model.RunOrder.{ordered_runs}
 use Rattle.bt_runs.specs.declared.merge.merge_strand.MergeStrand.{MergeStrand}
 use Rattle.bt_runs.proofs.lemmas.order.ChromosomeLemmas.{among_chromosomes}
 use Rattle.bt_runs.proofs.lemmas.order.FileOrder.{without_absent}
-use Rattle.bt_runs.proofs.lemmas.laws.Passing.{placed_elsewhere, counted-append, passed_elsewhere}
+use Rattle.bt_runs.proofs.lemmas.definitions.Passing.{placed_elsewhere, counted-append, passed_elsewhere}
 use Rattle.bt_runs.proofs.lemmas.order.RunOrder.{ordered_come}
 use Rattle.bt_runs.proofs.lemmas.merge.SettledRuns.{runs_begin}
 use Rattle.bt_laws.proofs.lemmas.parts.text.PartBed.{Earlier}
@@ -27,8 +22,6 @@ use Rattle.bt_laws.proofs.lemmas.Lists.{all_filter, all_map, all_so, flat_map_sa
 use Rattle.bt_laws.proofs.lemmas.parts.text.PartRecords.{Away, has_none, last_behind, last_is, none_has, placed_both, records_away, spans_first, spans_second}
 use Rattle.bt_laws.proofs.lemmas.parts.report.PartReports.{Splits}
 use Rattle.bt_tool.specs.model.report.Written.{pooled_written, strands_written}
-use Rattle.std.proofs.lemmas.List.Sums.{take_while-cons}
-use Rattle.std.proofs.lemmas.Bool.{and_left}
 use Rattle.bt_bed.specs.model.feature.Strands.{is_strand}
 use Rattle.bt_bed.specs.declared.record.strand.Strand.{Strand}
 use Rattle.bt_runs.specs.model.StrandRuns.{StrandRun, begun_by, is_in, listed_behind, closed_prefix, places_of, runs_of_strand, settled_strand_runs, strand_runs, kept_strand_runs}

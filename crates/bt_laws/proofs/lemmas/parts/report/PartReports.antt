@@ -1,7 +1,5 @@
 -- The reports on two parts and on the whole, and from them those on any number of parts.
-use Rattle.std.proofs.Common.{◌≡◌, ℕ, true, false, List, [], ◌∷◌, ◌++◌, map, append-nil, append_assoc, Option, Some, None, refl, sym, ap, ap₂, ◌∙◌, subst}
-use Rattle.std.specs.Prelude.{flat_map, is_none}
-use Rattle.std.proofs.lemmas.Grind.{flat_map-append}
+use Rattle.bt_lines.proofs.Std.{◌≡◌, ℕ, true, false, List, [], ◌∷◌, ◌++◌, map, append-nil, append_assoc, Option, Some, None, refl, sym, ap, ap₂, ◌∙◌, subst, flat_map, is_none, flat_map-append}
 use Rattle.bt_lines.specs.model.Fault.{FaultValue}
 use Rattle.bt_bed.specs.model.input.Good.{Good, items_in}
 use Rattle.bt_laws.specs.parts.Parts.{AddUp, StopWithin, prefixes_begin, outputs_to_fault, unless_fault}

@@ -1,13 +1,7 @@
 -- Parts with their own parts of the genome file: complement, genomecov and merge.
-use Rattle.std.proofs.Common.{◌≡◌, ℕ, Bool, true, false, List, [], ◌∷◌, ◌++◌, filter, append-nil, Option, Some, None, refl, sym, ap, ap₂, ◌∙◌, cond, not, ◌||◌, map, Result, Ok, Err, subst}
-use Rattle.std.specs.Prelude.{IsTrue, bytes_eq, flat_map, nat_le, nat_lt}
-use Rattle.std.specs.List.{AllByRecursion}
+use Rattle.bt_lines.proofs.Std.{◌≡◌, ℕ, Bool, true, false, List, [], ◌∷◌, ◌++◌, filter, append-nil, Option, Some, None, refl, sym, ap, ap₂, ◌∙◌, cond, not, ◌||◌, map, Result, Ok, Err, subst, IsTrue, bytes_eq, flat_map, nat_le, nat_lt, AllByRecursion, or_left, or_right, flat_map-append, map-append, filter-append}
 use Rattle.std.specs.declared.cmp.Ordering.{Ordering}
 use Rattle.std.specs.declared.cmp.Ordering.TheVariants.{Less, Equal, Greater}
-use Rattle.std.proofs.lemmas.Bool.{or_left, or_right}
-use Rattle.std.proofs.lemmas.Grind.{flat_map-append}
-use Rattle.std.proofs.lemmas.List.{map-append}
-use Rattle.std.proofs.lemmas.List.Elements.{filter-append}
 use Rattle.bt_bed.specs.model.feature.Feature.{Feature, interval_of, intervals_of}
 use Rattle.bt_bed.specs.model.order.Genome.{Entry, genome_names, genome_cut, genome_handed, genome_of}
 use Rattle.bt_bed.specs.model.feature.Interval.{Interval, last_from, last_of, placed_on, spans_on}
@@ -34,7 +28,7 @@ use Rattle.bt_bed.specs.model.order.Locus.{ArePlaced}
 use Rattle.bt_bed.specs.model.order.Order.{IsTotal, Order}
 use Rattle.bt_bed.specs.model.order.Sorting.{sorting_of}
 use Rattle.bt_bed.specs.declared.record.strand.Strand.{Strand}
-use Rattle.bt_bed.proofs.lemmas.laws.GoodBedLemmas.{non_empty_from, placed_lines}
+use Rattle.bt_bed.proofs.lemmas.definitions.GoodBedLemmas.{non_empty_from, placed_lines}
 use Rattle.bt_laws.proofs.lemmas.records.GenomeLemmas.{distinct_genome}
 use Rattle.bt_runs.specs.model.Depth.{DepthInterval, counted_on, coverage, depth_line, depth_of, depth_on, depths_on, ended_by, is_counted_by, settled_depths}
 use Rattle.bt_runs.specs.model.Levels.{levels_of}
@@ -47,7 +41,7 @@ use Rattle.bt_runs.specs.declared.merge.merge_strand.MergeStrand.TheVariants.{Al
 use Rattle.bt_runs.proofs.lemmas.order.RunOrder.{ordered_come}
 use Rattle.bt_runs.proofs.lemmas.coverage.DepthSteps.{settles_depths}
 use Rattle.bt_runs.proofs.lemmas.complement.GapSteps.{settles_gaps}
-use Rattle.bt_runs.proofs.lemmas.laws.SettlingLemmas.{begins}
+use Rattle.bt_runs.proofs.lemmas.definitions.SettlingLemmas.{begins}
 use Rattle.bt_laws.specs.parts.GenomeSplitLaws.{AreShards, LiesWithin, Shard, ShardsAddUp, all_entries, complement_divides, genomecov_divides, merge_genomes_divide, shard_texts}
 use Rattle.bt_laws.specs.parts.Parts.{AreOfLines, StandsBefore, joined, said_records}
 use Rattle.bt_tool.specs.model.report.RecordReport.{Report, good_report}

@@ -1,28 +1,22 @@
 -- What intersect and subtract write of inputs of two parts.
-use Rattle.std.proofs.Common.{◌≡◌, ℕ, Bool, true, false, ◌&&◌, not, ◌||◌, cond, List, [], ◌∷◌, ◌++◌, append-nil, append_assoc, Option, Some, None, refl, sym, ap, ap₂, ◌∙◌, subst, ltb, min, max, ◌-◌}
-use Rattle.std.specs.Prelude.{IsTrue, bytes_eq, flat_map, is_none}
-use Rattle.std.specs.List.{AllByRecursion, list_all, list_any, take_while}
-use Rattle.std.specs.Option.{option_or}
+use Rattle.bt_lines.proofs.Std.{◌≡◌, ℕ, Bool, true, false, ◌&&◌, not, ◌||◌, cond, List, [], ◌∷◌, ◌++◌, append-nil, append_assoc, Option, Some, None, refl, sym, ap, ap₂, ◌∙◌, subst, ltb, min, max, ◌-◌, IsTrue, bytes_eq, flat_map, is_none, AllByRecursion, list_all, list_any, take_while, option_or, flat_map-append, filter-append, take_while-cons}
 use Rattle.std.specs.declared.cmp.Ordering.{Ordering}
 use Rattle.std.specs.declared.cmp.Ordering.TheVariants.{Less, Equal, Greater}
-use Rattle.std.proofs.lemmas.Grind.{flat_map-append}
-use Rattle.std.proofs.lemmas.List.Elements.{filter-append}
-use Rattle.std.proofs.lemmas.List.Sums.{take_while-cons}
 use Rattle.bt_laws.proofs.lemmas.parts.order.PartOwners.{or_true}
-use Rattle.bt_sweep.proofs.lemmas.laws.DecidingLemmas.{later_at}
+use Rattle.bt_sweep.proofs.lemmas.definitions.DecidingLemmas.{later_at}
 use Rattle.bt_lines.specs.model.Fault.{FaultValue}
 use Rattle.bt_bed.specs.model.feature.Feature.{Feature}
 use Rattle.bt_bed.specs.model.order.Locus.{is_below_at}
 use Rattle.bt_bed.specs.model.input.TwoInputReport.{Rule, join_report, written}
 use Rattle.bt_bed.specs.model.order.Order.{Order, IsTotal}
-use Rattle.bt_bed.proofs.lemmas.laws.MeetingLemmas.{all_written, met_fault_all, met_fault_stop, met_lines, written_past}
+use Rattle.bt_bed.proofs.lemmas.definitions.MeetingLemmas.{all_written, met_fault_all, met_fault_stop, met_lines, written_past}
 use Rattle.bt_sweep.specs.model.Deciding.{decided, decides}
 use Rattle.bt_sweep.specs.model.Hits.{hits, hits_among}
 use Rattle.bt_sweep.specs.model.IntersectLines.{intersect, lines_for, lines_of}
 use Rattle.bt_sweep.specs.model.SweepMeeting.{sweep_rule}
 use Rattle.bt_sweep.specs.declared.hits.hit_rule.HitRule.{HitRule}
 use Rattle.bt_sweep.specs.declared.output.shape.Shape.{Shape}
-use Rattle.bt_sweep.proofs.lemmas.laws.RuleLemmas.{apart_misses}
+use Rattle.bt_sweep.proofs.lemmas.definitions.RuleLemmas.{apart_misses}
 use Rattle.bt_laws.specs.parts.Parts.{unless_fault}
 use Rattle.bt_tool.specs.model.report.RecordReport.{Report}
 use Rattle.bt_tool.specs.model.report.SweepReport.{met_report}

@@ -1,8 +1,5 @@
 -- What is good of two concatenated texts of records.
-use Rattle.std.proofs.Common.{◌≡◌, ℕ, Bool, true, false, cond, List, [], ◌∷◌, ◌++◌, Option, Some, None, Result, Ok, Err, refl, ap, ◌∙◌, subst}
-use Rattle.std.specs.Prelude.{IsTrue, flat_map}
-use Rattle.std.specs.List.{AllByRecursion}
-use Rattle.std.specs.Ordering.{ordering_reverse}
+use Rattle.bt_lines.proofs.Std.{◌≡◌, ℕ, Bool, true, false, cond, List, [], ◌∷◌, ◌++◌, Option, Some, None, Result, Ok, Err, refl, ap, ◌∙◌, subst, IsTrue, flat_map, AllByRecursion, ordering_reverse}
 use Rattle.std.specs.declared.cmp.Ordering.{Ordering}
 use Rattle.std.specs.declared.cmp.Ordering.TheVariants.{Less, Equal, Greater}
 use Rattle.bt_lines.specs.model.Lines.{TextLine, lines_from, text_lines}
@@ -16,7 +13,7 @@ use Rattle.bt_bed.specs.model.order.Locus.{Locus, is_below_at}
 use Rattle.bt_bed.specs.model.order.Order.{Order, IsTotal}
 use Rattle.bt_bed.specs.model.feature.Record.{record_of}
 use Rattle.bt_bed.specs.model.order.Sorting.{falls_in, sorting_of}
-use Rattle.bt_bed.proofs.lemmas.laws.GoodBedLemmas.{line_said}
+use Rattle.bt_bed.proofs.lemmas.definitions.GoodBedLemmas.{line_said}
 use Rattle.bt_bed.proofs.lemmas.order.SortingLemmas.{places_sorted}
 use Rattle.bt_laws.specs.parts.Parts.{ComeBefore, StandsBefore, said_record, said_records}
 use Rattle.bt_laws.proofs.lemmas.parts.order.PartGood.{IsJoint, LeadsOn, good_joint}

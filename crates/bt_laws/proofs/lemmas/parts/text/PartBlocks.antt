@@ -1,8 +1,5 @@
 -- Records in blocks, in two concatenated texts.
-use Rattle.std.proofs.Common.{◌≡◌, ℕ, Bool, true, false, cond, List, [], ◌∷◌, ◌++◌, append-nil, Option, Some, None, Result, Ok, Err, refl, sym, ap, ◌∙◌, subst}
-use Rattle.std.specs.Prelude.{⊤, is_none, nat_lt, option_map}
-use Rattle.std.specs.List.{AllByRecursion}
-use Rattle.std.proofs.lemmas.List.{map-append}
+use Rattle.bt_lines.proofs.Std.{◌≡◌, ℕ, Bool, true, false, cond, List, [], ◌∷◌, ◌++◌, append-nil, Option, Some, None, Result, Ok, Err, refl, sym, ap, ◌∙◌, subst, ⊤, is_none, nat_lt, option_map, AllByRecursion, map-append}
 use Rattle.bt_lines.specs.model.Fault.{FaultValue}
 use Rattle.bt_lines.specs.model.Lines.{TextLine, lines_from, text_lines}
 use Rattle.bt_lines.specs.declared.fault.Input.{Input}
@@ -15,7 +12,7 @@ use Rattle.bt_bed.specs.model.input.GoodBlocks.{block_format}
 use Rattle.bt_bed.specs.model.order.Locus.{Locus}
 use Rattle.bt_bed.specs.model.feature.Record.{record_of}
 use Rattle.bt_bed.specs.model.order.Sorting.{block_sorting, falls_in}
-use Rattle.bt_seq.proofs.lemmas.laws.LeftLemmas.{is_last}
+use Rattle.bt_seq.proofs.lemmas.definitions.LeftLemmas.{is_last}
 use Rattle.bt_seq.proofs.lemmas.sam.TagLemmas.{last_from}
 use Rattle.bt_laws.specs.parts.Parts.{StandsBefore, said_record, said_records}
 use Rattle.bt_laws.proofs.lemmas.parts.text.PartBed.{alike_records, records_on}

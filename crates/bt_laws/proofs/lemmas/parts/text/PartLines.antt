@@ -1,7 +1,5 @@
 -- Lines of two concatenated texts, of which the first is empty or ends with a line feed.
-use Rattle.std.proofs.Common.{◌≡◌, ℕ, suc, true, false, List, [], ◌∷◌, ◌++◌, refl, sym, ap, ◌∙◌, append-nil, append_assoc, eqb, inl, inr}
-use Rattle.std.specs.Prelude.{IsTrue}
-use Rattle.std.proofs.lemmas.List.Elements.{All-head, All-tail}
+use Rattle.bt_lines.proofs.Std.{◌≡◌, ℕ, suc, true, false, List, [], ◌∷◌, ◌++◌, refl, sym, ap, ◌∙◌, append-nil, append_assoc, eqb, inl, inr, IsTrue, All-head, All-tail}
 use Rattle.bt_lines.specs.model.Lines.{TextLine, fed_line, last_line, lines_from, numbered, pieces}
 use Rattle.bt_lines.specs.calls.LentLine.{NoLineFeed}
 use Rattle.bt_lines.proofs.lemmas.reader.lines.LinesLemmas.{lines_from-fed, lines_from-nil}

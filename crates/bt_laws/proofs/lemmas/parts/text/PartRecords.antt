@@ -1,9 +1,6 @@
 -- Records of two parts, none of which lies on a chromosome of the other part.
-use Rattle.std.proofs.Common.{◌≡◌, ℕ, false, ◌||◌, List, [], ◌∷◌, ◌++◌, append-nil, Some, inl, refl, sym, ap, ◌∙◌, subst}
-use Rattle.std.specs.Prelude.{IsTrue, bytes_eq}
-use Rattle.std.specs.List.{AllByRecursion}
+use Rattle.bt_lines.proofs.Std.{◌≡◌, ℕ, false, ◌||◌, List, [], ◌∷◌, ◌++◌, append-nil, Some, inl, refl, sym, ap, ◌∙◌, subst, IsTrue, bytes_eq, AllByRecursion, or_parts}
 use Rattle.std.specs.declared.cmp.Ordering.TheVariants.{Less, Equal}
-use Rattle.std.proofs.lemmas.Bool.{or_parts}
 use Rattle.bt_laws.proofs.lemmas.parts.order.PartGenomes.{or_assoc}
 use Rattle.bt_bed.specs.model.feature.Feature.{Feature, interval_of, intervals_of}
 use Rattle.bt_bed.specs.model.feature.Interval.{Interval, last_from, last_of, spans_on}

@@ -1,10 +1,5 @@
 -- What is good of two concatenated FASTA texts.
-use Rattle.std.proofs.Common.{◌≡◌, ℕ, suc, ◌-◌, Bool, true, false, cond, List, [], ◌∷◌, ◌++◌, length, map, take, append-nil, append_assoc, Option, Some, None, Result, Ok, Err, refl, sym, ap, ap₂, ◌∙◌, subst, eqb, arith}
-use Rattle.std.specs.Prelude.{IsTrue, ⊤, flat_map}
-use Rattle.std.specs.List.{AllByRecursion}
-use Rattle.std.specs.Io.BufRead.{ends_with_byte, strip_last}
-use Rattle.std.proofs.lemmas.Bool.{eqb-true}
-use Rattle.std.proofs.lemmas.List.{map-append}
+use Rattle.bt_lines.proofs.Std.{◌≡◌, ℕ, suc, ◌-◌, Bool, true, false, cond, List, [], ◌∷◌, ◌++◌, length, map, take, append-nil, append_assoc, Option, Some, None, Result, Ok, Err, refl, sym, ap, ap₂, ◌∙◌, subst, eqb, arith, IsTrue, ⊤, flat_map, AllByRecursion, ends_with_byte, strip_last, eqb-true, map-append}
 use Rattle.bt_lines.specs.model.Fault.{FaultValue}
 use Rattle.bt_lines.specs.model.Lines.{TextLine, fed_line, last_line, lines_from, text_lines}
 use Rattle.bt_lines.specs.declared.fault.Input.{Input}

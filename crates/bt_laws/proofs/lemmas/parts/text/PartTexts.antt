@@ -1,6 +1,5 @@
 -- The reports of bamtobed, merge, intersect and subtract on two concatenated texts, and on any number.
-use Rattle.std.proofs.Common.{◌≡◌, ℕ, Bool, List, [], ◌∷◌, ◌++◌, append-nil, Option, Some, None, refl, sym, ap, ◌∙◌, map, Ok, ap₂}
-use Rattle.std.proofs.lemmas.Grind.{flat_map-append}
+use Rattle.bt_lines.proofs.Std.{◌≡◌, ℕ, Bool, List, [], ◌∷◌, ◌++◌, append-nil, Option, Some, None, refl, sym, ap, ◌∙◌, map, Ok, ap₂, flat_map-append, IsTrue, AllByRecursion}
 use Rattle.bt_lines.specs.model.Fault.{FaultValue}
 use Rattle.bt_lines.specs.model.Lines.{lines_from, text_lines}
 use Rattle.bt_lines.specs.declared.fault.Input.TheVariants.{First, Second}
@@ -19,8 +18,6 @@ use Rattle.bt_tool.proofs.lemmas.running.members.CameMembers.{good_whole}
 use Rattle.bt_laws.proofs.lemmas.parts.order.PartGood.{IsJoint, good_joint}
 use Rattle.bt_laws.proofs.lemmas.parts.report.PartReports.{Splits, parts_both, Joins, good_joins, nothing, together}
 use Rattle.bt_laws.proofs.lemmas.Lists.{all_any, all_back, all_front, all_so}
-use Rattle.std.specs.Prelude.{IsTrue}
-use Rattle.std.specs.List.{AllByRecursion}
 use Rattle.bt_lines.specs.model.Handed.{Handed, whole_text}
 use Rattle.bt_lines.specs.declared.fault.Input.{Input}
 use Rattle.bt_bed.specs.model.order.ByteOrder.{bytes_total}
@@ -31,7 +28,7 @@ use Rattle.bt_bed.specs.model.order.Locus.{ArePlaced}
 use Rattle.bt_bed.specs.model.order.Order.{Order, IsTotal}
 use Rattle.bt_bed.specs.inside.RankTotal.{ranks_total}
 use Rattle.bt_bed.specs.model.order.Sorting.{sorting_of}
-use Rattle.bt_bed.proofs.lemmas.laws.GoodBedLemmas.{non_empty_from, placed_lines}
+use Rattle.bt_bed.proofs.lemmas.definitions.GoodBedLemmas.{non_empty_from, placed_lines}
 use Rattle.bt_runs.specs.model.Merged.{merged}
 use Rattle.bt_runs.specs.model.RunOrder.{ordered_runs}
 use Rattle.bt_runs.specs.model.StrandRuns.{strand_runs}

@@ -1,4 +1,4 @@
-use Rattle.std.proofs.lemmas.List.Elements.{recursion_from_All}
+use Rattle.bt_lines.proofs.Std.{recursion_from_All}
 use Rattle.bt_laws.specs.records.Inputs.{StaysDecided}
 use Rattle.bt_laws.proofs.lemmas.records.MeetingLemmas.{written_begins}
 use Rattle.bt_laws.proofs.records.features.early_lines_begin_the_whole.Goals as goal

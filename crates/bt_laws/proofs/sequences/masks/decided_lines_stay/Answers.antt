@@ -1,4 +1,4 @@
-use Rattle.bt_seq.proofs.lemmas.laws.MaskPrefixLemmas.{decided_stays, masked_before, masked_stay}
+use Rattle.bt_seq.proofs.lemmas.definitions.MaskPrefixLemmas.{decided_stays, masked_before, masked_stay}
 use Rattle.bt_laws.proofs.sequences.masks.decided_lines_stay.Goals as goal
 
 pub returns-clause-decided : goal.returns-clause-decided

@@ -1,6 +1,5 @@
 -- Lemmas on the bytes of a block.
-use Rattle.std.proofs.Common.{◌≡◌, ℕ, ◌+◌, ◌-◌, ◌≤◌, List, length, take, drop, slice_range, sym, ap, ◌∙◌, arith}
-use Rattle.std.proofs.lemmas.List.{length-take, drop-take, drop-drop}
+use Rattle.bt_lines.proofs.Std.{◌≡◌, ℕ, ◌+◌, ◌-◌, ◌≤◌, List, length, take, drop, slice_range, sym, ap, ◌∙◌, arith, length-take, drop-take, drop-drop}
 use Rattle.bt_lines.specs.inside.ReadBuffer.{unread}
 use Rattle.bt_lines.specs.declared.reader.read_buffer.ReadBuffer.{ReadBuffer}
 use Rattle.bt_lines.specs.calls.Output.{block_size}

@@ -1,9 +1,5 @@
 -- Lemmas on what a reader has buffered.
-use Rattle.std.proofs.Common.{◌≡◌, ℕ, zero, suc, ◌+◌, ◌-◌, ◌<◌, ◌≤◌, ◌⊎◌, inl, inr, Bool, true, false, cond, List, [], ◌∷◌, ◌++◌, length, take, drop, get_or, set, slice_range, Some, None, refl, sym, ap, ◌∙◌, subst, append_assoc, length-append, eqb, arith}
-use Rattle.std.proofs.Math.Seq.{paste, take-add}
-use Rattle.std.proofs.lemmas.Bool.{eqb-true, false_from_ne_true, false≢true}
-use Rattle.std.proofs.lemmas.List.{take-append-drop, take-append-le, take-take, drop-append-le, take_at, drop-take, drop-drop, take_more, take_more_set, length-take, length-take-le, length-drop, get_or-drop, get_or_default}
-use Rattle.std.proofs.lemmas.List.Elements.{All-append, All-nil}
+use Rattle.bt_lines.proofs.Std.{◌≡◌, ℕ, zero, suc, ◌+◌, ◌-◌, ◌<◌, ◌≤◌, ◌⊎◌, inl, inr, Bool, true, false, cond, List, [], ◌∷◌, ◌++◌, length, take, drop, get_or, set, slice_range, Some, None, refl, sym, ap, ◌∙◌, subst, append_assoc, length-append, eqb, arith, paste, take-add, eqb-true, false_from_ne_true, false≢true, take-append-drop, take-append-le, take-take, drop-append-le, take_at, drop-take, drop-drop, take_more, take_more_set, length-take, length-take-le, length-drop, get_or-drop, get_or_default, All-append, All-nil}
 use Rattle.memchr.specs.Find.{IsLastByte, is_byte}
 use Rattle.bt_lines.proofs.lemmas.reader.block.BlockLemmas.{consumed}
 use Rattle.bt_lines.proofs.lemmas.reader.lines.TextLemmas.{line_feeds-append, line_feeds-none}

@@ -1,8 +1,5 @@
 -- Lemmas on the first byte of a value among some bytes.
-use Rattle.std.proofs.Common.{◌≡◌, ℕ, ◌+◌, ◌-◌, ◌≤◌, false, List, [], ◌∷◌, ◌++◌, length, take, drop, Some, sym, ap, ◌∙◌, subst, append_assoc, length-append, eqb, arith}
-use Rattle.std.proofs.Math.Seq.{take-add, take-length}
-use Rattle.std.proofs.lemmas.List.{take-append-drop, take_at, drop_at, length-take-le, length-drop}
-use Rattle.std.proofs.lemmas.List.Elements.{All-append}
+use Rattle.bt_lines.proofs.Std.{◌≡◌, ℕ, ◌+◌, ◌-◌, ◌≤◌, false, List, [], ◌∷◌, ◌++◌, length, take, drop, Some, sym, ap, ◌∙◌, subst, append_assoc, length-append, eqb, arith, take-add, take-length, take-append-drop, take_at, drop_at, length-take-le, length-drop, All-append}
 use Rattle.bt_lines.specs.calls.FirstByte.{IsBefore, IsFirstOf, Lacks}
 
 -- bytes that are cut at one before which there is none

@@ -1,8 +1,5 @@
 -- Lemmas on a line that is longer than a block.
-use Rattle.std.proofs.Common.{◌≡◌, ℕ, inl, ◌+◌, ◌^◌, ◌<◌, ◌≤◌, Bool, true, false, List, [], ◌∷◌, ◌++◌, length, Result, Ok, Err, refl, sym, ap, ◌∙◌, append_assoc, append-nil, length-append, add-zero, arith, eqb}
-use Rattle.std.proofs.KnownBytes.{Consumes-nil, Consumes-trans}
-use Rattle.std.proofs.lemmas.List.Elements.{All-append, All-nil}
-use Rattle.std.specs.Io.KnownBytes.{Consumes}
+use Rattle.bt_lines.proofs.Std.{◌≡◌, ℕ, inl, ◌+◌, ◌^◌, ◌<◌, ◌≤◌, Bool, true, false, List, [], ◌∷◌, ◌++◌, length, Result, Ok, Err, refl, sym, ap, ◌∙◌, append_assoc, append-nil, length-append, add-zero, arith, eqb, Consumes-nil, Consumes-trans, All-append, All-nil, Consumes}
 use Rattle.bt_lines.specs.declared.device.Source.{Ghosts as Source}
 use Rattle.bt_lines.proofs.lemmas.reader.block.BuffersLemmas.{closed_some, fed_line, one_line}
 use Rattle.bt_lines.proofs.lemmas.reader.lines.TextLemmas.{line_feeds-none}

@@ -1,11 +1,5 @@
 -- Lemmas on the lines that are left of those buffered.
-use Rattle.std.proofs.Common.{◌≡◌, ℕ, suc, ◌+◌, ◌-◌, ◌^◌, ◌<◌, ◌≤◌, Bool, true, false, List, [], ◌∷◌, ◌++◌, length, take, drop, Option, refl, sym, ap, ◌∙◌, length-append, append_assoc, append-nil, subst, inl, inr, arith}
-use Rattle.std.specs.Prelude.{nat_lt}
-use Rattle.std.specs.Io.BufRead.{ends_with_byte, strip_last}
-use Rattle.std.proofs.lemmas.Bool.{cases_lt}
-use Rattle.std.proofs.lemmas.Bool.Decides.{nat_tests}
-use Rattle.std.proofs.Math.Seq.{take-append_seam}
-use Rattle.std.proofs.lemmas.List.{drop-drop, length-drop, take-append-drop, take_all}
+use Rattle.bt_lines.proofs.Std.{◌≡◌, ℕ, suc, ◌+◌, ◌-◌, ◌^◌, ◌<◌, ◌≤◌, Bool, true, false, List, [], ◌∷◌, ◌++◌, length, take, drop, Option, refl, sym, ap, ◌∙◌, length-append, append_assoc, append-nil, subst, inl, inr, arith, nat_lt, ends_with_byte, strip_last, cases_lt, nat_tests, take-append_seam, drop-drop, length-drop, take-append-drop, take_all}
 use Rattle.bt_lines.proofs.lemmas.reader.block.BufferLemmas.{fed_clear, fed_drop}
 use Rattle.bt_lines.proofs.lemmas.reader.lines.CutLemmas.{alone, some_size}
 use Rattle.bt_lines.proofs.lemmas.reader.lines.LinesLemmas.{lines_from-last, lines_from-nil, strip_last-other, strip_last-push}

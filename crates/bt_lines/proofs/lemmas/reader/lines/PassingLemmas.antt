@@ -1,7 +1,5 @@
 -- Lemmas on lines that were consumed, one after another.
-use Rattle.std.proofs.Common.{◌≡◌, ℕ, zero, suc, ◌+◌, ◌-◌, ◌<◌, true, List, [], ◌∷◌, ◌++◌, length, take, drop, take-add, refl, sym, ap, ◌∙◌, append_assoc, append-nil, length-append, length-take, arith}
-use Rattle.std.proofs.Math.Seq.{take-append_seam}
-use Rattle.std.proofs.lemmas.List.{drop-drop}
+use Rattle.bt_lines.proofs.Std.{◌≡◌, ℕ, zero, suc, ◌+◌, ◌-◌, ◌<◌, true, List, [], ◌∷◌, ◌++◌, length, take, drop, take-add, refl, sym, ap, ◌∙◌, append_assoc, append-nil, length-append, length-take, arith, take-append_seam, drop-drop}
 use Rattle.bt_lines.proofs.lemmas.reader.block.BufferLemmas.{fed_after, fed_none, fed_push}
 use Rattle.bt_lines.proofs.lemmas.reader.lines.BufferedLemmas.{lines_first}
 use Rattle.bt_lines.proofs.lemmas.reader.lines.TextLemmas.{line_feeds-append, line_feeds-fed}

@@ -1,8 +1,5 @@
 -- Lemmas on readers of lines, for callers too.
-use Rattle.std.proofs.Common.{◌≡◌, ℕ, suc, ◌+◌, ◌≤◌, Bool, true, false, List, [], ◌++◌, length, drop, Option, None, Some, refl, sym, ◌∙◌, add-zero, length-append, arith}
-use Rattle.std.specs.Prelude.{option_map, IfSome}
-use Rattle.std.proofs.lemmas.Bool.{false≢true}
-use Rattle.std.proofs.KnownBytes.{Consumes-nil, Consumes-trans}
+use Rattle.bt_lines.proofs.Std.{◌≡◌, ℕ, suc, ◌+◌, ◌≤◌, Bool, true, false, List, [], ◌++◌, length, drop, Option, None, Some, refl, sym, ◌∙◌, add-zero, length-append, arith, option_map, IfSome, false≢true, Consumes-nil, Consumes-trans}
 use Rattle.bt_lines.specs.declared.device.Source.{Ghosts as Source}
 use Rattle.bt_lines.proofs.lemmas.reader.lines.TextLemmas.{line_feeds-append, bytes_in-lines}
 use Rattle.bt_lines.specs.model.Lines.{TextLine, lines_from, bytes_in}

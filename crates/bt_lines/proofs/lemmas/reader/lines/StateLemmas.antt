@@ -1,7 +1,5 @@
 -- Lemmas on what a reader keeps in each state.
-use Rattle.std.proofs.Common.{◌≡◌, ◌⊎◌, inl, inr, ℕ, ◌+◌, ◌≤◌, true, false, List, [], ◌∷◌, ◌++◌, length, nat_eq, refl, sym, ap, ◌∙◌, length-append, arith}
-use Rattle.std.proofs.lemmas.Bool.{false≢true}
-use Rattle.std.proofs.lemmas.Bool.Decides.{nat_tests}
+use Rattle.bt_lines.proofs.Std.{◌≡◌, ◌⊎◌, inl, inr, ℕ, ◌+◌, ◌≤◌, true, false, List, [], ◌∷◌, ◌++◌, length, nat_eq, refl, sym, ap, ◌∙◌, length-append, arith, false≢true, nat_tests}
 use Rattle.bt_lines.proofs.lemmas.reader.block.BuffersLemmas.{one_line}
 use Rattle.bt_lines.proofs.lemmas.reader.lines.StepLemmas.{held_closed}
 use Rattle.bt_lines.specs.calls.LentLine.{NoLineFeed}

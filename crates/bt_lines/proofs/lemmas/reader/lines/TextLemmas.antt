@@ -1,10 +1,5 @@
 -- Lemmas on texts that are cut into lines, for callers too: how many lines, how many bytes, which numbers.
-use Rattle.std.proofs.Common.{◌≡◌, ℕ, zero, suc, ◌+◌, ◌<◌, ◌≤◌, Bool, true, false, List, [], ◌∷◌, ◌++◌, length, take, drop, refl, sym, ap, ◌∙◌, subst, append_assoc, append-nil, length-append, eqb, arith}
-use Rattle.std.specs.Prelude.{flat_map}
-use Rattle.std.proofs.lemmas.List.Elements.{All-push, All-nil, All-head, All-tail}
-use Rattle.std.proofs.lemmas.List.Sums.{sum_by-append}
-use Rattle.std.proofs.lemmas.List.Splits.{slice_split_at, slice_split_none, length-slice_split}
-use Rattle.std.proofs.lemmas.Bool.{false≢true, eqb-true}
+use Rattle.bt_lines.proofs.Std.{◌≡◌, ℕ, zero, suc, ◌+◌, ◌<◌, ◌≤◌, Bool, true, false, List, [], ◌∷◌, ◌++◌, length, take, drop, refl, sym, ap, ◌∙◌, subst, append_assoc, append-nil, length-append, eqb, arith, flat_map, All-push, All-nil, All-head, All-tail, sum_by-append, slice_split_at, slice_split_none, length-slice_split, false≢true, eqb-true}
 use Rattle.bt_lines.proofs.lemmas.reader.lines.LinesLemmas.{lines_from-fed, lines_from-last, lines_lose_nothing}
 use Rattle.bt_lines.specs.model.Lines.{TextLine, pieces, fed_line, last_line, lines_from, whole_lines_from, numbered_whole, line_feeds, bytes_in, spelled, AreNumbered}
 use Rattle.bt_lines.specs.calls.LentLine.{NoLineFeed}

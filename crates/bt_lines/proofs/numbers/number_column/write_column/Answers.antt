@@ -1,5 +1,4 @@
-use Rattle.std.proofs.Common.{◌≡◌, ◌+◌, ◌-◌, arith}
-use Rattle.std.proofs.lemmas.List.{drop-set}
+use Rattle.bt_lines.proofs.Std.{◌≡◌, ◌+◌, ◌-◌, arith, drop-set}
 use Rattle.bt_lines.proofs.lemmas.writer.SpanLemmas.{twenty_digits}
 use Rattle.bt_lines.proofs.numbers.number_column.write_column.Goals as goal
 

@@ -1,4 +1,4 @@
-use Rattle.std.proofs.Common.{◌-◌, ◌≤◌, length, take}
+use Rattle.bt_lines.proofs.Std.{◌-◌, ◌≤◌, length, take}
 use Rattle.bt_lines.specs.calls.FirstByte.{Lacks}
 use Rattle.bt_lines.proofs.reader.newline.late_length.Given as goal
 

@@ -1,4 +1,4 @@
-use Rattle.std.proofs.Common.{arith}
+use Rattle.bt_lines.proofs.Std.{arith}
 use Rattle.bt_lines.proofs.lemmas.reader.block.NewlineLemmas.{before_feed, chunk_first, feed_first, none_behind}
 use Rattle.bt_lines.proofs.reader.newline.length_before.Goals as goal
 

@@ -1,4 +1,4 @@
-use Rattle.std.proofs.Common.{Some, refl, sym, subst, add-zero, arith}
+use Rattle.bt_lines.proofs.Std.{Some, refl, sym, subst, add-zero, arith}
 use Rattle.bt_lines.proofs.lemmas.reader.block.ReadsLemmas.{counts_one}
 use Rattle.bt_lines.proofs.reader.spill.ask_more.Goals as goal
 

@@ -1,4 +1,4 @@
-use Rattle.std.proofs.Common.{◌≡◌, ◌-◌, ◌^◌, []}
+use Rattle.bt_lines.proofs.Std.{◌≡◌, ◌-◌, ◌^◌, []}
 use Rattle.bt_lines.specs.inside.ReadBuffer.{complete, unread}
 use Rattle.bt_lines.specs.calls.Device.{ReadsCounted}
 use Rattle.bt_lines.proofs.lemmas.reader.block.BuffersLemmas.{ReadSoFar}

@@ -1,5 +1,4 @@
-use Rattle.std.proofs.Common.{◌≡◌, ℕ, ◌+◌, Option, Some, None, subst, sym}
-use Rattle.std.specs.Prelude.{IfNone, IfSome}
+use Rattle.bt_lines.proofs.Std.{◌≡◌, ℕ, ◌+◌, Option, Some, None, subst, sym, IfNone, IfSome}
 use Rattle.bt_lines.proofs.lemmas.reader.lines.PassingLemmas.{lines_taken, passes_more, passes_none}
 use Rattle.bt_lines.specs.calls.Buffered.{PassesLines}
 use Rattle.bt_lines.specs.declared.reader.buffered_lines.BufferedLines.{BufferedLines}

@@ -1,4 +1,4 @@
-use Rattle.std.proofs.lemmas.List.{take_rest}
+use Rattle.bt_lines.proofs.Std.{take_rest}
 use Rattle.bt_lines.proofs.lemmas.writer.OutputLemmas.{front_filled, front_over, grows_both, put_over}
 use Rattle.bt_lines.proofs.lemmas.writer.ResultLemmas.{always_err}
 use Rattle.bt_lines.proofs.writer.output.put_across.Goals as goal

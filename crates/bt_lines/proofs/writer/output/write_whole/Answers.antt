@@ -1,5 +1,4 @@
-use Rattle.std.proofs.Common.{◌∙◌, ◌++◌, take}
-use Rattle.std.proofs.lemmas.List.{take_rest}
+use Rattle.bt_lines.proofs.Std.{◌∙◌, ◌++◌, take, take_rest}
 use Rattle.bt_lines.proofs.lemmas.writer.OutputLemmas.{front_part, more_taken}
 use Rattle.bt_lines.proofs.lemmas.writer.ResultLemmas.{always_err}
 use Rattle.bt_lines.proofs.writer.output.write_whole.Goals as goal

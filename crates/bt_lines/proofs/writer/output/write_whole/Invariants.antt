@@ -1,5 +1,4 @@
-use Rattle.std.proofs.Common.{◌≡◌, ℕ, List, ◌++◌, length}
-use Rattle.std.specs.Io.KnownBytes.{Appends}
+use Rattle.bt_lines.proofs.Std.{◌≡◌, ℕ, List, ◌++◌, length, Appends}
 use Rattle.bt_lines.proofs.writer.output.write_whole.Given as goal
 
 -- the sink has taken the piece except the rest

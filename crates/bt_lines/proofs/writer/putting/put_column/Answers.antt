@@ -1,5 +1,4 @@
-use Rattle.std.proofs.Common.{Ok, Err}
-use Rattle.std.proofs.lemmas.Result.{err_from_is_err_and}
+use Rattle.bt_lines.proofs.Std.{Ok, Err, err_from_is_err_and}
 use Rattle.bt_lines.proofs.lemmas.writer.PuttingLemmas.{fails_before, puts_from, puts_more}
 use Rattle.bt_lines.proofs.writer.putting.put_column.Goals as goal
 

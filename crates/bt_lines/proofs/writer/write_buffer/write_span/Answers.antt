@@ -1,5 +1,4 @@
-use Rattle.std.proofs.Common.{arith}
-use Rattle.std.proofs.lemmas.List.{length-set}
+use Rattle.bt_lines.proofs.Std.{arith, length-set}
 use Rattle.bt_lines.proofs.lemmas.writer.SpanLemmas.{span_moved, span_written}
 use Rattle.bt_lines.proofs.writer.write_buffer.write_span.Goals as goal
 

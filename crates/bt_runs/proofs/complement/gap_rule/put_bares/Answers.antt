@@ -1,5 +1,4 @@
-use Rattle.std.proofs.Common.{◌≡◌, ℕ, Err, List, arith, slice_range, subst, sym}
-use Rattle.std.proofs.lemmas.Result.{err_from_is_err_and}
+use Rattle.bt_lines.proofs.Std.{◌≡◌, ℕ, Err, List, arith, slice_range, subst, sym, err_from_is_err_and}
 use Rattle.bt_bed.specs.calls.GenomeTable.{entries}
 use Rattle.bt_bed.specs.model.feature.IntervalLine.{interval_line, interval_lines}
 use Rattle.bt_lines.specs.calls.Putting.{Adds, Grown}

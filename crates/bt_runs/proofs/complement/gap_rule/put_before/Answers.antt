@@ -1,5 +1,4 @@
-use Rattle.std.proofs.Common.{◌≡◌, ◌+◌, ℕ, Some, arith, flat_map, min, slice_range}
-use Rattle.std.proofs.lemmas.Result.{err_from_is_err_and}
+use Rattle.bt_lines.proofs.Std.{◌≡◌, ◌+◌, ℕ, Some, arith, flat_map, min, slice_range, err_from_is_err_and}
 use Rattle.bt_lines.proofs.lemmas.writer.PuttingLemmas.{adds_lines, cut_lines}
 use Rattle.bt_bed.specs.calls.GenomeTable.{entries}
 use Rattle.bt_bed.specs.model.feature.IntervalLine.{interval_line}

@@ -1,5 +1,4 @@
-use Rattle.std.proofs.Common.{Err, Ok, arith}
-use Rattle.std.proofs.lemmas.Result.{err_from_is_err_and}
+use Rattle.bt_lines.proofs.Std.{Err, Ok, arith, err_from_is_err_and}
 use Rattle.bt_lines.specs.calls.Putting.{Adds, Grown}
 use Rattle.bt_lines.proofs.lemmas.writer.PuttingLemmas.{grown_none}
 use Rattle.bt_bed.specs.calls.GenomeTable.{entries}

@@ -1,4 +1,4 @@
-use Rattle.std.proofs.Common.{flat_map, slice_range}
+use Rattle.bt_lines.proofs.Std.{flat_map, slice_range}
 use Rattle.bt_bed.specs.calls.GenomeTable.{entries}
 use Rattle.bt_lines.specs.calls.Putting.{Grown}
 use Rattle.bt_runs.specs.model.Depth.{depth_lines}

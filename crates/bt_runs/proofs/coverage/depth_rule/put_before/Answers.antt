@@ -1,5 +1,4 @@
-use Rattle.std.proofs.Common.{◌≡◌, ◌+◌, Some, arith, flat_map, min, slice_range}
-use Rattle.std.proofs.lemmas.Result.{err_from_is_err_and}
+use Rattle.bt_lines.proofs.Std.{◌≡◌, ◌+◌, Some, arith, flat_map, min, slice_range, err_from_is_err_and}
 use Rattle.bt_runs.specs.model.Depth.{depth_line}
 use Rattle.bt_lines.proofs.lemmas.writer.PuttingLemmas.{adds_lines, cut_lines}
 use Rattle.bt_bed.specs.calls.GenomeTable.{entries}

@@ -1,4 +1,4 @@
-use Rattle.std.proofs.lemmas.Result.{err_from_is_err_and}
+use Rattle.bt_lines.proofs.Std.{err_from_is_err_and}
 use Rattle.bt_runs.specs.inside.coverage.CountSeen.{known_seen}
 use Rattle.bt_runs.specs.inside.coverage.DepthStep.{begun_to, ended_to}
 use Rattle.bt_runs.specs.model.Levels.{ended_at}

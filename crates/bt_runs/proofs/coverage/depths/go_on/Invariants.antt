@@ -1,4 +1,4 @@
-use Rattle.std.proofs.Common.{◌≡◌, ◌-◌, ◌≤◌, All}
+use Rattle.bt_lines.proofs.Std.{◌≡◌, ◌-◌, ◌≤◌, All}
 use Rattle.bt_lines.specs.calls.Putting.{Grown}
 use Rattle.bt_runs.specs.inside.coverage.CountSeen.{begun_seen}
 use Rattle.bt_runs.specs.model.Depth.{depth_lines, depth_of}

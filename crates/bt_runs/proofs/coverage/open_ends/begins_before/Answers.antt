@@ -1,5 +1,4 @@
-use Rattle.std.proofs.Common.{◌<◌, arith, refl}
-use Rattle.std.specs.BinaryHeap.{heap_items, heap_len}
+use Rattle.bt_lines.proofs.Std.{◌<◌, arith, refl, heap_items, heap_len}
 use Rattle.bt_runs.proofs.lemmas.coverage.OpenLemmas.{top_before}
 use Rattle.bt_runs.proofs.coverage.open_ends.begins_before.Goals as goal
 

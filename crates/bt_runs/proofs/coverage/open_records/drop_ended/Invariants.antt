@@ -1,5 +1,4 @@
-use Rattle.std.proofs.Common.{◌≡◌}
-use Rattle.std.specs.VecDeque.{deque_len}
+use Rattle.bt_lines.proofs.Std.{◌≡◌, deque_len}
 use Rattle.bt_runs.specs.inside.coverage.DepthStep.{still_open}
 use Rattle.bt_runs.specs.inside.coverage.OpenRecords.{spans_open}
 use Rattle.bt_runs.proofs.coverage.open_records.drop_ended.Given as goal

@@ -1,5 +1,4 @@
-use Rattle.std.proofs.Common.{◌≡◌, ◌∙◌, [], arith, drop, length, take, sym, ap}
-use Rattle.std.proofs.lemmas.List.{append-nil, length-map, length-take-le, take-append-drop}
+use Rattle.bt_lines.proofs.Std.{◌≡◌, ◌∙◌, [], arith, drop, length, take, sym, ap, append-nil, length-map, length-take-le, take-append-drop}
 use Rattle.bt_runs.specs.inside.coverage.DepthStep.{still_open}
 use Rattle.bt_runs.specs.inside.coverage.OpenRecords.{span_open, spans_open}
 use Rattle.bt_runs.proofs.lemmas.coverage.OpenLemmas.{all_stay, none_past, open_both}

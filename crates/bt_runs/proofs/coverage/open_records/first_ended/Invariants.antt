@@ -1,4 +1,4 @@
-use Rattle.std.proofs.Common.{◌≡◌, ◌+◌, ◌≤◌, drop, length}
+use Rattle.bt_lines.proofs.Std.{◌≡◌, ◌+◌, ◌≤◌, drop, length}
 use Rattle.bt_runs.specs.inside.coverage.DepthStep.{still_open}
 use Rattle.bt_runs.specs.inside.coverage.OpenRecords.{spans_open}
 use Rattle.bt_runs.proofs.coverage.open_records.first_ended.Given as goal

@@ -1,4 +1,4 @@
-use Rattle.std.proofs.Common.{◌∙◌, refl, subst, sym}
+use Rattle.bt_lines.proofs.Std.{◌∙◌, refl, subst, sym}
 use Rattle.bt_runs.proofs.lemmas.engine.RuleLemmas.{follows_all, follows_on, follows_up_to}
 use Rattle.bt_runs.proofs.engine.rule.follow.Goals as goal
 

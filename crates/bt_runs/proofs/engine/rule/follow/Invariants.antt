@@ -1,4 +1,4 @@
-use Rattle.std.proofs.Common.{◌≡◌}
+use Rattle.bt_lines.proofs.Std.{◌≡◌}
 use Rattle.bt_runs.proofs.lemmas.engine.RuleLemmas.{Following}
 use Rattle.bt_runs.specs.inside.walk.Rule.{Taken}
 use Rattle.bt_runs.proofs.engine.rule.follow.Given as goal

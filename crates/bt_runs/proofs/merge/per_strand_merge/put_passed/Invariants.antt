@@ -1,4 +1,4 @@
-use Rattle.std.proofs.Common.{length}
+use Rattle.bt_lines.proofs.Std.{length}
 use Rattle.bt_lines.specs.calls.Putting.{Grown}
 use Rattle.bt_runs.specs.calls.Stranding.{strand_lines}
 use Rattle.bt_runs.specs.inside.merge.PendingRuns.{placed_runs}

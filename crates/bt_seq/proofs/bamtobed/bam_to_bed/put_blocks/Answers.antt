@@ -1,4 +1,4 @@
-use Rattle.std.proofs.Common.{true}
+use Rattle.bt_lines.proofs.Std.{true}
 use Rattle.bt_seq.specs.model.AlignmentBlocks.{alignment_blocks}
 use Rattle.bt_seq.specs.calls.Sam.{alignment_lent, blocks_left}
 use Rattle.bt_seq.proofs.lemmas.bamtobed.LineLemmas.{grown_block, left_more}

@@ -1,4 +1,4 @@
-use Rattle.std.proofs.Common.{◌≡◌, ◌++◌, map, true}
+use Rattle.bt_lines.proofs.Std.{◌≡◌, ◌++◌, map, true}
 use Rattle.bt_lines.specs.calls.Putting.{Grown}
 use Rattle.bt_seq.specs.model.AlignmentBlocks.{alignment_blocks}
 use Rattle.bt_seq.specs.calls.Sam.{alignment_lent, blocks_left, span_given}

@@ -1,6 +1,4 @@
-use Rattle.std.proofs.Common.{◌≡◌, ◌∙◌, ◌∷◌, [], ap, arith, drop}
-use Rattle.std.proofs.lemmas.List.{drop-set, drop_all, length-set}
-use Rattle.std.proofs.Math.ListN.{set}
+use Rattle.bt_lines.proofs.Std.{◌≡◌, ◌∙◌, ◌∷◌, [], ap, arith, drop, drop-set, drop_all, length-set, set}
 use Rattle.bt_seq.proofs.bamtobed.bed_line.write_cigar.Goals as goal
 
 pub returns-then-not-with_cigar-clause-written : goal.returns-then-not-with_cigar-clause-written

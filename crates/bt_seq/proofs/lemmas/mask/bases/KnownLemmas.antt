@@ -1,11 +1,8 @@
 -- Lemmas on what is known of blocks, from call to call.
-use Rattle.std.proofs.Common.{◌≡◌, ℕ, ◌⊎◌, Bool, true, false, cond, List, [], ◌∷◌, ◌++◌, Option, Some, None, refl, sym, ap, ◌∙◌, subst, inl, inr, bytes_eq, arith}
-use Rattle.std.proofs.lemmas.Bool.{cases_Bool}
-use Rattle.std.specs.Cmp.Lexicographic.{bytes_decides}
-use Rattle.std.specs.Prelude.{is_some}
+use Rattle.bt_lines.proofs.Std.{◌≡◌, ℕ, ◌⊎◌, Bool, true, false, cond, List, [], ◌∷◌, ◌++◌, Option, Some, None, refl, sym, ap, ◌∙◌, subst, inl, inr, bytes_eq, arith, cases_Bool, bytes_decides, is_some}
 use Rattle.bt_bed.specs.model.feature.Feature.{Feature}
-use Rattle.bt_seq.proofs.lemmas.laws.KnowsLemmas.{last_goes_on, owners_found}
-use Rattle.bt_seq.proofs.lemmas.laws.LeftLemmas.{goes_on_or_begins}
+use Rattle.bt_seq.proofs.lemmas.definitions.KnowsLemmas.{last_goes_on, owners_found}
+use Rattle.bt_seq.proofs.lemmas.definitions.LeftLemmas.{goes_on_or_begins}
 use Rattle.bt_seq.proofs.lemmas.mask.steps.NextLemmas.{left_grows}
 use Rattle.bt_seq.specs.calls.Matching.{Knows, KnowsEarlier, last_chrom, owner_by, Matched, begins_own, is_it, matched_with, named, owner_of}
 use Rattle.bt_seq.specs.inside.mask.MaskInside.{KnowsAhead, KnowsLast, KnowsNext, KnowsNone, last_name}

@@ -1,13 +1,5 @@
 -- Lemmas on bases that are masked by lanes.
-use Rattle.std.proofs.Common.{◌≡◌, ℕ, ◌+◌, ◌-◌, ◌≤◌, true, cond, eqb, List, [], ◌∷◌, ◌++◌, length, take, drop, Fits, w8, refl, sym, ap, ap₂, ◌∙◌, subst, append-nil, append_assoc, length-append, arith}
-use Rattle.std.specs.Prelude.{map}
-use Rattle.std.specs.Simd.Lanes.{Each1, chunk, put_chunk, sel_l, top}
-use Rattle.std.proofs.lemmas.Bool.{agree_below, agree_below_at}
-use Rattle.std.proofs.Math.Facts.{eqb_yes}
-use Rattle.std.proofs.Math.Dec.{T}
-use Rattle.std.proofs.lemmas.List.{drop-drop, drop_all, drop_at, length-drop, length-map, length-take-le, map-append, take-append-drop, take_at, take_rest}
-use Rattle.std.proofs.lemmas.Simd.{put_chunk_is}
-use Rattle.std.proofs.Math.Seq.{take-add}
+use Rattle.bt_lines.proofs.Std.{◌≡◌, ℕ, ◌+◌, ◌-◌, ◌≤◌, true, cond, eqb, List, [], ◌∷◌, ◌++◌, length, take, drop, Fits, w8, refl, sym, ap, ap₂, ◌∙◌, subst, append-nil, append_assoc, length-append, arith, map, Each1, chunk, put_chunk, sel_l, top, agree_below, agree_below_at, eqb_yes, T, drop-drop, drop_all, drop_at, length-drop, length-map, length-take-le, map-append, take-append-drop, take_at, take_rest, put_chunk_is, take-add}
 
 module _ (f : ℕ → ℕ) (old : List ℕ) (at : ℕ) (within : at + 32 ≤ length old) where
   -- as many were masked as come before these lanes

@@ -1,5 +1,5 @@
 -- Lemmas on masked bases.
-use Rattle.std.proofs.Common.{◌≡◌, ℕ, ◌+◌, ◌<◌, zero, suc, length, map, List, [], ◌∷◌, ◌++◌, take, drop, refl, ap, arith, slice_index_or, slice_set}
+use Rattle.bt_lines.proofs.Std.{◌≡◌, ℕ, ◌+◌, ◌<◌, zero, suc, length, map, List, [], ◌∷◌, ◌++◌, take, drop, refl, ap, arith, slice_index_or, slice_set}
 
 -- a byte is mapped after those that were
 pub one_mapped : (f : ℕ → ℕ) (bytes : List ℕ) (i : ℕ) → i < length bytes

@@ -1,7 +1,5 @@
 -- Lemmas on the steps of a masking engine.
-use Rattle.std.proofs.Common.{◌≡◌, ℕ, nat_eq, Bool, true, false, cond, not, ◌||◌, ◌&&◌, filter, if◌then◌else◌, is_none, is_some, nat_le, Option, nat_lt, length, List, [], ◌∷◌, ◌++◌, arith, Some, None, Result, Ok, Err, refl, sym, ap, ◌∙◌, subst, inl, inr}
-use Rattle.std.proofs.lemmas.Bool.Decides.{nat_tests}
-use Rattle.std.specs.Prelude.{IsErr, IsOk}
+use Rattle.bt_lines.proofs.Std.{◌≡◌, ℕ, nat_eq, Bool, true, false, cond, not, ◌||◌, ◌&&◌, filter, if◌then◌else◌, is_none, is_some, nat_le, Option, nat_lt, length, List, [], ◌∷◌, ◌++◌, arith, Some, None, Result, Ok, Err, refl, sym, ap, ◌∙◌, subst, inl, inr, nat_tests, IsErr, IsOk}
 use Rattle.bt_bed.specs.model.feature.Feature.{Feature}
 use Rattle.bt_lines.specs.calls.Names.{fault_value}
 use Rattle.bt_lines.specs.calls.Output.{Output}

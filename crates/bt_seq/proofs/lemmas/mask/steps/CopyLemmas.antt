@@ -1,8 +1,5 @@
 -- Lemmas on lines of bases that are copied through.
-use Rattle.std.proofs.Common.{◌≡◌, ℕ, suc, ◌+◌, ◌-◌, ◌≤◌, min, Bool, true, false, not, ◌&&◌, ◌||◌, nat_eq, nat_le, nat_lt, if◌then◌else◌, List, [], ◌∷◌, ◌++◌, length, take, drop, length-append, append_assoc, append-nil, None, Result, Ok, Err, is_some, slice_range, refl, sym, ap, ◌∙◌, subst, arith}
-use Rattle.std.specs.Prelude.{IsErr, IsOk, flat_map}
-use Rattle.std.proofs.lemmas.Bool.Decides.{nat_tests}
-use Rattle.std.proofs.Math.Seq.{take-append_seam}
+use Rattle.bt_lines.proofs.Std.{◌≡◌, ℕ, suc, ◌+◌, ◌-◌, ◌≤◌, min, Bool, true, false, not, ◌&&◌, ◌||◌, nat_eq, nat_le, nat_lt, if◌then◌else◌, List, [], ◌∷◌, ◌++◌, length, take, drop, length-append, append_assoc, append-nil, None, Result, Ok, Err, is_some, slice_range, refl, sym, ap, ◌∙◌, subst, arith, IsErr, IsOk, flat_map, nat_tests, take-append_seam}
 use Rattle.bt_lines.proofs.lemmas.reader.lines.LinesLemmas.{spelled-fed}
 use Rattle.bt_lines.proofs.lemmas.writer.PuttingLemmas.{adds_some}
 use Rattle.bt_lines.specs.calls.Buffered.{PassesLine, line_of, lines_in, rest_in}

@@ -1,12 +1,9 @@
 -- Lemmas on bases that are counted as far as records reach, and on what is held.
-use Rattle.std.proofs.Common.{◌≡◌, ℕ, suc, ◌+◌, ◌<◌, ◌≤◌, min, Bool, true, false, cond, ◌&&◌, ◌||◌, nat_le, nat_lt, length, List, [], ◌∷◌, ◌++◌, Option, Some, None, map, filter, refl, sym, ap, ◌∙◌, subst, arith}
-use Rattle.std.specs.List.{AllByRecursion, list_any}
-use Rattle.std.proofs.lemmas.Bool.Decides.{nat_tests}
-use Rattle.std.proofs.lemmas.Bool.{or_parts}
+use Rattle.bt_lines.proofs.Std.{◌≡◌, ℕ, suc, ◌+◌, ◌<◌, ◌≤◌, min, Bool, true, false, cond, ◌&&◌, ◌||◌, nat_le, nat_lt, length, List, [], ◌∷◌, ◌++◌, Option, Some, None, map, filter, refl, sym, ap, ◌∙◌, subst, arith, AllByRecursion, list_any, nat_tests, or_parts}
 use Rattle.bt_bed.specs.model.feature.Feature.{Feature}
 use Rattle.bt_lines.specs.model.Number.{max_number}
-use Rattle.bt_seq.proofs.lemmas.laws.HeldLemmas.{held_alone}
-use Rattle.bt_seq.proofs.lemmas.laws.MaskPrefixLemmas.{chrom_of}
+use Rattle.bt_seq.proofs.lemmas.definitions.HeldLemmas.{held_alone}
+use Rattle.bt_seq.proofs.lemmas.definitions.MaskPrefixLemmas.{chrom_of}
 use Rattle.bt_seq.proofs.lemmas.sam.ExtentLemmas.{none_masked}
 use Rattle.bt_seq.proofs.lemmas.sam.TagLemmas.{next_left, own_in, own_tagged, tag_decides, tags}
 use Rattle.bt_seq.specs.calls.HeldMasks.{extent_of}

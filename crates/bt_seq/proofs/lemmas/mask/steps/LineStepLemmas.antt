@@ -1,10 +1,5 @@
 -- Lemmas on a masking engine that is given a line.
-use Rattle.std.proofs.Common.{◌≡◌, ℕ, ◌<◌, min, nat_le, Bool, true, false, cond, not, ◌&&◌, ◌||◌, nat_lt, length, List, [], ◌∷◌, ◌++◌, map, filter, Option, Some, None, Result, Ok, Err, refl, sym, ap, ◌∙◌, subst, append-nil, inl, inr, ◌⊎◌, arith}
-use Rattle.std.specs.List.{AllByRecursion, list_any}
-use Rattle.std.specs.Prelude.{is_none, is_some, option_map, option_to_list}
-use Rattle.std.proofs.lemmas.Bool.Decides.{nat_tests}
-use Rattle.std.proofs.lemmas.List.{length-map}
-use Rattle.std.proofs.lemmas.Bool.{cases_Bool, not-true, not-false, or_parts}
+use Rattle.bt_lines.proofs.Std.{◌≡◌, ℕ, ◌<◌, min, nat_le, Bool, true, false, cond, not, ◌&&◌, ◌||◌, nat_lt, length, List, [], ◌∷◌, ◌++◌, map, filter, Option, Some, None, Result, Ok, Err, refl, sym, ap, ◌∙◌, subst, append-nil, inl, inr, ◌⊎◌, arith, AllByRecursion, list_any, is_none, is_some, option_map, option_to_list, nat_tests, length-map, cases_Bool, not-true, not-false, or_parts}
 use Rattle.bt_bed.specs.model.feature.Feature.{Feature}
 use Rattle.bt_lines.specs.model.Lines.{TextLine}
 use Rattle.bt_lines.specs.calls.Names.{fault_value}
@@ -14,7 +9,7 @@ use Rattle.bt_lines.specs.declared.fault.Fault.{Fault}
 use Rattle.bt_lines.specs.declared.fault.Kind.TheVariants.{TextBeforeHeader}
 use Rattle.bt_seq.proofs.lemmas.mask.steps.CountLemmas.{IsLow, held_on, own_low, line_masked}
 use Rattle.bt_seq.proofs.lemmas.mask.bases.KnownLemmas.{never, with_header, with_plain}
-use Rattle.bt_seq.proofs.lemmas.laws.MaskPrefixLemmas.{decided_by_tags, masked_before}
+use Rattle.bt_seq.proofs.lemmas.definitions.MaskPrefixLemmas.{decided_by_tags, masked_before}
 use Rattle.bt_seq.proofs.lemmas.mask.steps.NextLemmas.{decided_more, left_grows, named_more, none_own, undecided_header, undecided_next}
 use Rattle.bt_seq.proofs.lemmas.mask.steps.StandLemmas.{last_more, last_name_more, last_name_none, stands_at, wants_line}
 use Rattle.bt_seq.proofs.lemmas.sam.TagLemmas.{own_tagged, tag_decides, tags_of}

@@ -1,14 +1,9 @@
 -- Lemmas on one more record, and on the next line.
-use Rattle.std.proofs.Common.{◌≡◌, ℕ, ◌≤◌, Bool, false, cond, ◌||◌, List, [], ◌∷◌, ◌++◌, Option, Some, None, refl, sym, ap, ◌∙◌, bytes_eq, append-nil, arith}
-use Rattle.std.specs.List.{list_any}
-use Rattle.std.proofs.lemmas.Bool.Decides.{nat_tests}
-use Rattle.std.proofs.lemmas.Grind.{flat_map-append}
-use Rattle.std.proofs.lemmas.List.Folds.{list_any-append}
-use Rattle.std.proofs.lemmas.Bool.{or_parts, or_from}
+use Rattle.bt_lines.proofs.Std.{◌≡◌, ℕ, ◌≤◌, Bool, false, cond, ◌||◌, List, [], ◌∷◌, ◌++◌, Option, Some, None, refl, sym, ap, ◌∙◌, bytes_eq, append-nil, arith, list_any, nat_tests, flat_map-append, list_any-append, or_parts, or_from}
 use Rattle.bt_bed.specs.model.feature.Feature.{Feature}
-use Rattle.bt_seq.proofs.lemmas.laws.LeftLemmas.{is_last, leave, leave_all, one_leaves}
-use Rattle.bt_seq.proofs.lemmas.laws.MaskPrefixLemmas.{chrom_of, decided_by_tags}
-use Rattle.bt_seq.proofs.lemmas.laws.MaskMetLemmas.{none_leaves}
+use Rattle.bt_seq.proofs.lemmas.definitions.LeftLemmas.{is_last, leave, leave_all, one_leaves}
+use Rattle.bt_seq.proofs.lemmas.definitions.MaskPrefixLemmas.{chrom_of, decided_by_tags}
+use Rattle.bt_seq.proofs.lemmas.definitions.MaskMetLemmas.{none_leaves}
 use Rattle.bt_seq.proofs.lemmas.sam.TagLemmas.{Tagged, own_in, own_tagged, tag_decides, tags, tags_more, tags_of}
 use Rattle.bt_seq.specs.model.Masked.{decided, is_unnamed}
 use Rattle.bt_seq.specs.model.Owners.{block_decides, items_if_last, left_after, names_behind, own_records}

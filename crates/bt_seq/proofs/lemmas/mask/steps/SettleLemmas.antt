@@ -1,14 +1,9 @@
 -- Lemmas on how a masking engine goes on from one stage to another.
-use Rattle.std.proofs.Common.{◌≡◌, ℕ, Bool, true, false, cond, not, ◌||◌, List, [], ◌∷◌, ◌++◌, append-nil, append_assoc, Option, Some, None, Ok, refl, sym, ap, ◌∙◌, subst}
-use Rattle.std.specs.Prelude.{flat_map, option_to_list}
-use Rattle.std.specs.List.{list_all}
-use Rattle.std.proofs.lemmas.Bool.{and_from, and_parts, false≢true, or_left}
-use Rattle.std.proofs.lemmas.Grind.{flat_map-append}
-use Rattle.std.proofs.lemmas.List.Folds.{list_all-append}
+use Rattle.bt_lines.proofs.Std.{◌≡◌, ℕ, Bool, true, false, cond, not, ◌||◌, List, [], ◌∷◌, ◌++◌, append-nil, append_assoc, Option, Some, None, Ok, refl, sym, ap, ◌∙◌, subst, flat_map, option_to_list, list_all, and_from, and_parts, false≢true, or_left, flat_map-append, list_all-append}
 use Rattle.bt_bed.specs.model.feature.Feature.{Feature}
 use Rattle.bt_bed.specs.model.input.GoodBlocks.{AreInBlocks}
 use Rattle.bt_lines.specs.model.Lines.{TextLine}
-use Rattle.bt_seq.proofs.lemmas.laws.MaskPrefixLemmas.{blocks_front, decided_stays, masked_before, masked_stay}
+use Rattle.bt_seq.proofs.lemmas.definitions.MaskPrefixLemmas.{blocks_front, decided_stays, masked_before, masked_stay}
 use Rattle.bt_seq.proofs.lemmas.mask.steps.StandLemmas.{last_more}
 use Rattle.bt_seq.specs.calls.GivenLines.{SayEach}
 use Rattle.bt_seq.specs.calls.MaskSettles.{GoesOn, MayFollow, SettlesLines}

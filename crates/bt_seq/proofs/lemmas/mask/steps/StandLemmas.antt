@@ -1,6 +1,5 @@
 -- Lemmas on the stage of a masking engine, by the line given last.
-use Rattle.std.proofs.Common.{◌≡◌, ℕ, Bool, true, false, List, [], ◌∷◌, ◌++◌, Option, Some, None, refl, sym, ap, ◌∙◌, subst, arith}
-use Rattle.std.specs.Prelude.{is_none, is_some, option_to_list}
+use Rattle.bt_lines.proofs.Std.{◌≡◌, ℕ, Bool, true, false, List, [], ◌∷◌, ◌++◌, Option, Some, None, refl, sym, ap, ◌∙◌, subst, arith, is_none, is_some, option_to_list}
 use Rattle.bt_bed.specs.model.feature.Feature.{Feature}
 use Rattle.bt_seq.specs.inside.mask.MaskInside.{last_name}
 use Rattle.bt_seq.specs.calls.MaskStage.{MaskStage, given, line_given_last, reached_by, want_of}

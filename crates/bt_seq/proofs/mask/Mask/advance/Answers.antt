@@ -1,5 +1,4 @@
-use Rattle.std.proofs.Common.{◌≡◌, ◌∙◌, Bool, Ok, Result, ap, true, false}
-use Rattle.std.proofs.lemmas.Result.{err_from_is_err_and}
+use Rattle.bt_lines.proofs.Std.{◌≡◌, ◌∙◌, Bool, Ok, Result, ap, true, false, err_from_is_err_and}
 use Rattle.bt_lines.specs.declared.fault.Fault.{Fault}
 use Rattle.bt_seq.specs.calls.MaskState.{Masking}
 use Rattle.bt_seq.proofs.lemmas.mask.steps.AdvanceLemmas.{both_fail, both_more}

@@ -1,5 +1,4 @@
-use Rattle.std.proofs.Common.{◌∙◌, ap, subst, sym}
-use Rattle.std.proofs.lemmas.Result.{err_from_is_err_and}
+use Rattle.bt_lines.proofs.Std.{◌∙◌, ap, subst, sym, err_from_is_err_and}
 use Rattle.bt_bed.specs.calls.Bed.{feature_lent}
 use Rattle.bt_seq.proofs.lemmas.mask.steps.BedStepLemmas.{checks_bed, lacks_sequence}
 use Rattle.bt_seq.proofs.lemmas.mask.steps.StandLemmas.{stays_at}

@@ -1,5 +1,4 @@
-use Rattle.std.proofs.Common.{ltb, cond, refl}
-use Rattle.std.proofs.lemmas.Simd.{splat_is_map, zip2_of_maps, zip2_splat}
+use Rattle.bt_lines.proofs.Std.{ltb, cond, refl, splat_is_map, zip2_of_maps, zip2_splat}
 use Rattle.bt_seq.specs.model.MaskHow.{masked_byte}
 use Rattle.bt_seq.specs.declared.mask.mask_how.MaskHow.TheVariants.{Soft}
 use Rattle.bt_seq.proofs.lemmas.mask.bases.LaneLemmas.{chosen_lanes}

@@ -1,5 +1,4 @@
-use Rattle.std.proofs.Common.{◌≡◌, ◌≤◌, ◌-◌, ◌++◌, take, drop, length}
-use Rattle.std.specs.Prelude.{map}
+use Rattle.bt_lines.proofs.Std.{◌≡◌, ◌≤◌, ◌-◌, ◌++◌, take, drop, length, map}
 use Rattle.bt_seq.specs.model.MaskHow.{masked_byte}
 use Rattle.bt_seq.proofs.mask.mask_how.mask_by_lanes.Given as goal
 

@@ -1,5 +1,4 @@
-use Rattle.std.proofs.Common.{rules, nat_lt}
-use Rattle.std.proofs.lemmas.Fn.{filter_same}
+use Rattle.bt_lines.proofs.Std.{rules, nat_lt, filter_same}
 use Rattle.bt_seq.specs.declared.sam.extent.Extent.{Extent}
 use Rattle.bt_seq.proofs.mask.window.drop_passed.Goals as goal
 

@@ -1,5 +1,4 @@
-use Rattle.std.proofs.Common.{◌≡◌, ◌∙◌, ◌<◌, ◌+◌, ◌-◌, Some, get_or, length, take, drop, refl, sym, ap, arith}
-use Rattle.std.proofs.lemmas.List.{length-drop, take_all}
+use Rattle.bt_lines.proofs.Std.{◌≡◌, ◌∙◌, ◌<◌, ◌+◌, ◌-◌, Some, get_or, length, take, drop, refl, sym, ap, arith, length-drop, take_all}
 use Rattle.bt_lines.proofs.lemmas.numbers.NumberLemmas.{value_more, digits_more}
 use Rattle.bt_seq.specs.model.Cigar.{operations_in, with_operation}
 use Rattle.bt_seq.proofs.lemmas.sam.CigarLemmas.{first_is, large_number}

@@ -1,7 +1,4 @@
-use Rattle.std.proofs.Common.{◌≡◌, length, take, ◌-◌, ◌≤◌, true}
-use Rattle.std.specs.Char.{is_ascii_digit}
-use Rattle.std.specs.List.{list_all}
-use Rattle.std.specs.Str.Parse.{digits_value}
+use Rattle.bt_lines.proofs.Std.{◌≡◌, length, take, ◌-◌, ◌≤◌, true, is_ascii_digit, list_all, digits_value}
 use Rattle.bt_seq.proofs.sam.cigar.first_operation.Given as goal
 
 -- the length so far is that of the digits so far

@@ -1,4 +1,4 @@
-use Rattle.std.proofs.Common.{◌≡◌, length, ◌≤◌}
+use Rattle.bt_lines.proofs.Std.{◌≡◌, length, ◌≤◌}
 use Rattle.bt_seq.specs.model.Cigar.{operations_in, span_with}
 use Rattle.bt_seq.proofs.sam.cigar.operations_span.Given as goal
 

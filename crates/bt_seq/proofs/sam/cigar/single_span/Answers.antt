@@ -1,4 +1,4 @@
-use Rattle.std.proofs.Common.{◌-◌, arith, length}
+use Rattle.bt_lines.proofs.Std.{◌-◌, arith, length}
 use Rattle.bt_seq.proofs.lemmas.sam.CigarLemmas.{single_span_is}
 use Rattle.bt_seq.proofs.sam.cigar.single_span.Goals as goal
 

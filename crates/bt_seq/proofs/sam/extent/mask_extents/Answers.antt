@@ -1,5 +1,4 @@
-use Rattle.std.proofs.Common.{◌∙◌, [], ◌∷◌, get_or, ap, sym, take}
-use Rattle.std.proofs.lemmas.List.{take_more}
+use Rattle.bt_lines.proofs.Std.{◌∙◌, [], ◌∷◌, get_or, ap, sym, take, take_more}
 use Rattle.bt_seq.specs.inside.mask.MaskedBases.{masked_in}
 use Rattle.bt_seq.specs.declared.sam.extent.Extent.{Extent}
 use Rattle.bt_seq.proofs.lemmas.sam.ExtentLemmas.{one_behind}

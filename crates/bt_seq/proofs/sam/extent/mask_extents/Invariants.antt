@@ -1,4 +1,4 @@
-use Rattle.std.proofs.Common.{◌≡◌, take}
+use Rattle.bt_lines.proofs.Std.{◌≡◌, take}
 use Rattle.bt_seq.specs.inside.mask.MaskedBases.{masked_in}
 use Rattle.bt_seq.proofs.sam.extent.mask_extents.Given as goal
 

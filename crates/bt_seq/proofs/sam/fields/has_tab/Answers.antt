@@ -1,8 +1,4 @@
-use Rattle.std.proofs.Common.{◌≡◌, ◌∙◌, ◌<◌, ◌≤◌, List, ℕ, Option, Some, None, arith, cond, eqb, length, refl}
-use Rattle.std.specs.Prelude.{count_by, is_some, nat_le}
-use Rattle.std.proofs.lemmas.Bool.Decides.{nat_tests}
-use Rattle.std.proofs.lemmas.List.Splits.{length-slice_split}
-use Rattle.std.proofs.lemmas.List.Sums.{get_or-le-sum_by}
+use Rattle.bt_lines.proofs.Std.{◌≡◌, ◌∙◌, ◌<◌, ◌≤◌, List, ℕ, Option, Some, None, arith, cond, eqb, length, refl, count_by, is_some, nat_le, nat_tests, length-slice_split, get_or-le-sum_by}
 use Rattle.bt_lines.proofs.lemmas.reader.lines.PiecesLemmas.{pieces_whole}
 use Rattle.bt_lines.specs.model.Lines.{pieces}
 use Rattle.memchr.specs.Find.{IsLastByte, is_byte}

@@ -1,4 +1,4 @@
-use Rattle.std.proofs.Common.{◌≡◌, ◌≤◌, length}
+use Rattle.bt_lines.proofs.Std.{◌≡◌, ◌≤◌, length}
 use Rattle.bt_seq.specs.model.Cigar.{operations_in}
 use Rattle.bt_seq.specs.inside.sam.Room.{FitBehind}
 use Rattle.bt_seq.proofs.lemmas.sam.BlockLemmas.{open_in}

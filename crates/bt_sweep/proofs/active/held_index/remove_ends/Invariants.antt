@@ -1,6 +1,4 @@
-use Rattle.std.proofs.Common.{◌≡◌, ℕ, ◌<◌}
-use Rattle.std.specs.BTreeMap.{btree_map_len, get}
-use Rattle.std.specs.Ordering.{nat_cmp}
+use Rattle.bt_lines.proofs.Std.{◌≡◌, ℕ, ◌<◌, btree_map_len, get, nat_cmp}
 use Rattle.bt_sweep.proofs.active.held_index.remove_ends.Given as goal
 
 -- the ends after the place stay

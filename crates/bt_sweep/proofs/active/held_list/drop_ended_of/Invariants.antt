@@ -1,4 +1,4 @@
-use Rattle.std.proofs.Common.{◌≡◌, ◌++◌, drop, filter, length, nat_lt, take}
+use Rattle.bt_lines.proofs.Std.{◌≡◌, ◌++◌, drop, filter, length, nat_lt, take}
 use Rattle.bt_bed.specs.model.feature.Feature.{Feature}
 use Rattle.bt_sweep.proofs.active.held_list.drop_ended_of.Given as goal
 

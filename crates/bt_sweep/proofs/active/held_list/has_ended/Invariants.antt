@@ -1,5 +1,4 @@
-use Rattle.std.proofs.Common.{◌≡◌, false, nat_le, take}
-use Rattle.std.specs.List.{list_any}
+use Rattle.bt_lines.proofs.Std.{◌≡◌, false, nat_le, take, list_any}
 use Rattle.bt_bed.specs.model.feature.Feature.{Feature}
 use Rattle.bt_sweep.proofs.active.held_list.has_ended.Given as goal
 

@@ -1,5 +1,4 @@
-use Rattle.std.proofs.Common.{◌-◌, ◌≤◌, length}
-use Rattle.std.specs.List.Sorted.{IsNonDecreasingBy}
+use Rattle.bt_lines.proofs.Std.{◌-◌, ◌≤◌, length, IsNonDecreasingBy}
 use Rattle.bt_sweep.proofs.lemmas.active.HeldListLemmas.{ComeBefore, ComeFrom}
 use Rattle.bt_sweep.proofs.active.held_list.started_in.Given as goal
 

@@ -1,5 +1,4 @@
-use Rattle.std.proofs.Common.{◌∙◌, true, false, arith, ap, sym, option_to_list, take}
-use Rattle.std.specs.List.{list_any}
+use Rattle.bt_lines.proofs.Std.{◌∙◌, true, false, arith, ap, sym, option_to_list, take, list_any}
 use Rattle.bt_bed.specs.calls.Bed.{feature_lent}
 use Rattle.bt_sweep.specs.model.Hits.{hits}
 use Rattle.bt_sweep.proofs.lemmas.output.HeldLemmas.{count_next, get_took}

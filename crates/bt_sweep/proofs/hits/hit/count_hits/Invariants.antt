@@ -1,4 +1,4 @@
-use Rattle.std.proofs.Common.{◌≡◌, ◌≤◌, length, take}
+use Rattle.bt_lines.proofs.Std.{◌≡◌, ◌≤◌, length, take}
 use Rattle.bt_bed.specs.calls.Bed.{feature_lent}
 use Rattle.bt_sweep.specs.model.Hits.{hits_among}
 use Rattle.bt_sweep.proofs.hits.hit.count_hits.Given as goal

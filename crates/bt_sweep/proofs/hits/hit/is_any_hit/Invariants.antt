@@ -1,5 +1,4 @@
-use Rattle.std.proofs.Common.{◌≡◌, false, take}
-use Rattle.std.specs.List.{list_any}
+use Rattle.bt_lines.proofs.Std.{◌≡◌, false, take, list_any}
 use Rattle.bt_bed.specs.calls.Bed.{feature_lent}
 use Rattle.bt_sweep.specs.model.Hits.{hits}
 use Rattle.bt_sweep.proofs.hits.hit.is_any_hit.Given as goal

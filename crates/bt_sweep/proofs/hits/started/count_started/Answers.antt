@@ -1,5 +1,4 @@
-use Rattle.std.proofs.Common.{◌∙◌, ◌≡◌, ◌+◌, ◌-◌, ◌<◌, ap, arith, length, nat_le, option_to_list, sym}
-use Rattle.std.specs.List.{list_any}
+use Rattle.bt_lines.proofs.Std.{◌∙◌, ◌≡◌, ◌+◌, ◌-◌, ◌<◌, ap, arith, length, nat_le, option_to_list, sym, list_any}
 use Rattle.bt_bed.specs.model.feature.Feature.{Feature}
 use Rattle.bt_sweep.proofs.lemmas.hits.StartedLemmas.{start_ahead}
 use Rattle.bt_sweep.proofs.hits.started.count_started.Goals as goal

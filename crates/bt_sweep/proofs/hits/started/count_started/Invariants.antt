@@ -1,4 +1,4 @@
-use Rattle.std.proofs.Common.{◌-◌, ◌≤◌, drop, length, take}
+use Rattle.bt_lines.proofs.Std.{◌-◌, ◌≤◌, drop, length, take}
 use Rattle.bt_sweep.specs.calls.Held.{AreRising, StartBefore, StartFrom}
 use Rattle.bt_sweep.proofs.hits.started.count_started.Given as goal
 

@@ -1,5 +1,4 @@
-use Rattle.std.proofs.Common.{ℕ, Err, Ok, Option, arith, ap, subst, ◌∙◌, option_to_list, sym, take}
-use Rattle.std.proofs.lemmas.Result.{err_from_is_err_and}
+use Rattle.bt_lines.proofs.Std.{ℕ, Err, Ok, Option, arith, ap, subst, ◌∙◌, option_to_list, sym, take, err_from_is_err_and}
 use Rattle.bt_lines.specs.calls.Putting.{Adds}
 use Rattle.bt_bed.specs.calls.Bed.{feature_lent}
 use Rattle.bt_bed.specs.model.feature.Feature.{Feature}

@@ -1,4 +1,4 @@
-use Rattle.std.proofs.Common.{◌≡◌, take}
+use Rattle.bt_lines.proofs.Std.{◌≡◌, take}
 use Rattle.bt_lines.specs.calls.Putting.{Grown}
 use Rattle.bt_bed.specs.calls.Bed.{feature_lent}
 use Rattle.bt_sweep.specs.model.Hits.{hits_among}

@@ -1,4 +1,4 @@
-use Rattle.std.proofs.Common.{◌≡◌, ℕ, [], ◌∷◌, subst, decimal}
+use Rattle.bt_lines.proofs.Std.{◌≡◌, ℕ, [], ◌∷◌, subst, decimal}
 use Rattle.bt_lines.specs.calls.Putting.{Puts}
 use Rattle.bt_bed.specs.calls.Bed.{feature_lent}
 use Rattle.bt_bed.specs.model.feature.Record.{bed_text}

@@ -1,4 +1,4 @@
-use Rattle.std.proofs.Common.{◌≡◌, ◌-◌}
+use Rattle.bt_lines.proofs.Std.{◌≡◌, ◌-◌}
 use Rattle.bt_bed.specs.calls.Bed.{feature_lent}
 use Rattle.bt_bed.specs.model.feature.Stretches.{stretches_from}
 use Rattle.bt_sweep.specs.model.Hits.{hits_among}

@@ -1,4 +1,4 @@
-use Rattle.std.proofs.Common.{◌≡◌, Some, Ok, ap, subst, sym, ◌∙◌}
+use Rattle.bt_lines.proofs.Std.{◌≡◌, Some, Ok, ap, subst, sym, ◌∙◌}
 use Rattle.bt_bed.specs.calls.Bed.{feature_lent}
 use Rattle.bt_bed.specs.calls.Single.{single_left}
 use Rattle.bt_bed.specs.model.feature.Feature.{Feature}

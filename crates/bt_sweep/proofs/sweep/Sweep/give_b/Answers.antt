@@ -1,5 +1,4 @@
-use Rattle.std.proofs.Common.{◌∙◌}
-use Rattle.std.proofs.lemmas.Result.{err_from_is_err_and}
+use Rattle.bt_lines.proofs.Std.{◌∙◌, err_from_is_err_and}
 use Rattle.bt_bed.specs.calls.Bed.{feature_lent}
 use Rattle.bt_sweep.specs.calls.SweepView.{order_of, state_of}
 use Rattle.bt_sweep.proofs.lemmas.sweep.KnownLemmas.{known_none, known_single}

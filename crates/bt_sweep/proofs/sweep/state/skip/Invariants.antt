@@ -1,4 +1,4 @@
-use Rattle.std.proofs.Common.{◌≡◌, List}
+use Rattle.bt_lines.proofs.Std.{◌≡◌, List}
 use Rattle.bt_bed.specs.model.feature.Feature.{Feature}
 use Rattle.bt_sweep.specs.inside.Joining.{LieOn}
 use Rattle.bt_sweep.proofs.sweep.state.skip.Given as goal

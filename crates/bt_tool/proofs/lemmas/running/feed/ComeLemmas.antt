@@ -1,7 +1,5 @@
 -- Lemmas on what was taken of a reader's members and lines, and on what is still to come of them.
-use Rattle.std.proofs.Common.{◌≡◌, ℕ, suc, ◌+◌, ◌-◌, ◌^◌, ◌<◌, ◌≤◌, false, List, [], ◌++◌, length, take, drop, Option, None, Some, refl, sym, ap, ◌∙◌, subst, append-nil, arith}
-use Rattle.std.specs.Prelude.{All, IfSome}
-use Rattle.std.proofs.Math.Seq.{take-append-add}
+use Rattle.bt_lines.proofs.Std.{◌≡◌, ℕ, suc, ◌+◌, ◌-◌, ◌^◌, ◌<◌, ◌≤◌, false, List, [], ◌++◌, length, take, drop, Option, None, Some, refl, sym, ap, ◌∙◌, subst, append-nil, arith, All, IfSome, take-append-add}
 use Rattle.bt_lines.specs.model.Fault.{FaultValue}
 use Rattle.bt_lines.specs.model.Lines.{TextLine, bytes_in, line_feeds}
 use Rattle.bt_lines.specs.calls.Output.{block_size}
@@ -11,7 +9,7 @@ use Rattle.bt_lines.proofs.lemmas.reader.lines.ReaderLemmas.{hands_both}
 use Rattle.bt_lines.proofs.lemmas.reader.lines.TextLemmas.{line_feeds-append}
 use Rattle.bt_bed.specs.model.input.Good.{Good, Member, ends_with}
 use Rattle.bt_bed.proofs.lemmas.read.good.CameLemmas.{near_pass, pass_more}
-use Rattle.bt_bed.specs.model.input.GoodLines.{IsBeyond}
+use Rattle.bt_bed.specs.calls.Reading.{IsBeyond}
 use Rattle.bt_tool.specs.inside.feed.Passed.{ComeFirst}
 
 pub come_none : {A : Type 0} (good : Option (Good A)) → ComeFirst good [] good

@@ -1,7 +1,5 @@
 -- Lemmas that tell faults apart.
-use Rattle.std.proofs.Common.{◌≡◌, ℕ, true, ap, inl, inr, subst, sym}
-use Rattle.std.proofs.lemmas.Bool.{false≢true}
-use Rattle.std.proofs.lemmas.Option.{none-some}
+use Rattle.bt_lines.proofs.Std.{◌≡◌, ℕ, true, ap, inl, inr, subst, sym, false≢true, none-some}
 use Rattle.bt_lines.specs.declared.device.Source.{Ghosts as Source}
 use Rattle.bt_lines.specs.model.Fault.{FaultValue, write_failed, no_memory, read_failed}
 use Rattle.bt_lines.specs.declared.fault.Input.{Input}

@@ -1,7 +1,5 @@
 -- Lemmas on the lines that an engine writes, from its intervals, and on the report that they make.
-use Rattle.std.proofs.Common.{◌≡◌, ℕ, Bool, List, [], Option, None, Some, refl, sym, ap, ◌∙◌}
-use Rattle.std.proofs.lemmas.Grind.{flat_map-append}
-use Rattle.std.proofs.lemmas.List.{map-append}
+use Rattle.bt_lines.proofs.Std.{◌≡◌, ℕ, Bool, List, [], Option, None, Some, refl, sym, ap, ◌∙◌, flat_map-append, map-append}
 use Rattle.bt_lines.specs.declared.device.Source.{Ghosts as Source}
 use Rattle.bt_lines.specs.model.Fault.{FaultValue}
 use Rattle.bt_lines.specs.model.Handed.{Handed}
@@ -17,7 +15,7 @@ use Rattle.bt_bed.specs.model.feature.IntervalLine.{interval_line, interval_line
 use Rattle.bt_bed.specs.model.order.Order.{IsTotal, Order}
 use Rattle.bt_bed.specs.model.order.Locus.{ArePlaced}
 use Rattle.bt_bed.specs.model.order.Sorting.{sorting_of}
-use Rattle.bt_bed.proofs.lemmas.laws.GoodBedLemmas.{placed_good, placed_lines}
+use Rattle.bt_bed.proofs.lemmas.definitions.GoodBedLemmas.{placed_good, placed_lines}
 use Rattle.bt_runs.specs.model.Gaps.{settled_gaps, AreTaken as AreTakenBy}
 use Rattle.bt_runs.specs.model.MergedRuns.{AreTaken, merged_runs, passed_by, settled_runs}
 use Rattle.bt_runs.specs.calls.Merging.{Merging, Unstranded, PerStrand, merge_begun, settled_lines, whole_output}
@@ -36,7 +34,7 @@ use Rattle.bt_tool.specs.model.report.Written.{Written, merge_written, pooled_wr
 use Rattle.bt_bed.specs.declared.record.strand.Strand.{Strand}
 use Rattle.bt_runs.specs.model.Depth.{coverage, depth_line, depth_lines, settled_depths}
 use Rattle.bt_runs.proofs.lemmas.coverage.DepthSteps.{settles_depths}
-use Rattle.bt_runs.proofs.lemmas.laws.SettlingLemmas.{begins, stays}
+use Rattle.bt_runs.proofs.lemmas.definitions.SettlingLemmas.{begins, stays}
 
 -- intervals that stay give lines that stay
 pub lines_stay : (settled : List Feature → List Interval) (Taken : List Feature → Type 0) → SettledStays settled Taken → SettledStays (λ records. interval_lines (settled records)) Taken

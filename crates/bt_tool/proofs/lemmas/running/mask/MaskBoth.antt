@@ -1,8 +1,5 @@
 -- Lemmas on a round of masking in which lines and records were given together.
-use Rattle.std.proofs.Common.{◌≡◌, ℕ, zero, suc, ◌-◌, drop, length-take, ◌+◌, ◌≤◌, ◌<◌, Bool, true, false, List, [], ◌∷◌, ◌++◌, length, take, Option, None, Some, Result, Ok, Err, refl, sym, ap, ◌∙◌, subst, append-nil, append_assoc, option_to_list, arith, inl, inr}
-use Rattle.std.proofs.lemmas.List.{append_cancel_left, nil_from_length}
-use Rattle.std.specs.Prelude.{◌⊎◌, OnOk, is_some, nat_eq}
-use Rattle.std.proofs.lemmas.Bool.{false≢true}
+use Rattle.bt_lines.proofs.Std.{◌≡◌, ℕ, zero, suc, ◌-◌, drop, length-take, ◌+◌, ◌≤◌, ◌<◌, Bool, true, false, List, [], ◌∷◌, ◌++◌, length, take, Option, None, Some, Result, Ok, Err, refl, sym, ap, ◌∙◌, subst, append-nil, append_assoc, option_to_list, arith, inl, inr, append_cancel_left, nil_from_length, ◌⊎◌, OnOk, is_some, nat_eq, false≢true}
 use Rattle.bt_lines.specs.declared.device.Source.{Ghosts as Source}
 use Rattle.bt_lines.proofs.lemmas.reader.block.BufferLemmas.{fed_none}
 use Rattle.bt_lines.proofs.lemmas.reader.lines.TextLemmas.{bytes_in-lines, whole_count}

@@ -1,17 +1,12 @@
 -- The facts of masking that its report and its reading rest on.
-use Rattle.std.proofs.Common.{◌≡◌, ℕ, suc, ◌<◌, ◌≤◌, Bool, true, false, not, List, [], ◌∷◌, ◌++◌, take, refl, sym, ap, ◌∙◌, subst, append-nil, append_assoc, inl, inr, Option, Some, None, Result, Ok, Err, cond}
-use Rattle.std.specs.Prelude.{◌⊎◌, ◌||◌, All, IsTrue}
-use Rattle.std.specs.List.{list_all}
-use Rattle.std.proofs.lemmas.Bool.{false≢true, or_left, or_right}
-use Rattle.std.proofs.lemmas.List.Elements.{All-head, All-tail}
-use Rattle.std.proofs.lemmas.List.Folds.{list_any-append}
+use Rattle.bt_lines.proofs.Std.{◌≡◌, ℕ, suc, ◌<◌, ◌≤◌, Bool, true, false, not, List, [], ◌∷◌, ◌++◌, take, refl, sym, ap, ◌∙◌, subst, append-nil, append_assoc, inl, inr, Option, Some, None, Result, Ok, Err, cond, ◌⊎◌, ◌||◌, All, IsTrue, list_all, false≢true, or_left, or_right, All-head, All-tail, list_any-append}
 use Rattle.bt_lines.specs.model.Lines.{TextLine, bytes_in}
 use Rattle.bt_bed.specs.model.feature.Feature.{Feature}
 use Rattle.bt_bed.specs.model.input.Good.{Member}
 use Rattle.bt_seq.specs.model.Masked.{decided}
 use Rattle.bt_seq.specs.model.Sequences.{SequenceLine}
 use Rattle.bt_seq.specs.declared.mask.mask_how.MaskHow.{MaskHow}
-use Rattle.bt_seq.proofs.lemmas.laws.MaskPrefixLemmas.{decided_stays}
+use Rattle.bt_seq.proofs.lemmas.definitions.MaskPrefixLemmas.{decided_stays}
 use Rattle.bt_tool.specs.model.report.SweepReport.{bytes_up_to}
 use Rattle.bt_tool.specs.inside.feed.Feeding.{member_items}
 use Rattle.bt_tool.specs.model.report.MaskReport.{last_needed, is_mask_kind}

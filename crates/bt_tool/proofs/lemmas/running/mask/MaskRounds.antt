@@ -1,6 +1,5 @@
 -- Lemmas on the rounds of masking over two readers.
-use Rattle.std.proofs.Common.{◌≡◌, Bool, true, false, Option, None, Some, Result, Ok, Err, refl, sym, ◌∙◌, subst, ℕ, ◌≤◌, ◌<◌, List, [], ◌∷◌, length, ap, arith, inl, inr}
-use Rattle.std.specs.Prelude.{IsErrAnd, ◌⊎◌, is_some}
+use Rattle.bt_lines.proofs.Std.{◌≡◌, Bool, true, false, Option, None, Some, Result, Ok, Err, refl, sym, ◌∙◌, subst, ℕ, ◌≤◌, ◌<◌, List, [], ◌∷◌, length, ap, arith, inl, inr, IsErrAnd, ◌⊎◌, is_some, false≢true}
 use Rattle.bt_lines.specs.declared.device.Source.{Ghosts as Source}
 use Rattle.bt_lines.proofs.lemmas.reader.block.ReadsLemmas.{has_read_then, reads_same}
 use Rattle.bt_lines.specs.model.Fault.{FaultValue}
@@ -37,7 +36,6 @@ use Rattle.bt_bed.specs.model.order.Locus.{Locus}
 use Rattle.bt_bed.specs.calls.Reading.{MemberReader, first_from}
 use Rattle.bt_tool.proofs.lemmas.running.members.LineMembers.{gives_over}
 use Rattle.bt_tool.proofs.lemmas.running.mask.MaskBoth.{rounds_few, waits_is}
-use Rattle.std.proofs.lemmas.Bool.{false≢true}
 use Rattle.bt_lines.specs.declared.fault.Input.TheVariants.{First}
 use Rattle.bt_bed.specs.calls.SortedReader.{view_with}
 use Rattle.bt_bed.specs.model.input.GoodBlocks.{block_format}

@@ -1,9 +1,5 @@
 -- Lemmas on how far a masking engine over two readers has come: what it wants, and what its inputs still have then.
-use Rattle.std.proofs.Common.{◌≡◌, ℕ, suc, Bool, true, false, not, ◌||◌, List, [], ◌∷◌, ◌++◌, Option, None, Some, Err, refl, sym, ap, ◌∙◌, subst, append-nil, append_assoc, option_to_list, inl, inr}
-use Rattle.std.specs.Prelude.{◌⊎◌, IfSome, IsSome, IsTrue, is_some, option_map}
-use Rattle.std.proofs.lemmas.Bool.{false≢true, or_left, or_right}
-use Rattle.std.proofs.lemmas.List.{map-append}
-use Rattle.std.proofs.lemmas.Option.{IfSome_then}
+use Rattle.bt_lines.proofs.Std.{◌≡◌, ℕ, suc, Bool, true, false, not, ◌||◌, List, [], ◌∷◌, ◌++◌, Option, None, Some, Err, refl, sym, ap, ◌∙◌, subst, append-nil, append_assoc, option_to_list, inl, inr, ◌⊎◌, IfSome, IsSome, IsTrue, is_some, option_map, false≢true, or_left, or_right, map-append, IfSome_then}
 use Rattle.bt_lines.specs.declared.device.Source.{Ghosts as Source}
 use Rattle.bt_lines.specs.model.Fault.{FaultValue}
 use Rattle.bt_lines.specs.model.Lines.{TextLine}
@@ -21,11 +17,11 @@ use Rattle.bt_bed.specs.model.input.GoodBlocks.{AreInBlocks}
 use Rattle.bt_bed.specs.model.feature.LineKind.{fault_at_line}
 use Rattle.bt_bed.specs.model.order.Locus.{Locus}
 use Rattle.bt_bed.specs.calls.Reading.{MemberReader, ahead_in, first_from, good_coming, state_behind}
-use Rattle.bt_seq.proofs.lemmas.laws.MaskPrefixLemmas.{decided_stays}
+use Rattle.bt_seq.proofs.lemmas.definitions.MaskPrefixLemmas.{decided_stays}
 use Rattle.bt_seq.specs.calls.MaskAdvance.{FailsAtRecord}
 use Rattle.bt_seq.specs.calls.MaskPrefixes.{LineBefore}
 use Rattle.bt_seq.proofs.lemmas.mask.steps.StandLemmas.{last_more}
-use Rattle.bt_seq.proofs.lemmas.laws.MaskMetLemmas.{first_is_told, lack_none}
+use Rattle.bt_seq.proofs.lemmas.definitions.MaskMetLemmas.{first_is_told, lack_none}
 use Rattle.bt_seq.specs.calls.MaskStage.{MaskStage, given, line_given_last, reached, reached_by, want_of, with_bed_ended, with_lines_ended}
 use Rattle.bt_seq.specs.calls.MaskStanding.{IsOpen, MaskMovesTo}
 use Rattle.bt_seq.specs.model.Masked.{decided, is_unnamed, masked_line, names_of, no_sequence}

@@ -1,6 +1,5 @@
 -- Lemmas on what is good of an input that a reader of members took.
-use Rattle.std.proofs.Common.{◌≡◌, ℕ, suc, ◌+◌, ◌-◌, ◌^◌, ◌≤◌, ◌<◌, List, [], ◌++◌, length, take, drop, Option, None, Some, refl, sym, ap, ◌∙◌, subst, inl, inr, ⊎_elim}
-use Rattle.std.specs.Prelude.{All, IfSome, IsSome, option_map}
+use Rattle.bt_lines.proofs.Std.{◌≡◌, ℕ, suc, ◌+◌, ◌-◌, ◌^◌, ◌≤◌, ◌<◌, List, [], ◌++◌, length, take, drop, Option, None, Some, refl, sym, ap, ◌∙◌, subst, inl, inr, ⊎_elim, All, IfSome, IsSome, option_map, Consumes}
 use Rattle.bt_lines.specs.declared.device.Source.{Ghosts as Source}
 use Rattle.bt_lines.specs.model.Fault.{FaultValue, read_failed}
 use Rattle.bt_lines.specs.model.Handed.{Handed, whole_text}
@@ -9,11 +8,9 @@ use Rattle.bt_lines.specs.calls.Reader.{Hands, IsSound, bytes_taken, fault_kept,
 use Rattle.bt_lines.specs.declared.fault.Input.{Input}
 use Rattle.bt_lines.specs.declared.fault.Kind.{Kind}
 use Rattle.bt_lines.specs.calls.Output.{block_size}
-use Rattle.std.specs.Io.KnownBytes.{Consumes}
 use Rattle.bt_bed.specs.model.feature.LineKind.{fault_at_line}
 use Rattle.bt_bed.specs.model.input.Good.{Format, Good, Member, good, good_handed, or_else}
-use Rattle.bt_bed.specs.model.input.GoodLines.{IsBeyond}
-use Rattle.bt_bed.specs.calls.Reading.{MemberReader, good_coming}
+use Rattle.bt_bed.specs.calls.Reading.{IsBeyond, MemberReader, good_coming}
 use Rattle.bt_tool.proofs.lemmas.running.members.Coming.{Came}
 use Rattle.bt_tool.specs.calls.run.FaultSource.{TellsInput}
 use Rattle.bt_tool.specs.inside.feed.Feeding.{IsFresh}

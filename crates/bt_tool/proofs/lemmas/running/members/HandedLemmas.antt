@@ -1,6 +1,5 @@
 -- Lemmas on what an input handed over: its first lines, and the piece that a failed read cut off.
-use Rattle.std.proofs.Common.{◌≡◌, ℕ, zero, suc, ◌+◌, ◌-◌, ◌^◌, ◌≤◌, Bool, true, false, List, [], ◌∷◌, ◌++◌, length, take, drop, Option, Some, None, refl, sym, ap, ◌∙◌, arith, length-append, ◌<◌, subst, append_assoc, inl, inr}
-use Rattle.std.specs.Prelude.{All, ◌⊎◌, nat_le}
+use Rattle.bt_lines.proofs.Std.{◌≡◌, ℕ, suc, ◌+◌, ◌-◌, ◌^◌, ◌≤◌, Bool, true, false, List, ◌++◌, length, take, drop, Option, Some, None, refl, sym, ap, ◌∙◌, arith, length-append, ◌<◌, subst, append_assoc, inl, inr, All, ◌⊎◌, nat_le, nat_tests, append_cancel_right, take-append-drop, Consumes}
 use Rattle.bt_lines.specs.model.Fault.{FaultValue, read_failed}
 use Rattle.bt_lines.specs.model.Handed.{whole_text, Handed}
 use Rattle.bt_lines.specs.model.Lines.{bytes_in, line_feeds, text_lines, whole_lines}
@@ -8,12 +7,9 @@ use Rattle.bt_lines.specs.calls.Output.{block_size}
 use Rattle.bt_lines.specs.declared.fault.Input.{Input}
 use Rattle.bt_lines.proofs.lemmas.reader.lines.TextLemmas.{bytes_in-append, bytes_in-lines, lines_are_numbered, whole_count, whole_front}
 use Rattle.bt_bed.specs.model.input.Good.{Format, Member, good, good_from, good_handed}
-use Rattle.bt_bed.specs.model.input.GoodLines.{IsBeyond}
+use Rattle.bt_bed.specs.calls.Reading.{IsBeyond}
 use Rattle.bt_bed.proofs.lemmas.read.good.GoodLemmas.{first_from}
 use Rattle.bt_tool.specs.model.report.Inputs.{handed_by, Reads}
-use Rattle.std.proofs.lemmas.Bool.Decides.{nat_tests}
-use Rattle.std.proofs.lemmas.List.{append_cancel_right, take-append-drop}
-use Rattle.std.specs.Io.KnownBytes.{Consumes}
 use Rattle.bt_lines.specs.declared.device.Source.{Ghosts as Source}
 use Rattle.bt_lines.specs.calls.Reader.{CutsOff, Hands, source_of, bytes_taken, feeds_taken, lines_given}
 use Rattle.bt_lines.specs.declared.reader.line_reader.LineReader.{LineReader}

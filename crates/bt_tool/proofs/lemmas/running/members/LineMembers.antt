@@ -1,9 +1,5 @@
 -- Lemmas on a reader of lines as one of lines of sequences.
-use Rattle.std.proofs.lemmas.Option.{IfSome_then}
-use Rattle.std.proofs.Common.{◌≡◌, ℕ, suc, ◌+◌, ◌-◌, ◌<◌, ◌≤◌, Bool, true, false, cond, List, [], ◌∷◌, ◌++◌, length, take, drop, Option, None, Some, Ok, Err, refl, sym, ap, ◌∙◌, subst, append_assoc, append-nil, length-append, arith, inl}
-use Rattle.std.specs.Prelude.{All, IfSome, option_map}
-use Rattle.std.proofs.Math.Seq.{drop-append_seam}
-use Rattle.std.proofs.lemmas.List.Elements.{All-append, All-nil}
+use Rattle.bt_lines.proofs.Std.{IfSome_then, ◌≡◌, ℕ, suc, ◌+◌, ◌-◌, ◌<◌, ◌≤◌, Bool, true, false, cond, List, [], ◌∷◌, ◌++◌, length, take, drop, Option, None, Some, Ok, Err, refl, sym, ap, ◌∙◌, subst, append_assoc, append-nil, length-append, arith, inl, All, IfSome, option_map, drop-append_seam, All-append, All-nil}
 use Rattle.bt_lines.specs.declared.device.Source.{Ghosts as Source}
 use Rattle.bt_lines.proofs.lemmas.reader.lines.ReaderLemmas.{hands_both, sound_near}
 use Rattle.bt_lines.proofs.lemmas.reader.lines.TakingLemmas.{is_prefix, near_next}
@@ -19,9 +15,8 @@ use Rattle.bt_bed.proofs.lemmas.read.good.CameLemmas.{near_pass, pass_more, drop
 use Rattle.bt_bed.proofs.lemmas.read.good.ReadingLemmas.{Going, going_end, going_start, going_unread}
 use Rattle.bt_bed.proofs.lemmas.read.good.SaidRuns.{LinesSay, good_said, say_front}
 use Rattle.bt_bed.specs.model.input.Good.{Good, Member, good_from}
-use Rattle.bt_bed.specs.model.input.GoodLines.{IsBeyond, IsFaultBeyond}
+use Rattle.bt_bed.specs.calls.Reading.{IsBeyond, IsFaultBeyond, AreSaid, MemberReader, first_from, good_behind, good_coming, members_from, state_behind, with_members}
 use Rattle.bt_bed.specs.model.feature.LineKind.{fault_at_line}
-use Rattle.bt_bed.specs.calls.Reading.{AreSaid, MemberReader, first_from, good_behind, good_coming, members_from, state_behind, with_members}
 use Rattle.bt_seq.specs.calls.GivenLines.{SayEach}
 use Rattle.bt_seq.specs.model.Sequences.{Reached, SequenceLine, is_header, line_says, may_stand, sequence_format}
 use Rattle.bt_tool.specs.inside.pair.MaskLoop.{line_members}

@@ -1,14 +1,8 @@
 -- Lemmas on what a reader of members has consumed.
-use Rattle.std.proofs.lemmas.Option.{IfSome_then}
-use Rattle.std.proofs.Common.{◌≡◌, ℕ, suc, ◌+◌, ◌-◌, ◌≤◌, ◌<◌, Bool, true, false, List, [], ◌∷◌, ◌++◌, length, take, drop, Option, None, Some, Err, refl, sym, ap, ◌∙◌, subst, append_assoc, arith, inl, inr}
-use Rattle.std.specs.Prelude.{is_some, ◌⊎◌, All, IfSome, IsSome, option_map}
-use Rattle.std.proofs.lemmas.List.{drop-drop, length-append, length-drop, map-append, take-append-drop}
-use Rattle.std.proofs.lemmas.List.Elements.{All-append, All-cons, All-nil}
+use Rattle.bt_lines.proofs.Std.{IfSome_then, ◌≡◌, ℕ, suc, ◌+◌, ◌-◌, ◌≤◌, ◌<◌, Bool, true, false, List, [], ◌∷◌, ◌++◌, length, take, drop, Option, None, Some, Err, refl, sym, ap, ◌∙◌, subst, append_assoc, arith, inl, inr, is_some, ◌⊎◌, All, IfSome, IsSome, option_map, drop-drop, length-append, length-drop, map-append, take-append-drop, All-append, All-cons, All-nil, false≢true, Consumes}
 use Rattle.bt_lines.specs.declared.device.Source.{Ghosts as Source}
 use Rattle.bt_lines.proofs.lemmas.reader.block.ReadsLemmas.{memory_no_read}
 use Rattle.bt_lines.specs.model.Fault.{FaultValue, read_failed}
-use Rattle.std.proofs.lemmas.Bool.{false≢true}
-use Rattle.std.specs.Io.KnownBytes.{Consumes}
 use Rattle.bt_lines.specs.calls.Reader.{Hands, IsKept, bytes_left, end_told, fault_kept as line_fault, has_ended, held, left_at, source_of, input_of, lines_given, lines_left}
 use Rattle.bt_lines.specs.model.Lines.{TextLine, bytes_in, lines_from}
 use Rattle.bt_lines.specs.calls.Output.{block_size}
@@ -23,9 +17,8 @@ use Rattle.bt_lines.specs.inside.Shape.{held_at}
 use Rattle.bt_lines.proofs.lemmas.reader.lines.ReaderLemmas.{hands_none, hands_both, sound_near}
 use Rattle.bt_lines.proofs.lemmas.reader.lines.TextLemmas.{bytes_in-append}
 use Rattle.bt_bed.specs.model.input.Good.{Format, Good, Member, ends_with}
-use Rattle.bt_bed.specs.model.input.GoodLines.{IsBeyond}
+use Rattle.bt_bed.specs.calls.Reading.{IsBeyond, AnswersFault, AreSaid, Cause, MemberReader, Remains, ahead_in, first_from, good_coming, members_from, state_behind, with_members}
 use Rattle.bt_bed.specs.model.feature.LineKind.{fault_at_line}
-use Rattle.bt_bed.specs.calls.Reading.{AnswersFault, AreSaid, Cause, MemberReader, Remains, ahead_in, first_from, good_coming, members_from, state_behind, with_members}
 use Rattle.bt_tool.specs.inside.feed.Feeding.{IsFresh}
 use Rattle.bt_tool.specs.inside.feed.Passed.{AreAll, ComeFirst, HasFaultBehind, HasTaken, IsReadFor, LacksMemory, Passes, StopsAfter, member_items}
 use Rattle.bt_tool.proofs.lemmas.running.members.Filled.{IsFilled, IsOver, IsStopped}

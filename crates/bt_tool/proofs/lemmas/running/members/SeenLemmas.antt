@@ -1,8 +1,5 @@
 -- Lemmas on the members that were seen and on the lines that were put, when a run stops.
-use Rattle.std.proofs.Common.{◌≡◌, ℕ, List, [], ◌∷◌, ◌++◌, Option, None, Some, refl, sym, ap, ◌∙◌, append-nil, append_assoc, option_to_list}
-use Rattle.std.specs.Prelude.{IfSome, IsSome, option_map}
-use Rattle.std.proofs.lemmas.List.{map-append}
-use Rattle.std.proofs.lemmas.Option.{IfSome_then}
+use Rattle.bt_lines.proofs.Std.{◌≡◌, ℕ, List, [], ◌∷◌, ◌++◌, Option, None, Some, refl, sym, ap, ◌∙◌, append-nil, append_assoc, option_to_list, IfSome, IsSome, option_map, map-append, IfSome_then}
 use Rattle.bt_lines.specs.model.Fault.{FaultValue}
 use Rattle.bt_lines.specs.calls.Output.{Output}
 use Rattle.bt_lines.specs.calls.Putting.{FailsToAdd}

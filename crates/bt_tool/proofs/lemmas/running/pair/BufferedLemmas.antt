@@ -1,7 +1,5 @@
 -- Lemmas on what is consumed of the records that a reader has buffered, once their batch was given.
-use Rattle.std.proofs.Common.{◌≡◌, inl, inr, ℕ, suc, ◌<◌, List, [], ◌∷◌, ◌++◌, Option, None, Some, Ok, Err, Result, sym, ap, ◌∙◌, subst, arith, length, append-nil, take}
-use Rattle.std.specs.Prelude.{IfSome, option_map}
-use Rattle.std.proofs.lemmas.List.{append_cancel_left}
+use Rattle.bt_lines.proofs.Std.{◌≡◌, inl, inr, ℕ, suc, ◌<◌, List, [], ◌∷◌, ◌++◌, Option, None, Some, Ok, Err, Result, sym, ap, ◌∙◌, subst, arith, length, append-nil, take, IfSome, option_map, append_cancel_left}
 use Rattle.bt_lines.specs.declared.device.Source.{Ghosts as Source}
 use Rattle.bt_lines.specs.model.Fault.{FaultValue}
 use Rattle.bt_lines.specs.calls.Output.{Output}

@@ -1,15 +1,10 @@
 -- How one stage of two inputs follows another.
-use Rattle.std.specs.Prelude.{◌≡◌, ℕ, Bool, true, List, [], ◌∷◌, ◌++◌, Option, None}
-use Rattle.std.specs.Option.{option_to_list}
+use Rattle.bt_lines.proofs.Std.{◌≡◌, true, List, [], ◌∷◌, ◌++◌}
 use Rattle.bt_lines.specs.declared.device.Source.{Ghosts as Source}
-use Rattle.bt_lines.specs.calls.Output.{Output}
 use Rattle.bt_lines.specs.calls.Reader.{end_told, source_of}
 use Rattle.bt_bed.specs.model.input.Good.{Member}
 use Rattle.bt_bed.specs.calls.Reading.{MemberReader}
-use Rattle.bt_tool.specs.inside.feed.Feeding.{HasPut, member_items}
-use Rattle.bt_tool.specs.inside.pair.Pair.{JoinDef, Pair, SettlesPair, item_ahead}
-use Rattle.bt_tool.specs.inside.pair.Endings.{HasNoMore, IsKnown}
-use Rattle.bt_tool.specs.inside.feed.Passed.{AreAll, IsReadFor, Passes}
+use Rattle.bt_tool.specs.inside.feed.Passed.{IsReadFor, Passes}
 use Rattle.bt_tool.specs.inside.pair.Progress.{PairStage, firsts_given}
 
 -- from one stage on more members of the first input were given, some of those given were written,

@@ -1,14 +1,8 @@
 -- What all members of two inputs give.
-use Rattle.std.specs.Prelude.{◌≡◌, ℕ, ◌^◌, ◌<◌, ◌||◌, Bool, true, List, ◌++◌, flat_map, Option, None, is_none, option_map}
-use Rattle.std.specs.List.{list_all}
-use Rattle.bt_lines.specs.declared.device.Source.{Ghosts as Source}
+use Rattle.bt_lines.proofs.Std.{ℕ, ◌||◌, List, is_none}
 use Rattle.bt_lines.specs.model.Fault.{FaultValue}
-use Rattle.bt_lines.specs.model.Lines.{TextLine}
-use Rattle.bt_lines.specs.calls.Reader.{bytes_taken, source_of}
-use Rattle.bt_lines.specs.declared.fault.Kind.{Kind}
-use Rattle.bt_bed.specs.model.input.Good.{Good, Member, items_in, or_else}
+use Rattle.bt_bed.specs.model.input.Good.{Good, items_in, or_else}
 use Rattle.bt_bed.specs.model.input.TwoInputReport.{Met, Rule, join_report}
-use Rattle.bt_bed.specs.calls.Reading.{MemberReader, ahead_in}
 use Rattle.bt_tool.specs.inside.pair.Pair.{JoinDef}
 
 module _ {X Y : Type 0} (join : JoinDef X Y) where

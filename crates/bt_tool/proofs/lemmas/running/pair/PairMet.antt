@@ -1,11 +1,5 @@
 -- Lemmas from how a run over two readers of members ends to the report on how the inputs meet.
-use Rattle.std.proofs.Common.{◌≡◌, ℕ, suc, ◌+◌, ◌≤◌, ◌<◌, Bool, true, false, List, [], ◌∷◌, ◌++◌, Option, None, Some, refl, sym, ap, ◌∙◌, subst, append_assoc, append-nil, arith, flat_map, inl, inr}
-use Rattle.std.specs.Prelude.{◌⊎◌, ◌≢◌, ◌||◌, All, IfSome, IsSome, is_none, option_to_list, take, ◌≡◌, true, List, ◌++◌, Option}
-use Rattle.std.specs.List.{list_all}
-use Rattle.std.specs.Option.{option_or}
-use Rattle.std.proofs.lemmas.Bool.{false≢true, or_from}
-use Rattle.std.proofs.lemmas.List.{map-append}
-use Rattle.std.proofs.lemmas.List.Elements.{All-head, All-tail}
+use Rattle.bt_lines.proofs.Std.{◌≡◌, ℕ, suc, ◌+◌, ◌≤◌, ◌<◌, Bool, true, false, List, [], ◌∷◌, ◌++◌, Option, None, Some, refl, sym, ap, ◌∙◌, subst, append_assoc, append-nil, arith, flat_map, inl, inr, ◌⊎◌, ◌≢◌, ◌||◌, All, IfSome, IsSome, is_none, option_to_list, take, list_all, option_or, false≢true, or_from, map-append, All-head, All-tail}
 use Rattle.bt_lines.specs.declared.device.Source.{Ghosts as Source}
 use Rattle.bt_lines.proofs.lemmas.reader.block.ReadsLemmas.{some_is}
 use Rattle.bt_lines.specs.model.Fault.{FaultValue, no_memory, write_failed}
@@ -15,10 +9,9 @@ use Rattle.bt_lines.specs.calls.Output.{Output, IsPrefixOf, block_size}
 use Rattle.bt_lines.specs.calls.Reader.{input_of, lines_given, source_of}
 use Rattle.bt_lines.specs.declared.fault.Input.TheVariants.{First, Second}
 use Rattle.bt_bed.specs.model.input.Good.{Format, Good, Member, good_handed, items_in, or_else}
-use Rattle.bt_bed.specs.model.input.GoodLines.{IsBeyond}
+use Rattle.bt_bed.specs.calls.Reading.{IsBeyond, MemberReader, good_coming}
 use Rattle.bt_bed.specs.model.input.TwoInputReport.{written}
-use Rattle.bt_bed.specs.calls.Reading.{MemberReader, good_coming}
-use Rattle.bt_bed.proofs.lemmas.laws.MeetingLemmas.{all_stop, all_written, met_fault_all, met_fault_stop, met_lines, written_past, written_stop}
+use Rattle.bt_bed.proofs.lemmas.definitions.MeetingLemmas.{all_stop, all_written, met_fault_all, met_fault_stop, met_lines, written_past, written_stop}
 use Rattle.bt_tool.specs.model.report.Behaviour.{Behaviour}
 use Rattle.bt_tool.specs.model.report.SweepReport.{met_report}
 use Rattle.bt_tool.specs.calls.run.Writing.{WritesBy}

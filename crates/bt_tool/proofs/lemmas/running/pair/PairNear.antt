@@ -1,11 +1,5 @@
 -- Lemmas on how far two inputs were read beside what was written.
-use Rattle.std.proofs.Common.{◌≡◌, ℕ, zero, suc, ◌+◌, ◌-◌, ◌<◌, ◌≤◌, Bool, true, false, not, List, [], ◌∷◌, ◌++◌, take, drop, Option, None, Some, Result, Ok, Err, refl, sym, ap, ◌∙◌, subst, arith, flat_map, inl, inr}
-use Rattle.std.specs.Prelude.{◌⊎◌, ◌&&◌, ◌||◌, All, IfSome, IsSome, if◌then◌else◌, length, option_map}
-use Rattle.std.specs.Io.KnownBytes.{Consumes}
-use Rattle.std.specs.List.{list_all, list_any}
-use Rattle.std.proofs.lemmas.Bool.{false≢true}
-use Rattle.std.proofs.lemmas.List.{map-append, take-append-drop}
-use Rattle.std.proofs.lemmas.List.Elements.{All-head, All-tail}
+use Rattle.bt_lines.proofs.Std.{◌≡◌, ℕ, zero, suc, ◌+◌, ◌-◌, ◌<◌, ◌≤◌, Bool, true, false, not, List, [], ◌∷◌, ◌++◌, take, drop, Option, None, Some, Result, Ok, Err, refl, sym, ap, ◌∙◌, subst, arith, flat_map, inl, inr, ◌⊎◌, ◌&&◌, ◌||◌, All, IfSome, IsSome, if◌then◌else◌, length, option_map, Consumes, list_all, list_any, false≢true, map-append, take-append-drop, All-head, All-tail}
 use Rattle.bt_lines.specs.model.Handed.{Handed, whole_text}
 use Rattle.bt_lines.specs.model.Fault.{FaultValue}
 use Rattle.bt_lines.specs.model.Lines.{AreNumbered, TextLine, bytes_in, text_lines}
@@ -17,8 +11,7 @@ use Rattle.bt_lines.specs.declared.fault.Kind.{Kind}
 use Rattle.bt_lines.proofs.lemmas.reader.lines.TextLemmas.{bytes_in-append, lines_are_numbered}
 use Rattle.bt_bed.specs.model.feature.Feature.{Feature}
 use Rattle.bt_bed.specs.model.input.Good.{Format, Good, Member, good, good_from, good_handed, good_with, items_in}
-use Rattle.bt_bed.specs.model.input.GoodLines.{AreAscending, IsBeyond}
-use Rattle.bt_bed.specs.calls.Reading.{MemberReader, good_coming}
+use Rattle.bt_bed.specs.calls.Reading.{AreAscending, IsBeyond, MemberReader, good_coming}
 use Rattle.bt_bed.proofs.lemmas.read.good.GoodLemmas.{ascend_from, first_from}
 use Rattle.bt_tool.specs.model.report.SweepReport.{bytes_up_to}
 use Rattle.bt_tool.specs.calls.run.FaultSource.{IsFaultButWrite, IsWithin, ReadsNoFurther}

@@ -1,8 +1,5 @@
 -- Lemmas on how a run over two readers of members goes on: as members are buffered and taken, and at the ends.
-use Rattle.std.proofs.Common.{◌≡◌, ℕ, suc, Bool, true, false, List, [], ◌∷◌, ◌++◌, ◌≤◌, length, Option, None, Some, refl, sym, ap, ◌∙◌, subst, append-nil, append_assoc, option_to_list, drop, ◌+◌, inl, inr}
-use Rattle.std.specs.Prelude.{◌⊎◌, All, IfSome, option_map}
-use Rattle.std.proofs.lemmas.Bool.{false≢true}
-use Rattle.std.proofs.lemmas.List.{append_cancel_left, map-append, same_from_push}
+use Rattle.bt_lines.proofs.Std.{◌≡◌, ℕ, suc, Bool, true, false, List, [], ◌∷◌, ◌++◌, ◌≤◌, length, Option, None, Some, refl, sym, ap, ◌∙◌, subst, append-nil, append_assoc, option_to_list, drop, ◌+◌, inl, inr, ◌⊎◌, All, IfSome, option_map, false≢true, append_cancel_left, map-append, same_from_push}
 use Rattle.bt_lines.specs.declared.device.Source.{Ghosts as Source}
 use Rattle.bt_lines.specs.model.Lines.{bytes_in}
 use Rattle.bt_lines.specs.calls.Reader.{end_told, lines_given, lines_left, source_of}

@@ -1,5 +1,5 @@
 -- What subtract writes is what intersect would in the shapes of what is left.
-use Rattle.std.proofs.Common.{◌≡◌, ℕ, Bool, true, List, Option, None, sym, ◌∙◌}
+use Rattle.bt_lines.proofs.Std.{◌≡◌, ℕ, Bool, true, List, Option, None, sym, ◌∙◌}
 use Rattle.bt_lines.specs.declared.device.Source.{Ghosts as Source}
 use Rattle.bt_lines.specs.model.Fault.{FaultValue}
 use Rattle.bt_lines.specs.model.Handed.{Handed}
@@ -11,7 +11,7 @@ use Rattle.bt_bed.specs.model.input.GoodBed.{bed_good}
 use Rattle.bt_bed.specs.model.order.Order.{Order}
 use Rattle.bt_sweep.specs.model.Subtract.{subtract_shape}
 use Rattle.bt_sweep.specs.declared.hits.hit_rule.HitRule.{HitRule}
-use Rattle.bt_sweep.proofs.lemmas.laws.SweepsLemmas.{faultless_all, subtract_met}
+use Rattle.bt_sweep.proofs.lemmas.definitions.SweepsLemmas.{faultless_all, subtract_met}
 use Rattle.bt_tool.specs.model.report.Behaviour.{of_intersect, of_subtract}
 use Rattle.bt_tool.specs.model.report.Inputs.{or_empty}
 use Rattle.bt_tool.specs.model.report.SweepReport.{intersect_settles, records_on, subtract_settles}

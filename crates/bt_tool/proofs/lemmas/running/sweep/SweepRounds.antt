@@ -1,7 +1,5 @@
 -- Lemmas on the rounds of a sweep over two readers: how far each comes, what it reads, and how much is still wanted.
-use Rattle.std.proofs.Common.{◌≡◌, ℕ, zero, suc, ◌+◌, ◌*◌, ◌≤◌, ◌<◌, Bool, true, false, List, length, length-append, Option, None, Some, Ok, Err, refl, sym, ap, ◌∙◌, subst, arith, inl, inr, option_to_list, []}
-use Rattle.std.specs.Prelude.{◌⊎◌, IsErrAnd, Result, is_some}
-use Rattle.std.proofs.lemmas.Bool.{false≢true}
+use Rattle.bt_lines.proofs.Std.{◌≡◌, ℕ, zero, suc, ◌+◌, ◌*◌, ◌≤◌, ◌<◌, Bool, true, false, List, length, length-append, Option, None, Some, Ok, Err, refl, sym, ap, ◌∙◌, subst, arith, inl, inr, option_to_list, [], ◌⊎◌, IsErrAnd, Result, is_some, false≢true}
 use Rattle.bt_lines.specs.calls.Output.{HoldsBlock, Output}
 use Rattle.bt_sweep.specs.calls.Standing.{first_stage, IsInOrder, MovesTo, Stage, StandsAt, with_a_ended}
 use Rattle.bt_tool.specs.inside.feed.Feeding.{IsFresh}

@@ -1,7 +1,5 @@
 -- Lemmas on the genome file of a run, if it has one.
-use Rattle.std.proofs.Common.{◌≡◌, ℕ, suc, ◌-◌, ◌^◌, true, List, ◌++◌, take, Option, None, Some, Ok, Err, refl, sym, ap, ◌∙◌, subst, arith, inl, inr, ⊎_elim}
-use Rattle.std.specs.Prelude.{◌⊎◌, ◌≢◌, IfSome, option_map}
-use Rattle.std.proofs.lemmas.Bool.{false≢true}
+use Rattle.bt_lines.proofs.Std.{◌≡◌, ℕ, suc, ◌-◌, ◌^◌, true, List, ◌++◌, take, Option, None, Some, Ok, Err, refl, sym, ap, ◌∙◌, subst, arith, inl, inr, ⊎_elim, ◌⊎◌, ◌≢◌, IfSome, option_map, false≢true}
 use Rattle.bt_lines.specs.declared.device.Source.{Ghosts as Source}
 use Rattle.bt_lines.proofs.lemmas.reader.block.ReadsLemmas.{memory_no_read, some_is}
 use Rattle.bt_tool.proofs.lemmas.running.members.CameMembers.{some_of}

@@ -1,5 +1,5 @@
 -- What a user sees of a run is the report.
-use Rattle.std.proofs.Common.{◌≡◌, ℕ, List, [], Some, Err, sym, ap, ◌∙◌}
+use Rattle.bt_lines.proofs.Std.{◌≡◌, ℕ, List, [], Some, Err, sym, ap, ◌∙◌}
 use Rattle.bt_lines.specs.declared.device.Sink.{Ghosts as Sink}
 use Rattle.bt_lines.specs.declared.device.Source.{Ghosts as Source}
 use Rattle.bt_tool.specs.calls.run.Headline.{ShowsReport}

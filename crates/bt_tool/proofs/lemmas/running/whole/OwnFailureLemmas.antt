@@ -1,7 +1,5 @@
 -- Lemmas on failed reads that are reported: each is of a read that failed in the run, whatever its source did before.
-use Rattle.std.proofs.Common.{◌≡◌, ℕ, Option, None, Some, Err, List, ap, sym, subst, ◌∙◌, inl, inr, arith}
-use Rattle.std.specs.Prelude.{◌⊎◌, ◌≢◌, ⊤, MatchResult, Ok, Result}
-use Rattle.std.proofs.lemmas.Bool.{false≢true}
+use Rattle.bt_lines.proofs.Std.{◌≡◌, ℕ, Option, None, Some, Err, List, ap, sym, subst, ◌∙◌, inl, inr, arith, ◌⊎◌, ◌≢◌, ⊤, MatchResult, Ok, Result, false≢true}
 use Rattle.bt_lines.specs.declared.device.Source.{Ghosts as Source}
 use Rattle.bt_lines.proofs.lemmas.reader.block.ReadsLemmas.{memory_no_read, some_is, unread_then}
 use Rattle.bt_lines.specs.model.Fault.{FaultValue, no_memory, read_failed, write_failed}

@@ -1,10 +1,5 @@
 -- Lemmas on a run, from its devices to the report on what its inputs hand over.
-use Rattle.std.proofs.Common.{◌≡◌, ℕ, ◌+◌, ◌≤◌, Bool, true, false, List, [], ◌++◌, length, take, Option, None, Some, Ok, Err, refl, sym, ap, ◌∙◌, subst, append-nil, append_assoc, arith, inl, inr, ⊎_elim}
-use Rattle.std.specs.Prelude.{◌⊎◌, ◌≢◌, IfSome, Result, option_map}
-use Rattle.std.proofs.lemmas.Bool.{false≢true}
-use Rattle.std.proofs.lemmas.List.{append_cancel_left}
-use Rattle.std.specs.Io.KnownBytes.{Consumes, Keeps}
-use Rattle.std.proofs.KnownBytes.{Appends-nil, Consumes-nil}
+use Rattle.bt_lines.proofs.Std.{◌≡◌, ℕ, ◌+◌, ◌≤◌, Bool, true, false, List, [], ◌++◌, length, take, Option, None, Some, Ok, Err, refl, sym, ap, ◌∙◌, subst, append-nil, append_assoc, arith, inl, inr, ⊎_elim, ◌⊎◌, ◌≢◌, IfSome, Result, option_map, false≢true, append_cancel_left, Consumes, Keeps, Appends-nil, Consumes-nil}
 use Rattle.bt_lines.specs.declared.device.Sink.{Ghosts as Sink}
 use Rattle.bt_lines.specs.declared.device.Source.{Ghosts as Source}
 use Rattle.bt_lines.proofs.lemmas.reader.block.ReadsLemmas.{some_is}

@@ -1,4 +1,4 @@
-use Rattle.std.proofs.Common.{None, refl, sym, ap, ◌∙◌}
+use Rattle.bt_lines.proofs.Std.{None, refl, sym, ap, ◌∙◌}
 use Rattle.bt_lines.specs.calls.Reader.{source_of}
 use Rattle.bt_lines.specs.calls.Names.{fault_value}
 use Rattle.bt_tool.proofs.lemmas.running.feed.ConvertLemmas.{own_up_to, writes_all, writes_up_to}

@@ -1,4 +1,4 @@
-use Rattle.std.proofs.Common.{◌∙◌, ap, arith, refl, subst, ⊎_elim}
+use Rattle.bt_lines.proofs.Std.{◌∙◌, ap, arith, refl, subst, ⊎_elim}
 use Rattle.bt_lines.proofs.lemmas.reader.block.ReadsLemmas.{has_read_then, reads_same}
 use Rattle.bt_lines.specs.calls.LentLine.{line_seen}
 use Rattle.bt_lines.specs.calls.Names.{fault_value}

@@ -1,4 +1,4 @@
-use Rattle.std.proofs.Common.{◌≡◌}
+use Rattle.bt_lines.proofs.Std.{◌≡◌}
 use Rattle.bt_lines.specs.calls.Reader.{HasRead, input_of, room}
 use Rattle.bt_tool.proofs.lemmas.running.feed.ConvertLemmas.{Going}
 use Rattle.bt_tool.proofs.loops.converting.convert_all.Given as goal

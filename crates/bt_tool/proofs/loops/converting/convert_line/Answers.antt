@@ -1,4 +1,4 @@
-use Rattle.std.proofs.Common.{sym}
+use Rattle.bt_lines.proofs.Std.{sym}
 use Rattle.bt_seq.proofs.lemmas.sam.SamKindLemmas.{kinds_of_lines, wrong_kinds}
 use Rattle.bt_tool.proofs.loops.converting.convert_line.Goals as goal
 

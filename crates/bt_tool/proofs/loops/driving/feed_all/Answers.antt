@@ -1,4 +1,4 @@
-use Rattle.std.proofs.Common.{◌≡◌, ◌∙◌, ◌++◌, Err, ap, append-nil, arith, length, refl}
+use Rattle.bt_lines.proofs.Std.{◌≡◌, ◌∙◌, ◌++◌, Err, ap, append-nil, arith, length, refl}
 use Rattle.bt_lines.proofs.lemmas.reader.block.ReadsLemmas.{has_read_then, reads_same}
 use Rattle.bt_lines.specs.calls.Names.{fault_value}
 use Rattle.bt_lines.specs.calls.Reader.{HasRead}

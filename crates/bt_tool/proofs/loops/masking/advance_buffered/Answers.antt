@@ -1,4 +1,4 @@
-use Rattle.std.proofs.Common.{sym, ◌∙◌}
+use Rattle.bt_lines.proofs.Std.{sym, ◌∙◌}
 use Rattle.bt_lines.proofs.lemmas.reader.lines.BufferedLemmas.{begins_lines}
 use Rattle.bt_lines.proofs.lemmas.reader.block.ReadsLemmas.{counts_none}
 use Rattle.bt_lines.specs.calls.Reader.{bytes_taken, source_of}

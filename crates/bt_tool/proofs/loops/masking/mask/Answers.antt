@@ -1,12 +1,10 @@
-use Rattle.std.proofs.Common.{refl, sym, ◌∙◌, ap}
-use Rattle.std.proofs.lemmas.Bool.{false≢true}
-use Rattle.std.specs.Prelude.{option_map}
+use Rattle.bt_lines.proofs.Std.{refl, sym, ◌∙◌, ap, false≢true, option_map}
 use Rattle.bt_lines.specs.calls.Names.{fault_value}
 use Rattle.bt_lines.specs.calls.Reader.{source_of}
 use Rattle.bt_lines.specs.declared.fault.Input.TheVariants.{First, Second}
 use Rattle.bt_bed.specs.calls.Blocks.{below, view_of}
 use Rattle.bt_bed.specs.model.input.GoodBlocks.{block_format}
-use Rattle.bt_bed.proofs.lemmas.laws.GoodBlocksLemmas.{good_in_blocks}
+use Rattle.bt_bed.proofs.lemmas.definitions.GoodBlocksLemmas.{good_in_blocks}
 use Rattle.bt_seq.specs.model.Sequences.{sequence_format}
 use Rattle.bt_tool.specs.model.report.MaskReport.{mask_reaches, mask_settles}
 use Rattle.bt_tool.specs.inside.pair.MaskLoop.{line_members, mask_join, mask_pair, nothing_reached}

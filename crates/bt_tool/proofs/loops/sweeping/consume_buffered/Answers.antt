@@ -1,4 +1,4 @@
-use Rattle.std.proofs.Common.{◌≡◌, [], ◌∷◌, ◌++◌, subst, sym}
+use Rattle.bt_lines.proofs.Std.{◌≡◌, [], ◌∷◌, ◌++◌, subst, sym}
 use Rattle.bt_bed.specs.calls.Batch.{Passes, left}
 use Rattle.bt_bed.specs.declared.read.batch.Batch.{Batch}
 use Rattle.bt_bed.specs.calls.CursorLaws.{batch_gives_more, batch_gives_none}

@@ -1,4 +1,4 @@
-use Rattle.std.proofs.Common.{List}
+use Rattle.bt_lines.proofs.Std.{List}
 use Rattle.bt_bed.specs.calls.Batch.{Passes, batch_room}
 use Rattle.bt_bed.specs.model.feature.Feature.{Feature}
 use Rattle.bt_tool.proofs.loops.sweeping.consume_buffered.Given as goal

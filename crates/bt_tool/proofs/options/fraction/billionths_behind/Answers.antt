@@ -1,6 +1,4 @@
-use Rattle.std.proofs.Common.{◌≡◌, ◌<◌, ◌-◌, ap, arith, get_or, length, sym, ◌∙◌, true}
-use Rattle.std.specs.Char.{is_ascii_digit}
-use Rattle.std.specs.Prelude.{unwrap_or}
+use Rattle.bt_lines.proofs.Std.{◌≡◌, ◌<◌, ◌-◌, ap, arith, get_or, length, sym, ◌∙◌, true, is_ascii_digit, unwrap_or}
 use Rattle.bt_lines.proofs.lemmas.numbers.NumberLemmas.{digit_small, digits_more, value_below, value_more}
 use Rattle.bt_tool.specs.model.usage.Fraction.{nine_decimals}
 use Rattle.bt_tool.proofs.lemmas.options.FractionLemmas.{length_of_nine, nine_at, nine_whole, other_decimal}

@@ -1,7 +1,4 @@
-use Rattle.std.proofs.Common.{◌≡◌, ◌<◌, ◌^◌, true, take}
-use Rattle.std.specs.Char.{is_ascii_digit}
-use Rattle.std.specs.List.{list_all}
-use Rattle.std.specs.Str.Parse.{digits_value}
+use Rattle.bt_lines.proofs.Std.{◌≡◌, ◌<◌, ◌^◌, true, take, is_ascii_digit, list_all, digits_value}
 use Rattle.bt_tool.specs.model.usage.Fraction.{nine_decimals}
 use Rattle.bt_tool.proofs.options.fraction.billionths_behind.Given as goal
 

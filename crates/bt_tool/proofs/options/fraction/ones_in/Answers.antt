@@ -1,5 +1,4 @@
-use Rattle.std.proofs.Common.{sym, ◌∙◌, arith, ◌<◌, length}
-use Rattle.std.proofs.lemmas.Bool.Decides.{nat_tests}
+use Rattle.bt_lines.proofs.Std.{sym, ◌∙◌, arith, ◌<◌, length, nat_tests}
 use Rattle.bt_tool.proofs.lemmas.options.FractionLemmas.{few_ones, many_ones, no_ones}
 use Rattle.bt_tool.proofs.options.fraction.ones_in.Goals as goal
 

@@ -1,5 +1,4 @@
-use Rattle.std.proofs.Common.{◌≡◌, Some, None, false, sym, ◌∙◌}
-use Rattle.std.specs.Prelude.{string_bytes}
+use Rattle.bt_lines.proofs.Std.{◌≡◌, Some, None, false, sym, ◌∙◌, string_bytes}
 use Rattle.bt_tool.specs.model.usage.Table.{fits, takes}
 use Rattle.bt_tool.specs.calls.words.Lent.{table_lent}
 use Rattle.bt_tool.proofs.lemmas.options.Reading.{words-from, words-pair, unknown-at, missing-at, bad-at}

@@ -1,5 +1,4 @@
-use Rattle.std.proofs.Common.{Some, sym, ◌∙◌, ap}
-use Rattle.std.specs.Prelude.{◌||◌}
+use Rattle.bt_lines.proofs.Std.{Some, sym, ◌∙◌, ap, ◌||◌}
 use Rattle.bt_tool.specs.calls.words.Given.{items_in}
 use Rattle.bt_tool.specs.calls.words.Lent.{table_lent}
 use Rattle.bt_tool.specs.model.usage.Options.{has_exclusive, overwrites, reads_twice}

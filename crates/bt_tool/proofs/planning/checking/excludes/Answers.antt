@@ -1,4 +1,4 @@
-use Rattle.std.proofs.Common.{sym, ◌∙◌}
+use Rattle.bt_lines.proofs.Std.{sym, ◌∙◌}
 use Rattle.bt_tool.specs.calls.words.Given.{items_in}
 use Rattle.bt_tool.specs.calls.words.Lent.{names_lent, table_lent}
 use Rattle.bt_tool.specs.model.usage.Options.{has_exclusive, overwrites}

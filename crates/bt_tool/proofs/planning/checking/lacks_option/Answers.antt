@@ -1,5 +1,4 @@
-use Rattle.std.proofs.Common.{sym, ◌∙◌, ap}
-use Rattle.std.specs.Prelude.{not}
+use Rattle.bt_lines.proofs.Std.{sym, ◌∙◌, ap, not}
 use Rattle.bt_tool.specs.calls.words.Given.{items_in}
 use Rattle.bt_tool.proofs.lemmas.planning.TableLemmas.{lacks-by_one, lacks-none, lacks-one, lacks-required}
 use Rattle.bt_tool.proofs.planning.checking.lacks_option.Goals as goal

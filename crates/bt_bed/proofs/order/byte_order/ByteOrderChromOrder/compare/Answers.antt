@@ -1,4 +1,4 @@
-use Rattle.std.proofs.Common.{sym, ◌∙◌}
+use Rattle.bt_lines.proofs.Std.{sym, ◌∙◌}
 use Rattle.bt_bed.proofs.lemmas.order.ByteOrderLemmas.{same_name_same}
 use Rattle.bt_bed.proofs.order.byte_order.ByteOrderChromOrder.compare.Goals as goal
 

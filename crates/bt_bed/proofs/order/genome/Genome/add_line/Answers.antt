@@ -1,5 +1,4 @@
-use Rattle.std.proofs.Common.{◌∙◌, ℕ, ◌<◌, Some, ap, inl, inr, map, sym}
-use Rattle.std.specs.Prelude.{All, Vec, is_some}
+use Rattle.bt_lines.proofs.Std.{◌∙◌, ℕ, ◌<◌, Some, ap, inl, inr, map, sym, All, Vec, is_some}
 use Rattle.std.specs.declared.alloc.Global.{Global}
 use Rattle.bt_lines.specs.declared.fault.Kind.TheVariants.{RepeatedChrom}
 use Rattle.bt_bed.proofs.lemmas.order.GenomeLemmas.{is_new}

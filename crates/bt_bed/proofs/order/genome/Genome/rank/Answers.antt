@@ -1,4 +1,4 @@
-use Rattle.std.proofs.Common.{◌∙◌}
+use Rattle.bt_lines.proofs.Std.{◌∙◌}
 use Rattle.bt_bed.proofs.lemmas.order.TableLemmas.{placed_by_rank}
 use Rattle.bt_bed.specs.calls.GenomeTable.{entries}
 use Rattle.bt_bed.proofs.order.genome.Genome.rank.Goals as goal

@@ -1,4 +1,4 @@
-use Rattle.std.proofs.Common.{◌≡◌}
+use Rattle.bt_lines.proofs.Std.{◌≡◌}
 use Rattle.bt_lines.specs.calls.Reader.{HasRead, input_of, room}
 use Rattle.bt_bed.proofs.lemmas.order.TableLemmas.{Going}
 use Rattle.bt_bed.proofs.order.genome.Genome.read.Given as goal

@@ -1,4 +1,4 @@
-use Rattle.std.proofs.Common.{refl}
+use Rattle.bt_lines.proofs.Std.{refl}
 use Rattle.bt_lines.specs.calls.Buffered.{rest_in}
 use Rattle.bt_bed.proofs.lemmas.read.batch.BatchLemmas.{none_below, none_either, none_elsewhere, none_holds, some_bytes, stands_first}
 use Rattle.bt_bed.specs.calls.Batch.{chrom_in, cursor_in, start_in}

@@ -1,4 +1,4 @@
-use Rattle.std.proofs.Common.{◌≡◌, ◌∷◌, ◌+◌, [], length, length-append, refl, sym, ap, arith, take, ◌∙◌}
+use Rattle.bt_lines.proofs.Std.{◌≡◌, ◌∷◌, ◌+◌, [], length, length-append, refl, sym, ap, arith, take, ◌∙◌}
 use Rattle.bt_lines.specs.calls.Buffered.{rest_in}
 use Rattle.bt_bed.specs.calls.Batch.{chrom_in, consumed_in, cursor_in, left, left_after, start_in}
 use Rattle.bt_bed.specs.calls.RawRecord.{raw_in, record_in, text_in}

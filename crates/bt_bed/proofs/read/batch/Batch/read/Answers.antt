@@ -1,6 +1,4 @@
-use Rattle.std.proofs.Common.{◌≡◌, ◌∙◌, ◌+◌, ap, arith, length, length-drop, refl, sym, subst, take}
-use Rattle.std.specs.Prelude.{IfSome}
-use Rattle.std.specs.Io.BufRead.{strip_last}
+use Rattle.bt_lines.proofs.Std.{◌≡◌, ◌∙◌, ◌+◌, ap, arith, length, length-drop, refl, sym, subst, take, IfSome, strip_last}
 use Rattle.bt_lines.specs.model.Number.{value_of}
 use Rattle.bt_bed.proofs.lemmas.read.FirstColumnLemmas.{front_is_name}
 use Rattle.bt_bed.proofs.lemmas.read.ParsedColumns.{parsed_begins, parsed_bounds, parsed_inside, parsed_name, parsed_no_header, parsed_of, third_at}

@@ -1,6 +1,5 @@
-use Rattle.std.proofs.Common.{◌≡◌, ◌∙◌, ◌<◌, ap, arith, length, refl, take}
+use Rattle.bt_lines.proofs.Std.{◌≡◌, ◌∙◌, ◌<◌, ap, arith, length, refl, take, strip_last}
 use Rattle.bt_lines.specs.calls.Buffered.{rest_in}
-use Rattle.std.specs.Io.BufRead.{strip_last}
 use Rattle.bt_lines.proofs.lemmas.reader.lines.BufferedLemmas.{strip_begins, take_front}
 use Rattle.bt_bed.proofs.lemmas.parse.ColumnsLemmas.{line_bounds, line_named}
 use Rattle.bt_bed.proofs.lemmas.read.FirstColumnLemmas.{front_is_name, name_ends, named_is_no_header}

@@ -1,5 +1,4 @@
-use Rattle.std.proofs.Common.{◌∙◌, ◌++◌, ap, arith, sym, take}
-use Rattle.std.proofs.lemmas.List.{length-take-le}
+use Rattle.bt_lines.proofs.Std.{◌∙◌, ◌++◌, ap, arith, sym, take, length-take-le}
 use Rattle.bt_bed.specs.calls.Batch.{consumed_in}
 use Rattle.bt_bed.proofs.lemmas.read.batch.ConsumedLemmas.{bytes_between}
 use Rattle.bt_bed.proofs.read.batch.BatchCursor.between.Goals as goal

@@ -1,5 +1,4 @@
-use Rattle.std.proofs.Common.{◌∙◌, sym}
-use Rattle.std.proofs.lemmas.List.{length-take-le}
+use Rattle.bt_lines.proofs.Std.{◌∙◌, sym, length-take-le}
 use Rattle.bt_bed.specs.calls.Batch.{consumed_in}
 use Rattle.bt_bed.proofs.read.batch.BatchCursor.offset.Goals as goal
 

@@ -1,4 +1,4 @@
-use Rattle.std.proofs.Common.{Option, ap, option_map, option_to_list}
+use Rattle.bt_lines.proofs.Std.{Option, ap, option_map, option_to_list}
 use Rattle.bt_bed.specs.calls.Bed.{feature_lent}
 use Rattle.bt_bed.specs.calls.Single.{single_left}
 use Rattle.bt_bed.specs.declared.record.bed.BedRef.{BedRef}

@@ -1,4 +1,4 @@
-use Rattle.std.proofs.Common.{◌≡◌, ◌∙◌, refl, inl, inr, rules, sym, Some, None}
+use Rattle.bt_lines.proofs.Std.{◌≡◌, ◌∙◌, refl, inl, inr, rules, sym, Some, None}
 use Rattle.bt_bed.proofs.lemmas.read.good.SaidLemmas.{bed_of_line, wrong_is_of_line}
 use Rattle.bt_bed.proofs.lemmas.read.batch.NeighbourLemmas.{held_other, held_same, says_nothing, says_wrong, says_misplaced, says_record}
 use Rattle.bt_bed.specs.calls.Bed.{feature_lent}

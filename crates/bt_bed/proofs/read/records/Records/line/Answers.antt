@@ -1,4 +1,4 @@
-use Rattle.std.proofs.Common.{arith}
+use Rattle.bt_lines.proofs.Std.{arith}
 use Rattle.bt_lines.proofs.lemmas.reader.lines.TakingLemmas.{given_below}
 use Rattle.bt_bed.proofs.read.records.Records.line.Goals as goal
 

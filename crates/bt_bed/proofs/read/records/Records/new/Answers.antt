@@ -1,5 +1,4 @@
-use Rattle.std.proofs.Common.{◌∙◌, ap}
-use Rattle.std.specs.Prelude.{option_map}
+use Rattle.bt_lines.proofs.Std.{◌∙◌, ap, option_map}
 use Rattle.bt_lines.specs.calls.Reader.{input_of, lines_left}
 use Rattle.bt_bed.proofs.lemmas.read.batch.RecordsLemmas.{good_at_start, placed_at_start}
 use Rattle.bt_bed.specs.model.input.Good.{good}

@@ -1,4 +1,4 @@
-use Rattle.std.proofs.Common.{List, [], ◌∷◌, ◌++◌, subst, sym}
+use Rattle.bt_lines.proofs.Std.{List, [], ◌∷◌, ◌++◌, subst, sym}
 use Rattle.bt_bed.proofs.lemmas.read.good.TokenLemmas.{token_is}
 use Rattle.bt_bed.specs.calls.Batch.{Passes}
 use Rattle.bt_bed.specs.calls.CursorLaws.{batch_gives_more}

@@ -1,4 +1,4 @@
-use Rattle.std.proofs.Common.{[], ◌∷◌, subst, take}
+use Rattle.bt_lines.proofs.Std.{[], ◌∷◌, subst, take}
 use Rattle.bt_bed.proofs.lemmas.read.good.TokenLemmas.{count_is, one_given, token_is}
 use Rattle.bt_bed.specs.calls.Reading.{Takes}
 use Rattle.bt_bed.specs.calls.SortedReader.{buffered_in, view_in}

@@ -1,5 +1,4 @@
-use Rattle.std.proofs.Common.{◌≡◌, [], List, ◌∙◌, ap, sym}
-use Rattle.std.proofs.lemmas.Bool.{false≢true}
+use Rattle.bt_lines.proofs.Std.{◌≡◌, [], List, ◌∙◌, ap, sym, false≢true}
 use Rattle.bt_bed.proofs.lemmas.read.batch.SortedSteps.{name_is_record}
 use Rattle.bt_bed.specs.model.feature.Feature.{Feature}
 use Rattle.bt_bed.specs.calls.Run.{is_some_left, run_of}

@@ -1,4 +1,4 @@
-use Rattle.std.proofs.Common.{◌≡◌, refl, sym, subst, take}
+use Rattle.bt_lines.proofs.Std.{◌≡◌, refl, sym, subst, take}
 use Rattle.bt_lines.proofs.lemmas.reader.lines.PassingLemmas.{no_lines, some_lines}
 use Rattle.bt_bed.proofs.lemmas.read.good.ReadingLemmas.{takes_none}
 use Rattle.bt_bed.proofs.lemmas.read.batch.SortedReaderLemmas.{sorted_ahead, sorted_placed, sorted_takes, was_ahead}

@@ -1,5 +1,4 @@
-use Rattle.std.proofs.Common.{refl, ap, ◌∙◌}
-use Rattle.std.specs.Prelude.{Bool}
+use Rattle.bt_lines.proofs.Std.{refl, ap, ◌∙◌, Bool}
 use Rattle.bt_lines.proofs.lemmas.reader.block.ReadsLemmas.{has_read_then, reads_same}
 use Rattle.bt_lines.specs.calls.Reader.{fault_kept as line_fault}
 use Rattle.bt_bed.proofs.lemmas.read.good.OwnFailureLemmas.{read_is_own}

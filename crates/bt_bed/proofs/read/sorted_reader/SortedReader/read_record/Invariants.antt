@@ -1,4 +1,4 @@
-use Rattle.std.proofs.Common.{◌≡◌, None, [], false}
+use Rattle.bt_lines.proofs.Std.{◌≡◌, None, [], false}
 use Rattle.bt_lines.specs.calls.Reader.{HasRead, room}
 use Rattle.bt_bed.proofs.lemmas.read.good.ReadingLemmas.{Going}
 use Rattle.bt_bed.specs.calls.SortedReader.{view_with}

@@ -1,4 +1,4 @@
-use Rattle.std.proofs.Common.{◌≡◌, ◌∷◌, refl, sym, ◌∙◌}
+use Rattle.bt_lines.proofs.Std.{◌≡◌, ◌∷◌, refl, sym, ◌∙◌}
 use Rattle.bt_lines.proofs.lemmas.reader.lines.PassingLemmas.{lines_taken}
 use Rattle.bt_lines.proofs.lemmas.reader.lines.TakingLemmas.{some_buffered}
 use Rattle.bt_lines.specs.calls.Buffered.{lines_in}

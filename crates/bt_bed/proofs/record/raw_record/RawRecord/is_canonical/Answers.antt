@@ -1,4 +1,4 @@
-use Rattle.std.proofs.Common.{arith, ◌∙◌}
+use Rattle.bt_lines.proofs.Std.{arith, ◌∙◌}
 use Rattle.bt_bed.specs.calls.RawRecord.{text_in}
 use Rattle.bt_bed.proofs.lemmas.records.RawRecordLemmas.{byte_there, column_begins, other_byte, text_less, written_so}
 use Rattle.bt_bed.proofs.record.raw_record.RawRecord.is_canonical.Goals as goal

@@ -1,6 +1,6 @@
 use Rattle.bt_lines.proofs.lemmas.reader.lines.BufferedLemmas.{kept_after}
 use Rattle.bt_lines.proofs.lemmas.reader.lines.PassingLemmas.{passes_one}
-use Rattle.std.proofs.Common.{◌+◌, ap, refl, sym}
+use Rattle.bt_lines.proofs.Std.{◌+◌, ap, refl, sym}
 use Rattle.bt_lines.proofs.reader.buffered_lines.BufferedLines.consume.Goals as goal
 
 pub invariant_of-self : goal.invariant_of-self

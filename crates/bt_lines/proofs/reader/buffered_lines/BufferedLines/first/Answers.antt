@@ -1,6 +1,4 @@
-use Rattle.std.proofs.Common.{arith, sym, ◌∙◌}
-use Rattle.std.proofs.lemmas.Bool.Decides.{nat_tests}
-use Rattle.std.proofs.lemmas.List.{nil_from_length}
+use Rattle.bt_lines.proofs.Std.{arith, sym, ◌∙◌, nat_tests, nil_from_length}
 use Rattle.bt_lines.specs.calls.Buffered.{rest_in}
 use Rattle.bt_lines.proofs.lemmas.reader.lines.BufferedLemmas.{line_none}
 use Rattle.bt_lines.proofs.reader.buffered_lines.BufferedLines.first.Goals as goal

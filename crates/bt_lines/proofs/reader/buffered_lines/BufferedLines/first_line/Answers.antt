@@ -1,5 +1,4 @@
-use Rattle.std.proofs.Common.{◌≡◌, ◌∙◌, ap, length, subst, sym, take}
-use Rattle.std.proofs.lemmas.List.{length-take-le}
+use Rattle.bt_lines.proofs.Std.{◌≡◌, ◌∙◌, ap, length, subst, sym, take, length-take-le}
 use Rattle.bt_lines.specs.calls.Buffered.{rest_in}
 use Rattle.bt_lines.specs.calls.FirstByte.{IsBefore}
 use Rattle.bt_lines.proofs.lemmas.reader.lines.BufferedLemmas.{line_first, line_none}

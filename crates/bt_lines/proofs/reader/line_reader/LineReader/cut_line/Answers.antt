@@ -1,5 +1,4 @@
-use Rattle.std.proofs.Common.{◌∙◌, ◌+◌, ◌∷◌, ◌++◌, None, Some, ap, length, refl, sym}
-use Rattle.std.specs.Prelude.{nat_lt}
+use Rattle.bt_lines.proofs.Std.{◌∙◌, ◌+◌, ◌∷◌, ◌++◌, None, Some, ap, length, refl, sym, nat_lt}
 use Rattle.bt_lines.proofs.lemmas.reader.block.BufferLemmas.{fed_clear}
 use Rattle.bt_lines.proofs.lemmas.reader.lines.BufferedLemmas.{begins_first}
 use Rattle.bt_lines.proofs.lemmas.reader.lines.CutLemmas.{are_fed, cut_within, cuts_first, last_cut, quiet_cut, some_at, spaced_cut}

@@ -1,5 +1,4 @@
-use Rattle.std.proofs.Common.{◌∙◌, ap, eqb, length, refl}
-use Rattle.std.proofs.lemmas.Bool.{false≢true}
+use Rattle.bt_lines.proofs.Std.{◌∙◌, ap, eqb, length, refl, false≢true}
 use Rattle.bt_lines.proofs.lemmas.reader.block.FillLemmas.{fills_ready}
 use Rattle.bt_lines.proofs.lemmas.reader.block.ReadsLemmas.{reads_same}
 use Rattle.bt_lines.proofs.reader.line_reader.LineReader.fill.Goals as goal

@@ -1,5 +1,4 @@
-use Rattle.std.proofs.Common.{◌∙◌, ◌++◌, ap, eqb, length, refl, sym}
-use Rattle.std.proofs.lemmas.Bool.{eqb-true, false≢true}
+use Rattle.bt_lines.proofs.Std.{◌∙◌, ◌++◌, ap, eqb, length, refl, sym, eqb-true, false≢true}
 use Rattle.bt_lines.specs.calls.Reader.{fault_kept, input_of, lines_given}
 use Rattle.bt_lines.specs.inside.ReadBuffer.{complete, unread}
 use Rattle.bt_lines.proofs.lemmas.reader.lines.StateLemmas.{last_closed, last_going, last_of_none, quiet_going, spaced, spaced_fault, spaced_last}

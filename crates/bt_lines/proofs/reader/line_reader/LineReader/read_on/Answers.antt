@@ -1,4 +1,4 @@
-use Rattle.std.proofs.Common.{refl}
+use Rattle.bt_lines.proofs.Std.{refl}
 use Rattle.bt_lines.proofs.lemmas.reader.block.FillLemmas.{fills_after_last, fills_again}
 use Rattle.bt_lines.proofs.lemmas.reader.block.ReadsLemmas.{reads_none, reads_same}
 use Rattle.bt_lines.proofs.lemmas.reader.lines.StepLemmas.{told_ended, told_last}

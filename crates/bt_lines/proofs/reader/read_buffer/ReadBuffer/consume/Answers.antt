@@ -1,4 +1,4 @@
-use Rattle.std.proofs.Common.{subst, sym}
+use Rattle.bt_lines.proofs.Std.{subst, sym}
 use Rattle.bt_lines.proofs.lemmas.reader.block.BufferLemmas.{are_dropped, lines_dropped, lines_ordered}
 use Rattle.bt_lines.specs.inside.ReadBuffer.{complete}
 use Rattle.bt_lines.specs.inside.Shape.{AreComplete}

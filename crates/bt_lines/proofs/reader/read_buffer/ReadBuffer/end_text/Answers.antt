@@ -1,4 +1,4 @@
-use Rattle.std.proofs.Common.{◌≡◌, ◌≤◌, ◌<◌, ◌+◌, ◌∙◌, arith, length, rules, set, slice_range, subst, sym}
+use Rattle.bt_lines.proofs.Std.{◌≡◌, ◌≤◌, ◌<◌, ◌+◌, ◌∙◌, arith, length, rules, set, slice_range, subst, sym}
 use Rattle.bt_lines.proofs.lemmas.reader.block.BufferLemmas.{are_in_block, end_added, fed_push, length-range, none_searched}
 use Rattle.bt_lines.proofs.lemmas.reader.block.BuffersLemmas.{closed_some}
 use Rattle.bt_lines.specs.inside.ReadBuffer.{complete, unread}

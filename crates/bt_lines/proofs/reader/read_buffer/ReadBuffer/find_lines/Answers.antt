@@ -1,4 +1,4 @@
-use Rattle.std.proofs.Common.{◌≡◌, arith, length, rules}
+use Rattle.bt_lines.proofs.Std.{◌≡◌, arith, length, rules}
 use Rattle.bt_lines.proofs.lemmas.reader.block.BufferLemmas.{found, not_found}
 use Rattle.bt_lines.specs.inside.ReadBuffer.{complete, unread}
 use Rattle.bt_lines.proofs.reader.read_buffer.ReadBuffer.find_lines.Goals as goal

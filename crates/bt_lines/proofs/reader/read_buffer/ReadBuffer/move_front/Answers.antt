@@ -1,4 +1,4 @@
-use Rattle.std.proofs.Common.{◌≡◌, arith, length, rules, subst, sym}
+use Rattle.bt_lines.proofs.Std.{◌≡◌, arith, length, rules, subst, sym}
 use Rattle.bt_lines.proofs.lemmas.reader.block.BufferLemmas.{front_to, length-range}
 use Rattle.bt_lines.specs.inside.ReadBuffer.{unread}
 use Rattle.bt_lines.specs.inside.Shape.{IsSearched}

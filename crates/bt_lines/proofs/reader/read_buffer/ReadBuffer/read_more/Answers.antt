@@ -1,4 +1,4 @@
-use Rattle.std.proofs.Common.{◌+◌, ◌∙◌, ◌++◌, ℕ, List, ap, arith, slice_range}
+use Rattle.bt_lines.proofs.Std.{◌+◌, ◌∙◌, ◌++◌, ℕ, List, ap, arith, slice_range}
 use Rattle.bt_lines.proofs.lemmas.reader.block.BufferLemmas.{behind_read, front_same, lines_front}
 use Rattle.bt_lines.specs.inside.ReadBuffer.{unread}
 use Rattle.bt_lines.proofs.reader.read_buffer.ReadBuffer.read_more.Goals as goal

@@ -1,4 +1,4 @@
-use Rattle.std.proofs.Common.{◌≡◌, ◌<◌, ◌∙◌, ◌++◌, ap, arith, length, rules, slice_range, take}
+use Rattle.bt_lines.proofs.Std.{◌≡◌, ◌<◌, ◌∙◌, ◌++◌, ap, arith, length, rules, slice_range, take}
 use Rattle.bt_lines.proofs.lemmas.reader.block.BufferLemmas.{length-range, piece}
 use Rattle.bt_lines.specs.inside.ReadBuffer.{unread}
 use Rattle.bt_lines.proofs.reader.read_buffer.ReadBuffer.spill.Goals as goal

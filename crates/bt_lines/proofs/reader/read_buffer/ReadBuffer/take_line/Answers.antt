@@ -1,4 +1,4 @@
-use Rattle.std.proofs.Common.{arith, subst, sym}
+use Rattle.bt_lines.proofs.Std.{arith, subst, sym}
 use Rattle.bt_lines.proofs.lemmas.reader.block.BufferLemmas.{are_dropped, line_text, lines_dropped, lines_ordered, text_fits}
 use Rattle.bt_lines.specs.inside.ReadBuffer.{complete, text_in}
 use Rattle.bt_lines.specs.inside.Shape.{AreComplete}

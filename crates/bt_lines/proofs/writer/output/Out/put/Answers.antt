@@ -1,4 +1,4 @@
-use Rattle.std.proofs.Common.{length, length-append, ap, arith}
+use Rattle.bt_lines.proofs.Std.{length, length-append, ap, arith}
 use Rattle.bt_lines.proofs.lemmas.writer.OutputLemmas.{front_held, holds_held}
 use Rattle.bt_lines.proofs.writer.output.Out.put.Goals as goal
 

@@ -1,4 +1,4 @@
-use Rattle.std.proofs.Common.{arith, length-append}
+use Rattle.bt_lines.proofs.Std.{arith, length-append}
 use Rattle.bt_lines.proofs.lemmas.writer.PuttingLemmas.{puts_held}
 use Rattle.bt_lines.proofs.writer.output.Out.try_put_short.Goals as goal
 

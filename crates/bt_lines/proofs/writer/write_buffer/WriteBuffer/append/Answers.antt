@@ -1,5 +1,4 @@
-use Rattle.std.proofs.Common.{refl, arith}
-use Rattle.std.proofs.lemmas.Slice.{take-put_mid}
+use Rattle.bt_lines.proofs.Std.{refl, arith, take-put_mid}
 use Rattle.bt_lines.proofs.writer.write_buffer.WriteBuffer.append.Goals as goal
 
 pub returns : goal.returns

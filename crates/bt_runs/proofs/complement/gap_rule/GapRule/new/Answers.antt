@@ -1,4 +1,4 @@
-use Rattle.std.proofs.Common.{refl}
+use Rattle.bt_lines.proofs.Std.{refl}
 use Rattle.bt_runs.specs.model.Gaps.{kept_place}
 use Rattle.bt_runs.proofs.complement.gap_rule.GapRule.new.Goals as goal
 

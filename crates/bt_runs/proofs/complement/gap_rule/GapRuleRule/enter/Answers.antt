@@ -1,5 +1,4 @@
-use Rattle.std.proofs.Common.{◌≡◌, ◌∙◌, ℕ, Some, arith, refl, subst, sym}
-use Rattle.std.proofs.lemmas.Result.{err_from_is_err_and}
+use Rattle.bt_lines.proofs.Std.{◌≡◌, ◌∙◌, ℕ, Some, arith, refl, subst, sym, err_from_is_err_and}
 use Rattle.bt_bed.specs.calls.GenomeTable.{entries}
 use Rattle.bt_runs.specs.inside.walk.GapCursor.{seen}
 use Rattle.bt_runs.specs.inside.walk.GapRule.{complement_at}

@@ -1,4 +1,4 @@
-use Rattle.std.proofs.Common.{refl}
+use Rattle.bt_lines.proofs.Std.{refl}
 use Rattle.bt_runs.specs.model.Depth.{kept_records, known_place, unfinished}
 use Rattle.bt_runs.proofs.coverage.depth_rule.DepthRule.new.Goals as goal
 

@@ -1,5 +1,4 @@
-use Rattle.std.proofs.Common.{[], ◌≡◌, ◌∙◌, false, true, arith, refl, sym}
-use Rattle.std.proofs.lemmas.Result.{err_from_is_err_and}
+use Rattle.bt_lines.proofs.Std.{[], ◌≡◌, ◌∙◌, false, true, arith, refl, sym, err_from_is_err_and}
 use Rattle.bt_bed.specs.calls.GenomeTable.{entries}
 use Rattle.bt_runs.specs.inside.coverage.CountSeen.{seen}
 use Rattle.bt_runs.specs.calls.Covering.{Covering}

@@ -1,4 +1,4 @@
-use Rattle.std.proofs.Common.{Err, subst, sym}
+use Rattle.bt_lines.proofs.Std.{Err, subst, sym}
 use Rattle.bt_bed.specs.calls.GenomeTable.{entries}
 use Rattle.bt_bed.specs.declared.parse.bounds.Bounds.{Bounds}
 use Rattle.bt_runs.specs.inside.coverage.CountSeen.{seen}

@@ -1,6 +1,4 @@
-use Rattle.std.proofs.Common.{◌≤◌, arith}
-use Rattle.std.proofs.lemmas.List.Elements.{All-weaker}
-use Rattle.std.specs.BinaryHeap.{heap_items}
+use Rattle.bt_lines.proofs.Std.{◌≤◌, arith, All-weaker, heap_items}
 use Rattle.bt_runs.specs.inside.coverage.OpenEnds.{ends_of}
 use Rattle.bt_runs.proofs.lemmas.coverage.OpenLemmas.{top_least}
 use Rattle.bt_runs.proofs.coverage.open_ends.OpenEnds.first.Goals as goal

@@ -1,4 +1,4 @@
-use Rattle.std.proofs.Common.{◌≤◌, arith}
+use Rattle.bt_lines.proofs.Std.{◌≤◌, arith}
 use Rattle.bt_runs.specs.inside.coverage.OpenRecords.{spans_open}
 use Rattle.bt_runs.proofs.lemmas.coverage.OpenLemmas.{keeps_later}
 use Rattle.bt_runs.proofs.coverage.open_records.OpenRecords.go_on.Goals as goal

@@ -1,5 +1,4 @@
-use Rattle.std.proofs.Common.{◌≡◌, List, arith, length, sym, ap, subst}
-use Rattle.std.proofs.lemmas.List.{length-map}
+use Rattle.bt_lines.proofs.Std.{◌≡◌, List, arith, length, sym, ap, subst, length-map}
 use Rattle.bt_bed.specs.model.feature.Interval.{Span}
 use Rattle.bt_runs.specs.inside.coverage.DepthStep.{still_open}
 use Rattle.bt_runs.specs.inside.coverage.OpenRecords.{KeepsOpen, OpenAt, span_open, spans_open}

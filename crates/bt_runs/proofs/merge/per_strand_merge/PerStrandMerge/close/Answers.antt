@@ -1,4 +1,4 @@
-use Rattle.std.proofs.lemmas.Result.{on_ok_weaker}
+use Rattle.bt_lines.proofs.Std.{on_ok_weaker}
 use Rattle.bt_runs.proofs.lemmas.merge.PerStrandLemmas.{list_closed}
 use Rattle.bt_runs.proofs.merge.per_strand_merge.PerStrandMerge.close.Goals as goal
 

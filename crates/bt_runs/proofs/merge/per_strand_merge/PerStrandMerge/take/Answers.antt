@@ -1,5 +1,4 @@
-use Rattle.std.proofs.Common.{Bool, ◌≡◌, ◌<◌, ◌∙◌, Ok, Err, Result, true, false, refl, rules, ◌∷◌, [], ◌-◌, ap, subst}
-use Rattle.std.proofs.lemmas.Bool.{cond-false, cond-true}
+use Rattle.bt_lines.proofs.Std.{Bool, ◌≡◌, ◌<◌, ◌∙◌, Ok, Err, Result, true, false, refl, rules, ◌∷◌, [], ◌-◌, ap, subst, cond-false, cond-true}
 use Rattle.bt_lines.specs.calls.Names.{fault_value}
 use Rattle.bt_lines.specs.calls.Putting.{FailsToPut}
 use Rattle.bt_lines.specs.declared.fault.Fault.{Fault}

@@ -1,4 +1,4 @@
-use Rattle.std.proofs.Common.{◌≡◌, ap, bytes_eq, false, sym, ◌∙◌, Result}
+use Rattle.bt_lines.proofs.Std.{◌≡◌, ap, bytes_eq, false, sym, ◌∙◌, Result}
 use Rattle.bt_lines.specs.declared.fault.Fault.{Fault}
 use Rattle.bt_bed.proofs.lemmas.order.ResultLemmas.{passed_on}
 use Rattle.bt_runs.specs.inside.merge.PerStrand.{kept_in}

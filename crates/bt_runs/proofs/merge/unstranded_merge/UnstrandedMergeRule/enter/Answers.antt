@@ -1,5 +1,4 @@
-use Rattle.std.proofs.Common.{rules, ◌≡◌, false}
-use Rattle.std.specs.Prelude.{bytes_eq}
+use Rattle.bt_lines.proofs.Std.{rules, ◌≡◌, false, bytes_eq}
 use Rattle.bt_bed.proofs.lemmas.parse.NameLemmas.{other_name}
 use Rattle.bt_runs.proofs.lemmas.engine.EnterLemmas.{stays_on}
 use Rattle.bt_runs.proofs.lemmas.merge.UnstrandedLemmas.{enters_failing, enters_other, enters_unnamed, fits}

@@ -1,4 +1,4 @@
-use Rattle.std.proofs.Common.{◌∷◌, ◌∙◌, List, ap, arith, refl, sym}
+use Rattle.bt_lines.proofs.Std.{◌∷◌, ◌∙◌, List, ap, arith, refl, sym}
 use Rattle.bt_lines.specs.calls.Buffered.{PassesLine, line_of}
 use Rattle.bt_lines.specs.calls.FirstLine.{Shown, line_shown}
 use Rattle.bt_lines.specs.model.Lines.{TextLine}

@@ -1,4 +1,4 @@
-use Rattle.std.proofs.Common.{[], ◌∷◌, ◌++◌, ◌∙◌}
+use Rattle.bt_lines.proofs.Std.{[], ◌∷◌, ◌++◌, ◌∙◌}
 use Rattle.bt_seq.proofs.lemmas.mask.steps.CopyLemmas.{copied_behind}
 use Rattle.bt_seq.proofs.mask.copy_through.CopyThrough.consume_up_to.Goals as goal
 

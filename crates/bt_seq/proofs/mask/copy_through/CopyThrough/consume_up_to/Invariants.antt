@@ -1,4 +1,4 @@
-use Rattle.std.proofs.Common.{◌≡◌, List, length, false}
+use Rattle.bt_lines.proofs.Std.{◌≡◌, List, length, false}
 use Rattle.bt_lines.specs.calls.Buffered.{lines_in}
 use Rattle.bt_lines.specs.model.Lines.{TextLine}
 use Rattle.bt_seq.specs.inside.mask.CopyThrough.{CopiesLines}

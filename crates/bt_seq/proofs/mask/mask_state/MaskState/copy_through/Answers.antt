@@ -1,4 +1,4 @@
-use Rattle.std.proofs.Common.{◌≡◌, ◌∙◌, if◌then◌else◌, slice_range, is_some, ap, sym, subst}
+use Rattle.bt_lines.proofs.Std.{◌≡◌, ◌∙◌, if◌then◌else◌, slice_range, is_some, ap, sym, subst}
 use Rattle.bt_seq.proofs.lemmas.mask.steps.CopyLemmas.{bounds_are, copied_through, some_bytes}
 use Rattle.bt_seq.proofs.lemmas.mask.bases.MaskingLemmas.{none_held}
 use Rattle.bt_seq.proofs.mask.mask_state.MaskState.copy_through.Goals as goal

@@ -1,5 +1,4 @@
-use Rattle.std.proofs.Common.{true}
-use Rattle.std.proofs.lemmas.Result.{err_from_is_err_and}
+use Rattle.bt_lines.proofs.Std.{true, err_from_is_err_and}
 use Rattle.bt_lines.specs.calls.LentLine.{line_seen}
 use Rattle.bt_seq.proofs.lemmas.mask.steps.AdvanceLemmas.{failed_copy, failed_line, gave_line}
 use Rattle.bt_seq.proofs.mask.mask_state.MaskState.give_lines.Goals as goal

@@ -1,4 +1,4 @@
-use Rattle.std.proofs.Common.{◌∙◌, ap, sym}
+use Rattle.bt_lines.proofs.Std.{◌∙◌, ap, sym}
 use Rattle.bt_bed.specs.calls.Bed.{feature_lent}
 use Rattle.bt_seq.specs.calls.MaskState.{Masking}
 use Rattle.bt_seq.proofs.lemmas.mask.bases.MaskingLemmas.{wrote_line}

@@ -1,4 +1,4 @@
-use Rattle.std.proofs.Common.{◌≡◌, None, length}
+use Rattle.bt_lines.proofs.Std.{◌≡◌, None, length}
 use Rattle.bt_seq.specs.model.AlignmentBlocks.{blocks_in}
 use Rattle.bt_seq.specs.model.Cigar.{operations_in}
 use Rattle.bt_seq.proofs.sam.block_iter.SamBlocksIterator.next.Given as goal

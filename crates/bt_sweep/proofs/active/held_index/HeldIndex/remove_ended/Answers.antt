@@ -1,4 +1,4 @@
-use Rattle.std.proofs.Common.{None, ap, cond, nat_lt, sym, ◌∙◌}
+use Rattle.bt_lines.proofs.Std.{None, ap, cond, nat_lt, sym, ◌∙◌}
 use Rattle.bt_sweep.specs.inside.Ends.{ending_at, if_some}
 use Rattle.bt_sweep.specs.calls.HeldList.{records_in}
 use Rattle.bt_sweep.proofs.lemmas.active.EndLemmas.{kept_ends}

@@ -1,4 +1,4 @@
-use Rattle.std.proofs.Common.{sym, ◌∙◌}
+use Rattle.bt_lines.proofs.Std.{sym, ◌∙◌}
 use Rattle.bt_sweep.proofs.lemmas.active.HeldListLemmas.{none_dropped}
 use Rattle.bt_sweep.proofs.active.held_list.HeldList.may_have_ended.Goals as goal
 

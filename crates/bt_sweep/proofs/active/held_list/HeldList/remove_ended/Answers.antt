@@ -1,5 +1,4 @@
-use Rattle.std.proofs.Common.{nat_lt, rules, ◌∙◌}
-use Rattle.std.proofs.lemmas.Fn.{filter_same}
+use Rattle.bt_lines.proofs.Std.{nat_lt, rules, ◌∙◌, filter_same}
 use Rattle.bt_bed.specs.model.feature.Feature.{Feature}
 use Rattle.bt_sweep.proofs.lemmas.active.HeldListLemmas.{bases_on, dropped, rises_on}
 use Rattle.bt_sweep.proofs.active.held_list.HeldList.remove_ended.Goals as goal

@@ -1,4 +1,4 @@
-use Rattle.std.proofs.Common.{ap, arith, deque_len, leb-true, ◌≤◌}
+use Rattle.bt_lines.proofs.Std.{ap, arith, deque_len, leb-true, ◌≤◌}
 use Rattle.bt_bed.specs.model.feature.Feature.{Feature}
 use Rattle.bt_sweep.proofs.lemmas.active.HeldListLemmas.{rises_push}
 use Rattle.bt_sweep.proofs.active.held_list.HeldList.rises_to.Goals as goal

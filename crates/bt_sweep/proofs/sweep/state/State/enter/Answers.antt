@@ -1,5 +1,4 @@
-use Rattle.std.proofs.Common.{ℕ, List, ap, filter, subst, sym, ◌∙◌}
-use Rattle.std.specs.Prelude.{All, nat_lt}
+use Rattle.bt_lines.proofs.Std.{ℕ, List, ap, filter, subst, sym, ◌∙◌, All, nat_lt}
 use Rattle.bt_bed.specs.model.feature.Feature.{Feature}
 use Rattle.bt_sweep.specs.calls.Held.{CanHit}
 use Rattle.bt_sweep.specs.inside.StateSteps.{are_on}

@@ -1,5 +1,4 @@
-use Rattle.std.proofs.Common.{List, ℕ, [], subst}
-use Rattle.std.proofs.lemmas.Result.{err_from_is_err_and}
+use Rattle.bt_lines.proofs.Std.{List, ℕ, [], subst, err_from_is_err_and}
 use Rattle.bt_lines.specs.calls.Names.{fault_value}
 use Rattle.bt_lines.specs.calls.Putting.{FailsToAdd, Grown}
 use Rattle.bt_sweep.specs.inside.Pending.{pending_in}

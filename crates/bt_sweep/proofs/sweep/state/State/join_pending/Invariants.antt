@@ -1,4 +1,4 @@
-use Rattle.std.proofs.Common.{◌≡◌, Some, None}
+use Rattle.bt_lines.proofs.Std.{◌≡◌, Some, None}
 use Rattle.bt_bed.specs.model.order.Order.{IsTotal}
 use Rattle.bt_sweep.specs.inside.Joining.{AreDecidedOn, JoinsSo, LeavesOn}
 use Rattle.bt_sweep.specs.inside.Pending.{IsQuiet, line_in, pending_in}

@@ -1,4 +1,4 @@
-use Rattle.std.proofs.Common.{◌∙◌}
+use Rattle.bt_lines.proofs.Std.{◌∙◌}
 use Rattle.bt_sweep.specs.calls.SweepView.{order_of}
 use Rattle.bt_sweep.proofs.lemmas.sweep.KnownLemmas.{known_later}
 use Rattle.bt_sweep.proofs.sweep.tests.batches.give_both.Goals as goal

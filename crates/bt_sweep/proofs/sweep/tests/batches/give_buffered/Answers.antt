@@ -1,4 +1,4 @@
-use Rattle.std.proofs.Common.{sym, ◌∙◌}
+use Rattle.bt_lines.proofs.Std.{sym, ◌∙◌}
 use Rattle.bt_sweep.specs.calls.SweepView.{order_of}
 use Rattle.bt_sweep.proofs.lemmas.sweep.KnownLemmas.{known_batch}
 use Rattle.bt_sweep.proofs.sweep.tests.batches.give_buffered.Goals as goal

@@ -1,4 +1,4 @@
-use Rattle.std.proofs.Common.{sym, ◌∙◌}
+use Rattle.bt_lines.proofs.Std.{sym, ◌∙◌}
 use Rattle.bt_sweep.proofs.lemmas.sweep.KnownLemmas.{known_single}
 use Rattle.bt_sweep.proofs.sweep.tests.batches.single_of.Goals as goal
 

@@ -1,4 +1,4 @@
-use Rattle.std.proofs.Common.{refl}
+use Rattle.bt_lines.proofs.Std.{refl}
 use Rattle.bt_tool.proofs.lemmas.running.sweep.SweepRounds.{first_ended, first_filled, first_stopped}
 use Rattle.bt_tool.proofs.loops.sweeping.SweepRunTwoInputEngine.fill_first.Goals as goal
 

@@ -1,4 +1,4 @@
-use Rattle.std.proofs.Common.{sym, ◌∙◌}
+use Rattle.bt_lines.proofs.Std.{sym, ◌∙◌}
 use Rattle.bt_tool.proofs.lemmas.running.sweep.SweepRounds.{gave_both}
 use Rattle.bt_tool.proofs.loops.sweeping.SweepRunTwoInputEngine.give_buffered.Goals as goal
 

@@ -1,6 +1,4 @@
-use Rattle.std.proofs.Common.{◌≡◌, ◌+◌, Some, None, subst, ap, sym, ◌∙◌, cond}
-use Rattle.std.specs.Prelude.{bytes_eq, option_map}
-use Rattle.std.specs.Option.{option_or}
+use Rattle.bt_lines.proofs.Std.{◌≡◌, ◌+◌, Some, None, subst, ap, sym, ◌∙◌, cond, bytes_eq, option_map, option_or}
 use Rattle.bt_tool.specs.calls.words.Lent.{item_lent, table_lent}
 use Rattle.bt_tool.specs.calls.words.Plan.{words_seen}
 use Rattle.bt_tool.proofs.lemmas.options.Reading.{Reads, reads-item, reads-end, words-end}

@@ -1,5 +1,4 @@
-use Rattle.std.proofs.Common.{length, ◌-◌}
-use Rattle.std.specs.Prelude.{option_map}
+use Rattle.bt_lines.proofs.Std.{length, ◌-◌, option_map}
 use Rattle.bt_tool.proofs.lemmas.options.Reading.{Reads}
 use Rattle.bt_tool.specs.calls.words.Lent.{item_lent, table_lent}
 use Rattle.bt_tool.specs.calls.words.Plan.{words_seen}

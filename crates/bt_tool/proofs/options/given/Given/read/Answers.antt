@@ -1,6 +1,6 @@
 use Rattle.bt_tool.specs.calls.words.Lent.{item_lent, table_lent}
 use Rattle.bt_tool.specs.calls.words.Plan.{words_seen}
-use Rattle.std.proofs.Common.{◌+◌, subst, sym}
+use Rattle.bt_lines.proofs.Std.{◌+◌, subst, sym}
 use Rattle.bt_tool.proofs.lemmas.options.Reading.{HasReadWords, reads-on-item, reads-on-end, words-end}
 use Rattle.bt_tool.proofs.options.given.Given.read.Goals as goal
 

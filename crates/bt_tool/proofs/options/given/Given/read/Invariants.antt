@@ -1,4 +1,4 @@
-use Rattle.std.proofs.Common.{length, ◌-◌}
+use Rattle.bt_lines.proofs.Std.{length, ◌-◌}
 use Rattle.bt_tool.proofs.lemmas.options.Reading.{HasReadWords}
 use Rattle.bt_tool.specs.calls.words.Plan.{words_seen}
 use Rattle.bt_tool.specs.calls.words.Lent.{table_lent}

@@ -1,0 +1,268 @@
+-- Lemmas on lines that are decided early.
+use Rattle.bt_lines.proofs.Std.{◌≡◌, ℕ, suc, ◌+◌, ◌<◌, ◌≤◌, Bool, true, false, cond, ◌&&◌, ◌||◌, nat_le, nat_lt, length, List, [], ◌∷◌, ◌++◌, filter, Option, Some, None, refl, sym, ap, ◌∙◌, subst, append-nil, bytes_eq, arith, ⊤, bytes_decides, AllByRecursion, list_any, nat_tests, flat_map-append, filter-append, list_any-append}
+use Rattle.bt_bed.specs.model.feature.Feature.{Feature}
+use Rattle.bt_bed.specs.model.input.GoodBed.{locus_at}
+use Rattle.bt_bed.specs.model.input.GoodBlocks.{AreInBlocks, IsBlockUpTo}
+use Rattle.bt_lines.specs.model.Lines.{end_bytes}
+use Rattle.bt_seq.proofs.lemmas.definitions.LeftLemmas.{is_last, leave}
+use Rattle.bt_seq.proofs.lemmas.sam.TagLemmas.{Tagged, decided_tagged, last_from, next_left, own_in, own_tagged, tag_decides, tags, tags_append, tags_of}
+use Rattle.bt_seq.specs.calls.MaskPrefixes.{decided_lines_stay, masked_lines_are_before, masked_lines_stay}
+use Rattle.bt_seq.specs.model.Masked.{covers, decided, held_for, is_unnamed, masked_from, masked_text}
+use Rattle.bt_seq.specs.model.MaskHow.{masked_byte}
+use Rattle.bt_seq.specs.model.Owners.{block_decides, items_if_last, left_by, own_records}
+use Rattle.bt_seq.specs.model.Sequences.{SequenceLine, bases_in, bases_up_to, is_header}
+use Rattle.bt_seq.specs.declared.mask.mask_how.MaskHow.{MaskHow}
+
+abbrev pub chrom_of : Feature → List ℕ
+chrom_of r = r.chrom
+
+-- whether records decide a line, record by record
+pub decided_by_tags : (line : SequenceLine) (records : List Feature)
+    → decided line records ≡ (is_unnamed line.names || list_any (tag_decides (bases_up_to line)) (tags_of line.names records))
+decided_by_tags line records = ap (λ b. is_unnamed line.names || b) (decided_tagged (bases_up_to line) line.names records)
+
+stays_by : (a : Bool) (b c : Bool) → (a || b) ≡ true → (a || (b || c)) ≡ true
+stays_by true b c e = refl
+stays_by false true c e = refl
+stays_by false false c e = absurd (let apart : false ≡ true = e in cc)
+
+pub decided_stays : decided_lines_stay
+decided_stays line records more e =
+    let decides = tag_decides (bases_up_to line) in
+    let before = tags_of line.names records in
+    let after = tags chrom_of (leave (Some line.names) None records) (last_from None records) more in
+    decided_by_tags line (records ++ more)
+    ∙ ap (λ (ts : List (Tagged Feature)). is_unnamed line.names || list_any decides ts) (tags_append (Some line.names) None records more)
+    ∙ ap (λ b. is_unnamed line.names || b) (list_any-append decides before after)
+    ∙ stays_by (is_unnamed line.names) (list_any decides before) (list_any decides after) (sym (decided_by_tags line records) ∙ e)
+
+-- records that start after these bases
+abbrev pub AreBehind : ℕ → List Feature → Type 0
+AreBehind bases rs = AllByRecursion (λ (r : Feature). bases ≤ r.start) rs
+
+behind_both : (bases : ℕ) (rs more : List Feature) → AreBehind bases rs → AreBehind bases more → AreBehind bases (rs ++ more)
+behind_both bases [] more h k = k
+behind_both bases (r ∷ rs) more h k = (h.0, behind_both bases rs more h.1 k)
+
+behind_rest : (bases : ℕ) (rs more : List Feature) → AreBehind bases (rs ++ more) → AreBehind bases more
+behind_rest bases [] more h = h
+behind_rest bases (r ∷ rs) more h = behind_rest bases rs more h.1
+
+blocks_rest : (r : Feature) (rs : List Feature) → AreInBlocks (r ∷ rs) → AreInBlocks rs
+blocks_rest r [] h = tt
+blocks_rest r (s ∷ ss) h = h.1
+
+blocks_drop : (rs more : List Feature) → AreInBlocks (rs ++ more) → AreInBlocks more
+blocks_drop [] more h = h
+blocks_drop (r ∷ rs) more h = blocks_drop rs more (blocks_rest r (rs ++ more) h)
+
+pub blocks_front : (rs more : List Feature) → AreInBlocks (rs ++ more) → AreInBlocks rs
+blocks_front [] more h = tt
+blocks_front (r ∷ []) more h = tt
+blocks_front (r ∷ s ∷ rs) more h = (h.0, blocks_front (s ∷ rs) more h.1)
+
+-- once a record has decided a line: the block belongs to none, or to the last sequence, and the record starts after the line
+module _ (bases : ℕ) where
+  abbrev IsPast : Option (List (List ℕ)) → Feature → Type 0
+  IsPast None r = ⊤
+  IsPast (Some []) r = bases ≤ r.start
+  IsPast (Some (name ∷ names)) r = ⊥
+
+  past_own : (left : Option (List (List ℕ))) (r : Feature) → IsPast left r → AreBehind bases (items_if_last left (r ∷ []))
+  past_own None r h = tt
+  past_own (Some []) r h = (h, tt)
+  past_own (Some (name ∷ names)) r h = absurd h
+
+  past_next : (left : Option (List (List ℕ))) (r s : Feature) (t : Bool) → bytes_eq r.chrom s.chrom ≡ t → IsBlockUpTo (locus_at r) (locus_at s) → IsPast left r
+      → IsPast (cond t left (left_by left s.chrom)) s
+  past_next None r s true e up h = tt
+  past_next None r s false e up h = tt
+  past_next (Some []) r s true e up h =
+      let rises : r.start ≤ s.start = up ((bytes_decides r.chrom s.chrom).0 e) in omega arith
+  past_next (Some []) r s false e up h = tt
+  past_next (Some (name ∷ names)) r s t e up h = absurd h
+
+  -- all that follow it in order
+  past_all : (left : Option (List (List ℕ))) (r : Feature) (rs : List Feature) → IsPast left r → AreInBlocks (r ∷ rs) → AreBehind bases (own_in (tags chrom_of left (Some r.chrom) rs))
+  past_all left r [] h placed = tt
+  past_all left r (s ∷ ss) h placed =
+      let now = past_next left r s (bytes_eq r.chrom s.chrom) refl placed.0 h in
+      let left_now = next_left chrom_of left (Some r.chrom) s in
+      behind_both bases (items_if_last left_now (s ∷ [])) (own_in (tags chrom_of left_now (Some s.chrom) ss)) (past_own left_now s now) (past_all left_now s ss now placed.1)
+
+  le_true : (a b : ℕ) → (nat_le a b || false) ≡ true → a ≤ b
+  le_true a b e = grind (arith, nat_tests)
+
+  decides_past : (left : Option (List (List ℕ))) (r : Feature) → block_decides bases left (r ∷ []) ≡ true → IsPast left r
+  decides_past None r e = tt
+  decides_past (Some []) r e = le_true bases r.start e
+  decides_past (Some (name ∷ names)) r e = absurd (let apart : false ≡ true = e in cc)
+
+  after_by : (left : Option (List (List ℕ))) (r : Feature) (rs more : List Feature) (t : Bool) → block_decides bases left (r ∷ []) ≡ t
+      → (t || list_any (tag_decides bases) (tags chrom_of left (Some r.chrom) rs)) ≡ true → AreInBlocks (r ∷ (rs ++ more))
+      → (list_any (tag_decides bases) (tags chrom_of left (Some r.chrom) rs) ≡ true → AreInBlocks (rs ++ more) → AreBehind bases (own_in (tags chrom_of (leave left (Some r.chrom) rs) (last_from (Some r.chrom) rs) more)))
+      → AreBehind bases (own_in (tags chrom_of (leave left (Some r.chrom) rs) (last_from (Some r.chrom) rs) more))
+  after_by left r rs more true d e placed rest =
+      let all = past_all left r (rs ++ more) (decides_past left r d) placed in
+      let split : own_in (tags chrom_of left (Some r.chrom) (rs ++ more)) ≡ own_in (tags chrom_of left (Some r.chrom) rs) ++ own_in (tags chrom_of (leave left (Some r.chrom) rs) (last_from (Some r.chrom) rs) more) =
+      ap own_in (tags_append left (Some r.chrom) rs more)
+      ∙ flat_map-append (λ (t : Tagged Feature). items_if_last t.left (t.item ∷ [])) (tags chrom_of left (Some r.chrom) rs) (tags chrom_of (leave left (Some r.chrom) rs) (last_from (Some r.chrom) rs) more) in
+      behind_rest bases (own_in (tags chrom_of left (Some r.chrom) rs)) (own_in (tags chrom_of (leave left (Some r.chrom) rs) (last_from (Some r.chrom) rs) more))
+      (subst (λ (l : List Feature). AreBehind bases l) split all)
+  after_by left r rs more false d e placed rest = rest e (blocks_rest r (rs ++ more) placed)
+
+  -- the records that follow those that decide a line
+  after_all : (left : Option (List (List ℕ))) (last : Option (List ℕ)) (rs more : List Feature) → list_any (tag_decides bases) (tags chrom_of left last rs) ≡ true → AreInBlocks (rs ++ more)
+      → AreBehind bases (own_in (tags chrom_of (leave left last rs) (last_from last rs) more))
+  after_all left last [] more e placed = absurd (let apart : false ≡ true = e in cc)
+  after_all left last (r ∷ rs) more e placed =
+      after_by (next_left chrom_of left last r) r rs more (block_decides bases (next_left chrom_of left last r) (r ∷ [])) refl e placed
+      (λ d p. after_all (next_left chrom_of left last r) (Some r.chrom) rs more d p)
+
+  before_by : (left : Option (List (List ℕ))) (r : Feature) (more : List Feature) → block_decides bases left (r ∷ []) ≡ true → AreInBlocks (r ∷ more)
+      → AreBehind bases (items_if_last left (r ∷ []) ++ own_in (tags chrom_of left (Some r.chrom) more))
+  before_by left r more d placed =
+      let past = decides_past left r d in
+      behind_both bases (items_if_last left (r ∷ [])) (own_in (tags chrom_of left (Some r.chrom) more)) (past_own left r past) (past_all left r more past placed)
+
+  drop_false : (b : Bool) → (b || false) ≡ true → b ≡ true
+  drop_false true e = refl
+  drop_false false e = e
+
+  before_split : (left : Option (List (List ℕ))) (last : Option (List ℕ)) (rs : List Feature) (r : Feature) (more : List Feature) (a : Bool) → list_any (tag_decides bases) (tags chrom_of left last rs) ≡ a
+      → (a || (block_decides bases (next_left chrom_of (leave left last rs) (last_from last rs) r) (r ∷ []) || false)) ≡ true → AreInBlocks (rs ++ r ∷ more)
+      → AreBehind bases (own_in (tags chrom_of (leave left last rs) (last_from last rs) (r ∷ more)))
+  before_split left last rs r more true a e placed = after_all left last rs (r ∷ more) a placed
+  before_split left last rs r more false a e placed =
+      let now = next_left chrom_of (leave left last rs) (last_from last rs) r in
+      before_by now r more (drop_false (block_decides bases now (r ∷ [])) e) (blocks_drop rs (r ∷ more) placed)
+
+  -- the record that decides it and those that follow
+  pub before_all : (left : Option (List (List ℕ))) (last : Option (List ℕ)) (rs : List Feature) (r : Feature) (more : List Feature)
+      → list_any (tag_decides bases) (tags chrom_of left last (rs ++ r ∷ [])) ≡ true → AreInBlocks (rs ++ r ∷ more)
+      → AreBehind bases (own_in (tags chrom_of (leave left last rs) (last_from last rs) (r ∷ more)))
+  before_all left last rs r more e placed =
+      let decides = tag_decides bases in
+      let behind = tags chrom_of (leave left last rs) (last_from last rs) (r ∷ []) in
+      before_split left last rs r more (list_any decides (tags chrom_of left last rs)) refl
+      (sym (list_any-append decides (tags chrom_of left last rs) behind) ∙ sym (ap (list_any decides) (tags_append left last rs (r ∷ []))) ∙ e) placed
+
+  no_cover : (position : ℕ) (rs : List Feature) → position < bases → AreBehind bases rs → list_any (covers position) rs ≡ false
+  no_cover position [] low h = refl
+  no_cover position (r ∷ rs) low h =
+      let start : bases ≤ r.start = h.0 in
+      let none : covers position r ≡ false = grind (arith, nat_tests) in
+      ap (λ b. b || list_any (covers position) rs) none ∙ no_cover position rs low h.1
+
+  or_none : (b : Bool) → (b || false) ≡ b
+  or_none true = refl
+  or_none false = refl
+
+  cover_same : (position : ℕ) (rs extra : List Feature) → position < bases → AreBehind bases extra → list_any (covers position) (rs ++ extra) ≡ list_any (covers position) rs
+  cover_same position rs extra low h =
+      list_any-append (covers position) rs extra ∙ ap (λ b. list_any (covers position) rs || b) (no_cover position extra low h) ∙ or_none (list_any (covers position) rs)
+
+  -- they mask nothing before
+  masked_same : (how : MaskHow) (rs extra : List Feature) (position : ℕ) (text : List ℕ) → position + length text ≤ bases → AreBehind bases extra
+      → masked_from how (rs ++ extra) position text ≡ masked_from how rs position text
+  masked_same how rs extra position [] low h = refl
+  masked_same how rs extra position (base ∷ text) low h =
+      ap (λ b. cond b (masked_byte how base) base ∷ masked_from how (rs ++ extra) (suc position) text) (cover_same position rs extra (omega arith) h)
+      ∙ ap (λ bs. cond (list_any (covers position) rs) (masked_byte how base) base ∷ bs) (masked_same how rs extra (suc position) text (omega arith) h)
+
+text_same : (how : MaskHow) (line : SequenceLine) (rs extra : List Feature) → AreBehind (bases_up_to line) extra → (h : Bool) → is_header line.text ≡ h
+    → cond h line.text (masked_from how (rs ++ extra) line.before line.text) ≡ cond h line.text (masked_from how rs line.before line.text)
+text_same how line rs extra behind true h = refl
+text_same how line rs extra behind false h =
+    let count : bases_in line.text ≡ length line.text = ap (λ b. cond b 0 (length line.text)) h in
+    let low : line.before + length line.text ≤ bases_up_to line = omega (arith, count) in
+    masked_same (bases_up_to line) how rs extra line.before line.text low behind
+
+pub none_next : (t : Bool) (name : List ℕ) → cond t None (left_by None name) ≡ None
+none_next true name = refl
+none_next false name = refl
+
+none_own : (last : Option (List ℕ)) (rs : List Feature) → own_in (tags chrom_of None last rs) ≡ []
+none_own last [] = refl
+none_own last (r ∷ rs) =
+    ap (λ left. items_if_last left (r ∷ []) ++ own_in (tags chrom_of left (Some r.chrom) rs)) (none_next (is_last last r.chrom) r.chrom) ∙ none_own (Some r.chrom) rs
+
+-- before the first header no record is one of the line's sequence
+pub unnamed_own : (rs : List Feature) → own_records [] rs ≡ []
+unnamed_own [] = refl
+unnamed_own (r ∷ rs) = own_tagged [] (r ∷ rs) ∙ none_own (Some r.chrom) rs
+
+unnamed_alike : (names : List (List ℕ)) → is_unnamed names ≡ true → (rs ss : List Feature) → own_records names rs ≡ own_records names ss
+unnamed_alike [] e rs ss = unnamed_own rs ∙ sym (unnamed_own ss)
+unnamed_alike (name ∷ names) e rs ss = absurd (let apart : false ≡ true = e in cc)
+
+-- the records of the line's sequence, split where it was decided
+own_split : (names : List (List ℕ)) (rs more : List Feature) → own_records names (rs ++ more) ≡ own_records names rs ++ own_in (tags chrom_of (leave (Some names) None rs) (last_from None rs) more)
+own_split names rs more =
+    own_tagged names (rs ++ more) ∙ ap own_in (tags_append (Some names) None rs more)
+    ∙ flat_map-append (λ (t : Tagged Feature). items_if_last t.left (t.item ∷ [])) (tags_of names rs) (tags chrom_of (leave (Some names) None rs) (last_from None rs) more)
+    ∙ ap (λ (l : List Feature). l ++ own_in (tags chrom_of (leave (Some names) None rs) (last_from None rs) more)) (sym (own_tagged names rs))
+
+module _ (how : MaskHow) (line : SequenceLine) where
+  abbrev text_by : List Feature → List ℕ
+  text_by own = cond (is_header line.text) line.text (masked_from how own line.before line.text)
+
+  stay_text : (rs more : List Feature) → AreInBlocks (rs ++ more) → (u : Bool) → is_unnamed line.names ≡ u → (u || list_any (tag_decides (bases_up_to line)) (tags_of line.names rs)) ≡ true
+      → masked_text how (rs ++ more) line ≡ masked_text how rs line
+  stay_text rs more placed true u e = ap text_by (unnamed_alike line.names u (rs ++ more) rs)
+  stay_text rs more placed false u e =
+      ap text_by (own_split line.names rs more)
+      ∙ text_same how line (own_records line.names rs) (own_in (tags chrom_of (leave (Some line.names) None rs) (last_from None rs) more)) (after_all (bases_up_to line) (Some line.names) None rs more e placed) (is_header line.text) refl
+
+  before_text : (rs : List Feature) (r : Feature) (more : List Feature) → AreInBlocks (rs ++ r ∷ more) → (u : Bool) → is_unnamed line.names ≡ u → (u || list_any (tag_decides (bases_up_to line)) (tags_of line.names (rs ++ r ∷ []))) ≡ true
+      → masked_text how (rs ++ r ∷ more) line ≡ masked_text how rs line
+  before_text rs r more placed true u e = ap text_by (unnamed_alike line.names u (rs ++ r ∷ more) rs)
+  before_text rs r more placed false u e =
+      ap text_by (own_split line.names rs (r ∷ more))
+      ∙ text_same how line (own_records line.names rs) (own_in (tags chrom_of (leave (Some line.names) None rs) (last_from None rs) (r ∷ more))) (before_all (bases_up_to line) (Some line.names) None rs r more e placed) (is_header line.text) refl
+
+-- a record that decides a line isn't held by it
+module _ (line : SequenceLine) where
+  abbrev reaches : Feature → Bool
+  reaches r = nat_lt r.start (bases_up_to line) && nat_lt line.before r.stop
+
+  none_reaches : (rs : List Feature) → AreBehind (bases_up_to line) rs → filter reaches rs ≡ []
+  none_reaches [] h = refl
+  none_reaches (r ∷ rs) h =
+      let start : bases_up_to line ≤ r.start = h.0 in
+      let past : reaches r ≡ false = grind (arith, nat_tests) in
+      ap (λ b. cond b (r ∷ filter reaches rs) (filter reaches rs)) past ∙ none_reaches rs h.1
+
+  held_same : (rs extra : List Feature) → AreBehind (bases_up_to line) extra
+      → filter reaches (rs ++ extra) ≡ filter reaches rs
+  held_same rs extra h =
+      filter-append reaches rs extra
+      ∙ ap (λ (l : List Feature). filter reaches rs ++ l) (none_reaches extra h)
+      ∙ append-nil (filter reaches rs)
+
+  held_by_tags : (rs : List Feature) (r : Feature) → AreInBlocks (rs ++ r ∷ []) → (u : Bool)
+      → is_unnamed line.names ≡ u
+      → (u || list_any (tag_decides (bases_up_to line)) (tags_of line.names (rs ++ r ∷ []))) ≡ true
+      → held_for line (rs ++ r ∷ []) ≡ held_for line rs
+  held_by_tags rs r placed true u e =
+      ap (filter reaches) (unnamed_alike line.names u (rs ++ r ∷ []) rs)
+  held_by_tags rs r placed false u e =
+      let left = leave (Some line.names) None rs in
+      let next = own_in (tags chrom_of left (last_from None rs) (r ∷ [])) in
+      ap (filter reaches) (own_split line.names rs (r ∷ []))
+      ∙ held_same (own_records line.names rs) next
+      (before_all (bases_up_to line) (Some line.names) None rs r [] e placed)
+
+  pub held_before : (rs : List Feature) (r : Feature) → AreInBlocks (rs ++ r ∷ [])
+      → decided line (rs ++ r ∷ []) ≡ true → held_for line (rs ++ r ∷ []) ≡ held_for line rs
+  held_before rs r placed e =
+      held_by_tags rs r placed (is_unnamed line.names) refl
+      (sym (decided_by_tags line (rs ++ r ∷ [])) ∙ e)
+
+pub masked_stay : masked_lines_stay
+masked_stay how line rs more placed e =
+    ap (λ t. t ++ end_bytes line.ending) (stay_text how line rs more placed (is_unnamed line.names) refl (sym (decided_by_tags line rs) ∙ e))
+
+pub masked_before : masked_lines_are_before
+masked_before how line rs r e more placed =
+    ap (λ t. t ++ end_bytes line.ending) (before_text how line rs r more placed (is_unnamed line.names) refl (sym (decided_by_tags line (rs ++ r ∷ [])) ∙ e))

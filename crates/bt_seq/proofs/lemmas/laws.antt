@@ -1,6 +1,0 @@
--- Lemmas on laws.
-pub mod HeldLemmas
-pub mod KnowsLemmas
-pub mod LeftLemmas
-pub mod MaskPrefixLemmas
-pub mod MaskMetLemmas

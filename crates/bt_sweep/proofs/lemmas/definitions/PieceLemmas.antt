@@ -1,0 +1,204 @@
+-- The pieces of a record are the stretches of the positions that are left of it, and the only list that
+-- is. A walk over those that hit it by their starts meets them in order.
+use Rattle.bt_lines.proofs.Std.{◌≡◌, ℕ, ◌+◌, ◌<◌, ◌≤◌, inl, inr, Bool, true, false, not, ◌&&◌, cond, List, [], ◌∷◌, ◌++◌, refl, sym, ap, ◌∙◌, ltb, arith, append_assoc, append-nil, flat_map, max, Decides, nat_le, nat_lt, leb-true, le-leb, list_any, cases_lt, false≢true, ltb-true, ltb-false, Decides-and, Decides-or, Decides-ltb, Decides-not}
+use Rattle.bt_bed.specs.model.feature.Feature.{Feature}
+use Rattle.bt_bed.specs.model.feature.Interval.{Span}
+use Rattle.bt_bed.specs.model.feature.Stretches.{AreApartFrom, IsCovered}
+use Rattle.bt_bed.proofs.lemmas.definitions.Apart.{stretches_are_same}
+use Rattle.bt_bed.proofs.lemmas.definitions.Scan.{scan_finds}
+use Rattle.bt_sweep.specs.calls.Held.{AreRising, AreRisingFrom}
+use Rattle.bt_sweep.specs.model.Hits.{hits, hits_among}
+use Rattle.bt_sweep.specs.model.IntersectLines.{piece_line}
+use Rattle.bt_sweep.specs.model.Pieces.{IsLeft, has_position, is_left, pieces, pieces_are, pieces_only, spans_of}
+use Rattle.bt_sweep.specs.inside.Walking.{free_after, gap_lines, lines_before}
+use Rattle.bt_sweep.specs.declared.hits.hit_rule.HitRule.{HitRule}
+use Rattle.bt_sweep.proofs.lemmas.definitions.RisingLemmas.{rising_filter}
+use Rattle.bt_sweep.proofs.lemmas.definitions.RuleLemmas.{hit_overlaps, overlap_parts}
+
+Decides-le : (a b : ℕ) → Decides (nat_le a b) (a ≤ b)
+Decides-le a b = (leb-true a b, le-leb a b)
+
+covers-Decides : (others : List Feature) (p : ℕ) → Decides (list_any (has_position p) others) (IsCovered (spans_of others) p)
+covers-Decides [] p = (λ e. false≢true e, λ c. absurd c)
+covers-Decides (b ∷ others) p =
+    Decides-or (nat_le b.start p && nat_lt p b.stop) (list_any (has_position p) others)
+    (Decides-and (nat_le b.start p) (nat_lt p b.stop) (Decides-le b.start p) (Decides-ltb p b.stop)) (covers-Decides others p)
+
+left-Decides : (a : Feature) (others : List Feature) (p : ℕ) → Decides (is_left a others p) ((a.start ≤ p) × (IsCovered (spans_of others) p → ⊥))
+left-Decides a others p =
+    Decides-and (nat_le a.start p) (not (list_any (has_position p) others)) (Decides-le a.start p)
+    (Decides-not (list_any (has_position p) others) (covers-Decides others p))
+
+pub are_pieces : pieces_are
+unfolding pieces
+are_pieces a others =
+    let scan = scan_finds (is_left a others) a.stop in
+    record {
+      apart = scan.apart;
+      within = λ p c. let h = scan.within p c in let left = (left-Decides a others p).0 h.1 in record { from_start = left.0; before_stop = h.0; bare = left.1 };
+      whole = λ p l. scan.whole p (l.before_stop, (left-Decides a others p).1 (l.from_start, l.bare));
+    }
+
+pub only_pieces : pieces_only
+only_pieces a others spans h = stretches_are_same (IsLeft a others) spans (pieces a others) h (are_pieces a others)
+
+-- the stretch between two positions, if it has one
+abbrev gap : ℕ → ℕ → List Span
+gap start stop = cond (ltb start stop) (record { start = start; stop = stop } ∷ []) []
+
+-- the stretches between these, from a first position up to a last
+abbrev walk : ℕ → ℕ → List Feature → List Span
+walk free stop [] = gap free stop
+walk free stop (b ∷ bs) = gap free b.start ++ walk (max free b.stop) stop bs
+
+flat_map-append : (f : Span → List ℕ) (xs ys : List Span) → flat_map f (xs ++ ys) ≡ flat_map f xs ++ flat_map f ys
+flat_map-append f [] ys = refl
+flat_map-append f (x ∷ xs) ys = ap (λ l. f x ++ l) (flat_map-append f xs ys) ∙ sym (append_assoc (f x) (flat_map f xs) (flat_map f ys))
+
+gap_at : (a : Feature) (start stop : ℕ) (c : Bool) → flat_map (piece_line a) (cond c (record { start = start; stop = stop } ∷ []) []) ≡ cond c (piece_line a (record { start = start; stop = stop })) []
+gap_at a start stop true = append-nil (piece_line a (record { start = start; stop = stop }))
+gap_at a start stop false = refl
+
+gap_written : (a : Feature) (start stop : ℕ) → flat_map (piece_line a) (gap start stop) ≡ gap_lines a start stop
+gap_written a start stop = gap_at a start stop (ltb start stop)
+
+-- the lines of a walk
+walk_lines : (a : Feature) (free stop : ℕ) (bs : List Feature) → flat_map (piece_line a) (walk free stop bs) ≡ lines_before a free bs ++ gap_lines a (free_after free bs) stop
+walk_lines a free stop [] = gap_written a free stop
+walk_lines a free stop (b ∷ bs) =
+    flat_map-append (piece_line a) (gap free b.start) (walk (max free b.stop) stop bs)
+    ∙ ap (λ l. l ++ flat_map (piece_line a) (walk (max free b.stop) stop bs)) (gap_written a free b.start)
+    ∙ ap (λ l. gap_lines a free b.start ++ l) (walk_lines a (max free b.stop) stop bs)
+    ∙ sym (append_assoc (gap_lines a free b.start) (lines_before a (max free b.stop) bs) (gap_lines a (free_after (max free b.stop) bs) stop))
+
+-- each has a base, and starts before this position
+abbrev AreWithin : ℕ → List Feature → Type 0
+AreWithin stop [] = Unit {0}
+AreWithin stop (b ∷ bs) = (b.start < b.stop) × (b.start < stop) × AreWithin stop bs
+
+-- the stretches of the positions from a first one up to a last that none of these has
+record IsWalk (free stop : ℕ) (bs : List Feature) (spans : List Span) : Type 0 where
+  apart : AreApartFrom free spans
+  from_free : (p : ℕ) → IsCovered spans p → free ≤ p
+  before_stop : (p : ℕ) → IsCovered spans p → p < stop
+  bare : (p : ℕ) → IsCovered spans p → IsCovered (spans_of bs) p → ⊥
+  whole : (p : ℕ) → free ≤ p → p < stop → (IsCovered (spans_of bs) p → ⊥) → IsCovered spans p
+
+gap_walks : (free stop : ℕ) (c : Bool) → ltb free stop ≡ c → IsWalk free stop [] (cond c (record { start = free; stop = stop } ∷ []) [])
+gap_walks free stop true e =
+    let less = ltb-true free stop e in
+    record {
+      apart = (omega arith, less, tt);
+      from_free = λ p c. elim c [ inl w ↦ w.0 | inr w ↦ absurd w ];
+      before_stop = λ p c. elim c [ inl w ↦ w.1 | inr w ↦ absurd w ];
+      bare = λ p c w. absurd w;
+      whole = λ p low high free. inl (low, high);
+    }
+gap_walks free stop false e =
+    let more = ltb-false free stop e in
+    record {
+      apart = tt;
+      from_free = λ p c. absurd c;
+      before_stop = λ p c. absurd c;
+      bare = λ p c w. absurd w;
+      whole = λ p low high free. absurd (omega (arith, more));
+    }
+
+-- what rises from a position has none below it
+none_below : (low : ℕ) (bs : List Feature) (p : ℕ) → AreRisingFrom low bs → IsCovered (spans_of bs) p → low ≤ p
+none_below low [] p rises c = absurd c
+none_below low (b ∷ bs) p rises c =
+    elim c [
+      | inl w ↦ omega (arith, rises.0, w.0)
+      | inr w ↦ let up = none_below b.start bs p rises.1 w in omega (arith, rises.0, up)
+    ]
+
+apart_down : (low high : ℕ) (spans : List Span) → low ≤ high → AreApartFrom high spans → AreApartFrom low spans
+apart_down low high [] h apart = tt
+apart_down low high (s ∷ ss) h apart = (omega (arith, apart.0), apart.1, apart.2)
+
+module _ (free stop : ℕ) (b : Feature) (bs : List Feature) (spans : List Span) (some : b.start < b.stop) (within : b.start < stop) (rises : AreRisingFrom b.start bs) (rest : IsWalk (max free b.stop) stop bs spans) where
+  past_b : (p : ℕ) → IsCovered spans p → (free ≤ p) × (b.stop ≤ p)
+  past_b p c = let up = rest.from_free p c in (omega (arith, up), omega (arith, up))
+
+  bare_rest : (p : ℕ) → IsCovered spans p → IsCovered (spans_of (b ∷ bs)) p → ⊥
+  bare_rest p c w =
+      elim w [
+        | inl here ↦ let up = past_b p c in absurd (omega (arith, up.1, here.1))
+        | inr there ↦ rest.bare p c there
+      ]
+
+  bare_gap : (p : ℕ) → p < b.start → IsCovered (spans_of (b ∷ bs)) p → ⊥
+  bare_gap p low w =
+      elim w [
+        | inl here ↦ absurd (omega (arith, low, here.0))
+        | inr there ↦ let up = none_below b.start bs p rises there in absurd (omega (arith, low, up))
+      ]
+
+  whole_rest : (p : ℕ) → free ≤ p → b.start ≤ p → p < stop → (IsCovered (spans_of (b ∷ bs)) p → ⊥) → IsCovered spans p
+  whole_rest p low start high bare =
+      elim (cases_lt p b.stop) [
+        | inl less ↦ absurd (bare (inl (start, less)))
+        | inr past ↦ rest.whole p (omega (arith, low, past)) high (λ w. bare (inr w))
+      ]
+
+  next_walks : (c : Bool) → ltb free b.start ≡ c → IsWalk free stop (b ∷ bs) (cond c (record { start = free; stop = b.start } ∷ []) [] ++ spans)
+  next_walks true e =
+      let less = ltb-true free b.start e in
+      record {
+        apart = (omega arith, less, apart_down (b.start + 1) (max free b.stop) spans (omega (arith, some)) rest.apart);
+        from_free = λ p c. elim c [ inl w ↦ w.0 | inr w ↦ (past_b p w).0 ];
+        before_stop = λ p c. elim c [ inl w ↦ omega (arith, w.1, within) | inr w ↦ rest.before_stop p w ];
+        bare = λ p c. elim c [ inl w ↦ bare_gap p w.1 | inr w ↦ bare_rest p w ];
+        whole = λ p low high bare. elim (cases_lt p b.start) [
+          | inl under ↦ inl (low, under)
+          | inr past ↦ inr (whole_rest p low past high bare)
+        ];
+      }
+  next_walks false e =
+      let more = ltb-false free b.start e in
+      record {
+        apart = apart_down free (max free b.stop) spans (omega arith) rest.apart;
+        from_free = λ p c. (past_b p c).0;
+        before_stop = λ p c. rest.before_stop p c;
+        bare = bare_rest;
+        whole = λ p low high bare. whole_rest p low (omega (arith, more, low)) high bare;
+      }
+
+walk_walks : (free stop low : ℕ) (bs : List Feature) → AreWithin stop bs → AreRisingFrom low bs → IsWalk free stop bs (walk free stop bs)
+walk_walks free stop low [] within rises = gap_walks free stop (ltb free stop) refl
+walk_walks free stop low (b ∷ bs) within rises =
+    next_walks free stop b bs (walk (max free b.stop) stop bs) within.0 within.1 rises.1
+    (walk_walks (max free b.stop) stop b.start bs within.2 rises.1) (ltb free b.start) refl
+
+-- such a walk finds the pieces
+walk_finds : (a : Feature) (bs : List Feature) → AreWithin a.stop bs → AreRising bs → walk a.start a.stop bs ≡ pieces a bs
+walk_finds a bs within rises =
+    let walks = walk_walks a.start a.stop 0 bs within rises in
+    only_pieces a bs (walk a.start a.stop bs) (record {
+      apart = apart_down 0 a.start (walk a.start a.stop bs) (omega arith) walks.apart;
+      within = λ p c. record { from_start = walks.from_free p c; before_stop = walks.before_stop p c; bare = walks.bare p c };
+      whole = λ p l. walks.whole p l.from_start l.before_stop l.bare;
+    })
+
+module _ (rule : HitRule) (a : Feature) where
+  within_at : (b : Feature) (bs : List Feature) (c : Bool) → hits rule a b ≡ c → AreWithin a.stop (hits_among rule a bs) → AreWithin a.stop (cond c (b ∷ hits_among rule a bs) (hits_among rule a bs))
+  within_at b bs true e rest =
+      let parts = overlap_parts a b (hit_overlaps rule a b e) in
+      (omega (arith, parts.1), omega (arith, parts.1), rest)
+  within_at b bs false e rest = rest
+
+  hits_within : (bs : List Feature) → AreWithin a.stop (hits_among rule a bs)
+  hits_within [] = tt
+  hits_within (b ∷ bs) = within_at b bs (hits rule a b) refl (hits_within bs)
+
+  -- the lines of the pieces, by a walk over what is held
+  pub walked : (held : List Feature) → AreRising held
+      → lines_before a a.start (hits_among rule a held) ++ gap_lines a (free_after a.start (hits_among rule a held)) a.stop ≡ flat_map (piece_line a) (pieces a (hits_among rule a held))
+  walked held rises =
+      let found = hits_among rule a held in
+      sym (walk_lines a a.start a.stop found) ∙ ap (flat_map (piece_line a)) (walk_finds a found (hits_within held) (rising_filter (hits rule a) 0 held rises))
+
+-- a record that nothing hits is one piece, if it has a base
+pub walked_alone : (a : Feature) → gap_lines a a.start a.stop ≡ flat_map (piece_line a) (pieces a [])
+walked_alone a = sym (walk_lines a a.start a.stop []) ∙ ap (flat_map (piece_line a)) (walk_finds a [] tt tt)
