@@ -33,7 +33,7 @@ stretches_are_one =
     (test : ℕ → Bool) (xs ys : List Span) → AreStretchesOf (λ p. IsTrue (test p)) xs
     → AreStretchesOf (λ p. IsTrue (test p)) ys → xs ≡ ys
 
--- the bytes of such a feature say it, unless they are a header line
+-- the bytes of a feature that a line can say (`IsFeature`) say it, unless they are a header line
 abbrev pub written_are_read : Type 0
 written_are_read =
     (feature : Feature) → IsFeature feature → is_header (bed_text feature) ≡ false

@@ -36,7 +36,7 @@ first_lines_have_the_first = (input : Input) (order : Order) (count : ℕ) (text
     → good (bed_format (sorting_of order)) input
     (take count (text_lines text)) ≡ record { members = past; fault = None }
 
--- each has at least one base
+-- each good record of an input in blocks has at least one base
 abbrev pub good_in_blocks_are_non_empty : Type 0
 good_in_blocks_are_non_empty = (input : Input) (handed : Handed)
     → AreNonEmpty (intervals_of (items_in (block_good input handed)))

@@ -20,7 +20,7 @@ first_difference_decides =
     (front : List ℕ) (low high : ℕ) (left right : List ℕ) → low < high
     → byte_order.compare (front ++ low ∷ left) (front ++ high ∷ right) ≡ Less
 
--- so no chromosome is unknown to it
+-- no chromosome is unknown to the order of bytes
 abbrev pub bytes_know_each_chromosome : Type 0
 bytes_know_each_chromosome = (kind : Kind) → IsBedKind byte_order kind → kind ≢ UnknownChrom
 

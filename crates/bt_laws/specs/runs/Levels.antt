@@ -1,6 +1,5 @@
--- Positions of one chromosome of which some have a value, and the one list of intervals of equal
--- value that they make up. A set of positions is the case of one
--- value (see `stretches_are_levels`).
+-- Laws of levels: which list of intervals makes up the values of positions, and that a set of
+-- positions is the case of one value.
 use Rattle.std.specs.Prelude.{◌≡◌, ℕ, ◌<◌, ◌≤◌, Bool, cond, ◌⊎◌, ⊤, IsTrue, List, [], ◌∷◌, map}
 use Rattle.std.specs.Prelude.{Option, Some, None}
 use Rattle.bt_bed.specs.model.feature.Interval.{Span}
@@ -30,7 +29,7 @@ pub record AreLevelsOf (value : ℕ → Option ℕ) (size : ℕ) (levels : List 
   pub within : (p v : ℕ) → HasValue levels p v → (p < size) × (value p ≡ Some v)
   pub whole : (p v : ℕ) → p < size → value p ≡ Some v → HasValue levels p v
 
--- so they are
+-- `levels_of` gives this list
 abbrev pub levels_are : Type 0
 levels_are = (value : ℕ → Option ℕ) (size : ℕ) → AreLevelsOf value size (levels_of value size)
 

@@ -1,4 +1,4 @@
--- The merged runs in an order of the chromosomes, as that of a genome file or of the names' bytes.
+-- Laws of the order in which merged runs come.
 use Rattle.std.specs.Prelude.{◌≡◌, ℕ, ⊤, IsTrue, List, [], ◌∷◌}
 use Rattle.std.specs.List.{AllByRecursion}
 use Rattle.std.specs.declared.cmp.Ordering.TheVariants.{Less}

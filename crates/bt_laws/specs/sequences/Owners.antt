@@ -1,6 +1,4 @@
--- Which records mask which sequence. A block is a maximal run of records of one chromosome. It
--- belongs to the first sequence of its name after that of the block before it. It belongs to none
--- if there is no such sequence, or if the block before it belongs to none.
+-- Laws of blocks and of the sequences to which they belong.
 use Rattle.std.specs.Prelude.{◌++◌, ◌≡◌, ◌≢◌, ◌↔◌, ℕ, ◌<◌, All, length, false, ⊤, List, [], ◌∷◌}
 use Rattle.std.specs.Prelude.{Some, None, bytes_eq, flat_map}
 use Rattle.std.specs.List.{AllByRecursion}

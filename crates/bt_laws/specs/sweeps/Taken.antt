@@ -6,7 +6,7 @@ use Rattle.bt_bed.specs.model.feature.Feature.{Feature, intervals_of}
 use Rattle.bt_bed.specs.model.order.Locus.{ArePlaced}
 use Rattle.bt_bed.specs.model.order.Order.{Order, IsTotal}
 use Rattle.bt_sweep.specs.model.Deciding.{decides, decided}
-pub use Rattle.bt_sweep.specs.model.Limit.{is_held, held_for}
+use Rattle.bt_sweep.specs.model.Limit.{is_held, held_for}
 use Rattle.bt_sweep.specs.calls.SweepState.{Sweeping}
 use Rattle.bt_sweep.specs.calls.Standing.{leaves_some, Stage, is_held}
 use Rattle.bt_lines.specs.model.Fault.{FaultValue}

@@ -1,5 +1,4 @@
 -- Lemmas on coverage.
-pub mod CallLemmas
 pub mod CoverageForm
 pub mod DepthCounts
 pub mod DepthLemmas

@@ -1,4 +1,5 @@
 -- Lemmas on engine.
+pub mod CallLemmas
 pub mod EnterLemmas
 pub mod RuleLemmas
 pub mod RuledLemmas

@@ -1,6 +1,6 @@
 -- Positions of one chromosome of which some have a value, and the one list of intervals of equal
--- value that they make up. A set of positions is the case of one
--- value (see `stretches_are_levels`).
+-- value that they make up. bt_laws says that no other list is (`AreLevelsOf`), and that a set of
+-- positions is the case of one value (`stretches_are_levels`).
 use Rattle.std.specs.Prelude.{ℕ, zero, suc, ◌+◌, Bool, true, false, cond, List, [], ◌∷◌, ◌++◌, ◌==◌}
 use Rattle.std.specs.Prelude.{Option, Some, None}
 

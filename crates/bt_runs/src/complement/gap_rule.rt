@@ -78,7 +78,7 @@ impl<'g> Rule for GapRule<'g> {
     ghost with_on = { with_cursor };
 
     // On a chromosome that the genome file lacks no base counts, so that records there are skipped.
-    #[tactic(auto, using(crate::proofs::lemmas::complement::GapRuleLemmas::cursor_reached, crate::proofs::lemmas::complement::GapRuleLemmas::enters_failing, crate::proofs::lemmas::complement::GapRuleLemmas::enters_here, crate::proofs::lemmas::complement::GapRuleLemmas::enters_next, crate::proofs::lemmas::complement::GapRuleLemmas::goes_other, crate::proofs::lemmas::complement::GapRuleLemmas::has_chrom, crate::proofs::lemmas::complement::GapRuleLemmas::lacks_chrom, crate::proofs::lemmas::complement::GapRuleLemmas::on_found, crate::proofs::lemmas::complement::GapRuleLemmas::other_rank, crate::proofs::lemmas::complement::GapRuleLemmas::rank_placed, crate::proofs::lemmas::complement::GapRuleLemmas::same_rank, crate::proofs::lemmas::order::GenomeRanks::length_read, crate::proofs::lemmas::order::GenomeRanks::name_read))]
+    #[tactic(auto, using(crate::proofs::lemmas::complement::GapRuleLemmas::enters_here))]
     fn enter<K: Sink>(&mut self, chrom: &[u8], out: &mut Out<K>) -> Result<(), Fault> {
         let genome = self.cursor.genome;
         let Some(rank) = genome.rank(chrom) else {

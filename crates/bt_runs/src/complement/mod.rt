@@ -54,7 +54,7 @@ impl<'g> Complement<'g> {
 
     /// Takes the next record, and writes the gap that it settles. It fails with `WriteFailed`, only if a write
     /// fails, and returns that from then on.
-    #[tactic(auto, using(crate::proofs::lemmas::coverage::CallLemmas::feeds_again, crate::proofs::lemmas::coverage::CallLemmas::feeds_fault, crate::proofs::lemmas::coverage::CallLemmas::feeds_prefix, crate::proofs::lemmas::coverage::CallLemmas::feeds_settled, crate::proofs::lemmas::coverage::CallLemmas::only_writes))]
+    #[tactic(auto, using(crate::proofs::lemmas::engine::CallLemmas::feeds_again, crate::proofs::lemmas::engine::CallLemmas::feeds_fault, crate::proofs::lemmas::engine::CallLemmas::feeds_prefix, crate::proofs::lemmas::engine::CallLemmas::feeds_settled, crate::proofs::lemmas::engine::CallLemmas::only_writes))]
     pub fn feed<K: Sink>(&mut self, bed: &BedRef<'_>, out: &mut Out<K>) -> Result<(), Fault>
         ensures going { IsFaultless (ruled_stands stands_after) ruled_fault self.old }
         ensures written { WritesSettled (ruled_takes may_take) (ruled_stands stands_after) ruled_fault (ruled_text settled_lines) self.old
@@ -76,7 +76,7 @@ impl<'g> Complement<'g> {
 
     /// Writes the lines that are still unsettled, after the last record. It fails with `WriteFailed`, or with the
     /// fault that was returned before.
-    #[tactic(auto, using(crate::proofs::lemmas::coverage::CallLemmas::finishes_again, crate::proofs::lemmas::coverage::CallLemmas::finishes_left, crate::proofs::lemmas::coverage::CallLemmas::finishes_prefix))]
+    #[tactic(auto, using(crate::proofs::lemmas::engine::CallLemmas::finishes_again, crate::proofs::lemmas::engine::CallLemmas::finishes_left, crate::proofs::lemmas::engine::CallLemmas::finishes_prefix))]
     pub fn finish<K: Sink>(self, out: &mut Out<K>) -> Result<(), Fault>
         ensures going { IsFaultless (ruled_stands stands_after) ruled_fault self.entry }
         ensures written { WritesLeft (ruled_takes may_take) (ruled_stands stands_after) ruled_fault (ruled_text settled_lines)

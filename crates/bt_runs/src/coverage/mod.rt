@@ -63,7 +63,7 @@ impl<'g> Coverage<'g> {
 
     /// Takes the next record, and writes the intervals that it settles. The first fault is returned from then
     /// on: `WriteFailed`, or `NoMemory`, only if the record has to be kept.
-    #[tactic(auto, using(crate::proofs::lemmas::coverage::CallLemmas::feeds_again, crate::proofs::lemmas::coverage::CallLemmas::feeds_fault, crate::proofs::lemmas::coverage::CallLemmas::feeds_first, crate::proofs::lemmas::coverage::CallLemmas::feeds_prefix, crate::proofs::lemmas::coverage::CallLemmas::feeds_settled))]
+    #[tactic(auto, using(crate::proofs::lemmas::engine::CallLemmas::feeds_again, crate::proofs::lemmas::engine::CallLemmas::feeds_fault, crate::proofs::lemmas::engine::CallLemmas::feeds_first, crate::proofs::lemmas::engine::CallLemmas::feeds_prefix, crate::proofs::lemmas::engine::CallLemmas::feeds_settled))]
     pub fn feed<K: Sink>(&mut self, bed: &BedRef<'_>, out: &mut Out<K>) -> Result<(), Fault>
         ensures going { IsFaultless (ruled_stands stands_after) ruled_fault self.old }
         ensures written { WritesSettled (ruled_takes may_take) (ruled_stands stands_after) ruled_fault (ruled_text settled_lines) self.old
@@ -87,7 +87,7 @@ impl<'g> Coverage<'g> {
 
     /// Writes the lines that are still unsettled, after the last record. It fails with `WriteFailed`, or with the
     /// fault that was returned before.
-    #[tactic(auto, using(crate::proofs::lemmas::coverage::CallLemmas::finishes_again, crate::proofs::lemmas::coverage::CallLemmas::finishes_left, crate::proofs::lemmas::coverage::CallLemmas::finishes_prefix))]
+    #[tactic(auto, using(crate::proofs::lemmas::engine::CallLemmas::finishes_again, crate::proofs::lemmas::engine::CallLemmas::finishes_left, crate::proofs::lemmas::engine::CallLemmas::finishes_prefix))]
     pub fn finish<K: Sink>(self, out: &mut Out<K>) -> Result<(), Fault>
         ensures going { IsFaultless (ruled_stands stands_after) ruled_fault self.entry }
         ensures written { WritesLeft (ruled_takes may_take) (ruled_stands stands_after) ruled_fault (ruled_text settled_lines) (ruled_text whole_output) self.entry

@@ -35,7 +35,7 @@ pub(crate) trait Rule {
     // The lines that a record settles.
     ghost lines: { Self → Feature → List ℕ };
 
-    // What it has become with the record.
+    // What the rule has become once it has taken the record.
     ghost has: { Self → Feature → Self → Type 0 };
 
     // It has entered this chromosome.

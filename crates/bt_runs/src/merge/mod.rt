@@ -78,7 +78,7 @@ impl Merge {
     /// fail if it opens no run, and closes none that can be written. The first fault is returned from
     /// then on: `WriteFailed`, or `NoMemory`, only if the chromosome is
     /// another than that of the record before, and with [`MergeStrand::Each`] if a run has to be opened too.
-    #[tactic(auto, using(crate::proofs::lemmas::coverage::CallLemmas::feeds_again, crate::proofs::lemmas::coverage::CallLemmas::feeds_fault, crate::proofs::lemmas::coverage::CallLemmas::feeds_first, crate::proofs::lemmas::coverage::CallLemmas::feeds_prefix, crate::proofs::lemmas::coverage::CallLemmas::feeds_settled))]
+    #[tactic(auto, using(crate::proofs::lemmas::engine::CallLemmas::feeds_again, crate::proofs::lemmas::engine::CallLemmas::feeds_fault, crate::proofs::lemmas::engine::CallLemmas::feeds_first, crate::proofs::lemmas::engine::CallLemmas::feeds_prefix, crate::proofs::lemmas::engine::CallLemmas::feeds_settled))]
     pub fn feed<K: Sink>(&mut self, bed: &BedRef<'_>, out: &mut Out<K>) -> Result<(), Fault>
         ensures going { IsFaultless stands_after kept_fault self.old }
         ensures written { WritesSettled may_take stands_after kept_fault settled_lines self.old
@@ -102,7 +102,7 @@ impl Merge {
 
     /// Writes the lines that are still unsettled, after the last record. It fails with `WriteFailed`, or with the
     /// fault that was returned before.
-    #[tactic(auto, using(crate::proofs::lemmas::coverage::CallLemmas::finishes_again, crate::proofs::lemmas::coverage::CallLemmas::finishes_left, crate::proofs::lemmas::coverage::CallLemmas::finishes_prefix))]
+    #[tactic(auto, using(crate::proofs::lemmas::engine::CallLemmas::finishes_again, crate::proofs::lemmas::engine::CallLemmas::finishes_left, crate::proofs::lemmas::engine::CallLemmas::finishes_prefix))]
     pub fn finish<K: Sink>(self, out: &mut Out<K>) -> Result<(), Fault>
         ensures going { IsFaultless stands_after kept_fault self }
         ensures written { WritesLeft may_take stands_after kept_fault settled_lines whole_output self

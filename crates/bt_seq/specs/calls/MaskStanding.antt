@@ -48,6 +48,7 @@ pub record StandsAfter (stage : MaskStage) (last : Option SequenceLine) (m : Mas
   pub owned : is_some (left_after (reached_by last).names stage.taken) ≡ true
   pub inside : KnowsStage stage last m
 
+-- the engine is at the stage
 abbrev pub MaskStandsAt : MaskStage → Masking → Type 0
 MaskStandsAt stage m = StandsAfter stage (line_given_last (given stage)) m
 

@@ -137,7 +137,7 @@ impl Mask {
         }
     }
 
-    // Takes the next record, if there is one, unless it decides the line that waits.
+    // Takes the next record, if there is one, unless it decides the line that waits. Whatever lines are buffered, they stay.
     #[tactic(auto, using(crate::proofs::lemmas::mask::steps::AdvanceLemmas::gave_none))]
     #[inline(always)]
     fn give_record<C: Cursor, K: Sink>(

@@ -110,7 +110,7 @@ module _ {V : Type 0} (b_gives : V → List Feature → V → Type 0) (b_ended :
 module _ {U V : Type 0} (a_gives : U → List Feature → U → Type 0) (a_ended : U → Type 0)
     (b_gives : V → List Feature → V → Type 0) (b_ended : V → Type 0) (b_line : V → ℕ) (order : Order)
     (old : Sweeping) (from_a : U) (from_b : V) (out : Output) where
-  -- it goes on from what it holds
+  -- from the record that waited, and from what was taken, on
   abbrev pub Proceeded : Option Feature → U → V → Type 0
   Proceeded waiting to_a to_b =
       Proceeds a_gives b_gives (Settles order old.phase)

@@ -12,7 +12,7 @@ use Rattle.bt_runs.specs.inside.walk.Rule.{Does, DoesEach, FitsPast, Follows, Pu
 use Rattle.bt_runs.specs.calls.Ruled.{fault_of, ruled_fault, ruled_quiet, ruled_stands, ruled_takes, ruled_text, ruled_wants}
 use Rattle.bt_runs.specs.declared.engine.failure.Failure.{Failure}
 use Rattle.bt_runs.specs.declared.engine.rule.Ruled.{Ruled}
-use Rattle.bt_runs.proofs.lemmas.coverage.CallLemmas.{other_fault}
+use Rattle.bt_runs.proofs.lemmas.engine.CallLemmas.{other_fault}
 
 module _ {E : Type 0} (lines : E → Feature → List ℕ) (has : E → Feature → E → Type 0) (wants : E → Feature → Type 0)
     (takes : E → List Feature → Type 0) (stands : E → List Feature → E → Type 0) (settled : E → List Feature → List ℕ) (quiet : E → List Feature → Feature → Type 0) where

@@ -44,6 +44,6 @@ with_record old r = record {
   bases = length_in old.entries r.chrom;
 }
 
--- it has become that
+-- the rule has become what it is with the record
 abbrev pub IsWith : Complementing → Feature → Complementing → Type 0
 IsWith old r new = new ≡ with_record old r

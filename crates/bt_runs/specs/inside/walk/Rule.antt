@@ -9,7 +9,7 @@ use Rattle.bt_bed.specs.model.feature.Feature.{Feature}
 use Rattle.bt_runs.specs.calls.Engine.{AfterEach, AtEnd}
 
 module _ {E : Type 0} (lines : E → Feature → List ℕ) (has : E → Feature → E → Type 0) (wants : E → Feature → Type 0) where
-  -- what is done with a record, exactly: its lines are put, and then the rule has it, or memory ran out that was needed
+  -- what is done with a record, exactly: its lines are put, and then the rule has taken it, or memory ran out that was needed
   abbrev pub Does : E → Feature → Output → Result (Unit {0}) Fault → E → Output → Type 0
   Does old r out (Ok done) new grown = has old r new × Grown out (lines old r) grown
   Does old r out (Err fault) new grown =
@@ -23,7 +23,7 @@ module _ {E : Type 0} (lines : E → Feature → List ℕ) (has : E → Feature 
       -- the lines are those that the record settles
       pub settles : AfterEach MayTake Stands old r (λ first past.
           settled first (past ++ r ∷ []) ≡ settled first past ++ lines old r)
-      -- a rule that has the record is after it too
+      -- a rule that has taken the record is as after all of the past and the record
       pub next : (new : E) → has old r new → AfterEach MayTake Stands old r (λ first past. Stands first (past ++ r ∷ []) new)
       -- a quiet record has no lines, and needs no memory
       pub quiet : AfterEach MayTake Stands old r (λ first past.

@@ -43,7 +43,7 @@ pub record CutsLines (old : Output) (lines : List ℕ) (new : Output) : Type 0 w
   pub failed : new.has_failed ≡ true
   pub sink_failed : new.sink_has_failed ≡ true
 
--- they were, and the sink took all but a block of what was put
+-- these lines were put, and the sink took all but a block of what was put
 pub record HasPut (old : Output) (lines : List ℕ) (new : Output) : Type 0 where
   pub puts : PutsLines old lines new
   pub works : WorksAsBefore old new

@@ -12,6 +12,10 @@ pub returns-in_default-clause-on : goal.returns-in_default-clause-on
 returns-in_default-clause-on g c =
     lacks_chrom c.self.inside.limit c.self.inside.cursor c.args.chrom.now (sym c.rank.ensures ∙ c.in_default.is)
 
+pub length-self-inside-requires : goal.length-self-inside-requires
+length-self-inside-requires g c =
+    (rank_placed c.self.inside.limit c.self.inside.cursor c.args.chrom.now c.in-Some.rank (sym c.in-Some.ensures)).within
+
 pub returns-then-eq-clause-on : goal.returns-then-eq-clause-on
 returns-then-eq-clause-on g c =
     let cursor = c.self.inside.cursor in
