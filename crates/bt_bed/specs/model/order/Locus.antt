@@ -27,11 +27,6 @@ abbrev pub is_below : Order → Locus → Locus → Bool
 is_below order place other =
     is_below_at (order.compare place.chrom other.chrom) place.start other.start
 
--- whether a place lies below the last one, if there is one
-abbrev pub falls_below : Order → Option Locus → Locus → Bool
-falls_below order None place = false
-falls_below order (Some last) place = is_below order place last
-
 -- the place isn't after the next one
 abbrev pub IsUpTo : Order → Locus → Locus → Type 0
 IsUpTo order place next =
