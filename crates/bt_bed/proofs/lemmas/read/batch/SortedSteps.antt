@@ -80,7 +80,8 @@ module _ {S Q : Type 0} (device : Source S) (sorting : Sorting) where
           answers = (
             record { line = line.number; item = finds.r },
             going_member device old (view_with sorting None now mid.lookahead []) (view_with sorting None new.reader new.lookahead (buffered_in new)) line more finds.r finds.more g made stays
-                (ap lines_buffered finds.same ∙ first) (number ∙ ap (λ r. suc (lines_given r)) (sym finds.same)) finds.says finds.buffered refl (follows None (buffered_in new)));
+                (ap lines_buffered finds.same ∙ first) (number ∙ ap (λ r. suc (lines_given r)) (sym finds.same)) finds.says finds.buffered refl (follows None (buffered_in new)),
+          );
           kept = λ was. stays (g.passed.kept was);
         }
 
@@ -89,11 +90,11 @@ module _ {S Q : Type 0} (device : Source S) (sorting : Sorting) where
     unfolding view_with
     lost_by fault one lost = elim (lost_parts (record { input = input_of mid.reader; line = line.number }) (line_says sorting (last_in mid.lookahead) line.text) fault lost) [
       | inl wrong ↦
-        going_wrong device old (view_with sorting None now mid.lookahead []) (view_with sorting (Some fault) new.reader new.lookahead []) line fault wrong.kind g (came one) refl refl (follows (Some fault) []) (kept_on one)
-        wrong.says (bed_of_line wrong.kind (says_of_line sorting (last_in mid.lookahead) line.text wrong.kind wrong.says))
-        (wrong.is ∙ ap (λ i. fault_at_line i line.number wrong.kind) (makes.bytes.1.same_input ∙ g.passed.bytes.1.same_input))
+          going_wrong device old (view_with sorting None now mid.lookahead []) (view_with sorting (Some fault) new.reader new.lookahead []) line fault wrong.kind g (came one) refl refl (follows (Some fault) []) (kept_on one)
+          wrong.says (bed_of_line wrong.kind (says_of_line sorting (last_in mid.lookahead) line.text wrong.kind wrong.says))
+          (wrong.is ∙ ap (λ i. fault_at_line i line.number wrong.kind) (makes.bytes.1.same_input ∙ g.passed.bytes.1.same_input))
       | inr unkept ↦
-        going_unkept device old (view_with sorting None now mid.lookahead []) (view_with sorting (Some fault) new.reader new.lookahead []) line fault unkept.item g (came one) refl refl (follows (Some fault) []) (kept_on one) unkept.says unkept.is
+          going_unkept device old (view_with sorting None now mid.lookahead []) (view_with sorting (Some fault) new.reader new.lookahead []) line fault unkept.item g (came one) refl refl (follows (Some fault) []) (kept_on one) unkept.says unkept.is
     ]
 
     -- it wasn't taken
@@ -208,6 +209,7 @@ module _ {S Q : Type 0} (sorted : SortedReader S Q) (some : sorted.is_ahead ≡ 
           answers = (
             record { line = first_is.line.number; item = parts.0 },
             gives_again device (view_in sorting sorted) first_is.line first_is.more parts.0 parts.1 (placed.going (ap is_some_left parts.2))
-                (next_bytes sorted.reader first_is.line first_is.more first_is.lines_are) first_is.lines_are (next_number sorted.reader first_is.line first_is.more first_is.lines_are) says parts.2);
+                (next_bytes sorted.reader first_is.line first_is.more first_is.lines_are) first_is.lines_are (next_number sorted.reader first_is.line first_is.more first_is.lines_are) says parts.2,
+          );
           kept = λ was. was;
         }
