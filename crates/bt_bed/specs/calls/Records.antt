@@ -48,7 +48,7 @@ module _ {S O : Type 0} {g : Ghosts O} where
   abbrev pub room : Records S O g → ℕ
   room records = room_in (view_of records)
 
-  -- the record comes next: its place isn't below that of the record before it
+  -- the record comes next: its chromosome is known, and its place isn't below that of the record before it
   abbrev pub IsNext : Records S O g → Feature → Type 0
   IsNext records r = IsTrue ((order_in records).knows r.chrom)
       × IfSome (last_locus records) (λ last. IsUpTo (order_in records) last (locus_at r))

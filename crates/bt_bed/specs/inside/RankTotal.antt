@@ -1,8 +1,7 @@
--- The order of ranks is total. The proof is here since the
--- order of a genome cites it as its law.
+-- The order of ranks is total. The proof is here since the order of a genome cites it as its law.
 use Rattle.std.specs.Prelude.{◌≡◌, ℕ, suc, Bool, true, false, cond, List, [], ◌∷◌, Option, Some, None}
 use Rattle.std.specs.Prelude.{option_map, is_some, bytes_eq, refl, slice_get}
-use Rattle.std.specs.Ordering.{nat_cmp, ordering_reverse}
+use Rattle.std.specs.Ordering.{ordering_reverse}
 use Rattle.std.specs.Cmp.{nat_cmp_total, ranked, tied_itself}
 use Rattle.std.specs.Cmp.Lexicographic.{bytes_decides}
 use Rattle.std.specs.declared.cmp.Ordering.TheVariants.{Less, Equal}

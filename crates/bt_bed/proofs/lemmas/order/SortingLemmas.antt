@@ -1,5 +1,5 @@
 -- Lemmas on how records are sorted.
-use Rattle.bt_lines.proofs.Std.{◌≡◌, ℕ, Bool, true, false, cond, Option, Some, refl, sym, ◌∙◌, subst, arith, IsTrue, IfSome, bytes_eq, nat_lt, bytes_decides, false≢true}
+use Rattle.bt_lines.proofs.Std.{◌≡◌, ℕ, Bool, true, false, cond, Option, refl, sym, ◌∙◌, subst, arith, IsTrue, IfSome, bytes_eq, nat_lt, bytes_decides, false≢true}
 use Rattle.std.specs.Ordering.{is_lt}
 use Rattle.std.specs.declared.cmp.Ordering.{Ordering}
 use Rattle.std.specs.declared.cmp.Ordering.TheVariants.{Equal}

@@ -1,7 +1,7 @@
 -- Where records start, and the order of sorted input: by chromosome, then by start. Ends aren't
 -- compared (bedtools manual, sorted input and genome files).
 use Rattle.std.specs.Prelude.{◌≡◌, ℕ, ◌≤◌, Bool, true, false, ◌⊎◌, ⊤, IsTrue, IfSome, ◌++◌, List}
-use Rattle.std.specs.Prelude.{[], ◌∷◌, Option, Some, None, nat_lt}
+use Rattle.std.specs.Prelude.{[], ◌∷◌, nat_lt}
 use Rattle.std.specs.declared.cmp.Ordering.{Ordering}
 use Rattle.std.specs.declared.cmp.Ordering.TheVariants.{Less, Equal, Greater}
 use Rattle.bt_bed.specs.model.feature.Interval.{Interval, last_of}

@@ -1,5 +1,5 @@
 -- Lemmas on the reader of records in blocks.
-use Rattle.bt_lines.proofs.Std.{arith, ◌≡◌, ℕ, Bool, true, false, List, ◌∷◌, Option, Some, Ok, Err, take, refl, ◌∙◌, Result, option_map, IfSome}
+use Rattle.bt_lines.proofs.Std.{ℕ, Bool, true, false, Ok, Err, take, Result, IfSome}
 use Rattle.bt_lines.specs.declared.device.Source.{Ghosts as Source}
 use Rattle.bt_lines.specs.declared.fault.Fault.{Fault}
 use Rattle.bt_bed.proofs.lemmas.definitions.GoodBedLemmas.{line_said}
@@ -11,7 +11,6 @@ use Rattle.bt_bed.specs.calls.SortedReader.{buffered_in as records_in, view_in, 
 use Rattle.bt_bed.specs.model.feature.Feature.{Feature}
 use Rattle.bt_bed.specs.model.input.Good.{Member}
 use Rattle.bt_bed.specs.model.input.GoodBed.{locus_at}
-use Rattle.bt_bed.specs.model.order.Locus.{Locus}
 use Rattle.bt_bed.specs.calls.Reading.{Fills, FillAnswers, GivesMember, Takes, TellsOwnFailure, ahead_in}
 use Rattle.bt_bed.specs.model.feature.Record.{IsFeature}
 use Rattle.bt_bed.specs.model.order.Sorting.{block_sorting}

@@ -1,5 +1,5 @@
 -- Lemmas on what a line says after the last place, and on the chromosome of the record ahead.
-use Rattle.bt_lines.proofs.Std.{◌≡◌, ℕ, ◌≤◌, Bool, true, false, cond, List, Option, Some, None, Result, Ok, Err, refl, sym, ap, ◌∙◌, subst, arith, bytes_eq, ◌&&◌, IsTrue, is_some, nat_lt, option_map, unwrap_or, false≢true, nat_tests, bytes_eq-Decides}
+use Rattle.bt_lines.proofs.Std.{◌≡◌, ℕ, ◌≤◌, Bool, true, false, cond, List, Option, Some, None, Result, Ok, Err, refl, sym, ap, ◌∙◌, subst, arith, bytes_eq, ◌&&◌, is_some, nat_lt, option_map, unwrap_or, false≢true, nat_tests, bytes_eq-Decides}
 use Rattle.bt_lines.specs.declared.fault.Kind.{Kind}
 use Rattle.bt_lines.specs.declared.fault.Kind.TheVariants.{UnknownChrom, OutOfOrder}
 use Rattle.bt_bed.proofs.lemmas.read.good.SaidLemmas.{wrong_is_of_line, wrong_is_of_record}

@@ -1,5 +1,5 @@
 -- Lemmas on how a reader of sorted records reads on.
-use Rattle.bt_lines.proofs.Std.{arith, ◌≡◌, suc, Bool, true, false, List, [], ◌∷◌, Option, Some, None, Result, Ok, Err, refl, sym, ap, ◌∙◌, subst, inl, inr, ◌⊎◌, option_map}
+use Rattle.bt_lines.proofs.Std.{arith, ◌≡◌, suc, Bool, true, false, List, [], ◌∷◌, Option, Some, None, Result, Ok, Err, refl, sym, ap, ◌∙◌, subst, inl, inr, option_map}
 use Rattle.bt_lines.specs.model.Fault.{FaultValue}
 use Rattle.bt_lines.specs.model.Lines.{TextLine}
 use Rattle.bt_lines.specs.calls.Names.{fault_value}
