@@ -6,7 +6,6 @@ pub mod CursorLaws
 pub mod GenomeTable
 pub mod RawRecord
 pub mod Reading
-pub mod Rec
 pub mod Records
 pub mod Run
 pub mod Single

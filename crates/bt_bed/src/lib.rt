@@ -31,7 +31,7 @@
 //!     assert_eq!(rt; (bed.start, bed.stop), (5, 9));
 //!     assert_eq!(rt; bed.rest, b"\tname".as_slice());
 //!     records.advance();
-//!     let fault = records.peek().err().ok_or("chr1 comes behind chr2")?;
+//!     let fault = records.peek().err().ok_or("chr1 comes after chr2")?;
 //!     assert_eq!(rt; fault.kind, Kind::OutOfOrder);
 //!     Ok(())
 //! }

@@ -1,10 +1,10 @@
 -- A feature as the definitions see it.
-use Rattle.std.specs.Prelude.{◌≡◌, ℕ, ◌-◌, ◌≤◌, ⊤, List, length, drop, Option, Some, None, Result}
-use Rattle.std.specs.Prelude.{Ok, Err, option_map}
+use Rattle.std.specs.Prelude.{ℕ, ◌≤◌, List, drop, length, take, Option, Result, Ok, Err, option_map}
 use Rattle.bt_lines.specs.declared.fault.Kind.{Kind}
 use Rattle.bt_bed.specs.model.feature.Feature.{Feature}
-use Rattle.bt_bed.specs.model.feature.Record.{strand_of, kept_columns}
+use Rattle.bt_bed.specs.model.feature.Record.{IsFeature, strand_of, kept_columns}
 use Rattle.bt_bed.specs.declared.record.bed.BedRef.{BedRef}
+use Rattle.bt_bed.specs.declared.record.strand.Strand.{Strand}
 
 abbrev pub feature_lent : BedRef → Feature
 feature_lent bed =
@@ -33,13 +33,18 @@ feature_between chrom (Ok bounds) rest =
     })
 feature_between chrom (Err kind) rest = Err kind
 
--- a text ends with these bytes
-pub record EndsWith (text : List ℕ) (bytes : List ℕ) : Type 0 where
-  pub within : length bytes ≤ length text
-  pub same : drop (length text - length bytes) text ≡ bytes
+-- the feature whose name is the first `name_len` bytes of a text,
+-- and whose kept columns are the others
+abbrev pub feature_in : List ℕ → ℕ → ℕ → ℕ → Strand → Feature
+feature_in text name_len start stop strand = record {
+  chrom = take name_len text;
+  start = start;
+  stop = stop;
+  strand = strand;
+  rest = drop name_len text;
+}
 
--- a text ends with what its record keeps of it, if it gave one
-abbrev pub EndsWithRest : List ℕ → Result (Option BedRef) Kind → Type 0
-EndsWithRest text (Ok (Some bed)) = EndsWith text bed.rest.now
-EndsWithRest text (Ok None) = ⊤
-EndsWithRest text (Err kind) = ⊤
+-- the name is within the text, and the feature is one that a line can say
+pub record IsFeatureIn (text : List ℕ) (name_len start stop : ℕ) (strand : Strand) : Type 0 where
+  pub within : name_len ≤ length text
+  pub is : IsFeature (feature_in text name_len start stop strand)

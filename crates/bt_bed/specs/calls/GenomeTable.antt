@@ -4,15 +4,12 @@ use Rattle.std.specs.Prelude.{Result, Ok, Err, IfSome, Vec, option_map}
 use Rattle.std.specs.Option.{option_to_list}
 use Rattle.std.specs.declared.alloc.Global.{Global}
 use Rattle.bt_lines.specs.declared.device.Source.{Ghosts as Source}
-use Rattle.bt_lines.specs.model.Fault.{FaultValue, no_memory}
-use Rattle.bt_lines.specs.model.Lines.{TextLine}
+use Rattle.bt_lines.specs.model.Fault.{FaultValue}
 use Rattle.bt_lines.specs.calls.Names.{fault_value}
 use Rattle.bt_lines.specs.calls.Reader.{Hands, IsNear, IsSound, end_told, source_of, input_of}
 use Rattle.bt_lines.specs.calls.Reader.{lines_given, fault_kept, has_ended, lines_left}
 use Rattle.bt_lines.specs.declared.fault.Fault.{Fault}
-use Rattle.bt_lines.specs.declared.fault.Input.{Input}
 use Rattle.bt_lines.specs.declared.fault.Kind.{Kind}
-use Rattle.bt_lines.specs.declared.fault.Place.{Place}
 use Rattle.bt_lines.specs.declared.reader.line_reader.LineReader.{LineReader}
 use Rattle.bt_bed.specs.model.order.Genome.{Entry, entry_of, genome_names, genome_of, new_entry}
 use Rattle.bt_bed.specs.model.feature.LineKind.{fault_at_line, is_genome_kind}
@@ -46,23 +43,6 @@ pub record LineAdded (text : List ℕ) (old new : Genome) : Type 0 where
   pub entry : Option Entry
   pub says : new_entry (names_of old) (entry_of text) ≡ Ok entry
   pub added : entries new ≡ entries old ++ option_to_list entry
-
--- the line is at fault
-pub record LineRefused (place : Place) (text : List ℕ) (old : Genome) (fault : FaultValue) : Type 0 where
-  pub kind : Kind
-  pub says : new_entry (names_of old) (entry_of text) ≡ Err kind
-  pub is : fault ≡ fault_at_line place.input place.line kind
-
--- the line has an entry, for which memory ran out
-pub record LineUnkept (text : List ℕ) (old : Genome) (fault : FaultValue) : Type 0 where
-  pub entry : Entry
-  pub says : new_entry (names_of old) (entry_of text) ≡ Ok (Some entry)
-  pub is : fault ≡ no_memory
-
--- if one of the first lines is at fault, its fault is the one reported
-abbrev pub IsToldFirst : Input → Option (List TextLine) → ℕ → FaultValue → Type 0
-IsToldFirst input lines count fault = IfSome lines
-    (λ all. (other : FaultValue) → genome_of input (take count all) ≡ Err other → fault ≡ other)
 
 module _ {S : Type 0} where
   -- the whole genome file was read
@@ -112,8 +92,9 @@ module _ {S : Type 0} where
     -- a reader that had none meets the first
     pub first : fault_kept old ≡ None → StopCause device old new fault
     -- the fault of a line given comes before any other
-    pub checked : IsToldFirst (input_of old) (lines_left device.left old)
-        (lines_given new - lines_given old) fault
+    pub checked : IfSome (lines_left device.left old) (λ lines. (other : FaultValue)
+        → genome_of (input_of old) (take (lines_given new - lines_given old) lines) ≡ Err other
+        → fault ≡ other)
     pub bytes : (bytes : List ℕ) × Hands device.left old bytes new
     -- of known bytes, those after the lines given and one line more are left,
     -- except at most a block

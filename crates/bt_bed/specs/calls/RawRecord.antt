@@ -2,7 +2,7 @@
 use Rattle.std.specs.Prelude.{◌≡◌, ◌+◌, ◌++◌, ◌∷◌, ℕ, List, [], Some, Ok, drop, take}
 use Rattle.std.specs.Io.BufRead.{strip_last}
 use Rattle.bt_bed.specs.model.feature.Feature.{Feature}
-use Rattle.bt_bed.specs.model.feature.Record.{bed_text, columns_in, record_of, strand_of}
+use Rattle.bt_bed.specs.model.feature.Record.{columns_in, record_of, strand_of}
 use Rattle.bt_bed.specs.declared.record.raw_record.RawRecord.{RawRecord}
 
 -- the text of the line
@@ -33,7 +33,3 @@ pub record IsOnLine (line name : List ℕ) (raw : RawRecord) : Type 0 where
   pub line_is : raw.line.now ≡ line
   pub says : record_of (strip_last 13 line) ≡ Ok (Some (record_in raw))
   pub chrom : (record_in raw).chrom ≡ name
-
--- a record that a line of this text says is written as the line is
-pub record IsAsWritten (text : List ℕ) : Type 0 where
-  pub is : (r : Feature) → record_of text ≡ Ok (Some r) → bed_text r ≡ text

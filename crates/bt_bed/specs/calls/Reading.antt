@@ -14,6 +14,7 @@ use Rattle.bt_lines.specs.calls.Reader.{fault_kept as line_fault}
 use Rattle.bt_lines.specs.declared.fault.Fault.{Fault}
 use Rattle.bt_lines.specs.declared.fault.Input.{Input}
 use Rattle.bt_lines.specs.declared.fault.Kind.{Kind}
+use Rattle.bt_lines.specs.declared.fault.Place.{Place}
 use Rattle.bt_lines.specs.declared.reader.line_reader.LineReader.{LineReader}
 use Rattle.bt_bed.specs.model.input.Good.{Format, Good, Member, ends_with, good_from}
 use Rattle.bt_bed.specs.model.feature.LineKind.{fault_at_line, is_of_line}
@@ -55,6 +56,12 @@ abbrev pub Remains : {A : Type 0} → Option (Good A) → Option (Good A) → Ty
 Remains None new = ⊤
 Remains (Some good) None = ⊥
 Remains (Some good) (Some new) = new ≡ good
+
+-- why a line that says this wasn't taken: it is at fault, or memory ran out for its item
+abbrev pub IsLost : {A : Type 0} → Place → Result (Option A) Kind → FaultValue → Type 0
+IsLost place (Err kind) fault = fault ≡ fault_at_line place.input place.line kind
+IsLost place (Ok None) fault = ⊥
+IsLost place (Ok (Some item)) fault = fault ≡ no_memory
 
 -- a line says the item, by what is known before it
 abbrev pub IsSaidBehind : {A State : Type 0} → Format A State → State → A → Type 0
@@ -265,15 +272,10 @@ module _ {S A State : Type 0} where
     -- except at most a block
     pub near : old.fault ≡ None → IsKept device old.below → IsNear device.left old.below new.below
 
-  -- a member was made buffered
-  pub record MakesMember (device : Source S) (old new : MemberReader S A State) : Type 0 where
-    pub m : Member A
-    pub gives : GivesMember device old m new
-
-  -- what `fill` returns
+  -- what `fill` returns: a member is buffered, or there is none, for good or after a fault
   abbrev pub FillAnswers : Source S → MemberReader S A State
       → Result Bool Fault → MemberReader S A State → Type 0
-  FillAnswers device old (Ok true) new = MakesMember device old new
+  FillAnswers device old (Ok true) new = (m : Member A) × GivesMember device old m new
   FillAnswers device old (Ok false) new = EndsMembers device old new
   FillAnswers device old (Err fault) new = AnswersFault device old (fault_value fault) new
 

@@ -1,5 +1,5 @@
 -- One record that a caller gives, or none.
-use Rattle.std.specs.Prelude.{◌≡◌, ℕ, List, [], ◌++◌, length, option_map, option_to_list}
+use Rattle.std.specs.Prelude.{◌≡◌, ℕ, List, [], ◌++◌, option_map, option_to_list}
 use Rattle.bt_bed.specs.calls.Bed.{feature_lent}
 use Rattle.bt_bed.specs.model.feature.Feature.{Feature}
 use Rattle.bt_bed.specs.declared.read.cursor.Single.{Single}
@@ -25,11 +25,3 @@ pub record GivesSingle (old : Single) (records : List Feature) (new : Single) : 
 -- there is none
 pub record HasNone (one : Single) : Type 0 where
   pub none : single_left one ≡ []
-
--- how many there are
-abbrev pub single_room : Single → ℕ
-single_room one = length (single_left one)
-
--- no line of it is buffered
-abbrev pub no_lines : Single → List ℕ
-no_lines one = []

@@ -1,31 +1,34 @@
--- What a reader of sorted records holds.
-use Rattle.std.specs.Prelude.{◌≡◌, ℕ, ◌-◌, ◌≤◌, ◌⊎◌, ◌&&◌, not, Bool, true, false, List, [], ◌∷◌}
+-- What a reader of sorted records holds, and what the calls of one do.
+use Rattle.std.specs.Prelude.{◌≡◌, ℕ, ◌-◌, ◌≤◌, ◌&&◌, not, Bool, true, false, List, [], ◌∷◌}
 use Rattle.std.specs.Prelude.{Option, Some, None, Result, Ok, Err, IsTrue, drop, length, option_map}
-use Rattle.std.specs.Prelude.{take}
+use Rattle.std.specs.Prelude.{IfSome, take}
 use Rattle.std.specs.Option.{ForSome}
 use Rattle.bt_lines.specs.declared.device.Source.{Ghosts as Source}
 use Rattle.bt_lines.specs.calls.Buffered.{BeginsLines}
 use Rattle.bt_lines.specs.model.Fault.{FaultValue}
 use Rattle.bt_lines.specs.model.Lines.{TextLine}
 use Rattle.bt_lines.specs.calls.Names.{fault_value}
-use Rattle.bt_lines.specs.calls.Reader.{TakenLines, TakesLines, buffered_bytes}
+use Rattle.bt_lines.specs.calls.Reader.{IsKept, TakenLines, TakesLines, buffered_bytes}
 use Rattle.bt_lines.specs.calls.Reader.{buffered_in as lines_buffered, input_of, is_open}
 use Rattle.bt_lines.specs.calls.Reader.{fault_kept as line_fault, lines_given}
 use Rattle.bt_lines.specs.declared.reader.buffered_lines.ConsumedLines.{ConsumedLines}
 use Rattle.bt_lines.specs.declared.fault.Fault.{Fault}
 use Rattle.bt_lines.specs.declared.reader.line_reader.LineReader.{LineReader}
 use Rattle.bt_bed.specs.calls.Batch.{chrom_in, cursor_in, left as left_in, start_in as start_of}
+use Rattle.bt_bed.specs.calls.Bed.{feature_lent}
 use Rattle.bt_bed.specs.model.feature.Feature.{Feature}
+use Rattle.bt_bed.specs.model.feature.Record.{IsFeature}
 use Rattle.bt_bed.specs.model.input.Good.{or_else}
 use Rattle.bt_bed.specs.model.input.GoodBed.{bed_format, line_says, locus_at}
-use Rattle.bt_bed.specs.inside.OrderedLookahead.{KeepsLast, LineUnkept, LineWrong, ahead_of}
-use Rattle.bt_bed.specs.inside.OrderedLookahead.{last_in, name_in, start_in}
+use Rattle.bt_bed.specs.inside.OrderedLookahead.{KeepsLast, ahead_of, last_in, name_in, start_in}
 use Rattle.bt_bed.specs.model.order.Locus.{Locus}
-use Rattle.bt_bed.specs.calls.Reading.{MemberReader}
+use Rattle.bt_bed.specs.calls.Reading.{AnswersFault, EndsMembers, FillAnswers, GivesMember}
+use Rattle.bt_bed.specs.calls.Reading.{IsLost, MemberReader, Takes, TellsOwnFailure, ahead_in}
 use Rattle.bt_bed.specs.calls.Run.{is_some_left, last_start}
 use Rattle.bt_bed.specs.model.order.Sorting.{Sorting, falls_in}
 use Rattle.bt_bed.specs.declared.read.batch.Batch.{Batch}
 use Rattle.bt_bed.specs.declared.read.batch.Consumed.{Consumed}
+use Rattle.bt_bed.specs.declared.record.bed.BedRef.{BedRef}
 use Rattle.bt_bed.specs.declared.read.sorted_reader.SortedReader.{SortedReader}
 use Rattle.bt_bed.specs.declared.read.lookahead.OrderedLookahead.{OrderedLookahead}
 
@@ -115,8 +118,8 @@ module _ {S Q : Type 0} where
 
     -- it is at fault, or memory ran out
     pub record LosesLine (old : SortedReader S Q) (line : TextLine) (fault : FaultValue) (new : SortedReader S Q) : Type 0 where
-      pub cause : LineWrong sorting (record { input = input_of old.reader; line = line.number }) line.text old.lookahead fault
-          ⊎ LineUnkept sorting line.text old.lookahead fault
+      pub cause : IsLost (record { input = input_of old.reader; line = line.number })
+          (line_says sorting (last_in old.lookahead) line.text) fault
       pub takes : TakesOne device old.reader new.reader
       pub none : new.is_ahead ≡ false
 
@@ -132,3 +135,35 @@ module _ {S Q : Type 0} where
       pub first : lines_buffered old.reader ≡ line ∷ more
       pub takes : TakesAs old line answer new
       pub keeps : KeepsLast old.lookahead new.lookahead
+
+-- What the calls do, whatever the rule. Of the record ahead it is known that it is `Next`, and of the reader what it `Keeps`.
+module _ {S : Type 0} (device : Source S) (Next : Feature → Type 0) (Keeps : Type 0)
+    (old new : MemberReader S Feature (Option Locus)) where
+  -- a call of `fill`
+  pub record FillsSorted (answer : Result Bool Fault) : Type 0 where
+    pub answers : FillAnswers device old answer new
+    -- the record ahead is one that a line can say
+    pub next : IfSome (ahead_in new) (λ m. IsFeature m.item × Next m.item)
+    pub own_failure : TellsOwnFailure device.is_read old.fault old.below answer new.below
+    pub kept : IsKept device old.below → IsKept device new.below
+    pub order : Keeps
+
+  -- what `peek` returns
+  abbrev pub PeekAnswers : Result (Option BedRef) Fault → Type 0
+  PeekAnswers (Ok (Some bed)) =
+      (line : ℕ) × GivesMember device old (record { line = line; item = feature_lent bed }) new
+  PeekAnswers (Ok None) = EndsMembers device old new
+  PeekAnswers (Err fault) = AnswersFault device old (fault_value fault) new
+
+  -- a call of `peek`
+  pub record PeeksSorted (answer : Result (Option BedRef) Fault) : Type 0 where
+    pub answers : PeekAnswers answer
+    pub next : IfSome (ahead_in new) (λ m. IsFeature m.item × Next m.item)
+    pub own_failure : TellsOwnFailure device.is_read old.fault old.below answer new.below
+    pub kept : IsKept device old.below → IsKept device new.below
+    pub order : Keeps
+
+  -- a call of `consume`: the first `count` of those that are buffered are taken, and nothing is read
+  pub record TakesSorted (count : ℕ) : Type 0 where
+    pub takes : Takes device old (take count old.buffered) new
+    pub order : Keeps

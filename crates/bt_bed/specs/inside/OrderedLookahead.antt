@@ -1,44 +1,22 @@
 -- The last record and the chromosome of the one ahead, sorted by some rule.
-use Rattle.std.specs.Prelude.{◌≡◌, ℕ, ◌⊎◌, Bool, false, ◌&&◌, IsTrue, IfSome, List, [], bytes_eq}
-use Rattle.std.specs.Prelude.{if◌then◌else◌, Option, Some, None, Result, Ok, Err, option_map}
-use Rattle.std.specs.Prelude.{is_some}
-use Rattle.bt_lines.specs.model.Fault.{FaultValue, no_memory}
+use Rattle.std.specs.Prelude.{◌≡◌, ℕ, Bool, ◌&&◌, IsTrue, IfSome, List, [], bytes_eq, is_some}
+use Rattle.std.specs.Prelude.{if◌then◌else◌, Option, Some, None, Result, Ok, Err, option_map, unwrap_or}
 use Rattle.bt_lines.specs.calls.Names.{fault_value}
 use Rattle.bt_lines.specs.calls.Reader.{buffered_in}
 use Rattle.bt_lines.specs.declared.fault.Fault.{Fault}
-use Rattle.bt_lines.specs.declared.fault.Kind.{Kind}
 use Rattle.bt_lines.specs.declared.fault.Place.{Place}
 use Rattle.bt_lines.specs.declared.reader.line_reader.LineReader.{LineReader}
+use Rattle.bt_bed.specs.calls.Reading.{IsLost}
 use Rattle.bt_bed.specs.calls.Run.{run_of}
 use Rattle.bt_bed.specs.model.feature.Feature.{Feature}
-use Rattle.bt_bed.specs.model.input.GoodBed.{line_says, in_order, locus_at}
-use Rattle.bt_bed.specs.model.feature.LineKind.{fault_at_line}
+use Rattle.bt_bed.specs.model.input.GoodBed.{line_says}
 use Rattle.bt_bed.specs.model.order.Locus.{Locus}
-use Rattle.bt_bed.specs.model.order.Sorting.{Sorting, falls_in}
+use Rattle.bt_bed.specs.model.order.Sorting.{Sorting}
 use Rattle.bt_bed.specs.declared.read.lookahead.OrderedLookahead.{OrderedLookahead}
 
 -- the chromosome of the last record is known
 abbrev pub IsKnownLast : Sorting → Option Locus → Type 0
 IsKnownLast sorting last = IfSome last (λ place. IsTrue (sorting.knows place.chrom))
-
--- the record fits after the last one
-pub record Fits (sorting : Sorting) (last : Option Locus) (r : Feature) : Type 0 where
-  pub known : IsTrue (sorting.knows r.chrom)
-  pub in_order : falls_in sorting last (locus_at r) ≡ false
-
--- the record fits, or what is wrong with it
-abbrev pub FitsOr : {T : Type 0} → Sorting → Option Locus → Feature → Result T Kind → Type 0
-FitsOr sorting last r (Ok done) = Fits sorting last r
-FitsOr sorting last r (Err kind) = in_order sorting last r ≡ Err kind
-
--- a start on the chromosome of this name
-abbrev pub start_at : List ℕ → Option ℕ → Option Locus
-start_at name start = option_map (λ s. record { chrom = name; start = s }) start
-
--- from where on records may start on a chromosome that the last one lies on or not
-abbrev pub start_on : Bool → Option ℕ → ℕ
-start_on is_elsewhere None = 0
-start_on is_elsewhere (Some start) = if is_elsewhere then 0 else start
 
 -- from where on records on the chromosome of this name may start after the last one
 abbrev pub start_after : Option Locus → List ℕ → ℕ
@@ -48,7 +26,8 @@ start_after (Some last) name = if bytes_eq last.chrom name then last.start else 
 module _ {Q : Type 0} where
   -- where the last record started, if there was one
   unfoldable pub last_in : OrderedLookahead Q → Option Locus
-  last_in lookahead = start_at lookahead.last_name.items lookahead.last
+  last_in lookahead =
+      option_map (λ s. record { chrom = lookahead.last_name.items; start = s }) lookahead.last
 
   -- the name of the chromosome of the record ahead
   unfoldable pub name_in : OrderedLookahead Q → List ℕ
@@ -57,7 +36,7 @@ module _ {Q : Type 0} where
 
   -- from where on records may start on it
   unfoldable pub start_in : OrderedLookahead Q → ℕ
-  start_in lookahead = start_on lookahead.is_elsewhere lookahead.last
+  start_in lookahead = if lookahead.is_elsewhere then 0 else unwrap_or lookahead.last 0
 
   -- the records on it that a reader of lines has buffered: none if none is known to be ahead
   abbrev pub ahead_of : {S : Type 0} → Bool → LineReader S → OrderedLookahead Q → List Feature
@@ -94,29 +73,9 @@ module _ {Q : Type 0} where
     pub ahead : IfSome said (λ r. HoldsChrom old r.chrom new)
     pub keeps : KeepsLast old new
 
-  -- a line is at fault
-  pub record LineWrong (sorting : Sorting) (place : Place) (text : List ℕ) (old : OrderedLookahead Q)
-      (fault : FaultValue) : Type 0 where
-    pub kind : Kind
-    pub says : line_says sorting (last_in old) text ≡ Err kind
-    pub is : fault ≡ fault_at_line place.input place.line kind
-
-  -- the line says a record, for whose chromosome's name memory ran out
-  pub record LineUnkept (sorting : Sorting) (text : List ℕ) (old : OrderedLookahead Q)
-      (fault : FaultValue) : Type 0 where
-    pub r : Feature
-    pub says : line_says sorting (last_in old) text ≡ Ok (Some r)
-    pub is : fault ≡ no_memory
-
-  -- a line wasn't taken
-  pub record LineLost (sorting : Sorting) (place : Place) (text : List ℕ) (old : OrderedLookahead Q)
-      (fault : FaultValue) (new : OrderedLookahead Q) : Type 0 where
-    pub cause : LineWrong sorting place text old fault ⊎ LineUnkept sorting text old fault
-    pub keeps : KeepsLast old new
-
   -- what taking a line does
   abbrev pub TakesLine : Sorting → Place → List ℕ → OrderedLookahead Q → Result Bool Fault → OrderedLookahead Q
       → Type 0
   TakesLine sorting place text old (Ok is_record) new = LineTaken sorting text old is_record new
-  TakesLine sorting place text old (Err fault) new = LineLost sorting place text old
-      (fault_value fault) new
+  TakesLine sorting place text old (Err fault) new =
+      IsLost place (line_says sorting (last_in old) text) (fault_value fault) × KeepsLast old new

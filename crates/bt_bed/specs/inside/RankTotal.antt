@@ -1,13 +1,11 @@
--- The order of ranks is total. The proof is here since the
--- order of a genome cites it as its law.
-use Rattle.std.specs.Prelude.{◌≡◌, ℕ, zero, suc, Bool, true, false, cond, ◌⊎◌, List, [], ◌∷◌}
-use Rattle.std.specs.Prelude.{Option, Some, None, option_map, is_some, bytes_eq, refl}
-use Rattle.std.specs.Ordering.{nat_cmp, ordering_reverse}
+-- The order of ranks is total. The proof is here since the order of a genome cites it as its law.
+use Rattle.std.specs.Prelude.{◌≡◌, ℕ, suc, Bool, true, false, cond, List, [], ◌∷◌, Option, Some, None}
+use Rattle.std.specs.Prelude.{option_map, is_some, bytes_eq, refl, slice_get}
+use Rattle.std.specs.Ordering.{ordering_reverse}
 use Rattle.std.specs.Cmp.{nat_cmp_total, ranked, tied_itself}
 use Rattle.std.specs.Cmp.Lexicographic.{bytes_decides}
 use Rattle.std.specs.declared.cmp.Ordering.TheVariants.{Less, Equal}
-use Rattle.std.proofs.Common.{inl, inr, sym, ◌∙◌, ap, subst}
-use Rattle.std.proofs.Math.Nat.{suc-ne-zero}
+use Rattle.std.proofs.Common.{sym, ap, subst}
 use Rattle.std.proofs.lemmas.Bool.{false≢true}
 use Rattle.bt_bed.specs.model.order.Rank.{rank_of, compare_ranks, ranks_are_total}
 
@@ -28,51 +26,38 @@ compared_ascends (Some x) None q one two three e f = absurd (false≢true two)
 compared_ascends (Some x) (Some y) None one two three e f = absurd (false≢true three)
 compared_ascends (Some x) (Some y) (Some z) one two three e f = nat_cmp_total.trans x y z e f
 
--- the rank of the first name, or one more than that among the others
-abbrev rank_next : Bool → Option ℕ → Option ℕ
-rank_next b o = cond b (Some 0) (option_map (λ rank. suc rank) o)
+-- the name at a rank, given those of the others
+named_by : (n name : List ℕ) (ns : List (List ℕ)) (b : Bool) (o : Option ℕ) (rank : ℕ) → bytes_eq n name ≡ b
+    → ((k : ℕ) → o ≡ Some k → slice_get ns k ≡ Some name)
+    → cond b (Some 0) (option_map (λ k. suc k) o) ≡ Some rank → slice_get (n ∷ ns) rank ≡ Some name
+named_by n name ns true o rank e others is =
+    let first : 0 ≡ rank = cc in
+    subst (λ k. slice_get (n ∷ ns) k ≡ Some name) first (ap (λ l. Some l) ((bytes_decides n name).0 e))
+named_by n name ns false None rank e others is = cc
+named_by n name ns false (Some k) rank e others is =
+    let later : suc k ≡ rank = cc in
+    subst (λ k. slice_get (n ∷ ns) k ≡ Some name) later (others k refl)
 
-less_one : ℕ → ℕ
-less_one zero = zero
-less_one (suc n) = n
-
-same_less_one : (m n : ℕ) → suc m ≡ suc n → m ≡ n
-unfolding less_one
-same_less_one m n e = ap less_one e
-
--- equal ranks are both of the first name, or equal among the others
-equal_next : (p q : Bool) (o r : Option ℕ) → is_some (rank_next p o) ≡ true
-    → is_some (rank_next q r) ≡ true → compare_ranks (rank_next p o) (rank_next q r) ≡ Equal
-    → ((p ≡ true) × (q ≡ true))
-    ⊎ ((is_some o ≡ true) × (is_some r ≡ true) × (compare_ranks o r ≡ Equal))
-equal_next true true o r known also e = inl (refl, refl)
-equal_next true false o None known also e = absurd (false≢true also)
-equal_next true false o (Some y) known also e =
-    absurd (suc-ne-zero y (sym (ranked 0 (suc y) Equal (sym e))))
-equal_next false true None r known also e = absurd (false≢true known)
-equal_next false true (Some x) r known also e =
-    absurd (suc-ne-zero x (ranked (suc x) 0 Equal (sym e)))
-equal_next false false None r known also e = absurd (false≢true known)
-equal_next false false (Some x) None known also e = absurd (false≢true also)
-equal_next false false (Some x) (Some y) known also e =
-    let same = same_less_one x y (ranked (suc x) (suc y) Equal (sym e)) in
-    inr (refl, refl, subst (λ n. nat_cmp x n ≡ Equal) same (tied_itself nat_cmp_total x))
+named : (names : List (List ℕ)) (name : List ℕ) (rank : ℕ) → rank_of names name ≡ Some rank
+    → slice_get names rank ≡ Some name
+named [] name rank is = cc
+named (n ∷ ns) name rank is = named_by n name ns (bytes_eq n name) (rank_of ns name) rank refl (named ns name) is
 
 -- names of equal ranks are one
-equal_names : (names : List (List ℕ)) (a b : List ℕ) → is_some (rank_of names a) ≡ true
-    → is_some (rank_of names b) ≡ true → compare_ranks (rank_of names a) (rank_of names b) ≡ Equal
-    → a ≡ b
-equal_names [] a b known also e = absurd (false≢true known)
-equal_names (n ∷ ns) a b known also e =
-    elim (equal_next (bytes_eq n a) (bytes_eq n b) (rank_of ns a) (rank_of ns b) known also e) [
-      | inl first ↦ sym ((bytes_decides n a).0 first.0) ∙ (bytes_decides n b).0 first.1
-      | inr later ↦ equal_names ns a b later.0 later.1 later.2
-    ]
+equal_by : (names : List (List ℕ)) (a b : List ℕ) (o p : Option ℕ) → rank_of names a ≡ o → rank_of names b ≡ p
+    → is_some o ≡ true → is_some p ≡ true → compare_ranks o p ≡ Equal → a ≡ b
+equal_by names a b None p first second known also e = absurd (false≢true known)
+equal_by names a b (Some x) None first second known also e = absurd (false≢true also)
+equal_by names a b (Some x) (Some y) first second known also e =
+    let same : x ≡ y = ranked x y Equal (sym e) in
+    let one : slice_get names x ≡ Some a = named names a x first in
+    let other : slice_get names y ≡ Some b = named names b y second in
+    cc
 
 pub ranks_total : ranks_are_total
 ranks_total names = record {
   same = λ name known. compared_same (rank_of names name);
-  equal = equal_names names;
+  equal = λ a b. equal_by names a b (rank_of names a) (rank_of names b) refl refl;
   swapped = λ a b one two. compared_swapped (rank_of names a) (rank_of names b);
   ascends =
       λ a b c one two three. compared_ascends (rank_of names a) (rank_of names b) (rank_of names c)

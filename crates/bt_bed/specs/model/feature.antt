@@ -1,4 +1,3 @@
--- What one has to believe: the definitions that the report names.
 pub mod Bases
 pub mod Feature
 pub mod Header

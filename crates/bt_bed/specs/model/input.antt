@@ -1,4 +1,3 @@
--- What one has to believe: the definitions that the report names.
 pub mod Good
 pub mod GoodBed
 pub mod GoodBlocks

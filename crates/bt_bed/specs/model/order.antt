@@ -1,4 +1,3 @@
--- What one has to believe: the definitions that the report names.
 pub mod ByteOrder
 pub mod Genome
 pub mod Locus

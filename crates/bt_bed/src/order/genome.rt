@@ -20,12 +20,13 @@ pub struct Genome {
 
 #[tactic(auto, unfolding(crate::specs::calls::GenomeTable::entries))]
 impl Genome {
-    ghost use Rattle.std.specs.Prelude.{◌≡◌, ◌⊎◌, false, [], ◌∷◌, ◌++◌, length, slice_get, Some, IfErr, OnOk, option_map};
+    ghost use Rattle.std.specs.Prelude.{◌≡◌, false, [], ◌∷◌, ◌++◌, length, slice_get, Some, IfErr, OnOk, option_map};
     ghost use Rattle.bt_lines.specs.model.Fault.{no_memory};
     ghost use Rattle.bt_lines.specs.calls.Names.{fault_value};
     ghost use Rattle.bt_bed.specs.model.order.Genome.{entry_of, new_entry};
+    ghost use Rattle.bt_bed.specs.calls.Reading.{IsLost};
     ghost use Rattle.bt_bed.specs.model.order.Rank.{is_among, rank_of};
-    ghost use Rattle.bt_bed.specs.calls.GenomeTable.{LineAdded, LineRefused, LineUnkept, ReadsGenome, entries, entry_lent, entry_said, names_of};
+    ghost use Rattle.bt_bed.specs.calls.GenomeTable.{LineAdded, ReadsGenome, entries, entry_lent, entry_said, names_of};
 
     /// A genome without chromosomes, as that of a run that has no genome file.
     pub fn new(alloc: Global) -> Genome
@@ -98,7 +99,7 @@ impl Genome {
     fn add_line(&mut self, alloc: Global, place: Place, text: &[u8]) -> Result<(), Fault>
         ensures added { OnOk result (LineAdded text.now self.old self.new) }
         ensures refused { IfErr result (λ fault.
-            LineRefused place text.now self.old (fault_value fault) ⊎ LineUnkept text.now self.old (fault_value fault)) }
+            IsLost place (new_entry (names_of self.old) (entry_of text.now)) (fault_value fault)) }
     {
         let entry = match entry(text) {
             Ok(Some(entry)) => entry,

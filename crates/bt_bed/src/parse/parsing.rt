@@ -1,7 +1,7 @@
 //! What a line of a BED file says.
 
-ghost use Rattle.std.specs.Prelude.{◌≡◌, ◌≤◌, List, drop, length, ℕ};
-ghost use Rattle.bt_bed.specs.calls.Bed.{EndsWithRest, feature_between, record_seen};
+ghost use Rattle.std.specs.Prelude.{◌≡◌, ◌-◌, ◌≤◌, IfOk, IfSome, List, drop, length, ℕ};
+ghost use Rattle.bt_bed.specs.calls.Bed.{feature_between, record_seen};
 ghost use Rattle.bt_bed.specs.model.feature.Record.{feature_of, record_of};
 ghost use Rattle.bt_lines.specs.model.Lines.{pieces};
 ghost use Rattle.bt_lines.specs.model.Number.{value_of};
@@ -19,7 +19,8 @@ use bt_lines::{Kind, columns, number};
 /// allocate, and the feature borrows from the text: its `rest` begins at the tab after the third column.
 pub fn parse_bed(text: &[u8]) -> Result<Option<BedRef<'_>>, Kind>
     ensures said { record_seen result ≡ record_of text.now }
-    ensures suffix { EndsWithRest text.now result }
+    ensures suffix { IfOk result (λ said. IfSome said (λ bed. (length bed.rest.now ≤ length text.now)
+        × (drop (length text.now - length bed.rest.now) text.now ≡ bed.rest.now))) }
 {
     if is_header(text) {
         return Ok(None);

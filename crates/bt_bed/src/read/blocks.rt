@@ -29,8 +29,9 @@ impl<S: Source> Blocks<S> {
     ghost use Rattle.std.specs.Io.BufRead.{Rests};
     ghost use Rattle.bt_lines.specs.calls.Reader.{fault_kept as line_fault, input_of, lines_left};
     ghost use Rattle.bt_bed.specs.contracts.read.blocks.Blocks.{the_row};
-    ghost use Rattle.bt_bed.specs.calls.Reading.{BeginsComing};
-    ghost use Rattle.bt_bed.specs.calls.Blocks.{FillsBlocks, IsTaken, Lends, PassesBlocks, PeeksBlocks, TakesBlocks, below, buffered_in, count_in, fault_kept, good_left, last_locus, line_ahead, view_of};
+    ghost use Rattle.bt_bed.specs.model.input.GoodBed.{locus_at};
+    ghost use Rattle.bt_bed.specs.calls.Reading.{BeginsComing, ahead_in, good_coming, line_of_ahead};
+    ghost use Rattle.bt_bed.specs.calls.Blocks.{FillsBlocks, IsTaken, Lends, PeeksBlocks, TakesBlocks, below, buffered_in, count_in, fault_kept, view_of};
     ghost use Rattle.bt_bed.specs.model.input.Good.{good};
     ghost use Rattle.bt_bed.specs.model.input.GoodBlocks.{block_format};
 
@@ -39,9 +40,9 @@ impl<S: Source> Blocks<S> {
     pub fn new(alloc: Global, reader: LineReader<S>) -> Blocks<S>
         ensures below { below result ≡ reader }
         ensures fault { fault_kept result ≡ line_fault reader }
-        ensures good { line_fault reader ≡ None → good_left S.left result
+        ensures good { line_fault reader ≡ None → good_coming S.left (view_of result)
             ≡ option_map (good block_format (input_of reader)) (lines_left S.left reader) }
-        ensures none_last { last_locus result ≡ None }
+        ensures none_last { (view_of result).state ≡ None }
         ensures none_buffered { buffered_in result ≡ [] }
     {
         Blocks {
@@ -89,16 +90,17 @@ impl<S: Source> Blocks<S> {
 
     /// Takes the record ahead, which the last `peek` gave: `consume` of one. It reads nothing and can't fail.
     pub fn advance(&mut self)
-        requires { IsSome (line_ahead self.old) }
-        ensures { PassesBlocks S.Source self.old self.new }
+        requires { IsSome (line_of_ahead (view_of self.old)) }
+        ensures takes { TakesBlocks S.Source self.old 1 self.new }
+        ensures last { (view_of self.new).state ≡ option_map (λ m. locus_at m.item) (ahead_in (view_of self.old)) }
     {
         self.sorted.advance();
     }
 
     /// The number of the line, counted from 1, of the record ahead, which the last `peek` gave.
     pub fn line(&self) -> u64
-        requires { IsSome (line_ahead self.now) }
-        ensures { line_ahead self.now ≡ Some result }
+        requires { IsSome (line_of_ahead (view_of self.now)) }
+        ensures { line_of_ahead (view_of self.now) ≡ Some result }
     {
         self.sorted.reader.lines() + 1
     }

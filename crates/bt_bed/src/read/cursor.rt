@@ -122,7 +122,7 @@ impl<'a> Single<'a> {
 #[tactic(auto, unfolding(crate::specs::calls::Single::single_left, crate::specs::calls::Single::single_name, crate::specs::calls::Single::single_line))]
 impl<'a> Cursor for Single<'a> {
     ghost use Rattle.bt_bed.specs.calls.CursorLaws.{single_gives_more, single_gives_none, single_gives_same};
-    ghost use Rattle.bt_bed.specs.calls.Single.{GivesSingle, HasNone, no_lines, single_line, single_name, single_room};
+    ghost use Rattle.bt_bed.specs.calls.Single.{GivesSingle, HasNone, single_left, single_line, single_name};
 
     type Record = BedRef<'a>;
 
@@ -132,11 +132,11 @@ impl<'a> Cursor for Single<'a> {
 
     ghost has_ended = { HasNone };
 
-    ghost room = { single_room };
+    ghost room = { λ one. length (single_left one) };
 
     ghost line = { single_line };
 
-    ghost consumed = { no_lines };
+    ghost consumed = { λ one. [] };
 
     fn chrom(&self) -> &[u8] {
         self.chrom

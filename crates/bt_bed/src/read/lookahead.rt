@@ -25,9 +25,11 @@ pub(crate) struct OrderedLookahead<Q> {
 
 #[tactic(auto, unfolding(crate::specs::inside::OrderedLookahead::last_in, crate::specs::inside::OrderedLookahead::name_in, crate::specs::inside::OrderedLookahead::start_in))]
 impl<Q: Sorted> OrderedLookahead<Q> {
-    ghost use Rattle.std.specs.Prelude.{◌≡◌, None};
+    ghost use Rattle.std.specs.Prelude.{◌≡◌, None, Some};
+    ghost use Rattle.std.specs.Result.{result_map_both};
     ghost use Rattle.bt_bed.specs.calls.Bed.{feature_lent};
-    ghost use Rattle.bt_bed.specs.inside.OrderedLookahead.{FitsOr, IsKnownLast, MakesLast, TakesLine, goes_on, last_in, name_in, start_in};
+    ghost use Rattle.bt_bed.specs.model.input.GoodBed.{in_order};
+    ghost use Rattle.bt_bed.specs.inside.OrderedLookahead.{IsKnownLast, MakesLast, TakesLine, goes_on, last_in, name_in, start_in};
 
     // No record yet.
     pub(crate) fn new(alloc: Global, rule: Q) -> OrderedLookahead<Q>
@@ -107,7 +109,8 @@ impl<Q: Sorted> OrderedLookahead<Q> {
     fn check(&self, is_same: bool, bed: BedRef<'_>) -> Result<(), Kind>
         requires same { is_same ≡ goes_on self.now bed.chrom.now }
         requires known { IsKnownLast (Q.sorting self.now.rule) (last_in self.now) }
-        ensures { FitsOr (Q.sorting self.now.rule) (last_in self.now) (feature_lent bed.entry) result }
+        ensures { in_order (Q.sorting self.now.rule) (last_in self.now) (feature_lent bed.entry)
+            ≡ result_map_both (λ done. Some (feature_lent bed.entry)) (λ kind. kind) result }
     {
         if !is_same && !self.rule.knows(bed.chrom) {
             return Err(Kind::UnknownChrom);

@@ -32,10 +32,10 @@ impl<'o, S: Source, O: ChromOrder> Records<'o, S, O> {
     ghost use Rattle.bt_lines.specs.calls.Reader.{fault_kept as line_fault, input_of, lines_left};
     ghost use Rattle.bt_bed.specs.contracts.read.records.Records.{the_row};
     ghost use Rattle.bt_bed.specs.model.input.Good.{good};
-    ghost use Rattle.bt_bed.specs.model.input.GoodBed.{bed_format};
+    ghost use Rattle.bt_bed.specs.model.input.GoodBed.{bed_format, locus_at};
     ghost use Rattle.bt_bed.specs.model.order.Order.{IsTotal};
-    ghost use Rattle.bt_bed.specs.calls.Reading.{BeginsComing};
-    ghost use Rattle.bt_bed.specs.calls.Records.{FillsRecords, IsTaken, Lends, PassesRecord, PeeksRecord, TakesRecords, below, buffered_in, count_in, fault_kept, good_left, last_locus, line_ahead, order_in, view_of};
+    ghost use Rattle.bt_bed.specs.calls.Reading.{BeginsComing, ahead_in, good_coming, line_of_ahead};
+    ghost use Rattle.bt_bed.specs.calls.Records.{FillsRecords, IsTaken, Lends, PeeksRecord, TakesRecords, below, buffered_in, count_in, fault_kept, last_locus, order_in, view_of};
 
     /// A reader of the records that the reader of lines has left.
     pub fn new(alloc: Global, reader: LineReader<S>, order: &'o O) -> Records<'o, S, O>
@@ -43,7 +43,7 @@ impl<'o, S: Source, O: ChromOrder> Records<'o, S, O> {
         ensures order { order_in result ≡ O.order order.now }
         ensures total { IsTotal (order_in result) }
         ensures fault { fault_kept result ≡ line_fault reader }
-        ensures good { line_fault reader ≡ None → good_left S.left result
+        ensures good { line_fault reader ≡ None → good_coming S.left (view_of result)
             ≡ option_map (good (bed_format (sorting_of (O.order order.now))) (input_of reader))
             (lines_left S.left reader) }
         ensures none_last { last_locus result ≡ None }
@@ -95,16 +95,17 @@ impl<'o, S: Source, O: ChromOrder> Records<'o, S, O> {
 
     /// Takes the record ahead, which the last `peek` gave: `consume` of one. It reads nothing and can't fail.
     pub fn advance(&mut self)
-        requires { IsSome (line_ahead self.old) }
-        ensures { PassesRecord S.Source self.old self.new }
+        requires { IsSome (line_of_ahead (view_of self.old)) }
+        ensures takes { TakesRecords S.Source self.old 1 self.new }
+        ensures last { last_locus self.new ≡ option_map (λ m. locus_at m.item) (ahead_in (view_of self.old)) }
     {
         self.sorted.advance();
     }
 
     /// The number of the line, counted from 1, of the record ahead, which the last `peek` gave.
     pub fn line(&self) -> u64
-        requires { IsSome (line_ahead self.now) }
-        ensures { line_ahead self.now ≡ Some result }
+        requires { IsSome (line_of_ahead (view_of self.now)) }
+        ensures { line_of_ahead (view_of self.now) ≡ Some result }
     {
         self.sorted.reader.lines() + 1
     }

@@ -30,7 +30,9 @@ pub struct RawRecord<'a> {
 #[tactic(auto, unfolding(crate::specs::calls::RawRecord::text_in, crate::specs::calls::RawRecord::raw_in, crate::specs::calls::RawRecord::record_in, crate::specs::calls::RawRecord::kept_in))]
 impl<'a> RawRecord<'a> {
     ghost use Rattle.bt_bed.specs.calls.Bed.{feature_lent};
-    ghost use Rattle.bt_bed.specs.calls.RawRecord.{IsAsWritten, raw_in, record_in, text_in};
+    ghost use Rattle.bt_bed.specs.model.feature.Feature.{Feature};
+    ghost use Rattle.bt_bed.specs.model.feature.Record.{bed_text, record_of};
+    ghost use Rattle.bt_bed.specs.calls.RawRecord.{raw_in, record_in, text_in};
 
     /// The text of the line.
     #[inline(always)]
@@ -60,7 +62,7 @@ impl<'a> RawRecord<'a> {
     /// a start of `0` too, which is the start of few records.
     #[inline(always)]
     pub fn is_canonical(&self) -> bool
-        ensures { IsTrue result → IsAsWritten (text_in self.now) }
+        ensures { IsTrue result → (r : Feature) → record_of (text_in self.now) ≡ Ok (Some r) → bed_text r ≡ text_in self.now }
     {
         let start = self.name + 1;
         let stop = start + self.start.end + 1;

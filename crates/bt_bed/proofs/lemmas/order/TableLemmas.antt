@@ -11,6 +11,8 @@ use Rattle.bt_lines.specs.declared.fault.Place.{Place}
 use Rattle.bt_lines.specs.declared.reader.line_reader.LineReader.{LineReader}
 use Rattle.bt_bed.proofs.lemmas.order.GenomeLemmas.{before_err, before_ok, distinct_push, is_new, says_then}
 use Rattle.bt_bed.proofs.lemmas.order.RankLemmas.{among_ranked}
+use Rattle.bt_bed.proofs.lemmas.order.ResultLemmas.{IsUnkept, IsWrong, lost_parts}
+use Rattle.bt_bed.specs.calls.Reading.{IsLost}
 use Rattle.bt_bed.proofs.lemmas.parse.NameLemmas.{name_eq-sym}
 use Rattle.std.specs.declared.alloc.Global.{Global}
 use Rattle.bt_lines.specs.declared.device.Source.{Ghosts as Source}
@@ -20,7 +22,7 @@ use Rattle.bt_bed.specs.model.order.Genome.{Entry, genome_names, genome_from, ge
 use Rattle.bt_bed.specs.model.feature.LineKind.{fault_at_line, is_genome_kind}
 use Rattle.bt_bed.specs.model.order.Rank.{is_among, rank_of, AreDistinct}
 use Rattle.bt_bed.proofs.lemmas.order.HandsLemmas.{Passed, cut_fault, near_fault, near_line, passed_line, passed_none}
-use Rattle.bt_bed.specs.calls.GenomeTable.{entries, names_of, entry_seen, IsToldFirst, LineAdded, LineRefused, LineUnkept, ReadsAll, EntryIsWrong, ReadingStops, StopCause}
+use Rattle.bt_bed.specs.calls.GenomeTable.{entries, names_of, entry_seen, LineAdded, ReadsAll, EntryIsWrong, ReadingStops, StopCause}
 use Rattle.bt_bed.specs.declared.order.genome.Genome.{Genome}
 
 -- a line's entry is new if its name has no rank, and else repeated
@@ -149,6 +151,10 @@ first_lines old given new from to e n =
     let count : to - from ≡ length given = omega arith in
     rw (e, count) (take-append_seam given new)
 
+-- if one of the first lines is at fault, its fault is the one reported
+abbrev IsToldFirst : Input → Option (List TextLine) → ℕ → FaultValue → Type 0
+IsToldFirst input lines count fault = IfSome lines (λ all. (other : FaultValue) → genome_of input (take count all) ≡ Err other → fault ≡ other)
+
 -- no line given is at fault
 none_wrong : (input : Input) (old now : Option (List TextLine)) (from to : ℕ) (front : List Entry) (fault : FaultValue) → Continues input old from front now to → IsToldFirst input old (to - from) fault
 none_wrong input None now from to front fault c = tt
@@ -243,7 +249,7 @@ module _ {S : Type 0} (device : Source S) (old : LineReader S) where
   }
 
   pub going_refused : (now next : LineReader S) (line : TextLine) (genome : Genome) (place : Place) (fault : FaultValue) → Going device old now genome → GivesLine device now line next
-      → place ≡ record { input = input_of old; line = line.number } → LineRefused place line.text genome fault → EntryIsWrong device old next fault
+      → place ≡ record { input = input_of old; line = line.number } → IsWrong place (new_entry (names_of genome) (entry_of line.text)) fault → EntryIsWrong device old next fault
   going_refused now next line genome place fault g gives at refused =
       let is : fault ≡ fault_at_line (input_of old) line.number refused.kind = refused.is ∙ ap (λ (p : Place). fault_at_line p.input p.line refused.kind) at in
       let counted : line.number ≡ lines_given next = gives.number ∙ sym gives.counted in
@@ -285,7 +291,7 @@ module _ {S : Type 0} (device : Source S) (old : LineReader S) where
 
   -- a line was refused, or had no room
   going_wrong : (now next : LineReader S) (line : TextLine) (genome : Genome) (place : Place) (fault : FaultValue) → Going device old now genome → GivesLine device now line next → (IsSound device now → IsSound device next)
-      → place ≡ record { input = input_of old; line = line.number } → LineRefused place line.text genome fault → ReadingStops device old next fault
+      → place ≡ record { input = input_of old; line = line.number } → IsWrong place (new_entry (names_of genome) (entry_of line.text)) fault → ReadingStops device old next fault
   going_wrong now next line genome place fault g gives sound at refused =
       let none = had_none now genome g gives.was_going.0 in
       let is : fault ≡ fault_at_line (input_of old) line.number refused.kind = refused.is ∙ ap (λ (p : Place). fault_at_line p.input p.line refused.kind) at in
@@ -297,23 +303,26 @@ module _ {S : Type 0} (device : Source S) (old : LineReader S) where
         near = λ none was. near_line device old next (passed_line device old now next g.passed line gives sound) gives.goes was;
       }
 
-  going_unkept : (now next : LineReader S) (line : TextLine) (genome : Genome) (fault : FaultValue) → Going device old now genome → GivesLine device now line next → (IsSound device now → IsSound device next) → LineUnkept line.text genome fault → ReadingStops device old next fault
-  going_unkept now next line genome fault g gives sound unkept =
+  going_unkept : (now next : LineReader S) (line : TextLine) (genome : Genome) (place : Place) (fault : FaultValue) → Going device old now genome → GivesLine device now line next → (IsSound device now → IsSound device next) → IsUnkept place (new_entry (names_of genome) (entry_of line.text)) fault → ReadingStops device old next fault
+  going_unkept now next line genome place fault g gives sound unkept =
       let none = had_none now genome g gives.was_going.0 in
-      let more = continues_line (input_of old) (lines_left device.left old) (lines_left device.left now) (lines_left device.left next) (lines_given old) (lines_given now) (lines_given next) (entries genome) line (Some unkept.entry) g.continues gives.first gives.counted unkept.says in
+      let more = continues_line (input_of old) (lines_left device.left old) (lines_left device.left now) (lines_left device.left next) (lines_given old) (lines_given now) (lines_given next) (entries genome) line (Some unkept.item) g.continues gives.first gives.counted unkept.says in
       record {
         again = λ before e. cc;
         first = λ going. inr (inr (record { is = unkept.is; served = gives.served ∙ g.served }));
-        checked = none_wrong (input_of old) (lines_left device.left old) (lines_left device.left next) (lines_given old) (lines_given next) (entries genome ++ unkept.entry ∷ []) fault more;
+        checked = none_wrong (input_of old) (lines_left device.left old) (lines_left device.left next) (lines_given old) (lines_given next) (entries genome ++ unkept.item ∷ []) fault more;
         bytes = both now next g.passed.bytes (gives.bytes.0, gives.bytes.1);
         near = λ none was. near_line device old next (passed_line device old now next g.passed line gives sound) gives.goes was;
       }
 
   -- a line could not be added
   pub going_err : (now next : LineReader S) (line : TextLine) (genome : Genome) (place : Place) (fault : FaultValue) → Going device old now genome → GivesLine device now line next → (IsSound device now → IsSound device next)
-      → place ≡ record { input = input_of old; line = line.number } → LineRefused place line.text genome fault ⊎ LineUnkept line.text genome fault → ReadingStops device old next fault
-  going_err now next line genome place fault g gives sound at (inl refused) = going_wrong now next line genome place fault g gives sound at refused
-  going_err now next line genome place fault g gives sound at (inr unkept) = going_unkept now next line genome fault g gives sound unkept
+      → place ≡ record { input = input_of old; line = line.number } → IsLost place (new_entry (names_of genome) (entry_of line.text)) fault → ReadingStops device old next fault
+  going_err now next line genome place fault g gives sound at lost =
+      elim (lost_parts place (new_entry (names_of genome) (entry_of line.text)) fault lost) [
+        | inl refused ↦ going_wrong now next line genome place fault g gives sound at refused
+        | inr unkept ↦ going_unkept now next line genome place fault g gives sound unkept
+      ]
 
 -- a length at a rank is that of a chromosome
 pub some_length : (chromosomes : List (Vec ℕ Global × ℕ)) (rank size : ℕ) → All (λ chromosome. 0 < chromosome.1) chromosomes → slice_get (map (λ chromosome. chromosome.1) chromosomes) rank ≡ Some size → 0 < size

@@ -104,7 +104,7 @@ pub bounds_say : (text rest : List ℕ) (name : ℕ) (start stop : ParsedNumber)
     → Ok (record { chrom = take name text; start = start.value; stop = stop.value; strand = strand; rest = rest }) ≡ columns_say (pieces 9 text)
 bounds_say text rest name start stop strand ends bounds r t = grind (arith, direct_say, rest_stands)
 
--- a text that has a name and a tab at its front
+-- a text of which a name and a tab are a prefix
 pub name_in_front : (text name : List ℕ) → length name < length text → get_or text (length name) 0 ≡ 9 → bytes_eq name (take (length name) text) ≡ true → BeginsWithName text name
 name_in_front text name within tab same = grind (arith, bytes_eq-Decides, drop_more, take-append-drop)
 

@@ -6,7 +6,7 @@ use Rattle.bt_lines.proofs.lemmas.reader.lines.BufferedLemmas.{strip_begins}
 use Rattle.bt_bed.specs.model.feature.Feature.{Feature}
 use Rattle.bt_bed.specs.inside.FirstColumns.{HasColumns, Leads}
 use Rattle.bt_bed.specs.model.feature.Record.{IsFeature, bed_text, columns_in, record_of, strand_of}
-use Rattle.bt_bed.specs.calls.RawRecord.{IsAsWritten, IsOnLine, kept_in, record_in, text_in}
+use Rattle.bt_bed.specs.calls.RawRecord.{IsOnLine, kept_in, record_in, text_in}
 use Rattle.bt_bed.specs.declared.parse.parsed_number.ParsedNumber.{ParsedNumber}
 use Rattle.bt_bed.specs.declared.record.raw_record.RawRecord.{RawRecord}
 use Rattle.bt_bed.proofs.lemmas.parse.FeatureLemmas.{record_said, said_by_columns, said_is_feature}
@@ -107,8 +107,8 @@ text_is_feature raw text is =
     })) (sym is) (raw_is_feature raw)
 
 -- a line that is as it is written is its record's text
-pub text_written : (raw : RawRecord) → IsAsWritten (text_in raw) → text_in raw ≡ bed_text (record_in raw)
-text_written raw stands = sym (stands.is (record_in raw) (says_its_record raw))
+pub text_written : (raw : RawRecord) → ((r : Feature) → record_of (text_in raw) ≡ Ok (Some r) → bed_text r ≡ text_in raw) → text_in raw ≡ bed_text (record_in raw)
+text_written raw stands = sym (stands (record_in raw) (says_its_record raw))
 
 -- the record of a line on which it was read
 pub on_line : (raw : RawRecord) (line name : List ℕ) → raw.line.now ≡ line → take raw.name (strip_last 13 raw.line.now) ≡ name → IsOnLine line name raw

@@ -27,14 +27,9 @@ is_record_kind _ = false
 
 -- whether a line of a BED input can be at fault so
 abbrev pub is_bed_kind : Kind → Bool
-is_bed_kind TooFewColumns = true
-is_bed_kind EmptyName = true
-is_bed_kind BadStart = true
-is_bed_kind BadStop = true
-is_bed_kind EmptyFeature = true
 is_bed_kind UnknownChrom = true
 is_bed_kind OutOfOrder = true
-is_bed_kind _ = false
+is_bed_kind kind = is_record_kind kind
 
 -- A line of a BED input that is sorted by an order of the chromosomes can be at fault so. For an
 -- unknown chromosome it is only if there is a name that the order doesn't know.

@@ -1,7 +1,7 @@
 -- Where records start, and the order of sorted input: by chromosome, then by start. Ends aren't
 -- compared (bedtools manual, sorted input and genome files).
 use Rattle.std.specs.Prelude.{◌≡◌, ℕ, ◌≤◌, Bool, true, false, ◌⊎◌, ⊤, IsTrue, IfSome, ◌++◌, List}
-use Rattle.std.specs.Prelude.{[], ◌∷◌, Option, Some, None, nat_lt}
+use Rattle.std.specs.Prelude.{[], ◌∷◌, nat_lt}
 use Rattle.std.specs.declared.cmp.Ordering.{Ordering}
 use Rattle.std.specs.declared.cmp.Ordering.TheVariants.{Less, Equal, Greater}
 use Rattle.bt_bed.specs.model.feature.Interval.{Interval, last_of}
@@ -26,11 +26,6 @@ is_below_at Greater start other = false
 abbrev pub is_below : Order → Locus → Locus → Bool
 is_below order place other =
     is_below_at (order.compare place.chrom other.chrom) place.start other.start
-
--- whether a place lies below the last one, if there is one
-abbrev pub falls_below : Order → Option Locus → Locus → Bool
-falls_below order None place = false
-falls_below order (Some last) place = is_below order place last
 
 -- the place isn't after the next one
 abbrev pub IsUpTo : Order → Locus → Locus → Type 0

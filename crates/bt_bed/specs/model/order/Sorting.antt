@@ -1,26 +1,20 @@
 -- How the records of an input are sorted: by chromosome, and on each of them by start.
 use Rattle.std.specs.Prelude.{◌≡◌, ℕ, Bool, true, false, IsTrue, List, Option, Some, None, bytes_eq}
 use Rattle.std.specs.Prelude.{nat_lt, if◌then◌else◌}
-use Rattle.std.specs.declared.cmp.Ordering.{Ordering}
-use Rattle.std.specs.declared.cmp.Ordering.TheVariants.{Less, Equal, Greater}
+use Rattle.std.specs.Ordering.{is_lt}
 use Rattle.bt_bed.specs.model.order.Order.{Order, IsTotal}
-use Rattle.bt_bed.specs.model.order.Locus.{Locus, falls_below}
+use Rattle.bt_bed.specs.model.order.Locus.{Locus, is_below}
 
 -- which chromosomes are known, and whether one of two different known ones comes before the other
 pub record Sorting : Type 0 where
   pub knows : List ℕ → Bool
   pub comes_before : List ℕ → List ℕ → Bool
 
-abbrev pub is_less : Ordering → Bool
-is_less Less = true
-is_less Equal = false
-is_less Greater = false
-
 -- that of an order of the chromosomes
 abbrev pub sorting_of : Order → Sorting
 sorting_of order = record {
   knows = order.knows;
-  comes_before = λ name other. is_less (order.compare name other);
+  comes_before = λ name other. is_lt (order.compare name other);
 }
 
 -- that of blocks, each of one chromosome: every name is a chromosome, and none comes before another
@@ -40,4 +34,4 @@ abbrev pub sorted_by_places : Type 0
 sorted_by_places = (order : Order) (last place : Locus) → IsTotal order → IsTrue
     (order.knows last.chrom)
     → IsTrue (order.knows place.chrom)
-    → falls_in (sorting_of order) (Some last) place ≡ falls_below order (Some last) place
+    → falls_in (sorting_of order) (Some last) place ≡ is_below order place last

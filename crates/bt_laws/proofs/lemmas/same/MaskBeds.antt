@@ -34,7 +34,8 @@ use Rattle.bt_bed.specs.model.order.Contiguous.{AreContiguous}
 use Rattle.bt_bed.specs.model.order.Genome.{Entry}
 use Rattle.bt_bed.specs.model.order.Locus.{ArePlaced, Locus}
 use Rattle.bt_bed.specs.model.order.Order.{Order, IsTotal}
-use Rattle.bt_bed.specs.model.order.Sorting.{block_sorting, falls_in, is_less, sorting_of}
+use Rattle.bt_bed.specs.model.order.Sorting.{block_sorting, falls_in, sorting_of}
+use Rattle.std.specs.Ordering.{is_lt}
 use Rattle.bt_bed.proofs.lemmas.definitions.GoodBedLemmas.{placed_good}
 use Rattle.bt_bed.proofs.lemmas.order.ContiguousLemmas.{placed_contiguous}
 use Rattle.bt_runs.specs.model.Counted.{counted}
@@ -148,7 +149,7 @@ falls_by false start other less e = refl
 
 no_fall : (order : Order) (last : Option Locus) (place : Locus) → falls_in (sorting_of order) last place ≡ false → falls_in block_sorting last place ≡ false
 no_fall order None place e = refl
-no_fall order (Some last) place e = falls_by (bytes_eq last.chrom place.chrom) place.start last.start (is_less (order.compare place.chrom last.chrom)) e
+no_fall order (Some last) place e = falls_by (bytes_eq last.chrom place.chrom) place.start last.start (is_lt (order.compare place.chrom last.chrom)) e
 
 -- the same records, and no fault
 record IsLike (one other : Good Feature) : Type 0 where

@@ -1,12 +1,12 @@
 -- Lemmas on what a line says after the last place, and on the chromosome of the record ahead.
-use Rattle.bt_lines.proofs.Std.{◌≡◌, ℕ, ◌≤◌, Bool, true, false, cond, List, Option, Some, None, Result, Ok, Err, refl, sym, ap, ◌∙◌, subst, arith, bytes_eq, ◌&&◌, IsTrue, is_some, nat_lt, false≢true, nat_tests, bytes_eq-Decides}
+use Rattle.bt_lines.proofs.Std.{◌≡◌, ℕ, ◌≤◌, Bool, true, false, cond, List, Option, Some, None, Result, Ok, Err, refl, sym, ap, ◌∙◌, subst, arith, bytes_eq, ◌&&◌, is_some, nat_lt, option_map, unwrap_or, false≢true, nat_tests, bytes_eq-Decides}
 use Rattle.bt_lines.specs.declared.fault.Kind.{Kind}
 use Rattle.bt_lines.specs.declared.fault.Kind.TheVariants.{UnknownChrom, OutOfOrder}
 use Rattle.bt_bed.proofs.lemmas.read.good.SaidLemmas.{wrong_is_of_line, wrong_is_of_record}
 use Rattle.bt_bed.specs.model.feature.Feature.{Feature}
 use Rattle.bt_bed.specs.model.input.GoodBed.{line_says, said_after, in_order, locus_at, wrong_lines_are_of_bed}
 use Rattle.bt_bed.specs.model.feature.LineKind.{is_bed_kind, is_record_kind}
-use Rattle.bt_bed.specs.inside.OrderedLookahead.{start_after, start_at, start_on}
+use Rattle.bt_bed.specs.inside.OrderedLookahead.{start_after}
 use Rattle.bt_bed.specs.model.order.Locus.{Locus}
 use Rattle.bt_bed.specs.model.feature.Record.{record_of}
 use Rattle.bt_bed.specs.model.order.Order.{Order}
@@ -25,9 +25,9 @@ module _ (sorting : Sorting) (last : Option Locus) (text : List ℕ) where
   unfolding line_says
   says_misplaced r kind e wrong = ap (said_after sorting last) (sym e) ∙ wrong
 
-  pub says_record : (r : Feature) → Ok (Some r) ≡ record_of text → IsTrue (sorting.knows r.chrom) → falls_in sorting last (locus_at r) ≡ false → line_says sorting last text ≡ Ok (Some r)
+  pub says_record : (r : Feature) → Ok (Some r) ≡ record_of text → in_order sorting last r ≡ Ok (Some r) → line_says sorting last text ≡ Ok (Some r)
   unfolding line_says
-  says_record r e known stays = ap (said_after sorting last) (sym e) ∙ (rw (known, stays) refl)
+  says_record r e fits = ap (said_after sorting last) (sym e) ∙ fits
 
 said_is_of_line : (sorting : Sorting) (last : Option Locus) (said : Result (Option Feature) Kind) (kind : Kind) → said_after sorting last said ≡ Err kind → ((k : Kind) → said ≡ Err k → is_bed_kind k ≡ true) → is_bed_kind kind ≡ true
 said_is_of_line sorting last said kind e h = grind arith
@@ -54,12 +54,16 @@ wrong_of_bed order last text kind e = grind (arith, says_of_line, unknown_said, 
 
 -- ---- the chromosome of the record ahead
 
+-- a start on the chromosome of this name
+abbrev start_at : List ℕ → Option ℕ → Option Locus
+start_at name start = option_map (λ s. record { chrom = name; start = s }) start
+
 -- if it is that of the last record
-pub held_same : (name chrom : List ℕ) (last : Option ℕ) → is_some last && bytes_eq name chrom ≡ true → (name ≡ chrom) × (start_on false last ≡ start_after (start_at name last) chrom)
+pub held_same : (name chrom : List ℕ) (last : Option ℕ) → is_some last && bytes_eq name chrom ≡ true → (name ≡ chrom) × (unwrap_or last 0 ≡ start_after (start_at name last) chrom)
 held_same name chrom last e = grind (arith, bytes_eq-Decides)
 
 -- if it is another
-pub held_other : (name chrom : List ℕ) (last : Option ℕ) → is_some last && bytes_eq name chrom ≡ false → start_on true last ≡ start_after (start_at name last) chrom
+pub held_other : (name chrom : List ℕ) (last : Option ℕ) → is_some last && bytes_eq name chrom ≡ false → 0 ≡ start_after (start_at name last) chrom
 held_other name chrom last e = grind arith
 
 -- a record that fits after the last one doesn't start below

@@ -1,7 +1,7 @@
 -- Lemmas on the reader of records.
-use Rattle.bt_lines.proofs.Std.{arith, ◌≡◌, ℕ, Bool, true, false, List, [], ◌∷◌, Option, Some, None, Ok, Err, take, refl, sym, ap, ◌∙◌, subst, IfSome, IsSome, IsTrue, Result, option_map, ForSome, false≢true}
+use Rattle.bt_lines.proofs.Std.{arith, ◌≡◌, ℕ, suc, Bool, true, false, List, [], ◌∷◌, Option, Some, None, Ok, Err, take, refl, sym, ap, ◌∙◌, subst, IfSome, IsSome, IsTrue, Result, option_map, ForSome, false≢true}
 use Rattle.bt_lines.specs.declared.device.Source.{Ghosts as Source}
-use Rattle.bt_lines.specs.calls.Reader.{input_of, lines_left, fault_kept as line_fault}
+use Rattle.bt_lines.specs.calls.Reader.{input_of, lines_given, lines_left, fault_kept as line_fault}
 use Rattle.bt_lines.specs.declared.fault.Fault.{Fault}
 use Rattle.bt_lines.specs.declared.reader.line_reader.LineReader.{LineReader}
 use Rattle.bt_bed.proofs.lemmas.definitions.GoodBedLemmas.{line_said}
@@ -15,9 +15,9 @@ use Rattle.bt_bed.specs.model.input.GoodBed.{bed_format, line_says, locus_at}
 use Rattle.bt_bed.specs.inside.OrderedLookahead.{last_in}
 use Rattle.bt_bed.specs.model.order.Order.{Order, IsTotal}
 use Rattle.bt_bed.specs.model.order.Locus.{Locus, IsUpTo}
-use Rattle.bt_bed.specs.calls.Reading.{Fills, FillAnswers as MembersAnswers, GivesMember, Takes, TellsOwnFailure, first_from, good_coming}
+use Rattle.bt_bed.specs.calls.Reading.{Fills, FillAnswers, GivesMember, MemberReader, Takes, TellsOwnFailure, ahead_in, first_from, good_coming}
 use Rattle.bt_bed.specs.model.feature.Record.{IsFeature}
-use Rattle.bt_bed.specs.calls.Records.{FillAnswers, FillsRecords, GivesRecord, PassesRecord, TakesRecords, order_in, view_of}
+use Rattle.bt_bed.specs.calls.Records.{FillsRecords, IsNext, TakesRecords, order_in, view_of}
 use Rattle.bt_bed.specs.calls.Run.{is_some_left}
 use Rattle.bt_bed.specs.model.order.Sorting.{Sorting, sorting_of}
 use Rattle.bt_bed.specs.declared.read.sorted_reader.SortedReader.{SortedReader}
@@ -47,18 +47,35 @@ said_behind order last text r total known says =
 pub some_first : {A : Type 0} (line : ℕ) (items : List A) → IsSome (option_map (λ m. m.line) (first_from line items)) → (item : A) × (more : List A) × (items ≡ item ∷ more)
 some_first line items item = grind arith
 
+-- what holds of the record ahead
+module _ {S : Type 0} (reader : MemberReader S Feature (Option Locus)) (P : Member Feature → Type 0) where
+  pub ahead_is : (m : Member Feature) → ahead_in reader ≡ Some m → P m → IfSome (ahead_in reader) P
+  ahead_is m is holds = subst (λ (o : Option (Member Feature)). IfSome o P) (sym is) holds
+
+  pub none_ahead : reader.buffered ≡ [] → IfSome (ahead_in reader) P
+  none_ahead none = subst (λ (items : List Feature). IfSome (first_from (suc (lines_given reader.below)) items) P) (sym none) tt
+
+last_one : (items : List Feature) (line : ℕ) (item : Feature) (more : List Feature) (state : Option Locus) → items ≡ item ∷ more → state ≡ Some (locus_at item) → state ≡ option_map (λ m. locus_at m.item) (first_from line items)
+last_one items line item more state e s = grind arith
+
+-- if the first of those buffered is taken, the record ahead is the last one
+pub passed_last : {S Q : Type 0} (device : Source S) (sorting : Sorting) (old new : SortedReader S Q) (item : Feature) (more : List Feature) → records_in old ≡ item ∷ more
+    → Takes device (view_in sorting old) (take 1 (records_in old)) (view_in sorting new) → last_in new.lookahead ≡ option_map (λ m. locus_at m.item) (ahead_in (view_in sorting old))
+unfolding view_with
+passed_last device sorting old new item more is takes = last_one (records_in old) _ item more (last_in new.lookahead) is (takes.state ∙ rw is refl)
+
 module _ {S O : Type 0} {g : Ghosts O} (device : Source S) where
-  given : (old new : Records S O g) (m : Member Feature) → IsTotal (order_in old) → GivesMember device (view_of old) m (view_of new) → GivesRecord device old m.item new
+  given : (old new : Records S O g) (m : Member Feature) → IsTotal (order_in old) → GivesMember device (view_of old) m (view_of new) → IfSome (ahead_in (view_of new)) (λ m. IsFeature m.item × IsNext old m.item)
   unfolding view_of view_with order_in
   given old new m total gives =
       let behind = said_behind (order_in old) (view_of old).state gives.said.0.text m.item total old.placed.last gives.said.1 in
-      record { line = m.line; read = gives; feature = behind.feature; known = behind.known; in_order = behind.in_order }
+      ahead_is (view_of new) (λ m. IsFeature m.item × IsNext old m.item) m gives.ahead (behind.feature, (behind.known, behind.in_order))
 
-  -- what `fill` of the reader below returns
-  pub filled : (old new : Records S O g) (result : Result Bool Fault) → IsTotal (order_in old) → MembersAnswers device (view_of old) result (view_of new) → FillAnswers device old result new
-  filled old new (Ok true) total makes = (makes.m.item, given old new makes.m total makes.gives)
-  filled old new (Ok false) total ends = ends
-  filled old new (Err fault) total answers = answers
+  -- the record ahead after `fill` of the reader below
+  filled : (old new : Records S O g) (result : Result Bool Fault) → IsTotal (order_in old) → FillAnswers device (view_of old) result (view_of new) → IfSome (ahead_in (view_of new)) (λ m. IsFeature m.item × IsNext old m.item)
+  filled old new (Ok true) total makes = given old new makes.0 total makes.1
+  filled old new (Ok false) total ends = none_ahead (view_of new) (λ m. IsFeature m.item × IsNext old m.item) ends.none_buffered
+  filled old new (Err fault) total answers = none_ahead (view_of new) (λ m. IsFeature m.item × IsNext old m.item) answers.none_buffered
 
 module _ {S Q : Type 0} (device : Source S) (sorting : Sorting) (sorted : SortedReader S Q) where
   -- a reader that has given no record has all of the good ones left
@@ -105,7 +122,8 @@ module _ {S O : Type 0} {g : Ghosts O} (device : Source S) (old new : Records S 
   fills_records result total fills own =
       let there : Fills device (view_of old) result (view_of new) = rw (same_view, ← was_view) fills in
       record {
-        answers = filled device old new result total there.answers;
+        answers = there.answers;
+        next = filled device old new result total there.answers;
         own_failure = own;
         kept = there.kept;
         order = same_order;
@@ -115,16 +133,3 @@ module _ {S O : Type 0} {g : Ghosts O} (device : Source S) (old new : Records S 
   pub takes_records : (count : ℕ) → Takes device (view_in (sorting_at g old.sorted) old.sorted) (take count (records_in old.sorted)) (view_in (sorting_at g old.sorted) new.sorted) → TakesRecords device old count new
   unfolding view_of view_with
   takes_records count takes = record { takes = rw (← same_view) at takes; order = same_order }
-
-  last_one : (items : List Feature) (line : ℕ) (item : Feature) (more : List Feature) (state : Option Locus) → items ≡ item ∷ more → state ≡ Some (locus_at item) → state ≡ option_map locus_at (option_map (λ m. m.item) (first_from line items))
-  last_one items line item more state e s = grind arith
-
-  pub passes_record : (item : Feature) (more : List Feature) → records_in old.sorted ≡ item ∷ more → Takes device (view_in (sorting_at g old.sorted) old.sorted) (take 1 (records_in old.sorted)) (view_in (sorting_at g old.sorted) new.sorted) → PassesRecord device old new
-  unfolding view_of view_with
-  passes_record item more is takes =
-      let all = takes_records 1 takes in
-      record {
-        last = last_one (records_in old.sorted) _ item more (view_of new).state is (all.takes.state ∙ rw is refl);
-        takes = all.takes;
-        order = same_order;
-      }

@@ -1,5 +1,5 @@
 -- Lemmas on how a reader of sorted records reads on.
-use Rattle.bt_lines.proofs.Std.{arith, ◌≡◌, suc, Bool, true, false, List, [], ◌∷◌, Option, Some, None, Result, Ok, Err, refl, sym, ap, ◌∙◌, subst, inl, inr, ◌⊎◌, option_map}
+use Rattle.bt_lines.proofs.Std.{arith, ◌≡◌, suc, Bool, true, false, List, [], ◌∷◌, Option, Some, None, Result, Ok, Err, refl, sym, ap, ◌∙◌, subst, inl, inr, option_map}
 use Rattle.bt_lines.specs.model.Fault.{FaultValue}
 use Rattle.bt_lines.specs.model.Lines.{TextLine}
 use Rattle.bt_lines.specs.calls.Names.{fault_value}
@@ -18,13 +18,14 @@ use Rattle.bt_lines.proofs.lemmas.reader.block.ReadsLemmas.{counts_none, has_rea
 use Rattle.bt_lines.proofs.lemmas.reader.lines.TakingLemmas.{next_bytes, next_number}
 use Rattle.bt_lines.specs.declared.device.Source.{Ghosts as Source}
 use Rattle.bt_bed.specs.model.feature.Feature.{Feature}
-use Rattle.bt_bed.specs.model.input.GoodBed.{bed_format}
+use Rattle.bt_bed.specs.model.input.GoodBed.{bed_format, line_says}
+use Rattle.bt_bed.proofs.lemmas.order.ResultLemmas.{lost_parts}
 use Rattle.bt_bed.specs.model.feature.LineKind.{fault_at_line}
 use Rattle.bt_bed.specs.model.order.Locus.{Locus}
-use Rattle.bt_bed.specs.inside.OrderedLookahead.{KeepsLast, LineUnkept, LineWrong, ahead_of, last_in, name_in, start_in}
+use Rattle.bt_bed.specs.inside.OrderedLookahead.{KeepsLast, ahead_of, last_in, name_in, start_in}
 use Rattle.bt_bed.specs.inside.FirstColumns.{IsRecordName}
 use Rattle.bt_bed.specs.calls.Run.{is_some_left, run_of}
-use Rattle.bt_bed.specs.calls.Reading.{AnswersFault, AreSaid, Fills, MemberReader, TellsOwnFailure}
+use Rattle.bt_bed.specs.calls.Reading.{AnswersFault, AreSaid, Fills, IsLost, MemberReader, TellsOwnFailure}
 use Rattle.bt_bed.specs.model.order.Sorting.{Sorting}
 use Rattle.bt_bed.specs.calls.SortedReader.{FindsRecord, IsPlaced, LosesLine, SkipsLine, TakesFirst, TakesOne, are_in_order, buffered_in, view_in, view_with}
 use Rattle.bt_bed.specs.declared.read.lookahead.OrderedLookahead.{OrderedLookahead}
@@ -76,23 +77,25 @@ module _ {S Q : Type 0} (device : Source S) (sorting : Sorting) where
         let made : MakesLine device now new.reader = subst (λ r. MakesLine device now r) (sym finds.same) makes in
         let stays : IsKept device now → IsKept device new.reader = subst (λ r. IsKept device now → IsKept device r) (sym finds.same) kept in
         record {
-          answers = record {
-            m = record { line = line.number; item = finds.r };
-            gives = going_member device old (view_with sorting None now mid.lookahead []) (view_with sorting None new.reader new.lookahead (buffered_in new)) line more finds.r finds.more g made stays
-                (ap lines_buffered finds.same ∙ first) (number ∙ ap (λ r. suc (lines_given r)) (sym finds.same)) finds.says finds.buffered refl (follows None (buffered_in new));
-          };
+          answers = (
+            record { line = line.number; item = finds.r },
+            going_member device old (view_with sorting None now mid.lookahead []) (view_with sorting None new.reader new.lookahead (buffered_in new)) line more finds.r finds.more g made stays
+                (ap lines_buffered finds.same ∙ first) (number ∙ ap (λ r. suc (lines_given r)) (sym finds.same)) finds.says finds.buffered refl (follows None (buffered_in new)),
+          );
           kept = λ was. stays (g.passed.kept was);
         }
 
-    lost_by : (fault : FaultValue) → TakesOne device mid.reader new.reader → LineWrong sorting (record { input = input_of mid.reader; line = line.number }) line.text mid.lookahead fault ⊎ LineUnkept sorting line.text mid.lookahead fault
+    lost_by : (fault : FaultValue) → TakesOne device mid.reader new.reader → IsLost (record { input = input_of mid.reader; line = line.number }) (line_says sorting (last_in mid.lookahead) line.text) fault
         → AnswersFault device old fault (view_with sorting (Some fault) new.reader new.lookahead [])
     unfolding view_with
-    lost_by fault one (inl wrong) =
-        going_wrong device old (view_with sorting None now mid.lookahead []) (view_with sorting (Some fault) new.reader new.lookahead []) line fault wrong.kind g (came one) refl refl (follows (Some fault) []) (kept_on one)
-        wrong.says (bed_of_line wrong.kind (says_of_line sorting (last_in mid.lookahead) line.text wrong.kind wrong.says))
-        (wrong.is ∙ ap (λ i. fault_at_line i line.number wrong.kind) (makes.bytes.1.same_input ∙ g.passed.bytes.1.same_input))
-    lost_by fault one (inr unkept) =
-        going_unkept device old (view_with sorting None now mid.lookahead []) (view_with sorting (Some fault) new.reader new.lookahead []) line fault unkept.r g (came one) refl refl (follows (Some fault) []) (kept_on one) unkept.says unkept.is
+    lost_by fault one lost = elim (lost_parts (record { input = input_of mid.reader; line = line.number }) (line_says sorting (last_in mid.lookahead) line.text) fault lost) [
+      | inl wrong ↦
+          going_wrong device old (view_with sorting None now mid.lookahead []) (view_with sorting (Some fault) new.reader new.lookahead []) line fault wrong.kind g (came one) refl refl (follows (Some fault) []) (kept_on one)
+          wrong.says (bed_of_line wrong.kind (says_of_line sorting (last_in mid.lookahead) line.text wrong.kind wrong.says))
+          (wrong.is ∙ ap (λ i. fault_at_line i line.number wrong.kind) (makes.bytes.1.same_input ∙ g.passed.bytes.1.same_input))
+      | inr unkept ↦
+          going_unkept device old (view_with sorting None now mid.lookahead []) (view_with sorting (Some fault) new.reader new.lookahead []) line fault unkept.item g (came one) refl refl (follows (Some fault) []) (kept_on one) unkept.says unkept.is
+    ]
 
     -- it wasn't taken
     pub sorted_lost : (fault : Fault) → LosesLine device sorting mid line (fault_value fault) new → Fills device old (Err fault) (view_with sorting (Some (fault_value fault)) new.reader new.lookahead [])
@@ -170,7 +173,8 @@ module _ {S Q : Type 0} (device : Source S) (sorting : Sorting) where
     read_nothing taken = read_on device old mid.reader new.reader read taken.takes.takes
 
     pub read_fault : (before : Option FaultValue) (fault : Fault) → TakesFirst device rules mid (Err fault) new → TellsOwnFailure {T = Bool} device.is_read before old (Err fault) new.reader
-    read_fault before fault taken = lost_is_own Bool device.is_read before old new.reader fault (read_on device old mid.reader new.reader read taken.takes.takes) rules (record { input = input_of mid.reader; line = taken.line.number }) taken.line.text mid.lookahead taken.takes.cause
+    read_fault before fault taken = lost_is_own Bool device.is_read before old new.reader fault (read_on device old mid.reader new.reader read taken.takes.takes) (record { input = input_of mid.reader; line = taken.line.number })
+        (line_says rules (last_in mid.lookahead) taken.line.text) (λ kind e. bed_of_line kind (says_of_line rules (last_in mid.lookahead) taken.line.text kind e)) taken.takes.cause
 
 some_parts : (records : List Feature) → is_some_left records ≡ true → (r : Feature) × (more : List Feature) × (records ≡ r ∷ more)
 some_parts records r = grind arith
@@ -202,10 +206,10 @@ module _ {S Q : Type 0} (sorted : SortedReader S Q) (some : sorted.is_ahead ≡ 
     sorted_again =
         let says = says_again sorting (last_in sorted.lookahead) first_is.line.text said_first.0.0.text parts.0 said_first.0.1 first_is.says in
         record {
-          answers = record {
-            m = record { line = first_is.line.number; item = parts.0 };
-            gives = gives_again device (view_in sorting sorted) first_is.line first_is.more parts.0 parts.1 (placed.going (ap is_some_left parts.2))
-                (next_bytes sorted.reader first_is.line first_is.more first_is.lines_are) first_is.lines_are (next_number sorted.reader first_is.line first_is.more first_is.lines_are) says parts.2;
-          };
+          answers = (
+            record { line = first_is.line.number; item = parts.0 },
+            gives_again device (view_in sorting sorted) first_is.line first_is.more parts.0 parts.1 (placed.going (ap is_some_left parts.2))
+                (next_bytes sorted.reader first_is.line first_is.more first_is.lines_are) first_is.lines_are (next_number sorted.reader first_is.line first_is.more first_is.lines_are) says parts.2,
+          );
           kept = λ was. was;
         }

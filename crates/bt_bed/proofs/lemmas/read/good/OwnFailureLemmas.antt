@@ -1,5 +1,5 @@
 -- Lemmas on failed reads that are reported for the first time.
-use Rattle.bt_lines.proofs.Std.{◌≡◌, ℕ, List, Option, Some, None, Err, ap, sym, subst, ◌∙◌, true, inl, inr, ◌⊎◌, false≢true}
+use Rattle.bt_lines.proofs.Std.{◌≡◌, ℕ, Option, Some, None, Result, Ok, Err, ap, sym, subst, refl, ◌∙◌, true, false≢true}
 use Rattle.bt_lines.proofs.lemmas.reader.block.ReadsLemmas.{some_is, tells_no_memory, tells_read, tells_then}
 use Rattle.bt_lines.specs.model.Fault.{FaultValue, no_memory, read_failed}
 use Rattle.bt_lines.specs.calls.Names.{fault_value}
@@ -11,16 +11,8 @@ use Rattle.bt_lines.specs.declared.fault.Kind.TheVariants.{ReadFailed}
 use Rattle.bt_lines.specs.declared.fault.Place.{Place}
 use Rattle.bt_lines.specs.declared.reader.line.Line.{Line}
 use Rattle.bt_lines.specs.declared.reader.line_reader.LineReader.{LineReader}
-use Rattle.bt_bed.proofs.lemmas.read.batch.NeighbourLemmas.{says_of_line}
-use Rattle.bt_bed.proofs.lemmas.read.good.SaidLemmas.{bed_of_line, genome_of_line}
-use Rattle.bt_bed.proofs.lemmas.order.TableLemmas.{refused_at_place}
-use Rattle.bt_bed.specs.calls.GenomeTable.{LineRefused, LineUnkept as EntryUnkept, names_of}
 use Rattle.bt_bed.specs.model.feature.LineKind.{fault_at_line, is_of_line}
-use Rattle.bt_bed.specs.inside.OrderedLookahead.{LineUnkept, LineWrong, last_in}
-use Rattle.bt_bed.specs.calls.Reading.{TellsOwnFailure}
-use Rattle.bt_bed.specs.model.order.Sorting.{Sorting}
-use Rattle.bt_bed.specs.declared.order.genome.Genome.{Genome}
-use Rattle.bt_bed.specs.declared.read.lookahead.OrderedLookahead.{OrderedLookahead}
+use Rattle.bt_bed.specs.calls.Reading.{IsLost, TellsOwnFailure}
 
 -- a fault of a line is no failed read
 line_no_read : (place : Place) (kind : Kind) (input : Input) (line : ℕ) → is_of_line kind ≡ true
@@ -40,14 +32,10 @@ module _ (T : Type 0) {S : Type 0} (IsRead : S → Option ℕ → S → Type 0) 
     memory_is_own is none = tells_no_memory IsRead old new (fault_value fault) is read
 
     -- a line that wasn't taken
-    pub lost_is_own : {Q : Type 0} (sorting : Sorting) (place : Place) (text : List ℕ) (lookahead : OrderedLookahead Q) → LineWrong sorting place text lookahead (fault_value fault) ⊎ LineUnkept sorting text lookahead (fault_value fault) → TellsOwnFailure {T = T} IsRead before old (Err fault) new
-    lost_is_own sorting place text lookahead (inl wrong) = line_is_own place wrong.kind (bed_of_line wrong.kind (says_of_line sorting (last_in lookahead) text wrong.kind wrong.says)) wrong.is
-    lost_is_own sorting place text lookahead (inr unkept) = memory_is_own unkept.is
-
-    -- the same of a genome file
-    pub refused_is_own : (place : Place) (text : List ℕ) (table : Genome) → LineRefused place text table (fault_value fault) ⊎ EntryUnkept text table (fault_value fault) → TellsOwnFailure {T = T} IsRead before old (Err fault) new
-    refused_is_own place text table (inl refused) = line_is_own place refused.kind (genome_of_line refused.kind (refused_at_place (names_of table) text refused.kind refused.says)) refused.is
-    refused_is_own place text table (inr unkept) = memory_is_own unkept.is
+    pub lost_is_own : {A : Type 0} (place : Place) (said : Result (Option A) Kind) → ((kind : Kind) → said ≡ Err kind → is_of_line kind ≡ true) → IsLost place said (fault_value fault) → TellsOwnFailure {T = T} IsRead before old (Err fault) new
+    lost_is_own place (Err kind) of_line lost = line_is_own place kind (of_line kind refl) lost
+    lost_is_own place (Ok None) of_line lost = absurd lost
+    lost_is_own place (Ok (Some item)) of_line lost = memory_is_own lost
 
   -- what the reader of lines reports is passed on
   pub read_is_own : (now : LineReader S) → HasRead IsRead old now → (before ≡ None → line_fault now ≡ None) → LineTellsOwnFailure {A = Option Line} IsRead now (Err fault) new → TellsOwnFailure {T = T} IsRead before old (Err fault) new

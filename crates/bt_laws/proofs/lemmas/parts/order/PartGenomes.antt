@@ -17,7 +17,8 @@ use Rattle.bt_bed.specs.model.input.Good.{Good, good_from, good_with}
 use Rattle.bt_bed.specs.model.input.GoodBed.{bed_format, in_order, line_says, locus_at, said_after}
 use Rattle.bt_bed.specs.model.order.Locus.{Locus}
 use Rattle.bt_bed.specs.model.feature.Record.{record_of}
-use Rattle.bt_bed.specs.model.order.Sorting.{falls_in, is_less, sorting_of}
+use Rattle.bt_bed.specs.model.order.Sorting.{falls_in, sorting_of}
+use Rattle.std.specs.Ordering.{is_lt}
 use Rattle.bt_laws.specs.parts.GenomeSplitLaws.{LiesWithin}
 use Rattle.bt_laws.specs.parts.Parts.{ComeBefore, StandsBefore, said_record, said_records}
 use Rattle.bt_laws.proofs.lemmas.parts.text.PartBed.{alike_records, records_on}
@@ -185,7 +186,7 @@ module _ (mine yours : Order) (P : List ℕ → Type 0) (agree : Agree mine your
 
   falls_same : (last : Option Locus) (r : Feature) → Mine last → P r.chrom → falls_in (sorting_of mine) last (locus_at r) ≡ falls_in (sorting_of yours) last (locus_at r)
   falls_same None r m p = refl
-  falls_same (Some last) r m p = ap (λ o. cond (bytes_eq last.chrom r.chrom) (nat_lt r.start last.start) (is_less o)) (agree.compare r.chrom last.chrom p m)
+  falls_same (Some last) r m p = ap (λ o. cond (bytes_eq last.chrom r.chrom) (nat_lt r.start last.start) (is_lt o)) (agree.compare r.chrom last.chrom p m)
 
   in_order_same : (last : Option Locus) (r : Feature) → Mine last → P r.chrom → in_order (sorting_of mine) last r ≡ in_order (sorting_of yours) last r
   in_order_same last r m p = ap₂ (λ k f. cond k (cond f (Err OutOfOrder) (Ok (Some r))) (Err UnknownChrom)) (agree.knows r.chrom p) (falls_same last r m p)

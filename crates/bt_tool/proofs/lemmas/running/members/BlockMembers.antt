@@ -59,7 +59,7 @@ lent_at records batch lends = lends.given
 
 module _ {S : Type 0} (device : Source S) (now new : Blocks S) where
   pub block_filled : FillsBlocks device now (Ok true) new → IsFilled device (view_of now) (view_of new)
-  block_filled fills = record { m = record { line = fills.answers.1.line; item = fills.answers.0 }; gives = fills.answers.1.read; kept = fills.kept; clear = blocks_going new }
+  block_filled fills = record { m = fills.answers.0; gives = fills.answers.1; kept = fills.kept; clear = blocks_going new }
 
   pub block_over : FillsBlocks device now (Ok false) new → IsOver device (view_of now) (view_of new)
   block_over fills = record { ends = fills.answers; kept = fills.kept; clear = blocks_going new }

@@ -64,7 +64,7 @@ comes_next {A} from given (Some n) (Some x) taken left m at b e f =
 
 module _ {S O : Type 0} {ghosts : Ghosts O} (device : Source S) (now new : Records S O ghosts) where
   pub is_filled : FillsRecords device now (Ok true) new → IsFilled device (view_of now) (view_of new)
-  is_filled fills = record { m = record { line = fills.answers.1.line; item = fills.answers.0 }; gives = fills.answers.1.read; kept = fills.kept; clear = line_going new }
+  is_filled fills = record { m = fills.answers.0; gives = fills.answers.1; kept = fills.kept; clear = line_going new }
 
   pub is_over : FillsRecords device now (Ok false) new → IsOver device (view_of now) (view_of new)
   is_over fills = record { ends = fills.answers; kept = fills.kept; clear = line_going new }

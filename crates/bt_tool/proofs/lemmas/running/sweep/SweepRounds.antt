@@ -178,9 +178,9 @@ module _ {A B O : Type 0} {g : Ghosts O} (source_a : Source A) (source_b : Sourc
     first_filled fills = (
       comes_to with_first grown (fills_first source_a source_b start out s.begun old grown s.sweeps wants first_now fills) refl (fills.own_failure, same_second),
       inr (
-        omega (arith, fills.answers.1.read.shrinks),
+        omega (arith, fills.answers.1.shrinks),
         subst (λ (w : Want). IsBuffered w (length (view_of first_now).buffered) (length (view_of old.second).buffered)) (sym wants)
-            (some_buffered _ (view_of first_now).buffered _ fills.answers.1.read.ahead),
+            (some_buffered _ (view_of first_now).buffered _ fills.answers.1.ahead),
       ),
     )
 
@@ -218,9 +218,9 @@ module _ {A B O : Type 0} {g : Ghosts O} (source_a : Source A) (source_b : Sourc
     second_filled fills = (
       comes_to with_second grown (fills_second source_a source_b start out s.begun old grown s.sweeps wants second_now fills) refl (same_first, fills.own_failure),
       inr (
-        omega (arith, fills.answers.1.read.shrinks),
+        omega (arith, fills.answers.1.shrinks),
         subst (λ (w : Want). IsBuffered w (length (view_of old.first).buffered) (length (view_of second_now).buffered)) (sym wants)
-            (some_buffered _ (view_of second_now).buffered _ fills.answers.1.read.ahead),
+            (some_buffered _ (view_of second_now).buffered _ fills.answers.1.ahead),
       ),
     )
 

@@ -1,9 +1,9 @@
-use Rattle.bt_lines.proofs.Std.{◌∙◌, ℕ, ◌<◌, Some, ap, inl, inr, map, sym, All, Vec, is_some}
+use Rattle.bt_lines.proofs.Std.{◌∙◌, ℕ, ◌<◌, Some, ap, map, sym, All, Vec, is_some}
 use Rattle.std.specs.declared.alloc.Global.{Global}
 use Rattle.bt_lines.specs.declared.fault.Kind.TheVariants.{RepeatedChrom}
 use Rattle.bt_bed.proofs.lemmas.order.GenomeLemmas.{is_new}
 use Rattle.bt_bed.proofs.lemmas.read.good.SaidLemmas.{genome_of_line}
-use Rattle.bt_bed.proofs.lemmas.order.ResultLemmas.{either_way}
+use Rattle.bt_bed.proofs.lemmas.order.ResultLemmas.{either_way, lost_item, lost_wrong}
 use Rattle.bt_bed.proofs.lemmas.order.TableLemmas.{entries_non_empty, entries_push, refused_at_place, says_new, says_repeated}
 use Rattle.bt_bed.specs.model.order.Genome.{entry_of, new_entry}
 use Rattle.bt_bed.specs.calls.GenomeTable.{entries, entry_lent, entry_seen, names_of}
@@ -18,18 +18,14 @@ pub returns-then-is_some-clause-refused : goal.returns-then-is_some-clause-refus
 returns-then-is_some-clause-refused c =
     let said = sym (rw c.in-Ok-Some.field-0-is at c.in-Ok-Some.ensures) in
     let ranked = sym (c.is_some.ensures ∙ ap is_some c.rank.ensures) ∙ c.if-is_some.true in
-    inl (record {
-      kind = RepeatedChrom;
-      says = says_repeated (names_of c.args.self.now) (entry_of c.args.text.now) (entry_lent c.in-Ok-Some.entry) said ranked;
-      is = c.at_line-then-is_some.ensures;
-    })
+    lost_wrong c.args.place _ _ RepeatedChrom (says_repeated (names_of c.args.self.now) (entry_of c.args.text.now) (entry_lent c.in-Ok-Some.entry) said ranked) c.at_line-then-is_some.ensures
 
 pub returns-in_default-clause-refused : goal.returns-in_default-clause-refused
 returns-in_default-clause-refused c =
     let said = sym (rw c.in-Ok-Some.field-0-is at c.in-Ok-Some.ensures) in
     let unranked = sym (c.is_some.ensures ∙ ap is_some c.rank.ensures) ∙ c.if-is_some.false in
     let entry = entry_lent c.in-Ok-Some.entry in
-    inr (record { entry = entry; says = says_new (names_of c.args.self.now) (entry_of c.args.text.now) entry said unranked; is = c.no_memory.ensures })
+    lost_item c.args.place _ _ entry (says_new (names_of c.args.self.now) (entry_of c.args.text.now) entry said unranked) c.no_memory.ensures
 
 pub invariant_of-self : goal.invariant_of-self
 unfolding entries
@@ -65,4 +61,4 @@ returns-in-Err-insert-clause-refused c =
     let said = sym (rw c.in-Ok-Some.field-0-is at c.in-Ok-Some.ensures) in
     let unranked = sym (c.is_some.ensures ∙ ap is_some c.rank.ensures) ∙ c.if-is_some.false in
     let entry = entry_lent c.in-Ok-Some.entry in
-    inr (record { entry = entry; says = says_new (names_of c.args.self.now) (entry_of c.args.text.now) entry said unranked; is = c.no_memory-in-Err-insert.ensures })
+    lost_item c.args.place _ _ entry (says_new (names_of c.args.self.now) (entry_of c.args.text.now) entry said unranked) c.no_memory-in-Err-insert.ensures

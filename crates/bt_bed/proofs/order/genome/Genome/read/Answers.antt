@@ -5,10 +5,12 @@ use Rattle.bt_lines.specs.calls.Names.{fault_value}
 use Rattle.bt_lines.specs.declared.fault.Place.{Place}
 use Rattle.bt_lines.specs.declared.fault.Input.{Input}
 use Rattle.bt_lines.specs.calls.Reader.{fault_kept, input_of}
-use Rattle.bt_bed.proofs.lemmas.read.good.OwnFailureLemmas.{read_is_own, refused_is_own}
+use Rattle.bt_bed.proofs.lemmas.read.good.OwnFailureLemmas.{lost_is_own, read_is_own}
+use Rattle.bt_bed.proofs.lemmas.read.good.SaidLemmas.{genome_of_line}
 use Rattle.bt_bed.proofs.lemmas.order.ResultLemmas.{passed_on}
-use Rattle.bt_bed.proofs.lemmas.order.TableLemmas.{going_start, going_line, going_end, going_err, going_fault}
-use Rattle.bt_bed.specs.calls.GenomeTable.{ReadsGenome}
+use Rattle.bt_bed.proofs.lemmas.order.TableLemmas.{going_start, going_line, going_end, going_err, going_fault, refused_at_place}
+use Rattle.bt_bed.specs.calls.GenomeTable.{ReadsGenome, names_of}
+use Rattle.bt_bed.specs.model.order.Genome.{entry_of, new_entry}
 use Rattle.bt_bed.specs.declared.order.genome.Genome.{Genome}
 use Rattle.bt_bed.proofs.order.genome.Genome.read.Goals as goal
 
@@ -32,8 +34,10 @@ returns-in_err-add_line g c =
     c.from_residual-in_err-add_line.ensures.1
     (record {
       answers = going_err _ c.args.reader.now c.loop-genome.reader c.next.follows.lender-at-none (line_seen c.in-Some.line) c.loop-genome.genome _ (fault_value c.in_err-add_line.field-0.0) c.loop-genome.invariant.0 gives.answers gives.sound at c.in_err-add_line.ensures.refused;
-      own_failure = refused_is_own Genome g.S.Source.is_read (fault_kept c.args.reader.now) c.args.reader.now c.next.follows.lender-at-none c.in_err-add_line.field-0.0
-          (has_read_then g.S.Source.is_read c.args.reader.now c.loop-genome.reader c.next.follows.lender-at-none c.loop-genome.invariant.2 gives.own_failure) _ _ _ c.in_err-add_line.ensures.refused;
+      own_failure = lost_is_own Genome g.S.Source.is_read (fault_kept c.args.reader.now) c.args.reader.now c.next.follows.lender-at-none c.in_err-add_line.field-0.0
+          (has_read_then g.S.Source.is_read c.args.reader.now c.loop-genome.reader c.next.follows.lender-at-none c.loop-genome.invariant.2 gives.own_failure)
+          (record { input = c.input-input.result; line = c.in-Some.line.number }) (new_entry (names_of c.loop-genome.genome) (entry_of c.in-Some.line.text.now))
+          (λ kind e. genome_of_line kind (refused_at_place (names_of c.loop-genome.genome) c.in-Some.line.text.now kind e)) c.in_err-add_line.ensures.refused;
       sound = λ was. gives.sound (c.loop-genome.invariant.0.passed.sound was);
     })
 

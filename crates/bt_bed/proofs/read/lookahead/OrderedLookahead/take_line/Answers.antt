@@ -1,4 +1,5 @@
-use Rattle.bt_lines.proofs.Std.{◌≡◌, ◌∙◌, refl, inl, inr, rules, sym, Some, None}
+use Rattle.bt_lines.proofs.Std.{◌≡◌, ◌∙◌, refl, rules, sym, Some, None}
+use Rattle.bt_bed.proofs.lemmas.order.ResultLemmas.{lost_item, lost_wrong}
 use Rattle.bt_bed.proofs.lemmas.read.good.SaidLemmas.{bed_of_line, wrong_is_of_line}
 use Rattle.bt_bed.proofs.lemmas.read.batch.NeighbourLemmas.{held_other, held_same, says_nothing, says_wrong, says_misplaced, says_record}
 use Rattle.bt_bed.specs.calls.Bed.{feature_lent}
@@ -21,18 +22,12 @@ pub at_line-requires : goal.at_line-requires
 at_line-requires g c = bed_of_line c.in-Err.kind (wrong_is_of_line c.args.text.now c.in-Err.kind c.in-Err.ensures.said)
 
 pub returns-in-Err : goal.returns-in-Err
-returns-in-Err g c = record {
-  cause = inl (record { kind = c.in-Err.kind; says = says_wrong _ _ c.args.text.now c.in-Err.kind c.in-Err.ensures.said; is = c.at_line.ensures });
-  keeps = record { rule = refl; last = refl };
-}
+returns-in-Err g c = (lost_wrong c.args.place _ _ c.in-Err.kind (says_wrong _ _ c.args.text.now c.in-Err.kind c.in-Err.ensures.said) c.at_line.ensures, record { rule = refl; last = refl })
 
 pub returns-in-Err-check : goal.returns-in-Err-check
 returns-in-Err-check g c =
     let said = rw c.in-Ok-Some.field-0-is at c.in-Ok-Some.ensures.said in
-    record {
-      cause = inl (record { kind = c.in-Err-check.kind; says = says_misplaced _ _ c.args.text.now (feature_lent c.in-Ok-Some.bed) c.in-Err-check.kind said c.in-Err-check.ensures; is = c.at_line-in-Err-check.ensures });
-      keeps = record { rule = refl; last = refl };
-    }
+    (lost_wrong c.args.place _ _ c.in-Err-check.kind (says_misplaced _ _ c.args.text.now (feature_lent c.in-Ok-Some.bed) c.in-Err-check.kind said c.in-Err-check.ensures) c.at_line-in-Err-check.ensures, record { rule = refl; last = refl })
 
 pub returns-then-is_same : goal.returns-then-is_same
 unfolding last_in name_in start_in
@@ -43,7 +38,7 @@ returns-then-is_same g c =
     let held = held_same c.args.self.now.last_name.items bed.chrom c.args.self.now.last (sym is ∙ c.if-is_same.true) in
     record {
       said = Some bed;
-      says = says_record _ _ c.args.text.now bed said c.in_default.ensures.known c.in_default.ensures.in_order;
+      says = says_record _ _ c.args.text.now bed said c.in_default.ensures;
       is = refl;
       ahead = rw c.if-is_same.true (record { name_is = held.0; start_is = held.1 });
       keeps = record { rule = refl; last = refl };
@@ -57,7 +52,7 @@ returns-in-Ok g c =
     let is : c.if-is_some.is_same ≡ goes_on c.args.self.now bed.chrom = elim c.if-is_some.branch [ then-is_some w ↦ search rules | else-is_some w ↦ search rules ] in
     record {
       said = Some bed;
-      says = says_record _ _ c.args.text.now bed said c.in_default.ensures.known c.in_default.ensures.in_order;
+      says = says_record _ _ c.args.text.now bed said c.in_default.ensures;
       is = refl;
       ahead = rw c.if-is_same.false
           (record {
@@ -72,11 +67,4 @@ unfolding last_in
 returns-in-Err-extend_from_slice g c =
     let bed = feature_lent c.in-Ok-Some.bed in
     let said = rw c.in-Ok-Some.field-0-is at c.in-Ok-Some.ensures.said in
-    record {
-      cause = inr (record {
-        r = bed;
-        says = says_record _ _ c.args.text.now bed said c.in_default.ensures.known c.in_default.ensures.in_order;
-        is = c.no_memory.ensures;
-      });
-      keeps = record { rule = refl; last = refl };
-    }
+    (lost_item c.args.place _ _ bed (says_record _ _ c.args.text.now bed said c.in_default.ensures) c.no_memory.ensures, record { rule = refl; last = refl })

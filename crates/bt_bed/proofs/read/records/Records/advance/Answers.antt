@@ -1,6 +1,7 @@
 use Rattle.bt_bed.specs.calls.Records.{view_of}
 use Rattle.bt_bed.specs.calls.SortedReader.{view_with}
-use Rattle.bt_bed.proofs.lemmas.read.batch.RecordsLemmas.{passes_record, placed_by, some_first}
+use Rattle.bt_bed.proofs.lemmas.read.batch.RecordsLemmas.{passed_last, placed_by, some_first, takes_records}
+use Rattle.bt_bed.specs.model.order.Sorting.{sorting_of}
 use Rattle.bt_bed.proofs.read.records.Records.advance.Goals as goal
 
 pub invariant_of-self : goal.invariant_of-self
@@ -10,8 +11,11 @@ pub advance-requires-clause-some : goal.advance-requires-clause-some
 unfolding view_of view_with
 advance-requires-clause-some g c = some_first _ _ c.requires
 
-pub returns : goal.returns
+pub returns-clause-takes : goal.returns-clause-takes
+returns-clause-takes g c = takes_records g.S.Source c.args.self.now _ c.advance.ensures.rule 1 c.advance.ensures.takes
+
+pub returns-clause-last : goal.returns-clause-last
 unfolding view_of view_with
-returns g c =
+returns-clause-last g c =
     let first = some_first _ _ c.requires in
-    passes_record g.S.Source c.args.self.now _ c.advance.ensures.rule first.0 first.1 first.2 c.advance.ensures.takes
+    passed_last g.S.Source (sorting_of (g.O.ChromOrder.order c.args.self.now.sorted.lookahead.rule.order.now)) c.args.self.now.sorted c.advance.new.self first.0 first.1 first.2 c.advance.ensures.takes

@@ -84,7 +84,7 @@ returns-in-Err-clause-takes g c =
       more = lines_in c.next.new.self;
       first = sym c.buffered-lines.ensures.lines ∙ c.in-Some.ensures.some.left_is;
       takes = record {
-        cause = lost.cause;
+        cause = lost.0;
         takes = record {
           consumed = c.consumed-consumed.result;
           are = lines_taken c.args.self.now.reader c.buffered-lines.result c.next.new.self c.consumed-consumed.result 1 c.buffered-lines.ensures.begins c.in-Some.ensures.passes c.consumed-consumed.ensures;
@@ -92,5 +92,5 @@ returns-in-Err-clause-takes g c =
         };
         none = c.requires.none;
       };
-      keeps = lost.keeps;
+      keeps = lost.1;
     }

@@ -12,6 +12,4 @@ returns-then-self-start-ne48 c = λ other.
     let raw = c.args.self.now in
     let line = raw.line.now in
     let inside = column_begins raw in
-    record {
-      is = λ r said. written_so raw r said (λ zero. c.if-self-start-ne48.true (byte_there line _ (omega (arith, inside)) ∙ zero)) (λ zero. other_byte _ 48 other (byte_there line _ inside ∙ zero));
-    }
+    λ r said. written_so raw r said (λ zero. c.if-self-start-ne48.true (byte_there line _ (omega (arith, inside)) ∙ zero)) (λ zero. other_byte _ 48 other (byte_there line _ inside ∙ zero))
