@@ -67,6 +67,10 @@ whole_output first past = depth_lines (coverage first.zeros first.strand first.e
 abbrev pub held_count : Covering → List Feature → ℕ
 held_count first past = length (kept_records first.strand first.entries past)
 
+-- no record is said to be taken quietly: `wants_memory` says when memory may be needed
+abbrev pub is_quiet : Covering → List Feature → Feature → Type 0
+is_quiet first past r = ⊥
+
 -- memory is needed for a record that has to be kept: it is counted, and starts below its chromosome's length
 abbrev pub wants_memory : Covering → Feature → Type 0
 wants_memory old r = (is_counted_by old.strand r.strand ≡ true) × (r.start < length_in old.entries r.chrom)

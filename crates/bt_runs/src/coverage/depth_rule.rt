@@ -6,7 +6,7 @@ ghost use Rattle.bt_lines.specs.calls.Putting.{Adds};
 ghost use Rattle.bt_bed.specs.calls.GenomeTable.{entries};
 ghost use Rattle.bt_runs.specs.inside.coverage.Kept.{known_seen, seen};
 ghost use Rattle.bt_runs.specs.inside.coverage.Kept.{CountAnswers};
-ghost use Rattle.bt_runs.specs.calls.Covering.{CountsRecord, IsAfter, IsOnChrom, held_count, kept_in, may_take, next_lines, settled_known, settled_lines, wants_memory, whole_output, with_chrom};
+ghost use Rattle.bt_runs.specs.calls.Covering.{CountsRecord, IsAfter, IsOnChrom, held_count, is_quiet, kept_in, may_take, next_lines, settled_known, settled_lines, wants_memory, whole_output, with_chrom};
 ghost use Rattle.bt_runs.specs.model.Depth.{depth_lines, is_counted_by};
 ghost use Rattle.bt_runs.specs.inside.coverage.DepthStep.{bare_of, depths_left, known_by, levels_by, levels_left, levels_on};
 ghost use Rattle.bt_runs.specs.calls.Engine.{KeepsHeld};
@@ -123,8 +123,7 @@ impl<'g> Rule for DepthRule<'g> {
 
     ghost is_after = { IsAfter };
 
-    // Whether memory is needed is said by `wants`.
-    ghost quiet = { λ rule past r. ⊥ };
+    ghost quiet = { is_quiet };
 
     ghost wants = { wants_memory };
 

@@ -11,8 +11,8 @@ ghost use Rattle.bt_lines.specs.model.Fault.{FaultValue};
 ghost use Rattle.bt_lines.specs.calls.Output.{Grows};
 ghost use Rattle.bt_bed.specs.calls.Bed.{feature_lent};
 ghost use Rattle.bt_bed.specs.calls.GenomeTable.{entries};
-ghost use Rattle.bt_runs.specs.calls.Calls.{AnswersAgain, IsFaultless, KeepsFault, WritesFirst, WritesLeft, WritesLeftPrefix, WritesPrefix, WritesSettled};
-ghost use Rattle.bt_runs.specs.calls.Covering.{IsAfter, held_count, kept_in, may_take, settled_lines, wants_memory, whole_output};
+ghost use Rattle.bt_runs.specs.calls.Calls.{AnswersAgain, IsFaultless, KeepsFault, TakesQuiet, WritesFirst, WritesLeft, WritesLeftPrefix, WritesPrefix, WritesSettled};
+ghost use Rattle.bt_runs.specs.calls.Covering.{IsAfter, held_count, is_quiet, kept_in, may_take, settled_lines, wants_memory, whole_output};
 ghost use Rattle.bt_runs.specs.calls.Engine.{IsWanted, KeepsHeld};
 ghost use Rattle.bt_runs.specs.calls.Ruled.{of_rule, ruled_fault, ruled_stands};
 
@@ -77,6 +77,8 @@ impl<'g> Coverage<'g> {
         ensures again { AnswersAgain (ruled_fault self.old) result }
         ensures stays { (before : FaultValue) → ruled_fault self.old ≡ Some before
             → (self.new ≡ self.old) × (out.new.output ≡ out.old.output) }
+        ensures quiet { TakesQuiet (of_rule may_take) (ruled_stands IsAfter) ruled_fault (of_rule settled_lines) self.old
+            (feature_lent bed.now) out.old.output (of_rule is_quiet) result out.new.output }
         ensures grows { Grows out.old.output.took out.new.output.took }
         ensures after_failure { out.old.output.has_failed ≡ true → out.new.output ≡ out.old.output }
     {
@@ -122,8 +124,7 @@ impl Engine for Coverage<'_> {
 
     ghost fault = { ruled_fault };
 
-    // No record is said to be taken quietly: `wants` says when memory may be needed.
-    ghost quiet = { λ coverage past r. ⊥ };
+    ghost quiet = { of_rule is_quiet };
 
     ghost wants = { of_rule wants_memory };
 

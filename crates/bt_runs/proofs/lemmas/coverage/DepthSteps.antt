@@ -17,7 +17,7 @@ use Rattle.bt_lines.specs.calls.Putting.{Adds, FailsToAdd, Grown}
 use Rattle.bt_lines.specs.calls.Names.{fault_value}
 use Rattle.bt_lines.specs.declared.fault.Fault.{Fault}
 use Rattle.bt_bed.specs.model.feature.Interval.{Span, last_of}
-use Rattle.bt_runs.specs.calls.Covering.{CountsRecord, Covering, IsAfter, IsOnBy, begun_of, depth_step, held_of, may_take, next_lines, settled_lines, wants_memory, whole_output}
+use Rattle.bt_runs.specs.calls.Covering.{CountsRecord, Covering, IsAfter, IsOnBy, begun_of, depth_step, held_of, is_quiet, may_take, next_lines, settled_lines, wants_memory, whole_output}
 use Rattle.bt_runs.specs.inside.walk.Rule.{Does, EnterAnswers, FitsPast, PutsRestAtEnd}
 use Rattle.bt_runs.specs.model.Levels.{Begun, levels_of}
 use Rattle.bt_runs.proofs.lemmas.coverage.OneDepth.{across_known, known_at}
@@ -111,13 +111,9 @@ module _ (zeros : Bool) (strand : Option Strand) (entries : List Entry) where
       let one = same_seen entries current other.0 at other.2 (p ∙ sym k.place) (g ∙ sym k.begun) (h ∙ sym k.held) in
       subst (λ (o : Option (Place Known)). Reaches zeros strand entries past o) (sym one) other.1
 
--- no record is said to be quiet
-abbrev none_quiet : Covering → List Feature → Feature → Type 0
-none_quiet first past r = ⊥
-
 -- entering a chromosome
 abbrev pub Enters : Covering → List ℕ → Output → Result (Unit {0}) Fault → Covering → Output → Type 0
-Enters = EnterAnswers next_lines CountsRecord wants_memory may_take IsAfter settled_lines none_quiet
+Enters = EnterAnswers next_lines CountsRecord wants_memory may_take IsAfter settled_lines is_quiet
 
 module _ (old : Covering) where
   -- whatever coverage took the records of the past, it has this table and these rules, and keeps what is to be kept
@@ -138,7 +134,7 @@ module _ (old : Covering) where
       record { same_entries = entries; same_zeros = rules; same_strand = wanted; reached = λ t. held_is old.zeros old.strand old.entries past old.current t stands.reached place begun kept }
 
   -- what is done with a record exactly is done after every past
-  pub fits : (r : Feature) → FitsPast next_lines CountsRecord wants_memory may_take IsAfter settled_lines none_quiet old r
+  pub fits : (r : Feature) → FitsPast next_lines CountsRecord wants_memory may_take IsAfter settled_lines is_quiet old r
   fits r = record {
     settles = λ first past stands taken.
         let s = same first past stands in
