@@ -3,7 +3,6 @@ pub mod Calls
 pub mod Complementing
 pub mod Covering
 pub mod Engine
-pub mod MergeKind
 pub mod Merging
 pub mod Ruled
 pub mod Settling

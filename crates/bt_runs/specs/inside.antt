@@ -1,5 +1,5 @@
 -- Words of contracts inside of the crate.
+pub mod PlainRuns
 pub mod coverage
 pub mod merge
-pub mod plain
 pub mod walk

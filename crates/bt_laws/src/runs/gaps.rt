@@ -1,12 +1,15 @@
 //! Laws of gaps.
 
-ghost use Rattle.bt_runs.specs.model.Gaps.{gaps_are, gaps_only};
+ghost use Rattle.std.specs.Prelude.{◌≡◌, ℕ, List};
+ghost use Rattle.bt_bed.specs.model.feature.Interval.{Span};
+ghost use Rattle.bt_bed.specs.model.feature.Stretches.{AreStretchesOf};
+ghost use Rattle.bt_runs.specs.model.Gaps.{IsBare, gaps_of};
 ghost use Rattle.bt_laws.specs.runs.Settled.{one_place_is_kept, settled_gaps_begin, settled_gaps_stay};
 
 /// The gaps of a chromosome are the stretches of its bare positions, and no other list is.
 pub fn gaps_are_determined()
-    ensures are { gaps_are }
-    ensures only { gaps_only }
+    ensures are { (size : ℕ) (spans : List Span) → AreStretchesOf (IsBare size spans) (gaps_of size spans) }
+    ensures only { (size : ℕ) (spans gaps : List Span) → AreStretchesOf (IsBare size spans) gaps → gaps ≡ gaps_of size spans }
 {}
 
 /// No later record changes a settled gap, and one place at most is kept.

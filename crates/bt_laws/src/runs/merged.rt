@@ -1,16 +1,26 @@
 //! Laws of merged runs.
 
-ghost use Rattle.bt_runs.specs.model.Merged.{runs_are, runs_only};
+ghost use Rattle.std.specs.Prelude.{◌≡◌, ℕ, List};
+ghost use Rattle.bt_bed.specs.model.feature.Feature.{Feature, intervals_of};
+ghost use Rattle.bt_bed.specs.model.feature.Interval.{Span};
+ghost use Rattle.bt_bed.specs.model.feature.Stretches.{AreStretchesOf};
+ghost use Rattle.bt_bed.specs.model.order.Locus.{ArePlaced};
+ghost use Rattle.bt_bed.specs.model.order.Order.{IsTotal, Order};
+ghost use Rattle.bt_bed.specs.model.order.Rank.{AreDistinct, rank_order};
+ghost use Rattle.bt_runs.specs.calls.Settling.{SettledBegins, SettledStays};
+ghost use Rattle.bt_runs.specs.declared.merge.merge_strand.MergeStrand.{MergeStrand};
+ghost use Rattle.bt_runs.specs.model.Counted.{counted};
+ghost use Rattle.bt_runs.specs.model.Merged.{Bridged, merged, runs_of};
 ghost use Rattle.bt_laws.specs.runs.Kept.{one_run_is_kept, strand_runs_divide, strands_stay_in_order};
-ghost use Rattle.bt_runs.specs.model.MergedRuns.{runs_come_in_order, settled_runs_begin, settled_runs_stay};
+ghost use Rattle.bt_runs.specs.model.MergedRuns.{AreTaken, merged_runs, settled_runs};
 ghost use Rattle.bt_laws.specs.runs.RunOrder.{chromosomes_are_named_once, file_runs_are_ordered, names_come_in_order};
-ghost use Rattle.bt_runs.specs.model.RunOrder.{ordered_runs_come};
-ghost use Rattle.bt_runs.specs.model.StrandRuns.{strand_runs_begin, strand_runs_stay};
+ghost use Rattle.bt_runs.specs.model.RunOrder.{ordered_runs};
+ghost use Rattle.bt_runs.specs.model.StrandRuns.{settled_strand_runs, strand_runs};
 
 /// The merged runs of a chromosome are the stretches of its bridged positions, and no other list is.
 pub fn runs_are_determined()
-    ensures are { runs_are }
-    ensures only { runs_only }
+    ensures are { (gap : ℕ) (spans : List Span) → AreStretchesOf (Bridged gap spans) (runs_of gap spans) }
+    ensures only { (gap : ℕ) (spans runs : List Span) → AreStretchesOf (Bridged gap spans) runs → runs ≡ runs_of gap spans }
 {}
 
 /// Chromosomes that have records are named once each, and in a total order each of these names comes before
@@ -22,28 +32,30 @@ pub fn chromosomes_come_in_order()
 
 /// For records in a total order of the chromosomes the merged runs come in that order.
 pub fn runs_follow_the_order()
-    ensures { ordered_runs_come }
+    ensures { (order : Order) (gap : ℕ) (strand : MergeStrand) (records : List Feature) → IsTotal order
+        → ArePlaced order (intervals_of records) → ordered_runs order gap strand records ≡ merged_runs gap strand records }
 {}
 
 /// In the order of a genome file the chromosomes of the merged runs come as in that file, which is the
 /// order of its names' ranks.
 pub fn runs_come_in_file_order()
-    ensures come { runs_come_in_order }
+    ensures come { (names : List (List ℕ)) (gap : ℕ) (strand : MergeStrand) (records : List Feature) → AreDistinct names
+        → ArePlaced (rank_order names) (intervals_of records) → merged names gap (counted strand records) ≡ merged_runs gap strand records }
     ensures ordered { file_runs_are_ordered }
 {}
 
 /// No later record changes a settled run, and all runs but one are settled.
 pub fn settled_runs_are_a_prefix()
-    ensures stay { settled_runs_stay }
-    ensures begin { settled_runs_begin }
+    ensures stay { (gap : ℕ) (strand : MergeStrand) → SettledStays (settled_runs gap strand) AreTaken }
+    ensures begin { (gap : ℕ) (strand : MergeStrand) → SettledBegins (settled_runs gap strand) (merged_runs gap strand) AreTaken }
     ensures kept { one_run_is_kept }
 {}
 
 /// With each strand separately no later record changes a settled run either, and the kept runs are the
 /// others. The runs of one strand are listed in their order, each once.
 pub fn settled_strand_runs_are_a_prefix()
-    ensures stay { strand_runs_stay }
-    ensures begin { strand_runs_begin }
+    ensures stay { (gap : ℕ) → SettledStays (settled_strand_runs gap) AreTaken }
+    ensures begin { (gap : ℕ) → SettledBegins (settled_strand_runs gap) (strand_runs gap) AreTaken }
     ensures kept { strand_runs_divide }
     ensures order { strands_stay_in_order }
 {}

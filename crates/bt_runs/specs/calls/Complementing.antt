@@ -20,20 +20,15 @@ pub record Complementing : Type 0 where
 abbrev pub kept_in : Complementing → List Locus
 kept_in complement = places (λ end. end) complement.entries complement.current
 
--- the complement has taken the records of the past
-pub record StandsAfter (entries : List Entry) (limit : Bool) (past : List Feature)
-    (complement : Complementing) : Type 0 where
-  pub same_entries : complement.entries ≡ entries
-  pub same_limit : complement.limit ≡ limit
-  pub kept : kept_in complement ≡ kept_place entries past
+-- it has taken the records of the past since it began
+pub record IsAfter (first : Complementing) (past : List Feature) (now : Complementing) : Type 0 where
+  pub same_entries : now.entries ≡ first.entries
+  pub same_limit : now.limit ≡ first.limit
+  pub kept : kept_in now ≡ kept_place first.entries past
 
 -- the records that may be taken
 abbrev pub may_take : Complementing → List Feature → Type 0
 may_take first past = AreTaken first.entries past
-
--- what the complement has become after the records
-abbrev pub stands_after : Complementing → List Feature → Complementing → Type 0
-stands_after first past now = StandsAfter first.entries first.limit past now
 
 -- the lines of the settled gaps
 abbrev pub settled_lines : Complementing → List Feature → List ℕ

@@ -1,13 +1,13 @@
 -- A count of depths as its callers see it.
-use Rattle.std.specs.Prelude.{◌≡◌, ℕ, ◌<◌, ⊤, Bool, true, false, List, [], length, Option, Some}
-use Rattle.std.specs.Prelude.{None, Result, Ok, Err, cond, nat_lt}
+use Rattle.std.specs.Prelude.{◌≡◌, ℕ, ◌<◌, Bool, true, false, List, [], length, Option, Some, None}
+use Rattle.std.specs.Prelude.{cond, nat_lt}
 use Rattle.bt_bed.specs.model.feature.Feature.{Feature}
 use Rattle.bt_bed.specs.model.order.Genome.{Entry, genome_names}
 use Rattle.bt_bed.specs.model.feature.Interval.{Span}
 use Rattle.bt_bed.specs.model.order.Locus.{Locus}
 use Rattle.bt_bed.specs.declared.record.strand.Strand.{Strand}
 use Rattle.bt_bed.specs.model.order.Rank.{rank_of}
-use Rattle.bt_runs.specs.inside.coverage.CountSeen.{begun_seen}
+use Rattle.bt_runs.specs.inside.coverage.Kept.{begun_seen}
 use Rattle.bt_runs.specs.model.Depth.{DepthInterval, coverage, depth_lines, is_counted_by}
 use Rattle.bt_runs.specs.model.Depth.{kept_records, known_place, settled_depths, unfinished}
 use Rattle.bt_runs.specs.inside.coverage.DepthStep.{Known, begun_to, depth_walk, still_open}
@@ -16,8 +16,6 @@ use Rattle.bt_runs.specs.model.Levels.{Begun}
 use Rattle.bt_runs.specs.inside.walk.Walk.{AreReached, Place, entry_at, is_on, places, walk_step}
 use Rattle.bt_runs.specs.declared.coverage.depth_rule.CurrentChrom.{CurrentChrom}
 use Rattle.bt_runs.specs.declared.coverage.depths.OpenInterval.{OpenInterval}
-use Rattle.bt_runs.specs.declared.engine.failure.Failure.{Failure}
-use Rattle.bt_runs.specs.declared.engine.failure.Failure.TheVariants.{Write, Memory}
 
 -- The chromosomes, whether depth 0 is reported, the strand that is counted. Then the chromosome that was
 -- reached with what is known of it, whether the last record lies there, and its name and length.
@@ -43,28 +41,19 @@ held_of (Some place) = place.known.held
 abbrev pub kept_in : Covering → List Span
 kept_in coverage = held_of coverage.current
 
--- the place up to which depths are known
-abbrev pub place_of : List Entry → Option (Place Known) → List Locus
-place_of entries current = places (λ known. known.to) entries current
-
--- the coverage has taken the records of the past
-pub record StandsAfter (entries : List Entry) (zeros : Bool) (strand : Option Strand)
-    (past : List Feature) (coverage : Covering) : Type 0 where
-  pub same_entries : coverage.entries ≡ entries
-  pub same_zeros : coverage.zeros ≡ zeros
-  pub same_strand : coverage.strand ≡ strand
-  pub place : place_of coverage.entries coverage.current ≡ known_place entries past
-  pub begun : begun_of coverage.current ≡ unfinished zeros strand entries past
-  pub kept : kept_in coverage ≡ kept_records strand entries past
-  pub reached : AreReached coverage.entries coverage.current
+-- it has taken the records of the past since it began
+pub record IsAfter (first : Covering) (past : List Feature) (now : Covering) : Type 0 where
+  pub same_entries : now.entries ≡ first.entries
+  pub same_zeros : now.zeros ≡ first.zeros
+  pub same_strand : now.strand ≡ first.strand
+  pub place : places (λ known. known.to) now.entries now.current ≡ known_place first.entries past
+  pub begun : begun_of now.current ≡ unfinished first.zeros first.strand first.entries past
+  pub kept : kept_in now ≡ kept_records first.strand first.entries past
+  pub reached : AreReached now.entries now.current
 
 -- the records that may be taken
 abbrev pub may_take : Covering → List Feature → Type 0
 may_take first past = AreTaken first.entries past
-
--- what the coverage has become after the records
-abbrev pub stands_after : Covering → List Feature → Covering → Type 0
-stands_after first past now = StandsAfter first.entries first.zeros first.strand past now
 
 -- the lines of the settled intervals
 abbrev pub settled_lines : Covering → List Feature → List ℕ
@@ -85,12 +74,6 @@ is_quiet first past r = ⊥
 -- memory is needed for a record that has to be kept: it is counted, and starts below its chromosome's length
 abbrev pub wants_memory : Covering → Feature → Type 0
 wants_memory old r = (is_counted_by old.strand r.strand ≡ true) × (r.start < length_in old.entries r.chrom)
-
--- this holds if memory ran out
-abbrev pub OnWant : {A : Type 0} → Type 0 → Result A Failure → Type 0
-OnWant P (Ok done) = ⊤
-OnWant P (Err Write) = ⊤
-OnWant P (Err Memory) = P
 
 -- what is known once the depths are settled by a record's start, before the record is counted
 abbrev pub settled_known : Bool → ℕ → Known → ℕ → Known
@@ -119,14 +102,10 @@ IsOnChrom coverage chrom =
 abbrev pub with_begun : Option OpenInterval → Option (Place Known) → Option (Place Known)
 with_begun begun None = None
 with_begun begun (Some place) =
-    let known : Known = record { to = place.known.to; begun = begun_seen begun; held = place.known.held } in
-    Some (record { rank = place.rank; known = known })
+    Some (record place { known = record place.known { begun = begun_seen begun } })
 
 abbrev pub with_chrom : Covering → CurrentChrom → Covering
-with_chrom coverage on = record {
-  entries = coverage.entries;
-  zeros = coverage.zeros;
-  strand = coverage.strand;
+with_chrom coverage on = record coverage {
   current = with_begun on.begun coverage.current;
   is_known = on.is_known;
   name = on.name.now;

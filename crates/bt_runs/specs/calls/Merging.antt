@@ -1,78 +1,64 @@
 -- What a merge holds after the records of the past: with one set of records one open run, and with
 -- each strand separately the runs that wait.
-use Rattle.std.specs.Prelude.{ℕ, List, [], Option, None}
+use Rattle.std.specs.Prelude.{◌≡◌, ℕ, List, [], Option, None}
 use Rattle.bt_lines.specs.model.Fault.{FaultValue}
 use Rattle.bt_bed.specs.model.feature.Feature.{Feature}
 use Rattle.bt_bed.specs.model.feature.Interval.{Interval}
-use Rattle.bt_runs.specs.model.MergedRuns.{AreTaken}
 use Rattle.bt_runs.specs.calls.Ruled.{ruled_fault, ruled_stands}
 use Rattle.bt_runs.specs.calls.Stranding as strands
 use Rattle.bt_runs.specs.model.StrandRuns.{places_of}
 use Rattle.bt_runs.specs.inside.merge.StrandTaking as strand_step
 use Rattle.bt_runs.specs.calls.Unstranded as unstranded
-use Rattle.bt_runs.specs.inside.merge.UnstrandedStep as unstranded_step
 use Rattle.bt_runs.specs.declared.merge.merge_strand.MergeStrand.{MergeStrand}
 use Rattle.bt_runs.specs.declared.merge.merge_strand.MergeStrand.TheVariants.{Each}
-use Rattle.bt_runs.specs.declared.engine.rule.Ruled.{Ruled}
-
--- a merge as its callers see it: of all counted records together, or of each strand separately
-pub data Merging : Type 0 where
-  Unstranded : Ruled unstranded.Unstranded → Merging
-  PerStrand : Ruled strands.Stranding → Merging
+use Rattle.bt_runs.specs.declared.merge.Kind.{Kind}
+use Rattle.bt_runs.specs.declared.merge.Kind.TheVariants.{PerStrand, Unstranded}
 
 -- one that has taken no record
-abbrev pub merge_begun : ℕ → MergeStrand → Merging
+abbrev pub merge_begun : ℕ → MergeStrand → Kind
 merge_begun gap Each =
     PerStrand (record { rule = record { gap = gap; chrom = []; kept = []; listed = [] }; failure = None })
 merge_begun gap strand =
     Unstranded (record { rule = record { gap = gap; strand = strand; chrom = []; kept = [] }; failure = None })
 
--- the records that may be taken
-abbrev pub may_take : Merging → List Feature → Type 0
-may_take first past = AreTaken past
-
 -- what the merge has become after the records
-abbrev pub stands_after : Merging → List Feature → Merging → Type 0
-stands_after (Unstranded first) past (Unstranded now) = ruled_stands unstranded.stands_after first past now
-stands_after (PerStrand first) past (PerStrand now) = ruled_stands strands.stands_after first past now
-stands_after (Unstranded first) past (PerStrand now) = ⊥
-stands_after (PerStrand first) past (Unstranded now) = ⊥
-
--- a merge with this gap and these strands is after no record
-abbrev pub StandsNew : ℕ → MergeStrand → Merging → Type 0
-StandsNew gap strand merge = stands_after (merge_begun gap strand) [] merge
+abbrev pub IsAfter : Kind → List Feature → Kind → Type 0
+IsAfter (Unstranded first) past (Unstranded now) = ruled_stands unstranded.IsAfter first past now
+IsAfter (PerStrand first) past (PerStrand now) = ruled_stands strands.IsAfter first past now
+IsAfter (Unstranded first) past (PerStrand now) = ⊥
+IsAfter (PerStrand first) past (Unstranded now) = ⊥
 
 -- the fault that it returned, if one
-abbrev pub kept_fault : Merging → Option FaultValue
+abbrev pub kept_fault : Kind → Option FaultValue
 kept_fault (Unstranded merge) = ruled_fault merge
 kept_fault (PerStrand merge) = ruled_fault merge
 
 -- the lines of the settled runs
-abbrev pub settled_lines : Merging → List Feature → List ℕ
+abbrev pub settled_lines : Kind → List Feature → List ℕ
 settled_lines (Unstranded first) past = unstranded.settled_lines first.rule past
 settled_lines (PerStrand first) past = strands.settled_lines first.rule past
 
 -- the lines of all runs
-abbrev pub whole_output : Merging → List Feature → List ℕ
+abbrev pub whole_output : Kind → List Feature → List ℕ
 whole_output (Unstranded first) past = unstranded.whole_output first.rule past
 whole_output (PerStrand first) past = strands.whole_output first.rule past
 
 -- how many runs are kept
-abbrev pub held_count : Merging → List Feature → ℕ
+abbrev pub held_count : Kind → List Feature → ℕ
 held_count (Unstranded first) past = unstranded.held_count first.rule past
 held_count (PerStrand first) past = strands.held_count first.rule past
 
 -- a record on the last chromosome that settles no run, with which no more are kept
-abbrev pub is_quiet : Merging → List Feature → Feature → Type 0
+abbrev pub is_quiet : Kind → List Feature → Feature → Type 0
 is_quiet (Unstranded first) past r = unstranded.is_quiet first.rule past r
 is_quiet (PerStrand first) past r = strands.is_quiet first.rule past r
 
 -- the runs that are kept
-abbrev pub kept_places : Merging → List Interval
+abbrev pub kept_places : Kind → List Interval
 kept_places (Unstranded merge) = merge.rule.kept
 kept_places (PerStrand merge) = places_of merge.rule.kept
 
 -- what needs memory: the name of another chromosome, and with each strand separately a run that has to be opened
-abbrev pub wants_memory : Merging → Feature → Type 0
-wants_memory (Unstranded old) r = unstranded_step.IsElsewhere old.rule r
+abbrev pub wants_memory : Kind → Feature → Type 0
+wants_memory (Unstranded old) r = old.rule.chrom ≡ r.chrom → ⊥
 wants_memory (PerStrand old) r = strand_step.wants_memory old.rule r

@@ -3,7 +3,6 @@ use Rattle.std.specs.Prelude.{◌≡◌, ℕ, List, [], ◌∷◌, ◌++◌, len
 use Rattle.bt_bed.specs.model.feature.Feature.{Feature}
 use Rattle.bt_bed.specs.model.feature.IntervalLine.{interval_lines}
 use Rattle.bt_runs.specs.calls.Engine.{IsOnLast, IsQuiet}
-use Rattle.bt_runs.specs.model.MergedRuns.{AreTaken}
 use Rattle.bt_runs.specs.model.StrandRuns.{StrandRun, kept_strand_runs, places_of}
 use Rattle.bt_runs.specs.model.StrandRuns.{settled_strand_runs, strand_runs}
 
@@ -15,25 +14,16 @@ pub record Stranding : Type 0 where
   -- what its list holds: those runs, unless a single one is in a local
   pub listed : List StrandRun
 
--- it has taken the records of the past
-pub record StandsAfter (gap : ℕ) (past : List Feature) (merge : Stranding) : Type 0 where
-  pub same_gap : merge.gap ≡ gap
+-- it has taken the records of the past since it began
+pub record IsAfter (first : Stranding) (past : List Feature) (now : Stranding) : Type 0 where
+  pub same_gap : now.gap ≡ first.gap
   -- it is on the chromosome of the last one
-  pub chrom : (before : List Feature) (last : Feature) → past ≡ before ++ last ∷ []
-      → merge.chrom ≡ last.chrom
-  pub kept : merge.kept ≡ kept_strand_runs gap past
+  pub chrom : (before : List Feature) (last : Feature) → past ≡ before ++ last ∷ [] → now.chrom ≡ last.chrom
+  pub kept : now.kept ≡ kept_strand_runs first.gap past
 
 -- the lines of runs
 abbrev pub strand_lines : List StrandRun → List ℕ
 strand_lines items = interval_lines (places_of items)
-
--- the records that may be taken
-abbrev pub may_take : Stranding → List Feature → Type 0
-may_take first past = AreTaken past
-
--- what it has become after the records
-abbrev pub stands_after : Stranding → List Feature → Stranding → Type 0
-stands_after first past now = StandsAfter first.gap past now
 
 -- the lines of the settled runs
 abbrev pub settled_lines : Stranding → List Feature → List ℕ

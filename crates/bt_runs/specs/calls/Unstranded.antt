@@ -15,21 +15,17 @@ pub record Unstranded : Type 0 where
   pub chrom : List ℕ
   pub kept : List Interval
 
--- the merge has taken the records of the past
-pub record StandsAfter (gap : ℕ) (strand : MergeStrand) (past : List Feature)
-    (merge : Unstranded) : Type 0 where
-  pub same_gap : merge.gap ≡ gap
-  pub same_strand : merge.strand ≡ strand
-  pub kept : merge.kept ≡ kept_runs gap strand past
-  pub on : (before : List Feature) (last : Feature) → past ≡ before ++ last ∷ [] → merge.chrom ≡ last.chrom
+-- it has taken the records of the past since it began
+pub record IsAfter (first : Unstranded) (past : List Feature) (now : Unstranded) : Type 0 where
+  pub same_gap : now.gap ≡ first.gap
+  pub same_strand : now.strand ≡ first.strand
+  pub kept : now.kept ≡ kept_runs first.gap first.strand past
+  -- it is on the chromosome of the last one
+  pub on : (before : List Feature) (last : Feature) → past ≡ before ++ last ∷ [] → now.chrom ≡ last.chrom
 
--- the records that may be taken
-abbrev pub may_take : Unstranded → List Feature → Type 0
+-- the records that may be taken, by any merge
+abbrev pub may_take : {E : Type 0} → E → List Feature → Type 0
 may_take first past = AreTaken past
-
--- what the merge has become after the records
-abbrev pub stands_after : Unstranded → List Feature → Unstranded → Type 0
-stands_after first past now = StandsAfter first.gap first.strand past now
 
 -- the lines of the settled runs
 abbrev pub settled_lines : Unstranded → List Feature → List ℕ

@@ -1,5 +1,4 @@
 -- Words of contracts inside of the crate.
-pub mod GapCursor
 pub mod GapRule
 pub mod GapStep
 pub mod Rule

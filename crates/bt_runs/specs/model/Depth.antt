@@ -4,6 +4,7 @@
 use Rattle.std.specs.Prelude.{ℕ, Bool, true, ◌&&◌, ◌||◌, nat_le, nat_lt, cond, min, List, [], ◌∷◌}
 use Rattle.std.specs.Prelude.{◌++◌, length, map, filter, flat_map, codes, decimal, Option, Some}
 use Rattle.std.specs.Prelude.{None}
+use Rattle.std.specs.Option.{option_map_or}
 use Rattle.bt_bed.specs.model.feature.Feature.{Feature, intervals_of}
 use Rattle.bt_bed.specs.model.order.Genome.{Entry, genome_names}
 use Rattle.bt_bed.specs.model.feature.Interval.{Interval, Span, last_of, spans_on}
@@ -78,16 +79,12 @@ abbrev pub is_ended_by : List (List ℕ) → Interval → DepthInterval → Bool
 is_ended_by names last item =
     is_over_at ((rank_order names).compare item.chrom last.chrom) (nat_lt item.stop last.start)
 
-abbrev pub ended_by : List (List ℕ) → List DepthInterval → Option Interval → List DepthInterval
-ended_by names items None = []
-ended_by names items (Some last) = filter (is_ended_by names last) items
-
 -- the intervals that are settled after the records
 unfoldable pub settled_depths : Bool → Option Strand → List Entry → List Feature
     → List DepthInterval
 settled_depths zeros strand entries records =
-    ended_by (genome_names entries) (coverage zeros strand entries records)
-    (last_of (intervals_of records))
+    option_map_or (λ last. filter (is_ended_by (genome_names entries) last) (coverage zeros strand entries records))
+    (last_of (intervals_of records)) []
 
 -- a span cut at a length
 abbrev pub cut_at : ℕ → Span → Span
@@ -101,14 +98,11 @@ open_at size p spans =
 
 -- the records that are kept: the counted ones on the last record's chromosome that start below its
 -- length, cut there, and that end at the last start or past it
-abbrev pub kept_by : Option Strand → List Entry → List Feature → Option Interval → List Span
-kept_by strand entries records None = []
-kept_by strand entries records (Some last) =
-    open_at (length_in entries last.chrom) last.start (counted_on strand last.chrom records)
-
 unfoldable pub kept_records : Option Strand → List Entry → List Feature → List Span
 kept_records strand entries records =
-    kept_by strand entries records (last_of (intervals_of records))
+    option_map_or (λ (last : Interval).
+    open_at (length_in entries last.chrom) last.start (counted_on strand last.chrom records))
+    (last_of (intervals_of records)) []
 
 -- the first of the intervals that begins below a position and ends there or past it,
 -- with its depth
@@ -119,22 +113,16 @@ begun_across p (l ∷ ls) =
     cond (nat_lt l.start p && nat_le p l.stop) (Some begun) (begun_across p ls)
 
 -- the interval that is unfinished: it begins below the last start, and isn't settled
-abbrev pub unfinished_by : Bool → Option Strand → List Entry → List Feature → Option Interval
-    → Option Begun
-unfinished_by zeros strand entries records None = None
-unfinished_by zeros strand entries records (Some last) =
-    let values = depth_of zeros (counted_on strand last.chrom records) in
-    begun_across last.start (levels_of values (length_in entries last.chrom))
-
 unfoldable pub unfinished : Bool → Option Strand → List Entry → List Feature → Option Begun
 unfinished zeros strand entries records =
-    unfinished_by zeros strand entries records (last_of (intervals_of records))
+    let values = λ (name : List ℕ). depth_of zeros (counted_on strand name records) in
+    option_map_or (λ (last : Interval).
+    begun_across last.start (levels_of (values last.chrom) (length_in entries last.chrom)))
+    (last_of (intervals_of records)) None
 
 -- how far the last record's chromosome is known: up to the last start, cut at its length
-abbrev pub known_to : List Entry → Option Interval → List Locus
-known_to entries None = []
-known_to entries (Some last) =
-    record { chrom = last.chrom; start = min last.start (length_in entries last.chrom) } ∷ []
-
 unfoldable pub known_place : List Entry → List Feature → List Locus
-known_place entries records = known_to entries (last_of (intervals_of records))
+known_place entries records =
+    option_map_or (λ (last : Interval).
+    record { chrom = last.chrom; start = min last.start (length_in entries last.chrom) } ∷ [])
+    (last_of (intervals_of records)) []

@@ -1,8 +1,9 @@
 -- What `bedtools complement` gives: the parts of each chromosome that no feature covers, in the
 -- order of the genome file. With -L it gives only those of chromosomes that
 -- have records (bedtools manual, complement).
-use Rattle.std.specs.Prelude.{◌≡◌, ℕ, ◌<◌, length, Bool, true, false, not, ◌||◌, List, [], ◌∷◌, map}
-use Rattle.std.specs.Prelude.{filter, flat_map, cond, min, nat_le, bytes_eq, Option, Some, None}
+use Rattle.std.specs.Prelude.{ℕ, ◌<◌, Bool, true, false, not, ◌||◌, List, [], ◌∷◌, map, filter, flat_map}
+use Rattle.std.specs.Prelude.{cond, min, nat_le, bytes_eq}
+use Rattle.std.specs.Option.{option_map_or}
 use Rattle.std.specs.declared.cmp.Ordering.{Ordering}
 use Rattle.std.specs.declared.cmp.Ordering.TheVariants.{Less, Equal, Greater}
 use Rattle.bt_bed.specs.model.feature.Feature.{Feature, intervals_of}
@@ -11,7 +12,7 @@ use Rattle.bt_bed.specs.model.feature.Interval.{Interval, Span, AreNonEmpty, las
 use Rattle.bt_bed.specs.model.feature.Interval.{spans_on}
 use Rattle.bt_bed.specs.model.order.Locus.{Locus, ArePlaced}
 use Rattle.bt_bed.specs.model.order.Rank.{AreDistinct, rank_order}
-use Rattle.bt_bed.specs.model.feature.Stretches.{IsCovered, AreStretchesOf, stretches_from}
+use Rattle.bt_bed.specs.model.feature.Stretches.{IsCovered, stretches_from}
 use Rattle.bt_bed.specs.model.order.Contiguous.{has_records}
 use Rattle.bt_runs.specs.model.Merged.{is_covered, end_of}
 
@@ -23,16 +24,6 @@ pub record IsBare (size : ℕ) (spans : List Span) (p : ℕ) : Type 0 where
 -- the gaps of a chromosome: the stretches of its bare positions
 unfoldable pub gaps_of : ℕ → List Span → List Span
 gaps_of size spans = stretches_from (λ p. not (is_covered spans p)) 0 size
-
--- so they are
-abbrev pub gaps_are : Type 0
-gaps_are = (size : ℕ) (spans : List Span) → AreStretchesOf (IsBare size spans) (gaps_of size spans)
-
--- no other list is
-abbrev pub gaps_only : Type 0
-gaps_only =
-    (size : ℕ) (spans gaps : List Span) → AreStretchesOf (IsBare size spans) gaps
-    → gaps ≡ gaps_of size spans
 
 -- the gaps on a chromosome of the genome file
 abbrev pub gaps_on : List Interval → Entry → List Interval
@@ -60,15 +51,11 @@ abbrev pub is_over : List (List ℕ) → Interval → Interval → Bool
 is_over names last gap =
     is_over_at ((rank_order names).compare gap.chrom last.chrom) (nat_le gap.stop last.start)
 
-abbrev pub over_by : List (List ℕ) → List Interval → Option Interval → List Interval
-over_by names gaps None = []
-over_by names gaps (Some last) = filter (is_over names last) gaps
-
 -- the gaps that are settled after the records
 unfoldable pub settled_gaps : Bool → List Entry → List Feature → List Interval
 settled_gaps limit entries records =
-    over_by (genome_names entries) (complement limit entries records)
-    (last_of (intervals_of records))
+    option_map_or (λ last. filter (is_over (genome_names entries) last) (complement limit entries records))
+    (last_of (intervals_of records)) []
 
 -- the length of the chromosome of this name
 abbrev pub length_in : List Entry → List ℕ → ℕ
@@ -77,16 +64,12 @@ length_in (entry ∷ entries) name =
     cond (bytes_eq entry.name name) entry.length (length_in entries name)
 
 -- the place that is kept: the greatest end on the last record's chromosome, cut at its length
-abbrev pub kept_at : List Entry → List Interval → Option Interval → List Locus
-kept_at entries records None = []
-kept_at entries records (Some last) =
-    record {
-      chrom = last.chrom;
-      start = min (end_of (spans_on last.chrom records)) (length_in entries last.chrom);
-    } ∷ []
-
 unfoldable pub kept_place : List Entry → List Feature → List Locus
-kept_place entries records = kept_at entries (intervals_of records) (last_of (intervals_of records))
+kept_place entries records =
+    option_map_or (λ (last : Interval). record {
+      chrom = last.chrom;
+      start = min (end_of (spans_on last.chrom (intervals_of records))) (length_in entries last.chrom);
+    } ∷ []) (last_of (intervals_of records)) []
 
 -- records that a complement or a coverage may take: they are in the order of the genome file, which
 -- has each chromosome once, and each has a base

@@ -1,9 +1,9 @@
 -- What `bedtools merge` gives: overlapping and touching features become one, and with -d also those
 -- up to a gap apart (bedtools manual, merge).
-use Rattle.std.specs.Prelude.{◌≡◌, ℕ, zero, suc, ◌+◌, ◌-◌, ◌≤◌, Bool, false, not, ◌&&◌, ◌||◌, List}
+use Rattle.std.specs.Prelude.{ℕ, zero, suc, ◌+◌, ◌-◌, ◌≤◌, Bool, false, not, ◌&&◌, ◌||◌, List}
 use Rattle.std.specs.Prelude.{[], ◌∷◌, map, filter, flat_map, max, nat_le, nat_lt, bytes_eq}
 use Rattle.bt_bed.specs.model.feature.Interval.{Interval, Span, spans_on, placed_on}
-use Rattle.bt_bed.specs.model.feature.Stretches.{IsCovered, AreStretchesOf, stretches_from}
+use Rattle.bt_bed.specs.model.feature.Stretches.{IsCovered, stretches_from}
 
 -- covered positions lie on both sides, or here, with at most `gap` positions between them
 pub record Bridged (gap : ℕ) (spans : List Span) (p : ℕ) : Type 0 where
@@ -40,16 +40,6 @@ end_of (s ∷ ss) = max s.stop (end_of ss)
 -- the merged runs of one chromosome: the stretches of the bridged positions
 unfoldable pub runs_of : ℕ → List Span → List Span
 runs_of gap spans = stretches_from (is_bridged gap spans) 0 (end_of spans)
-
--- the runs are the stretches of the bridged positions
-abbrev pub runs_are : Type 0
-runs_are = (gap : ℕ) (spans : List Span) → AreStretchesOf (Bridged gap spans) (runs_of gap spans)
-
--- no other list is
-abbrev pub runs_only : Type 0
-runs_only =
-    (gap : ℕ) (spans runs : List Span) → AreStretchesOf (Bridged gap spans) runs
-    → runs ≡ runs_of gap spans
 
 -- the merged runs on the chromosome of this name
 abbrev pub runs_on : List ℕ → ℕ → List Interval → List Interval

@@ -1,10 +1,8 @@
 -- What a merge writes, and which of its runs are settled: a later record can't change them.
-use Rattle.std.specs.Prelude.{◌≡◌, ℕ, ◌+◌, Bool, not, ◌||◌, List, [], ◌++◌, drop, length, filter}
+use Rattle.std.specs.Prelude.{ℕ, ◌+◌, Bool, not, ◌||◌, List, [], drop, length, filter}
 use Rattle.std.specs.Prelude.{Option, Some, None, nat_lt, bytes_eq}
 use Rattle.bt_bed.specs.model.feature.Feature.{Feature, intervals_of}
 use Rattle.bt_bed.specs.model.feature.Interval.{Interval, AreNonEmpty, last_of}
-use Rattle.bt_bed.specs.model.order.Locus.{ArePlaced}
-use Rattle.bt_bed.specs.model.order.Rank.{AreDistinct, rank_order}
 use Rattle.bt_bed.specs.model.order.Contiguous.{AreContiguous}
 use Rattle.bt_runs.specs.model.Counted.{counted}
 use Rattle.bt_runs.specs.model.Merged.{merged, chromosomes}
@@ -40,25 +38,3 @@ kept_runs gap strand records =
 pub record AreTaken (records : List Feature) : Type 0 where
   pub contiguous : AreContiguous (intervals_of records)
   pub full : AreNonEmpty (intervals_of records)
-
--- what is settled begins what is settled later
-abbrev pub settled_runs_stay : Type 0
-settled_runs_stay =
-    (gap : ℕ) (strand : MergeStrand) (past more : List Feature) → AreTaken (past ++ more)
-    → (rest : List Interval) × (settled_runs gap strand (past ++ more)
-    ≡ settled_runs gap strand past ++ rest)
-
--- and the whole output
-abbrev pub settled_runs_begin : Type 0
-settled_runs_begin =
-    (gap : ℕ) (strand : MergeStrand) (past more : List Feature) → AreTaken (past ++ more)
-    → (rest : List Interval) × (merged_runs gap strand (past ++ more)
-    ≡ settled_runs gap strand past ++ rest)
-
--- for records in the order of a genome file,
--- the order in which the chromosomes come is that of the file
-abbrev pub runs_come_in_order : Type 0
-runs_come_in_order =
-    (names : List (List ℕ)) (gap : ℕ) (strand : MergeStrand) (records : List Feature)
-    → AreDistinct names → ArePlaced (rank_order names) (intervals_of records)
-    → merged names gap (counted strand records) ≡ merged_runs gap strand records

@@ -1,13 +1,11 @@
 -- The merged runs in an order of the chromosomes, as that of a genome file or of the names' bytes.
-use Rattle.std.specs.Prelude.{◌≡◌, ℕ, List, [], ◌∷◌, if◌then◌else◌}
+use Rattle.std.specs.Prelude.{ℕ, List, [], ◌∷◌, if◌then◌else◌}
 use Rattle.std.specs.Ordering.{is_lt}
-use Rattle.bt_bed.specs.model.feature.Feature.{Feature, intervals_of}
+use Rattle.bt_bed.specs.model.feature.Feature.{Feature}
 use Rattle.bt_bed.specs.model.feature.Interval.{Interval}
-use Rattle.bt_bed.specs.model.order.Locus.{ArePlaced}
-use Rattle.bt_bed.specs.model.order.Order.{Order, IsTotal}
+use Rattle.bt_bed.specs.model.order.Order.{Order}
 use Rattle.bt_runs.specs.model.Counted.{counted}
 use Rattle.bt_runs.specs.model.Merged.{chromosomes, merged}
-use Rattle.bt_runs.specs.model.MergedRuns.{merged_runs}
 use Rattle.bt_runs.specs.declared.merge.merge_strand.MergeStrand.{MergeStrand}
 
 -- a name among names in order: it is put before the first that comes after it
@@ -25,10 +23,3 @@ in_order order (n ∷ ns) = put_in_order order n (in_order order ns)
 unfoldable pub ordered_runs : Order → ℕ → MergeStrand → List Feature → List Interval
 ordered_runs order gap strand records =
     merged (in_order order (chromosomes (counted strand records))) gap (counted strand records)
-
--- for records in a total order, the order in which the chromosomes come is that order
-abbrev pub ordered_runs_come : Type 0
-ordered_runs_come =
-    (order : Order) (gap : ℕ) (strand : MergeStrand) (records : List Feature) → IsTotal order
-    → ArePlaced order (intervals_of records)
-    → ordered_runs order gap strand records ≡ merged_runs gap strand records

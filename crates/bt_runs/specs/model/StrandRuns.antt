@@ -1,13 +1,13 @@
 -- What `bedtools merge -s` gives: the records of each strand are merged separately (bedtools
 -- manual, merge, option -s), and the runs of all strands are listed by their first records.
-use Rattle.std.specs.Prelude.{◌≡◌, ℕ, Bool, not, ◌&&◌, List, [], ◌∷◌, ◌++◌, drop, filter, length}
+use Rattle.std.specs.Prelude.{ℕ, Bool, not, ◌&&◌, List, [], ◌∷◌, ◌++◌, drop, filter, length}
 use Rattle.std.specs.Prelude.{map, Option, Some, None, nat_le, bytes_eq}
 use Rattle.std.specs.List.{list_any, take_while}
-use Rattle.bt_bed.specs.model.feature.Feature.{Feature, interval_of, intervals_of}
+use Rattle.bt_bed.specs.model.feature.Feature.{Feature, intervals_of}
 use Rattle.bt_bed.specs.model.feature.Interval.{Interval, last_of}
 use Rattle.bt_bed.specs.declared.record.strand.Strand.{Strand}
 use Rattle.bt_bed.specs.model.feature.Strands.{is_strand}
-use Rattle.bt_runs.specs.model.MergedRuns.{AreTaken, is_closed, merged_runs}
+use Rattle.bt_runs.specs.model.MergedRuns.{is_closed, merged_runs}
 use Rattle.bt_runs.specs.declared.merge.merge_strand.MergeStrand.TheVariants.{One}
 
 -- a merged run, with the strand of its records
@@ -20,13 +20,11 @@ abbrev pub runs_of_strand : ℕ → List Feature → Strand → List StrandRun
 runs_of_strand gap records strand =
     map (λ run. record { strand = strand; run = run }) (merged_runs gap (One strand) records)
 
--- whether a record lies in a run
-abbrev pub lies_in : Interval → Interval → Bool
-lies_in run r = bytes_eq run.chrom r.chrom && (nat_le run.start r.start && nat_le r.stop run.stop)
-
--- whether it is one of the records of the run: of its strand, and in it
+-- whether a record is one of those of the run: of its strand, and in it
 abbrev pub is_in : StrandRun → Feature → Bool
-is_in item r = is_strand item.strand r.strand && lies_in item.run (interval_of r)
+is_in item r =
+    is_strand item.strand r.strand
+    && (bytes_eq item.run.chrom r.chrom && (nat_le item.run.start r.start && nat_le r.stop item.run.stop))
 
 -- of the runs the one whose first record this is, if there is one: the record lies in it,
 -- and none of those before does
@@ -62,17 +60,3 @@ kept_strand_runs gap records =
 -- where the runs lie
 abbrev pub places_of : List StrandRun → List Interval
 places_of items = map (λ item. item.run) items
-
--- what is settled begins what is settled later
-abbrev pub strand_runs_stay : Type 0
-strand_runs_stay =
-    (gap : ℕ) (past more : List Feature) → AreTaken (past ++ more)
-    → (rest : List StrandRun)
-    × (settled_strand_runs gap (past ++ more) ≡ settled_strand_runs gap past ++ rest)
-
--- and the whole output
-abbrev pub strand_runs_begin : Type 0
-strand_runs_begin =
-    (gap : ℕ) (past more : List Feature) → AreTaken (past ++ more)
-    → (rest : List StrandRun)
-    × (strand_runs gap (past ++ more) ≡ settled_strand_runs gap past ++ rest)

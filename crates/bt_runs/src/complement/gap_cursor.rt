@@ -26,8 +26,8 @@ pub(crate) struct GapCursor<'g> {
 }
 
 impl<'g> GapCursor<'g> {
-    ghost use Rattle.std.specs.Prelude.{OnOk};
-    ghost use Rattle.bt_runs.specs.inside.walk.GapCursor.{Covers, gap_before};
+    ghost use Rattle.std.specs.Prelude.{OnOk, min};
+    ghost use Rattle.bt_runs.specs.inside.walk.GapRule.{Covers};
 
     // Takes a record on the chromosome out of its gaps, and writes the gap before it.
     #[inline(always)]
@@ -37,7 +37,7 @@ impl<'g> GapCursor<'g> {
         stop: u64,
         out: &mut Out<K>,
     ) -> Result<(), Fault>
-        ensures adds { Adds out.old.output (interval_lines (gap_before self.old start)) result out.new.output }
+        ensures adds { Adds out.old.output (interval_lines (gap_between self.old.name.now self.old.end (min start self.old.length))) result out.new.output }
         ensures covers { OnOk result (Covers self.old stop self.new) }
     {
         put_gap(self.name, self.end, start.min(self.length), out)?;

@@ -5,10 +5,10 @@ ghost use Rattle.std.specs.Prelude.{◌≡◌, ◌≤◌, [], flat_map, length, 
 ghost use Rattle.bt_lines.specs.calls.Putting.{Adds};
 ghost use Rattle.bt_bed.specs.calls.GenomeTable.{entries};
 ghost use Rattle.bt_bed.specs.model.feature.IntervalLine.{interval_lines};
-ghost use Rattle.bt_runs.specs.calls.Complementing.{held_count, is_quiet, kept_in, may_take, settled_lines, stands_after, whole_output};
+ghost use Rattle.bt_runs.specs.calls.Complementing.{IsAfter, held_count, is_quiet, kept_in, may_take, settled_lines, whole_output};
 ghost use Rattle.bt_runs.specs.calls.Engine.{KeepsHeld};
-ghost use Rattle.bt_runs.specs.inside.walk.GapCursor.{seen};
-ghost use Rattle.bt_runs.specs.inside.walk.GapRule.{IsOnChrom, IsWith, complement_at, next_lines, with_cursor};
+ghost use Rattle.bt_runs.specs.inside.walk.GapRule.{seen};
+ghost use Rattle.bt_runs.specs.inside.walk.GapRule.{IsOnChrom, complement_at, next_lines, with_record};
 ghost use Rattle.bt_runs.specs.inside.walk.GapStep.{bare_gap, last_gap};
 ghost use Rattle.bt_runs.specs.inside.walk.Walk.{left_before};
 
@@ -38,7 +38,7 @@ impl<'g> Model for GapRule<'g> {
 impl<'g> GapRule<'g> {
     // A rule that has taken no record.
     pub(crate) fn new(genome: &'g Genome, limit: bool) -> GapRule<'g>
-        ensures stands { stands_after result [] result }
+        ensures stands { IsAfter result [] result }
         ensures entries { result.entries ≡ entries genome.now }
         ensures limit { result.limit ≡ limit }
     {
@@ -62,7 +62,7 @@ impl<'g> Rule for GapRule<'g> {
 
     ghost output = { whole_output };
 
-    ghost is_after = { stands_after };
+    ghost is_after = { IsAfter };
 
     ghost quiet = { is_quiet };
 
@@ -71,14 +71,13 @@ impl<'g> Rule for GapRule<'g> {
 
     ghost lines = { next_lines };
 
-    ghost has = { IsWith };
+    ghost has = { λ old r new. new ≡ with_record old r };
 
     ghost is_on = { IsOnChrom };
 
-    ghost with_on = { with_cursor };
+    ghost with_on = { λ complement cursor. complement_at complement.limit cursor };
 
     // On a chromosome that the genome file lacks no base counts, so that records there are skipped.
-    #[tactic(auto, using(crate::proofs::lemmas::complement::GapRuleLemmas::enters_here))]
     fn enter<K: Sink>(&mut self, chrom: &[u8], out: &mut Out<K>) -> Result<(), Fault> {
         let genome = self.cursor.genome;
         let Some(rank) = genome.rank(chrom) else {

@@ -10,9 +10,9 @@ ghost use Rattle.bt_lines.specs.calls.Output.{Grows};
 ghost use Rattle.bt_bed.specs.calls.Bed.{feature_lent};
 ghost use Rattle.bt_bed.specs.calls.GenomeTable.{entries};
 ghost use Rattle.bt_runs.specs.calls.Calls.{AnswersAgain, IsFaultless, KeepsFault, TakesQuiet, WritesLeft, WritesLeftPrefix, WritesPrefix, WritesSettled};
-ghost use Rattle.bt_runs.specs.calls.Complementing.{StandsAfter, held_count, is_quiet, kept_in, may_take, settled_lines, stands_after, whole_output};
+ghost use Rattle.bt_runs.specs.calls.Complementing.{IsAfter, held_count, is_quiet, kept_in, may_take, settled_lines, whole_output};
 ghost use Rattle.bt_runs.specs.calls.Engine.{KeepsHeld};
-ghost use Rattle.bt_runs.specs.calls.Ruled.{ruled_count, ruled_fault, ruled_quiet, ruled_stands, ruled_takes, ruled_text};
+ghost use Rattle.bt_runs.specs.calls.Ruled.{of_rule, ruled_fault, ruled_stands};
 
 use crate::complement::gap_rule::GapRule;
 use crate::engine::Engine;
@@ -42,7 +42,7 @@ impl<'g> Complement<'g> {
     /// A complement that has taken no record. With `limit` it leaves out the chromosomes that have
     /// none.
     pub fn new(genome: &'g Genome, limit: bool) -> Complement<'g>
-        ensures stands { StandsAfter (entries genome.now) limit [] result.rule }
+        ensures stands { IsAfter result.rule [] result.rule }
         ensures going { ruled_fault result ≡ None }
         ensures entries { result.rule.entries ≡ entries genome.now }
         ensures limit { result.rule.limit ≡ limit }
@@ -56,18 +56,18 @@ impl<'g> Complement<'g> {
     /// fails, and returns that from then on.
     #[tactic(auto, using(crate::proofs::lemmas::engine::CallLemmas::feeds_again, crate::proofs::lemmas::engine::CallLemmas::feeds_fault, crate::proofs::lemmas::engine::CallLemmas::feeds_prefix, crate::proofs::lemmas::engine::CallLemmas::feeds_settled, crate::proofs::lemmas::engine::CallLemmas::only_writes))]
     pub fn feed<K: Sink>(&mut self, bed: &BedRef<'_>, out: &mut Out<K>) -> Result<(), Fault>
-        ensures going { IsFaultless (ruled_stands stands_after) ruled_fault self.old }
-        ensures written { WritesSettled (ruled_takes may_take) (ruled_stands stands_after) ruled_fault (ruled_text settled_lines) self.old
+        ensures going { IsFaultless (ruled_stands IsAfter) ruled_fault self.old }
+        ensures written { WritesSettled (of_rule may_take) (ruled_stands IsAfter) ruled_fault (of_rule settled_lines) self.old
             (feature_lent bed.now) out.old.output result self.new out.new.output }
         ensures fault { KeepsFault ruled_fault result self.new }
-        ensures prefix { WritesPrefix (ruled_takes may_take) (ruled_stands stands_after) ruled_fault (ruled_text settled_lines) self.old
+        ensures prefix { WritesPrefix (of_rule may_take) (ruled_stands IsAfter) ruled_fault (of_rule settled_lines) self.old
             (feature_lent bed.now) out.old.output result self.new out.new.output }
         ensures memory { ruled_fault self.old ≡ None → IfErr result (λ fault. fault_value fault ≡ write_failed) }
         ensures again { AnswersAgain (ruled_fault self.old) result }
         ensures stays { (before : FaultValue) → ruled_fault self.old ≡ Some before
             → (self.new ≡ self.old) × (out.new.output ≡ out.old.output) }
-        ensures quiet { TakesQuiet (ruled_takes may_take) (ruled_stands stands_after) ruled_fault (ruled_text settled_lines) self.old
-            (feature_lent bed.now) out.old.output (ruled_quiet is_quiet) result out.new.output }
+        ensures quiet { TakesQuiet (of_rule may_take) (ruled_stands IsAfter) ruled_fault (of_rule settled_lines) self.old
+            (feature_lent bed.now) out.old.output (of_rule is_quiet) result out.new.output }
         ensures grows { Grows out.old.output.took out.new.output.took }
         ensures after_failure { out.old.output.has_failed ≡ true → out.new.output ≡ out.old.output }
     {
@@ -78,11 +78,11 @@ impl<'g> Complement<'g> {
     /// fault that was returned before.
     #[tactic(auto, using(crate::proofs::lemmas::engine::CallLemmas::finishes_again, crate::proofs::lemmas::engine::CallLemmas::finishes_left, crate::proofs::lemmas::engine::CallLemmas::finishes_prefix))]
     pub fn finish<K: Sink>(self, out: &mut Out<K>) -> Result<(), Fault>
-        ensures going { IsFaultless (ruled_stands stands_after) ruled_fault self.entry }
-        ensures written { WritesLeft (ruled_takes may_take) (ruled_stands stands_after) ruled_fault (ruled_text settled_lines)
-            (ruled_text whole_output) self.entry out.old.output result out.new.output }
-        ensures prefix { WritesLeftPrefix (ruled_takes may_take) (ruled_stands stands_after) ruled_fault (ruled_text settled_lines)
-            (ruled_text whole_output) self.entry out.old.output result out.new.output }
+        ensures going { IsFaultless (ruled_stands IsAfter) ruled_fault self.entry }
+        ensures written { WritesLeft (of_rule may_take) (ruled_stands IsAfter) ruled_fault (of_rule settled_lines)
+            (of_rule whole_output) self.entry out.old.output result out.new.output }
+        ensures prefix { WritesLeftPrefix (of_rule may_take) (ruled_stands IsAfter) ruled_fault (of_rule settled_lines)
+            (of_rule whole_output) self.entry out.old.output result out.new.output }
         ensures again { AnswersAgain (ruled_fault self.entry) result }
         ensures stays { (before : FaultValue) → ruled_fault self.entry ≡ Some before → out.new.output ≡ out.old.output }
         ensures grows { Grows out.old.output.took out.new.output.took }
@@ -94,26 +94,26 @@ impl<'g> Complement<'g> {
     /// How many positions it keeps: 0 or 1.
     pub fn kept_len(&self) -> usize
         ensures list { result ≡ length (kept_in self.now.rule) }
-        ensures held { KeepsHeld (ruled_takes may_take) (ruled_stands stands_after) self.now (ruled_count held_count) result }
+        ensures held { KeepsHeld (of_rule may_take) (ruled_stands IsAfter) self.now (of_rule held_count) result }
     {
         Engine::kept_len(self)
     }
 }
 
 impl Engine for Complement<'_> {
-    ghost takes = { ruled_takes may_take };
+    ghost takes = { of_rule may_take };
 
-    ghost settled = { ruled_text settled_lines };
+    ghost settled = { of_rule settled_lines };
 
-    ghost output = { ruled_text whole_output };
+    ghost output = { of_rule whole_output };
 
-    ghost held = { ruled_count held_count };
+    ghost held = { of_rule held_count };
 
-    ghost is_after = { ruled_stands stands_after };
+    ghost is_after = { ruled_stands IsAfter };
 
     ghost fault = { ruled_fault };
 
-    ghost quiet = { ruled_quiet is_quiet };
+    ghost quiet = { of_rule is_quiet };
 
     // It doesn't allocate.
     ghost wants = { λ complement r. ⊥ };
@@ -134,7 +134,7 @@ impl Engine for Complement<'_> {
     /// How many positions it keeps: 0 or 1.
     fn kept_len(&self) -> usize
         ensures list { result ≡ length (kept_in self.now.rule) }
-        ensures held { KeepsHeld (ruled_takes may_take) (ruled_stands stands_after) self.now (ruled_count held_count) result }
+        ensures held { KeepsHeld (of_rule may_take) (ruled_stands IsAfter) self.now (of_rule held_count) result }
     {
         usize::from(self.rule.rule.cursor.rank.is_some())
     }

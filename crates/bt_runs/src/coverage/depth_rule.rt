@@ -1,15 +1,15 @@
 //! The rule of `bedtools genomecov -bg`: the records that are open, and the interval that isn't ended.
 
-ghost use Rattle.std.specs.Prelude.{◌≡◌, false, true, ◌<◌, ◌≤◌, [], length, flat_map, min, slice_range, IfOk, OnOk};
+ghost use Rattle.std.specs.Prelude.{◌≡◌, false, true, ◌<◌, ◌≤◌, [], length, flat_map, max, min, slice_range, IfErr, IfOk, OnOk};
+ghost use Rattle.bt_runs.specs.declared.engine.failure.Failure.TheVariants.{Memory};
 ghost use Rattle.bt_lines.specs.calls.Putting.{Adds};
 ghost use Rattle.bt_bed.specs.calls.GenomeTable.{entries};
-ghost use Rattle.bt_runs.specs.inside.coverage.CountSeen.{known_seen, seen};
-ghost use Rattle.bt_runs.specs.inside.coverage.CountedDepths.{CountAnswers};
-ghost use Rattle.bt_runs.specs.calls.Covering.{CountsRecord, IsOnChrom, OnWant, held_count, is_quiet, kept_in, may_take, next_lines, settled_known, settled_lines, stands_after, wants_memory, whole_output, with_chrom};
+ghost use Rattle.bt_runs.specs.inside.coverage.Kept.{known_seen, seen};
+ghost use Rattle.bt_runs.specs.inside.coverage.Kept.{CountAnswers};
+ghost use Rattle.bt_runs.specs.calls.Covering.{CountsRecord, IsAfter, IsOnChrom, held_count, is_quiet, kept_in, may_take, next_lines, settled_known, settled_lines, wants_memory, whole_output, with_chrom};
 ghost use Rattle.bt_runs.specs.model.Depth.{depth_lines, is_counted_by};
-ghost use Rattle.bt_runs.specs.inside.coverage.DepthStep.{bare_of, depths_left, known_with, levels_by, levels_left, levels_on, levels_with};
+ghost use Rattle.bt_runs.specs.inside.coverage.DepthStep.{bare_of, depths_left, known_by, levels_by, levels_left, levels_on};
 ghost use Rattle.bt_runs.specs.calls.Engine.{KeepsHeld};
-ghost use Rattle.bt_runs.specs.inside.coverage.OpenRecords.{none_open_at};
 ghost use Rattle.bt_runs.specs.inside.walk.Walk.{AreReached, begun, is_on, left_before, left_of};
 
 use crate::coverage::depth_line::put_depth;
@@ -68,7 +68,7 @@ pub(crate) struct DepthRule<'g> {
 
 impl<'g> Model for DepthRule<'g> {
     ghost use Rattle.bt_bed.specs.calls.GenomeTable.{entries};
-    ghost use Rattle.bt_runs.specs.inside.coverage.CountSeen.{seen};
+    ghost use Rattle.bt_runs.specs.inside.coverage.Kept.{seen};
     ghost use Rattle.bt_runs.specs.calls.Covering.{Covering};
     ghost use Rattle.bt_runs.specs.inside.walk.Walk.{AreReached};
 
@@ -96,7 +96,7 @@ impl<'g> DepthRule<'g> {
         zeros: bool,
         strand: Option<Strand>,
     ) -> DepthRule<'g>
-        ensures stands { stands_after result [] result }
+        ensures stands { IsAfter result [] result }
         ensures entries { result.entries ≡ entries genome.now }
         ensures rules { (result.zeros ≡ zeros) × (result.strand ≡ strand) }
     {
@@ -121,7 +121,7 @@ impl<'g> Rule for DepthRule<'g> {
 
     ghost output = { whole_output };
 
-    ghost is_after = { stands_after };
+    ghost is_after = { IsAfter };
 
     ghost quiet = { is_quiet };
 
@@ -250,10 +250,10 @@ fn count_next<K: Sink>(
     held: &mut OpenRecords,
     out: &mut Out<K>,
 ) -> Result<Option<OpenInterval>, Failure>
-    ensures counts { CountAnswers chrom.now.name.now (levels_with chrom.now.zeros chrom.now.length (known_seen begun held.old) next.bounds.start)
-        (known_with chrom.now.zeros next.counted chrom.now.length (known_seen begun held.old) next.bounds.start next.bounds.stop)
+    ensures counts { CountAnswers chrom.now.name.now (levels_by chrom.now.zeros chrom.now.length (known_seen begun held.old) (max next.bounds.start held.old.at))
+        (known_by chrom.now.zeros next.counted chrom.now.length (known_seen begun held.old) (max next.bounds.start held.old.at) next.bounds.stop)
         result held.new out.old.output out.new.output }
-    ensures memory { OnWant ((next.counted ≡ true) × (next.bounds.start < chrom.now.length)) result }
+    ensures memory { IfErr result (λ failure. failure ≡ Memory → (next.counted ≡ true) × (next.bounds.start < chrom.now.length)) }
 {
     let start = next.bounds.start.max(held.at());
     let Ok(begun) = settle(chrom, begun, held, start, out) else {
@@ -303,7 +303,7 @@ fn put_rest<K: Sink>(
     out: &mut Out<K>,
 ) -> Result<(), Fault>
     ensures adds { Adds out.old.output (depth_lines (levels_on chrom.now.name.now (levels_left chrom.now.zeros chrom.now.length (known_seen begun held.old)))) result out.new.output }
-    ensures none { OnOk result (held.new ≡ none_open_at chrom.now.length) }
+    ensures none { OnOk result (held.new ≡ record { at = chrom.now.length; spans = [] }) }
 {
     let begun = go_on(chrom, begun, held, chrom.length, out)?;
     held.clear(chrom.length);

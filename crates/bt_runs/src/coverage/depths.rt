@@ -2,11 +2,10 @@
 
 ghost use Rattle.std.specs.Prelude.{◌≡◌, ◌≤◌, ◌-◌, ◌||◌, ◌==◌, IfOk, OnOk, Option, Some, None};
 ghost use Rattle.bt_lines.specs.calls.Putting.{Adds};
-ghost use Rattle.bt_runs.specs.inside.coverage.CountSeen.{begun_seen};
+ghost use Rattle.bt_runs.specs.inside.coverage.Kept.{begun_seen};
 ghost use Rattle.bt_runs.specs.model.Depth.{depth_lines, depth_of, reported};
-ghost use Rattle.bt_runs.specs.inside.coverage.DepthStep.{levels_on};
+ghost use Rattle.bt_runs.specs.inside.coverage.DepthStep.{levels_on, still_open};
 ghost use Rattle.bt_runs.specs.model.Levels.{begun_after, ended_after, ended_at, next_begun, next_ended};
-ghost use Rattle.bt_runs.specs.inside.coverage.OpenRecords.{open_from};
 
 use crate::coverage::depth_line::put_depth;
 use crate::coverage::open_records::OpenRecords;
@@ -52,7 +51,7 @@ pub(crate) fn go_on<K: Sink>(
 ) -> Result<Option<OpenInterval>, Fault>
     ensures adds { Adds out.old.output (depth_lines (levels_on chrom.now.name.now (ended_after (depth_of chrom.now.zeros held.old.spans) held.old.at (stop - held.old.at) (begun_seen begun)))) result out.new.output }
     ensures begun { IfOk result (λ next. begun_seen next ≡ begun_after (depth_of chrom.now.zeros held.old.spans) held.old.at (stop - held.old.at) (begun_seen begun)) }
-    ensures held { OnOk result (held.old.at ≤ stop → held.new ≡ open_from stop held.old) }
+    ensures held { OnOk result (held.old.at ≤ stop → held.new ≡ record { at = stop; spans = still_open stop held.old.spans }) }
 {
     let mut position = held.at();
     let mut begun = begun;

@@ -12,9 +12,9 @@ ghost use Rattle.bt_lines.specs.calls.Output.{Grows};
 ghost use Rattle.bt_bed.specs.calls.Bed.{feature_lent};
 ghost use Rattle.bt_bed.specs.calls.GenomeTable.{entries};
 ghost use Rattle.bt_runs.specs.calls.Calls.{AnswersAgain, IsFaultless, KeepsFault, TakesQuiet, WritesFirst, WritesLeft, WritesLeftPrefix, WritesPrefix, WritesSettled};
-ghost use Rattle.bt_runs.specs.calls.Covering.{StandsAfter, held_count, is_quiet, kept_in, may_take, settled_lines, stands_after, wants_memory, whole_output};
+ghost use Rattle.bt_runs.specs.calls.Covering.{IsAfter, held_count, is_quiet, kept_in, may_take, settled_lines, wants_memory, whole_output};
 ghost use Rattle.bt_runs.specs.calls.Engine.{IsWanted, KeepsHeld};
-ghost use Rattle.bt_runs.specs.calls.Ruled.{ruled_count, ruled_fault, ruled_quiet, ruled_stands, ruled_takes, ruled_text, ruled_wants};
+ghost use Rattle.bt_runs.specs.calls.Ruled.{of_rule, ruled_fault, ruled_stands};
 
 use crate::coverage::depth_rule::DepthRule;
 use crate::engine::Engine;
@@ -51,7 +51,7 @@ impl<'g> Coverage<'g> {
         zeros: bool,
         strand: Option<Strand>,
     ) -> Coverage<'g>
-        ensures stands { StandsAfter (entries genome.now) zeros strand [] result.rule }
+        ensures stands { IsAfter result.rule [] result.rule }
         ensures going { ruled_fault result ≡ None }
         ensures entries { result.rule.entries ≡ entries genome.now }
         ensures rules { (result.rule.zeros ≡ zeros) × (result.rule.strand ≡ strand) }
@@ -65,20 +65,20 @@ impl<'g> Coverage<'g> {
     /// on: `WriteFailed`, or `NoMemory`, only if the record has to be kept.
     #[tactic(auto, using(crate::proofs::lemmas::engine::CallLemmas::feeds_again, crate::proofs::lemmas::engine::CallLemmas::feeds_fault, crate::proofs::lemmas::engine::CallLemmas::feeds_first, crate::proofs::lemmas::engine::CallLemmas::feeds_prefix, crate::proofs::lemmas::engine::CallLemmas::feeds_settled))]
     pub fn feed<K: Sink>(&mut self, bed: &BedRef<'_>, out: &mut Out<K>) -> Result<(), Fault>
-        ensures going { IsFaultless (ruled_stands stands_after) ruled_fault self.old }
-        ensures written { WritesSettled (ruled_takes may_take) (ruled_stands stands_after) ruled_fault (ruled_text settled_lines) self.old
+        ensures going { IsFaultless (ruled_stands IsAfter) ruled_fault self.old }
+        ensures written { WritesSettled (of_rule may_take) (ruled_stands IsAfter) ruled_fault (of_rule settled_lines) self.old
             (feature_lent bed.now) out.old.output result self.new out.new.output }
         ensures fault { KeepsFault ruled_fault result self.new }
-        ensures prefix { WritesPrefix (ruled_takes may_take) (ruled_stands stands_after) ruled_fault (ruled_text settled_lines) self.old
+        ensures prefix { WritesPrefix (of_rule may_take) (ruled_stands IsAfter) ruled_fault (of_rule settled_lines) self.old
             (feature_lent bed.now) out.old.output result self.new out.new.output }
-        ensures ran_out { WritesFirst (ruled_takes may_take) (ruled_stands stands_after) ruled_fault (ruled_text settled_lines) self.old
+        ensures ran_out { WritesFirst (of_rule may_take) (ruled_stands IsAfter) ruled_fault (of_rule settled_lines) self.old
             (feature_lent bed.now) out.old.output result self.new out.new.output }
-        ensures memory { IsWanted (ruled_wants wants_memory) ruled_fault self.old (feature_lent bed.now) result }
+        ensures memory { IsWanted (of_rule wants_memory) ruled_fault self.old (feature_lent bed.now) result }
         ensures again { AnswersAgain (ruled_fault self.old) result }
         ensures stays { (before : FaultValue) → ruled_fault self.old ≡ Some before
             → (self.new ≡ self.old) × (out.new.output ≡ out.old.output) }
-        ensures quiet { TakesQuiet (ruled_takes may_take) (ruled_stands stands_after) ruled_fault (ruled_text settled_lines) self.old
-            (feature_lent bed.now) out.old.output (ruled_quiet is_quiet) result out.new.output }
+        ensures quiet { TakesQuiet (of_rule may_take) (ruled_stands IsAfter) ruled_fault (of_rule settled_lines) self.old
+            (feature_lent bed.now) out.old.output (of_rule is_quiet) result out.new.output }
         ensures grows { Grows out.old.output.took out.new.output.took }
         ensures after_failure { out.old.output.has_failed ≡ true → out.new.output ≡ out.old.output }
     {
@@ -89,10 +89,10 @@ impl<'g> Coverage<'g> {
     /// fault that was returned before.
     #[tactic(auto, using(crate::proofs::lemmas::engine::CallLemmas::finishes_again, crate::proofs::lemmas::engine::CallLemmas::finishes_left, crate::proofs::lemmas::engine::CallLemmas::finishes_prefix))]
     pub fn finish<K: Sink>(self, out: &mut Out<K>) -> Result<(), Fault>
-        ensures going { IsFaultless (ruled_stands stands_after) ruled_fault self.entry }
-        ensures written { WritesLeft (ruled_takes may_take) (ruled_stands stands_after) ruled_fault (ruled_text settled_lines) (ruled_text whole_output) self.entry
+        ensures going { IsFaultless (ruled_stands IsAfter) ruled_fault self.entry }
+        ensures written { WritesLeft (of_rule may_take) (ruled_stands IsAfter) ruled_fault (of_rule settled_lines) (of_rule whole_output) self.entry
             out.old.output result out.new.output }
-        ensures prefix { WritesLeftPrefix (ruled_takes may_take) (ruled_stands stands_after) ruled_fault (ruled_text settled_lines) (ruled_text whole_output)
+        ensures prefix { WritesLeftPrefix (of_rule may_take) (ruled_stands IsAfter) ruled_fault (of_rule settled_lines) (of_rule whole_output)
             self.entry out.old.output result out.new.output }
         ensures again { AnswersAgain (ruled_fault self.entry) result }
         ensures stays { (before : FaultValue) → ruled_fault self.entry ≡ Some before → out.new.output ≡ out.old.output }
@@ -105,28 +105,28 @@ impl<'g> Coverage<'g> {
     /// How many counted records end at the last start or past it.
     pub fn kept_len(&self) -> usize
         ensures list { result ≡ length (kept_in self.now.rule) }
-        ensures held { KeepsHeld (ruled_takes may_take) (ruled_stands stands_after) self.now (ruled_count held_count) result }
+        ensures held { KeepsHeld (of_rule may_take) (ruled_stands IsAfter) self.now (of_rule held_count) result }
     {
         Engine::kept_len(self)
     }
 }
 
 impl Engine for Coverage<'_> {
-    ghost takes = { ruled_takes may_take };
+    ghost takes = { of_rule may_take };
 
-    ghost settled = { ruled_text settled_lines };
+    ghost settled = { of_rule settled_lines };
 
-    ghost output = { ruled_text whole_output };
+    ghost output = { of_rule whole_output };
 
-    ghost held = { ruled_count held_count };
+    ghost held = { of_rule held_count };
 
-    ghost is_after = { ruled_stands stands_after };
+    ghost is_after = { ruled_stands IsAfter };
 
     ghost fault = { ruled_fault };
 
-    ghost quiet = { ruled_quiet is_quiet };
+    ghost quiet = { of_rule is_quiet };
 
-    ghost wants = { ruled_wants wants_memory };
+    ghost wants = { of_rule wants_memory };
 
     fn feed_batch<C: Cursor, K: Sink>(
         &mut self,
@@ -144,7 +144,7 @@ impl Engine for Coverage<'_> {
     /// How many counted records end at the last start or past it.
     fn kept_len(&self) -> usize
         ensures list { result ≡ length (kept_in self.now.rule) }
-        ensures held { KeepsHeld (ruled_takes may_take) (ruled_stands stands_after) self.now (ruled_count held_count) result }
+        ensures held { KeepsHeld (of_rule may_take) (ruled_stands IsAfter) self.now (of_rule held_count) result }
     {
         match self.rule.rule.current {
             None => 0,

@@ -1,8 +1,8 @@
 //! The ends of open records.
 
-ghost use Rattle.std.specs.Prelude.{◌≡◌, ◌≤◌, ◌∷◌, [], All, List, MatchBool, OnErr, OnOk, length, ℕ};
+ghost use Rattle.std.specs.Prelude.{◌≡◌, ◌≤◌, ◌∷◌, [], All, Bool, List, MatchBool, OnErr, OnOk, filter, length, ℕ};
 ghost use Rattle.std.specs.BinaryHeap.{heap_items};
-ghost use Rattle.bt_runs.specs.inside.coverage.OpenEnds.{CountsFrom, CountsSame, IsLeastFirst, StartsBelow, ends_of};
+ghost use Rattle.bt_runs.specs.inside.coverage.Kept.{CountsFrom, IsLeastFirst, StartsBelow, ends_of};
 
 use std::alloc::{AllocError, Global};
 use std::cmp::Reverse;
@@ -19,7 +19,7 @@ pub(crate) struct OpenEnds {
 impl Model for OpenEnds {
     ghost use Rattle.std.specs.Prelude.{ℕ, List};
     ghost use Rattle.std.specs.BinaryHeap.{heap_items};
-    ghost use Rattle.bt_runs.specs.inside.coverage.OpenEnds.{IsLeastFirst, ends_of};
+    ghost use Rattle.bt_runs.specs.inside.coverage.Kept.{IsLeastFirst, ends_of};
 
     ghost Value = { List ℕ };
 
@@ -70,7 +70,7 @@ impl OpenEnds {
     // Adds an end.
     #[inline(always)]
     pub(crate) fn push(&mut self, end: u64) -> Result<(), AllocError>
-        ensures added { OnOk result (CountsSame (end ∷ self.old) self.new) }
+        ensures added { OnOk result ((test : ℕ → Bool) → length (filter test self.new) ≡ length (filter test (end ∷ self.old))) }
         ensures unchanged { OnErr result (self.new ≡ self.old) }
     {
         self.heap.push(Reverse(end))?;

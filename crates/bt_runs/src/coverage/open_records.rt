@@ -2,7 +2,7 @@
 
 ghost use Rattle.std.specs.Prelude.{◌≡◌, ◌+◌, ◌≤◌, [], ◌∷◌, ◌++◌, All, OnOk, drop, length, max};
 ghost use Rattle.bt_runs.specs.inside.coverage.DepthStep.{still_open};
-ghost use Rattle.bt_runs.specs.inside.coverage.OpenRecords.{none_open_at, open_from, spans_open};
+ghost use Rattle.bt_runs.specs.inside.coverage.Kept.{spans_open};
 
 use crate::coverage::open_ends::OpenEnds;
 use std::alloc::{AllocError, Global};
@@ -31,7 +31,7 @@ pub(crate) struct OpenRecords {
 }
 
 impl Model for OpenRecords {
-    ghost use Rattle.bt_runs.specs.inside.coverage.OpenRecords.{KeepsOpen, OpenAt, spans_open};
+    ghost use Rattle.bt_runs.specs.inside.coverage.Kept.{KeepsOpen, OpenAt, spans_open};
 
     ghost Value = { OpenAt };
 
@@ -43,7 +43,7 @@ impl Model for OpenRecords {
 impl OpenRecords {
     // None is open at the first position.
     pub(crate) fn new(alloc: Global) -> OpenRecords
-        ensures { result ≡ none_open_at 0 }
+        ensures { result ≡ record { at = 0; spans = [] } }
     {
         OpenRecords {
             at: 0,
@@ -78,7 +78,7 @@ impl OpenRecords {
 
     // Goes to a position at which none is open.
     pub(crate) fn clear(&mut self, at: u64)
-        ensures { self.new ≡ none_open_at at }
+        ensures { self.new ≡ record { at = at; spans = [] } }
     {
         self.at = at;
         self.spans.clear();
@@ -100,7 +100,7 @@ impl OpenRecords {
     #[tactic(auto, using(crate::proofs::lemmas::coverage::OpenLemmas::all_stay, crate::proofs::lemmas::coverage::OpenLemmas::keeps_same, crate::proofs::lemmas::coverage::OpenLemmas::open_count))]
     pub(crate) fn settle(&mut self, position: u64)
         requires { All (λ s. position ≤ s.stop) (still_open self.old.at self.old.spans) }
-        ensures { self.new ≡ open_from (max self.old.at position) self.old }
+        ensures { self.new ≡ record { at = max self.old.at position; spans = still_open (max self.old.at position) self.old.spans } }
     {
         self.at = self.at.max(position);
         let left = self.ends.len();

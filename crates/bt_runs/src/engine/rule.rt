@@ -86,7 +86,7 @@ pub(crate) struct Ruled<E> {
 
 impl<E: Rule + Drop> Ruled<E> {
     ghost use Rattle.bt_runs.specs.calls.Engine.{FeedsBatch, Finishes};
-    ghost use Rattle.bt_runs.specs.calls.Ruled.{ruled_fault, ruled_quiet, ruled_stands, ruled_takes, ruled_text, ruled_wants};
+    ghost use Rattle.bt_runs.specs.calls.Ruled.{of_rule, ruled_fault, ruled_stands};
 
     // A rule that has taken no record.
     pub(crate) fn new(rule: E) -> Ruled<E>
@@ -105,8 +105,8 @@ impl<E: Rule + Drop> Ruled<E> {
         records: &mut C,
         out: &mut Out<K>,
     ) -> Result<(), Fault>
-        ensures { FeedsBatch (ruled_takes E.takes) (ruled_stands E.is_after) ruled_fault (ruled_text E.settled) (ruled_quiet E.quiet)
-            (ruled_wants E.wants) C.gives C.has_ended self.old records.old out.old.output result self.new records.new out.new.output }
+        ensures { FeedsBatch (of_rule E.takes) (ruled_stands E.is_after) ruled_fault (of_rule E.settled) (of_rule E.quiet)
+            (of_rule E.wants) C.gives C.has_ended self.old records.old out.old.output result self.new records.new out.new.output }
     {
         if let Some(failure) = self.failure {
             return Err(failure.fault());
@@ -121,7 +121,7 @@ impl<E: Rule + Drop> Ruled<E> {
     // Writes the lines that are still unsettled, unless it has failed.
     #[tactic(auto, using(crate::proofs::lemmas::engine::RuledLemmas::ruled_finishes))]
     pub(crate) fn finish<K: Sink>(self, out: &mut Out<K>) -> Result<(), Fault>
-        ensures { Finishes (ruled_takes E.takes) (ruled_stands E.is_after) ruled_fault (ruled_text E.settled) (ruled_text E.output)
+        ensures { Finishes (of_rule E.takes) (ruled_stands E.is_after) ruled_fault (of_rule E.settled) (of_rule E.output)
             self out.old.output result out.new.output }
     {
         let Ruled { rule, failure } = self;

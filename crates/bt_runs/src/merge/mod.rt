@@ -6,14 +6,15 @@ pub(crate) mod pending_runs;
 pub(crate) mod per_strand_merge;
 pub(crate) mod unstranded_merge;
 
-ghost use Rattle.std.specs.Prelude.{◌≡◌, ◌≤◌, length, true, Some};
+ghost use Rattle.std.specs.Prelude.{◌≡◌, ◌≤◌, [], length, true, Some};
 ghost use Rattle.bt_lines.specs.calls.Output.{Grows};
 ghost use Rattle.bt_lines.specs.model.Fault.{FaultValue};
 ghost use Rattle.bt_bed.specs.calls.Bed.{feature_lent};
 ghost use Rattle.bt_lines.specs.model.Number.{max_number};
 ghost use Rattle.bt_runs.specs.calls.Calls.{AnswersAgain, IsFaultless, KeepsFault, TakesQuiet, WritesFirst, WritesLeft, WritesLeftPrefix, WritesPrefix, WritesSettled};
 ghost use Rattle.bt_runs.specs.calls.Engine.{IsWanted, KeepsHeld};
-ghost use Rattle.bt_runs.specs.calls.Merging.{StandsNew, held_count, is_quiet, kept_fault, kept_places, may_take, merge_begun, settled_lines, stands_after, wants_memory, whole_output};
+ghost use Rattle.bt_runs.specs.calls.Unstranded.{may_take};
+ghost use Rattle.bt_runs.specs.calls.Merging.{IsAfter, held_count, is_quiet, kept_fault, kept_places, merge_begun, settled_lines, wants_memory, whole_output};
 
 use crate::engine::Engine;
 use crate::engine::rule::{Rule, Ruled};
@@ -44,13 +45,11 @@ pub struct Merge {
 }
 
 impl Model for Merge {
-    ghost use Rattle.bt_runs.specs.calls.Merging.{Merging};
+    ghost use Rattle.bt_runs.specs.declared.merge.Kind.{Kind};
 
-    ghost Value = { Merging };
+    ghost Value = { Kind };
 
-    ghost use Rattle.bt_runs.specs.calls.MergeKind.{merging_seen};
-
-    ghost view = { λ m. merging_seen m.kind };
+    ghost view = { λ m. m.kind };
 }
 
 impl Merge {
@@ -59,7 +58,7 @@ impl Merge {
     #[tactic(auto, using(crate::proofs::lemmas::merge::MergeLemmas::begun_stands))]
     pub fn new(alloc: Global, d: u64, strand: MergeStrand) -> Merge
         requires { d ≤ max_number }
-        ensures stands { StandsNew d strand result }
+        ensures stands { IsAfter (merge_begun d strand) [] result }
         ensures begun { result ≡ merge_begun d strand }
     {
         let kind = match strand {
@@ -80,19 +79,19 @@ impl Merge {
     /// another than that of the record before, and with [`MergeStrand::Each`] if a run has to be opened too.
     #[tactic(auto, using(crate::proofs::lemmas::engine::CallLemmas::feeds_again, crate::proofs::lemmas::engine::CallLemmas::feeds_fault, crate::proofs::lemmas::engine::CallLemmas::feeds_first, crate::proofs::lemmas::engine::CallLemmas::feeds_prefix, crate::proofs::lemmas::engine::CallLemmas::feeds_settled))]
     pub fn feed<K: Sink>(&mut self, bed: &BedRef<'_>, out: &mut Out<K>) -> Result<(), Fault>
-        ensures going { IsFaultless stands_after kept_fault self.old }
-        ensures written { WritesSettled may_take stands_after kept_fault settled_lines self.old
+        ensures going { IsFaultless IsAfter kept_fault self.old }
+        ensures written { WritesSettled may_take IsAfter kept_fault settled_lines self.old
             (feature_lent bed.now) out.old.output result self.new out.new.output }
         ensures fault { KeepsFault kept_fault result self.new }
-        ensures prefix { WritesPrefix may_take stands_after kept_fault settled_lines self.old
+        ensures prefix { WritesPrefix may_take IsAfter kept_fault settled_lines self.old
             (feature_lent bed.now) out.old.output result self.new out.new.output }
-        ensures ran_out { WritesFirst may_take stands_after kept_fault settled_lines self.old
+        ensures ran_out { WritesFirst may_take IsAfter kept_fault settled_lines self.old
             (feature_lent bed.now) out.old.output result self.new out.new.output }
         ensures memory { IsWanted wants_memory kept_fault self.old (feature_lent bed.now) result }
         ensures again { AnswersAgain (kept_fault self.old) result }
         ensures stays { (before : FaultValue) → kept_fault self.old ≡ Some before
             → (self.new ≡ self.old) × (out.new.output ≡ out.old.output) }
-        ensures quiet { TakesQuiet may_take stands_after kept_fault settled_lines self.old
+        ensures quiet { TakesQuiet may_take IsAfter kept_fault settled_lines self.old
             (feature_lent bed.now) out.old.output is_quiet result out.new.output }
         ensures grows { Grows out.old.output.took out.new.output.took }
         ensures after_failure { out.old.output.has_failed ≡ true → out.new.output ≡ out.old.output }
@@ -104,10 +103,10 @@ impl Merge {
     /// fault that was returned before.
     #[tactic(auto, using(crate::proofs::lemmas::engine::CallLemmas::finishes_again, crate::proofs::lemmas::engine::CallLemmas::finishes_left, crate::proofs::lemmas::engine::CallLemmas::finishes_prefix))]
     pub fn finish<K: Sink>(self, out: &mut Out<K>) -> Result<(), Fault>
-        ensures going { IsFaultless stands_after kept_fault self }
-        ensures written { WritesLeft may_take stands_after kept_fault settled_lines whole_output self
+        ensures going { IsFaultless IsAfter kept_fault self }
+        ensures written { WritesLeft may_take IsAfter kept_fault settled_lines whole_output self
             out.old.output result out.new.output }
-        ensures prefix { WritesLeftPrefix may_take stands_after kept_fault settled_lines whole_output
+        ensures prefix { WritesLeftPrefix may_take IsAfter kept_fault settled_lines whole_output
             self out.old.output result out.new.output }
         ensures again { AnswersAgain (kept_fault self) result }
         ensures stays { (before : FaultValue) → kept_fault self ≡ Some before → out.new.output ≡ out.old.output }
@@ -120,7 +119,7 @@ impl Merge {
     /// How many runs it keeps: 0 or 1, and with each strand separately as many as wait to be written.
     pub fn kept_len(&self) -> usize
         ensures list { result ≡ length (kept_places self.now) }
-        ensures held { KeepsHeld may_take stands_after self.now held_count result }
+        ensures held { KeepsHeld may_take IsAfter self.now held_count result }
     {
         Engine::kept_len(self)
     }
@@ -135,7 +134,7 @@ impl Engine for Merge {
 
     ghost held = { held_count };
 
-    ghost is_after = { stands_after };
+    ghost is_after = { IsAfter };
 
     ghost fault = { kept_fault };
 
@@ -165,7 +164,7 @@ impl Engine for Merge {
     /// How many runs it keeps: 0 or 1, and with each strand separately as many as wait to be written.
     fn kept_len(&self) -> usize
         ensures list { result ≡ length (kept_places self.now) }
-        ensures held { KeepsHeld may_take stands_after self.now held_count result }
+        ensures held { KeepsHeld may_take IsAfter self.now held_count result }
     {
         match &self.kind {
             // No run is open if its end is 0.

@@ -2,7 +2,7 @@
 
 ghost use Rattle.std.specs.Prelude.{◌≡◌, ◌<◌, ◌++◌, ◌∷◌, [], length, drop, OnOk, Some};
 ghost use Rattle.std.specs.List.{slice_get};
-ghost use Rattle.bt_runs.specs.inside.merge.PendingRuns.{place_of, slot_of, with_joined};
+ghost use Rattle.bt_runs.specs.inside.merge.StrandStep.{place_of, slot_of, with_joined};
 
 use bt_bed::Strand;
 use std::alloc::{AllocError, Global};
@@ -38,7 +38,7 @@ pub(crate) struct PendingRuns {
 impl Model for PendingRuns {
     ghost use Rattle.std.specs.Prelude.{◌≡◌, List};
     ghost use Rattle.bt_runs.specs.declared.merge.pending_runs.PendingRun.{PendingRun};
-    ghost use Rattle.bt_runs.specs.inside.merge.PendingRuns.{counts_up_to_last};
+    ghost use Rattle.bt_runs.specs.inside.merge.StrandStep.{counts_up_to_last};
 
     ghost Value = { List PendingRun };
 

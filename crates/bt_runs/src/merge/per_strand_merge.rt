@@ -4,8 +4,9 @@
 ghost use Rattle.std.specs.Prelude.{◌≡◌, ◌∷◌, [], length, true, OnOk};
 ghost use Rattle.bt_lines.specs.calls.Putting.{Adds};
 ghost use Rattle.bt_runs.specs.calls.Engine.{KeepsHeld};
-ghost use Rattle.bt_runs.specs.inside.merge.PendingRuns.{left_runs, passed_runs, placed_runs};
-ghost use Rattle.bt_runs.specs.calls.Stranding.{held_count, is_quiet, may_take, settled_lines, stands_after, strand_lines, whole_output};
+ghost use Rattle.bt_runs.specs.inside.merge.StrandStep.{left_runs, passed_runs, placed_runs};
+ghost use Rattle.bt_runs.specs.calls.Unstranded.{may_take};
+ghost use Rattle.bt_runs.specs.calls.Stranding.{IsAfter, held_count, is_quiet, settled_lines, strand_lines, whole_output};
 ghost use Rattle.bt_runs.specs.inside.merge.StrandTaking.{JoinsAmong, Takes, lines_by, wants_memory};
 ghost use Rattle.bt_runs.specs.inside.walk.Rule.{Does};
 
@@ -48,8 +49,8 @@ pub(crate) struct PerStrandMerge {
 }
 
 impl Model for PerStrandMerge {
-    ghost use Rattle.bt_runs.specs.inside.merge.PendingRuns.{placed_runs};
-    ghost use Rattle.bt_runs.specs.inside.merge.PerStrand.{kept_in};
+    ghost use Rattle.bt_runs.specs.inside.merge.StrandStep.{placed_runs};
+    ghost use Rattle.bt_runs.specs.inside.merge.StrandTaking.{kept_in};
     ghost use Rattle.bt_runs.specs.calls.Stranding.{Stranding};
 
     ghost Value = { Stranding };
@@ -63,7 +64,7 @@ impl Model for PerStrandMerge {
 }
 
 impl PerStrandMerge {
-    ghost use Rattle.bt_runs.specs.inside.merge.PerStrand.{is_on, with_on};
+    ghost use Rattle.bt_runs.specs.inside.merge.StrandTaking.{with_on};
 
     // A merge that has taken no record.
     pub(crate) fn new(alloc: Global, d: u64) -> PerStrandMerge
@@ -101,8 +102,8 @@ impl PerStrandMerge {
         record: &R,
         out: &mut Out<K>,
     ) -> Result<(), Fault>
-        requires { is_on (with_on self.old on.old) (R.feature «record».now).chrom }
-        ensures on { OnOk result (is_on (with_on self.new on.new) (R.feature «record».now).chrom) }
+        requires { self.old.chrom ≡ (R.feature «record».now).chrom }
+        ensures on { OnOk result (self.new.chrom ≡ (R.feature «record».now).chrom) }
         ensures does { Does lines_by Takes wants_memory (with_on self.old on.old) (R.feature «record».now) out.old.output result
             (with_on self.new on.new) out.new.output }
     {
@@ -140,7 +141,7 @@ impl PerStrandMerge {
 }
 
 impl Rule for PerStrandMerge {
-    ghost use Rattle.bt_runs.specs.inside.merge.PerStrand.{is_on, with_on};
+    ghost use Rattle.bt_runs.specs.inside.merge.StrandTaking.{with_on};
 
     type OnChrom = OnlyRun;
 
@@ -150,7 +151,7 @@ impl Rule for PerStrandMerge {
 
     ghost output = { whole_output };
 
-    ghost is_after = { stands_after };
+    ghost is_after = { IsAfter };
 
     ghost quiet = { is_quiet };
 
@@ -160,7 +161,7 @@ impl Rule for PerStrandMerge {
 
     ghost has = { Takes };
 
-    ghost is_on = { is_on };
+    ghost is_on = { λ merge chrom. merge.chrom ≡ chrom };
 
     ghost with_on = { with_on };
 

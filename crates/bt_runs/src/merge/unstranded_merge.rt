@@ -5,8 +5,8 @@ ghost use Rattle.bt_lines.specs.calls.Putting.{Adds};
 ghost use Rattle.bt_bed.specs.model.feature.IntervalLine.{interval_lines};
 ghost use Rattle.bt_runs.specs.model.Counted.{is_counted};
 ghost use Rattle.bt_runs.specs.calls.Engine.{KeepsHeld};
-ghost use Rattle.bt_runs.specs.calls.Unstranded.{held_count, is_quiet, may_take, settled_lines, stands_after, whole_output};
-ghost use Rattle.bt_runs.specs.inside.merge.MergeStep.{left_by, settled_by, with_record};
+ghost use Rattle.bt_runs.specs.calls.Unstranded.{IsAfter, held_count, is_quiet, may_take, settled_lines, whole_output};
+ghost use Rattle.bt_runs.specs.inside.merge.UnstrandedStep.{left_by, settled_by, with_record};
 ghost use Rattle.bt_runs.specs.inside.merge.UnstrandedStep.{kept_at};
 
 use crate::engine::rule::Rule;
@@ -70,7 +70,7 @@ impl UnstrandedMerge {
 }
 
 impl Rule for UnstrandedMerge {
-    ghost use Rattle.bt_runs.specs.inside.merge.UnstrandedStep.{IsElsewhere, Takes, is_on, lines_by, with_run};
+    ghost use Rattle.bt_runs.specs.inside.merge.UnstrandedStep.{Takes, lines_by};
 
     type OnChrom = OpenRun;
 
@@ -80,19 +80,20 @@ impl Rule for UnstrandedMerge {
 
     ghost output = { whole_output };
 
-    ghost is_after = { stands_after };
+    ghost is_after = { IsAfter };
 
     ghost quiet = { is_quiet };
 
-    ghost wants = { IsElsewhere };
+    // The name of another chromosome has to be kept.
+    ghost wants = { λ merge r. merge.chrom ≡ r.chrom → ⊥ };
 
     ghost lines = { lines_by };
 
     ghost has = { Takes };
 
-    ghost is_on = { is_on };
+    ghost is_on = { λ merge name. merge.chrom ≡ name };
 
-    ghost with_on = { with_run };
+    ghost with_on = { λ merge run. record merge { kept = kept_at merge.chrom run } };
 
     fn enter<K: Sink>(&mut self, chrom: &[u8], out: &mut Out<K>) -> Result<(), Fault> {
         if is_same_name(self.chrom.as_slice(), chrom) {

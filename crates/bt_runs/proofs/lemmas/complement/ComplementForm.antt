@@ -1,13 +1,14 @@
 -- What a complement says of one chromosome: its gaps, if they are wanted; those that are done by the last start, and the place up to which they are.
 -- The file has what it owes of one chromosome.
-use Rattle.bt_lines.proofs.Std.{◌≡◌, ℕ, ◌<◌, inl, inr, List, [], ◌∷◌, ◌++◌, refl, ap, ◌∙◌, map, filter, flat_map, cond, not, nat_le, nat_lt, Bool, true, false, bytes_eq, ◌≤◌, sym, arith, max, min, cases_Bool, cases_lt, cond-true, or_right, lt-ltb, le-ltb, lt-leb, le-leb, map-append}
+use Rattle.bt_lines.proofs.Std.{Option, ◌≡◌, ℕ, ◌<◌, inl, inr, List, [], ◌∷◌, ◌++◌, refl, ap, ◌∙◌, map, filter, flat_map, cond, not, nat_le, nat_lt, Bool, true, false, bytes_eq, ◌≤◌, sym, arith, max, min, cases_Bool, cases_lt, cond-true, or_right, lt-ltb, le-ltb, lt-leb, le-leb, map-append}
+use Rattle.std.specs.Option.{option_map_or}
 use Rattle.std.specs.declared.cmp.Ordering.TheVariants.{Less, Equal, Greater}
 use Rattle.bt_bed.specs.model.feature.Feature.{Feature, intervals_of, interval_of}
 use Rattle.bt_bed.specs.model.order.Genome.{Entry, genome_names}
 use Rattle.bt_bed.specs.model.feature.Interval.{Interval, Span, placed_on, spans_on, span_of}
 use Rattle.bt_bed.specs.model.order.Rank.{rank_order}
 use Rattle.bt_bed.specs.model.order.Contiguous.{has_records}
-use Rattle.bt_runs.specs.model.Gaps.{gaps_of, gaps_on, is_asked, is_over, is_over_at, complement, over_by, settled_gaps}
+use Rattle.bt_runs.specs.model.Gaps.{gaps_of, gaps_on, is_asked, is_over, is_over_at, complement, settled_gaps}
 use Rattle.bt_runs.specs.inside.walk.GapStep.{bare_gap, gap_between, gap_walk}
 use Rattle.bt_runs.proofs.lemmas.definitions.EachLemmas.{filter_map_all, filter_map_none}
 use Rattle.bt_runs.proofs.lemmas.definitions.Standing.{has_records-push, compare_same}
@@ -169,5 +170,5 @@ module _ (limit : Bool) (entries : List Entry) where
   unfolding settled_gaps
   written past = record {
     whole_is = complement_parts limit entries past;
-    settled_is = λ last is. ap (over_by (genome_names entries) (complement limit entries past)) is ∙ ap (filter (is_over (genome_names entries) last)) (complement_parts limit entries past);
+    settled_is = λ last is. ap (λ (o : Option Interval). option_map_or (λ last. filter (is_over (genome_names entries) last) (complement limit entries past)) o []) is ∙ ap (filter (is_over (genome_names entries) last)) (complement_parts limit entries past);
   }

@@ -12,10 +12,10 @@ use Rattle.bt_bed.specs.model.feature.Interval.{Interval}
 use Rattle.bt_bed.specs.model.feature.IntervalLine.{interval_line, interval_lines}
 use Rattle.bt_bed.specs.model.order.Rank.{rank_of}
 use Rattle.bt_bed.proofs.lemmas.parse.NameLemmas.{name_eq, name_ne, same_name}
-use Rattle.bt_runs.specs.calls.Complementing.{Complementing, is_quiet, kept_in, may_take, settled_lines, stands_after, whole_output}
+use Rattle.bt_runs.specs.calls.Complementing.{Complementing, IsAfter, is_quiet, kept_in, may_take, settled_lines, whole_output}
 use Rattle.bt_runs.specs.calls.Engine.{AfterEach}
-use Rattle.bt_runs.specs.inside.walk.GapCursor.{Covers, gap_before, seen}
-use Rattle.bt_runs.specs.inside.walk.GapRule.{IsOnChrom, IsWith, complement_at, next_lines, with_record}
+use Rattle.bt_runs.specs.inside.walk.GapRule.{Covers, seen}
+use Rattle.bt_runs.specs.inside.walk.GapRule.{IsOnChrom, complement_at, next_lines, with_record}
 use Rattle.bt_runs.specs.model.Gaps.{kept_place, length_in, settled_gaps}
 use Rattle.bt_runs.specs.inside.walk.GapStep.{bare_gap, gap_between, gap_walk, last_gap}
 use Rattle.bt_runs.specs.inside.walk.Rule.{Does, EnterAnswers, FitsPast, PutsRestAtEnd}
@@ -105,6 +105,9 @@ cursor_reached cursor = reached_at (entries cursor.genome.now) cursor.name.now c
 same_complement : (a b : Complementing) → a.entries ≡ b.entries → a.limit ≡ b.limit → a.current ≡ b.current → a.bases ≡ b.bases → a ≡ b
 same_complement a b e l c n = rw (e, l, c, n) refl
 
+abbrev IsWith : Complementing → Feature → Complementing → Type 0
+IsWith old r new = new ≡ with_record old r
+
 -- no record needs memory
 abbrev none_wanted : Complementing → Feature → Type 0
 none_wanted rule r = ⊥
@@ -117,7 +120,7 @@ module _ (old : Complementing) (at : AreReached old.entries old.current) where
     same_limit : first.limit ≡ old.limit
     kept : kept_in old ≡ kept_place old.entries past
 
-  same : (first : Complementing) (past : List Feature) → stands_after first past old → Same first past
+  same : (first : Complementing) (past : List Feature) → IsAfter first past old → Same first past
   same first past stands = record {
     same_entries = sym stands.same_entries;
     same_limit = sym stands.same_limit;
@@ -125,9 +128,9 @@ module _ (old : Complementing) (at : AreReached old.entries old.current) where
   }
 
   -- what is done with a record exactly is done after every past
-  pub fits : (r : Feature) → FitsPast next_lines IsWith none_wanted may_take stands_after settled_lines is_quiet old r
+  pub fits : (r : Feature) → FitsPast next_lines IsWith none_wanted may_take IsAfter settled_lines is_quiet old r
   fits r =
-      let settles : AfterEach may_take stands_after old r (λ first past. settled_lines first (past ++ r ∷ []) ≡ settled_lines first past ++ next_lines old r) = λ first past stands taken.
+      let settles : AfterEach may_take IsAfter old r (λ first past. settled_lines first (past ++ r ∷ []) ≡ settled_lines first past ++ next_lines old r) = λ first past stands taken.
       let s = same first past stands in
       rw (s.same_entries, s.same_limit) (ap interval_lines (moves old.limit old.entries past r old.current (rw s.same_entries at taken) at s.kept).settles
       ∙ flat_map-append interval_line (settled_gaps old.limit old.entries past) (walk_step (gap_walk old.limit) old.entries old.current r).1) in
@@ -149,7 +152,7 @@ module _ (old : Complementing) (at : AreReached old.entries old.current) where
   left stop = left_before last_gap (bare_gap old.limit) old.entries old.current stop
 
   pub gap_finishes : {A : Type 0} (out : Output) (stop : ℕ) (result : Result A Fault) (grown : Output) → stop ≡ length old.entries → Adds out (interval_lines (left stop)) result grown
-      → PutsRestAtEnd may_take stands_after settled_lines whole_output old out result grown
+      → PutsRestAtEnd may_take IsAfter settled_lines whole_output old out result grown
   gap_finishes out stop result grown all p = record {
     left = interval_lines (left stop);
     is = λ first past stands taken.
@@ -162,7 +165,7 @@ module _ (old : Complementing) (at : AreReached old.entries old.current) where
   -- a chromosome is entered
   module _ (chrom : List ℕ) (out : Output) where
     abbrev Enters : Result (Unit {0}) Fault → Complementing → Output → Type 0
-    Enters result new grown = EnterAnswers next_lines IsWith none_wanted may_take stands_after settled_lines is_quiet old chrom out result new grown
+    Enters result new grown = EnterAnswers next_lines IsWith none_wanted may_take IsAfter settled_lines is_quiet old chrom out result new grown
 
     -- the one that was reached, or one that the genome file lacks
     pub enters_here : (bases : ℕ) → Enters (Ok tt) (record { entries = old.entries; limit = old.limit; current = old.current; bases = bases }) out
@@ -188,14 +191,14 @@ module _ (old : Complementing) (at : AreReached old.entries old.current) where
 
 -- a cursor takes a record on its chromosome
 module _ (limit : Bool) (old : GapCursor) (r : Feature) (on : IsOnChrom (complement_at limit old) r.chrom) where
-  step_is : walk_step (gap_walk limit) (entries old.genome.now) (seen old) r ≡ (place_at (max old.end (min r.stop old.length)) old.rank, gap_before old r.start)
+  step_is : walk_step (gap_walk limit) (entries old.genome.now) (seen old) r ≡ (place_at (max old.end (min r.stop old.length)) old.rank, gap_between old.name.now old.end (min r.start old.length))
   step_is = step_at limit (entries old.genome.now) r old.name.now old.end old.length on.bases old.rank old.named on.at
 
   covered : (new : GapCursor) → Covers old r.stop new → complement_at limit new ≡ with_record (complement_at limit old) r
   covered new c = same_complement (complement_at limit new) (with_record (complement_at limit old) r) c.same_entries refl
       (ap₂ (λ (end : ℕ) (rank : Option ℕ). place_at end rank) c.end c.same_rank ∙ sym (ap (λ s. s.0) step_is)) (c.same_length ∙ on.bases)
 
-  pub cursor_covers : (out : Output) (result : Result (Unit {0}) Fault) (new : GapCursor) (grown : Output) → Adds out (interval_lines (gap_before old r.start)) result grown → OnOk result (Covers old r.stop new)
+  pub cursor_covers : (out : Output) (result : Result (Unit {0}) Fault) (new : GapCursor) (grown : Output) → Adds out (interval_lines (gap_between old.name.now old.end (min r.start old.length))) result grown → OnOk result (Covers old r.stop new)
       → Does next_lines IsWith none_wanted (complement_at limit old) r out result (complement_at limit new) grown
   cursor_covers out (Ok done) new grown p c = (covered new c, rw step_is p)
   cursor_covers out (Err fault) new grown p c = inl (rw step_is p)

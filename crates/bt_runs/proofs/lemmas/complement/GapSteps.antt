@@ -6,7 +6,7 @@ use Rattle.bt_bed.specs.model.feature.Interval.{last_of}
 use Rattle.bt_bed.specs.model.order.Locus.{Locus}
 use Rattle.bt_bed.specs.model.order.Rank.{AreDistinct}
 use Rattle.bt_runs.specs.inside.walk.GapStep.{bare_gap, last_gap}
-use Rattle.bt_runs.specs.model.Gaps.{AreTaken, complement, kept_at, kept_place, length_in, settled_gaps}
+use Rattle.bt_runs.specs.model.Gaps.{AreTaken, complement, kept_place, length_in, settled_gaps}
 use Rattle.bt_runs.specs.calls.Settling.{Settles}
 use Rattle.bt_runs.specs.inside.walk.Walk.{AreReached, Place, left_before, places}
 use Rattle.bt_runs.proofs.lemmas.complement.ComplementForm.{Own, gaps, owes, written}
@@ -42,7 +42,7 @@ module _ (limit : Bool) (entries : List Entry) where
       let here : shown_place entries (Some place) ≡ record { chrom = s.last.chrom; start = place.known } ∷ [] = rw (is, s.stand.is) refl in
       let sides = apart name_at before key after (subst (λ (l : List Entry). AreDistinct (genome_names l)) s.stand.split distinct) in
       let size : length_in entries s.last.chrom ≡ key.length = rw (s.stand.split, ← s.stand.is) (size_there before key after key.name refl sides.none_before) in
-      let kept : kept_at entries (intervals_of past) (last_of (intervals_of past)) ≡ record { chrom = s.last.chrom; start = place.known } ∷ [] = rw (s.stand.last_is, size, ← s.stand.is, ← s.at.one.kept_is) refl in
+      let kept : kept_place entries past ≡ record { chrom = s.last.chrom; start = place.known } ∷ [] = rw (s.stand.last_is, size, ← s.stand.is, ← s.at.one.kept_is) refl in
       here ∙ sym kept
 
   -- a complement whose place is the one that is kept has reached the last record's chromosome

@@ -3,7 +3,7 @@ use Rattle.bt_lines.proofs.Std.{ℕ, List, not, Decides, ◌≡◌, ◌+◌, ◌
 use Rattle.bt_bed.specs.model.feature.Interval.{Span}
 use Rattle.bt_bed.specs.model.feature.Stretches.{IsCovered, AreApartFrom, AreStretchesOf}
 use Rattle.bt_runs.specs.model.Merged.{is_covered, end_of}
-use Rattle.bt_runs.specs.model.Gaps.{IsBare, gaps_of, gaps_are, gaps_only}
+use Rattle.bt_runs.specs.model.Gaps.{IsBare, gaps_of}
 use Rattle.bt_bed.proofs.lemmas.definitions.Apart.{stretches_are_same}
 use Rattle.bt_bed.proofs.lemmas.definitions.Scan.{scan_finds}
 use Rattle.bt_runs.proofs.lemmas.merge.Bridging.{is_covered-Decides, covered_last, covered_left, covered_parts, covered_right}
@@ -11,7 +11,7 @@ use Rattle.bt_runs.proofs.lemmas.merge.Bridging.{is_covered-Decides, covered_las
 pub is_bare-Decides : (spans : List Span) (p : ℕ) → Decides (not (is_covered spans p)) (IsCovered spans p → ⊥)
 is_bare-Decides spans p = Decides-not (is_covered spans p) (is_covered-Decides spans p)
 
-pub are_gaps : gaps_are
+pub are_gaps : (size : ℕ) (spans : List Span) → AreStretchesOf (IsBare size spans) (gaps_of size spans)
 unfolding gaps_of
 are_gaps size spans =
     let scan = scan_finds (λ p. not (is_covered spans p)) size in
@@ -21,7 +21,7 @@ are_gaps size spans =
       whole = λ p b. scan.whole p (b.within, (is_bare-Decides spans p).1 b.bare);
     }
 
-pub only_gaps : gaps_only
+pub only_gaps : (size : ℕ) (spans gaps : List Span) → AreStretchesOf (IsBare size spans) gaps → gaps ≡ gaps_of size spans
 only_gaps size spans gaps h = stretches_are_same (IsBare size spans) gaps (gaps_of size spans) h (are_gaps size spans)
 
 -- the span between two positions, if it has one

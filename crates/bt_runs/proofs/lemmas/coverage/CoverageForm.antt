@@ -1,5 +1,6 @@
 -- What a count of depths says of one chromosome, and what it owes of it. It says which intervals are settled by the last start, and what is known for the rest.
-use Rattle.bt_lines.proofs.Std.{◌≡◌, ℕ, ◌<◌, ◌≤◌, ◌+◌, List, [], ◌∷◌, ◌++◌, refl, sym, ap, ap₂, ◌∙◌, filter, nat_lt, Bool, true, false, append-nil, Option, lt-ltb, le-ltb, map-append}
+use Rattle.bt_lines.proofs.Std.{max, ◌≡◌, ℕ, ◌<◌, ◌≤◌, ◌+◌, List, [], ◌∷◌, ◌++◌, refl, sym, ap, ap₂, ◌∙◌, filter, nat_lt, Bool, true, false, append-nil, Option, lt-ltb, le-ltb, map-append}
+use Rattle.std.specs.Option.{option_map_or}
 use Rattle.std.specs.declared.cmp.Ordering.TheVariants.{Equal}
 use Rattle.bt_bed.specs.model.feature.Feature.{Feature, interval_of, intervals_of}
 use Rattle.bt_bed.specs.model.order.Genome.{Entry, genome_names}
@@ -7,8 +8,8 @@ use Rattle.bt_bed.specs.model.feature.Interval.{Interval, span_of}
 use Rattle.bt_bed.specs.model.order.Rank.{rank_order}
 use Rattle.bt_bed.specs.model.order.Contiguous.{has_records}
 use Rattle.bt_bed.specs.declared.record.strand.Strand.{Strand}
-use Rattle.bt_runs.specs.model.Depth.{DepthInterval, counted_on, coverage, depth_of, depth_on, depths_on, ended_by, is_counted_by, is_ended_by, settled_depths}
-use Rattle.bt_runs.specs.inside.coverage.DepthStep.{Known, depth_walk, known_by, known_with, levels_by, levels_left, levels_on, levels_with}
+use Rattle.bt_runs.specs.model.Depth.{DepthInterval, counted_on, coverage, depth_of, depth_on, depths_on, is_counted_by, is_ended_by, settled_depths}
+use Rattle.bt_runs.specs.inside.coverage.DepthStep.{Known, depth_walk, known_by, levels_by, levels_left, levels_on}
 use Rattle.bt_runs.specs.model.Levels.{Level, levels_of}
 use Rattle.bt_runs.proofs.lemmas.order.ByChromosome.{Divides, NoRecords, Owes, Written, picks_by}
 use Rattle.bt_runs.proofs.lemmas.coverage.DepthLemmas.{counted_elsewhere, counted_here, counted_append, counted_none}
@@ -62,7 +63,7 @@ module _ (zeros : Bool) (strand : Option Strand) where
         }
 
     own_next : (entry : Entry) (past : List Feature) (start : ℕ) (done : List DepthInterval) (known : Known) (r : Feature) → Own entry past start done known → entry.name ≡ r.chrom → start ≤ r.start → r.start < r.stop
-        → Own entry (past ++ r ∷ []) r.start (done ++ levels_on entry.name (levels_with zeros entry.length known r.start)) (known_with zeros (is_counted_by strand r.strand) entry.length known r.start r.stop)
+        → Own entry (past ++ r ∷ []) r.start (done ++ levels_on entry.name (levels_by zeros entry.length known (max r.start known.to))) (known_by zeros (is_counted_by strand r.strand) entry.length known (max r.start known.to) r.stop)
     own_next entry past start done known r own is up full =
         let spans = counted_on strand entry.name past in
         let counted = is_counted_by strand r.strand in
@@ -74,13 +75,13 @@ module _ (zeros : Bool) (strand : Option Strand) where
         let from = start_same zeros size spans start r.start up in
         record {
           done_is =
-              ap₂ (λ (l : List DepthInterval) (k : Known). l ++ levels_on entry.name (levels_with zeros size k r.start)) own.done_is own.known_is
+              ap₂ (λ (l : List DepthInterval) (k : Known). l ++ levels_on entry.name (levels_by zeros size k (max r.start k.to))) own.done_is own.known_is
               ∙ ap (λ n. levels_on entry.name settled ++ levels_on entry.name (levels_by zeros size (known_at zeros size spans start) n)) from
               ∙ sym (map-append (depth_on entry.name) settled more)
               ∙ ap (levels_on entry.name) (sym (settled_next zeros counted size spans start s up full))
               ∙ ap (λ l. levels_on entry.name (settled_at zeros size l r.start)) (sym next);
           known_is =
-              ap (λ k. known_with zeros counted size k r.start r.stop) own.known_is
+              ap (λ k. known_by zeros counted size k (max r.start k.to) r.stop) own.known_is
               ∙ ap (λ n. known_by zeros counted size (known_at zeros size spans start) n r.stop) from
               ∙ sym (known_next zeros counted size spans start s up full)
               ∙ ap (λ l. known_at zeros size l r.start) (sym next);
@@ -123,5 +124,5 @@ module _ (zeros : Bool) (strand : Option Strand) where
     unfolding settled_depths coverage
     written past = record {
       whole_is = refl;
-      settled_is = λ last is. ap (ended_by (genome_names entries) (coverage zeros strand entries past)) is;
+      settled_is = λ last is. ap (λ (o : Option Interval). option_map_or (λ last. filter (is_ended_by (genome_names entries) last) (coverage zeros strand entries past)) o []) is;
     }

@@ -4,11 +4,11 @@ use Rattle.bt_bed.specs.model.feature.Feature.{Feature, intervals_of}
 use Rattle.bt_bed.specs.model.order.Genome.{Entry, genome_names}
 use Rattle.bt_bed.specs.model.order.Rank.{AreDistinct, rank_of}
 use Rattle.bt_bed.specs.declared.record.strand.Strand.{Strand}
-use Rattle.bt_runs.specs.model.Depth.{coverage, settled_depths, DepthInterval, begun_across, counted_on, depth_lines, depth_of, kept_by, kept_records, known_place, open_at, unfinished, unfinished_by, depth_line}
-use Rattle.bt_runs.specs.inside.coverage.DepthStep.{Known, bare_of, depths_left, depth_walk, unknown}
+use Rattle.bt_runs.specs.model.Depth.{coverage, settled_depths, DepthInterval, begun_across, counted_on, depth_lines, depth_of, kept_records, known_place, open_at, unfinished, depth_line}
+use Rattle.bt_runs.specs.inside.coverage.DepthStep.{Known, bare_of, depths_left, depth_walk}
 use Rattle.bt_runs.specs.model.Gaps.{AreTaken, length_in}
 use Rattle.bt_runs.specs.calls.Settling.{Settles}
-use Rattle.bt_runs.specs.inside.walk.Walk.{AreReached, Place, is_on, left_before, step_from, taking}
+use Rattle.bt_runs.specs.inside.walk.Walk.{AreReached, Place, is_on, left_before, places, step_from, taking}
 use Rattle.bt_runs.proofs.lemmas.coverage.CoverageForm.{Own, depths, owes, written}
 use Rattle.bt_runs.proofs.lemmas.complement.Walks.{Held, Steps, ends, entered_steps, going_on, going_to, reaches, settles_items, step_goes, steps, rank_entry, same_place, taken_front}
 use Rattle.bt_lines.proofs.lemmas.writer.PuttingLemmas.{grown_none}
@@ -17,7 +17,7 @@ use Rattle.bt_lines.specs.calls.Putting.{Adds, FailsToAdd, Grown}
 use Rattle.bt_lines.specs.calls.Names.{fault_value}
 use Rattle.bt_lines.specs.declared.fault.Fault.{Fault}
 use Rattle.bt_bed.specs.model.feature.Interval.{Span, last_of}
-use Rattle.bt_runs.specs.calls.Covering.{CountsRecord, Covering, IsOnBy, begun_of, depth_step, held_of, is_quiet, may_take, next_lines, place_of, settled_lines, stands_after, wants_memory, whole_output}
+use Rattle.bt_runs.specs.calls.Covering.{CountsRecord, Covering, IsAfter, IsOnBy, begun_of, depth_step, held_of, is_quiet, may_take, next_lines, settled_lines, wants_memory, whole_output}
 use Rattle.bt_runs.specs.inside.walk.Rule.{Does, EnterAnswers, FitsPast, PutsRestAtEnd}
 use Rattle.bt_runs.specs.model.Levels.{Begun, levels_of}
 use Rattle.bt_runs.proofs.lemmas.coverage.OneDepth.{across_known, known_at}
@@ -60,7 +60,7 @@ known_held zeros size spans start = elim (cases_lt size start) [
 module _ (zeros : Bool) (strand : Option Strand) (entries : List Entry) where
   -- what is kept of the records
   pub record Keeps (past : List Feature) (current : Option (Place Known)) : Type 0 where
-    pub place : place_of entries current ≡ known_place entries past
+    pub place : places (λ known. known.to) entries current ≡ known_place entries past
     pub begun : begun_of current ≡ unfinished zeros strand entries past
     pub held : held_of current ≡ kept_records strand entries past
 
@@ -76,13 +76,13 @@ module _ (zeros : Bool) (strand : Option Strand) (entries : List Entry) where
       let known : place.known ≡ known_at zeros key.length spans last.start = s.at.known_is in
       record {
         place =
-            let here : place_of entries (Some place) ≡ record { chrom = last.chrom; start = min last.start key.length } ∷ [] = rw (is, s.stand.is, known, known_to_is zeros key.length spans last.start) refl in
+            let here : places (λ known. known.to) entries (Some place) ≡ record { chrom = last.chrom; start = min last.start key.length } ∷ [] = rw (is, s.stand.is, known, known_to_is zeros key.length spans last.start) refl in
             here ∙ sym (rw (s.stand.last_is, size) refl);
         begun =
-            let wanted : unfinished_by zeros strand entries past (last_of (intervals_of past)) ≡ begun_across last.start (levels_of (depth_of zeros spans) key.length) = rw (s.stand.last_is, size, ← s.stand.is) refl in
+            let wanted : unfinished zeros strand entries past ≡ begun_across last.start (levels_of (depth_of zeros spans) key.length) = rw (s.stand.last_is, size, ← s.stand.is) refl in
             ap (λ (k : Known). k.begun) known ∙ sym (across_known zeros key.length spans last.start) ∙ sym wanted;
         held =
-            let wanted : kept_by strand entries past (last_of (intervals_of past)) ≡ open_at key.length last.start spans = rw (s.stand.last_is, size, ← s.stand.is) refl in
+            let wanted : kept_records strand entries past ≡ open_at key.length last.start spans = rw (s.stand.last_is, size, ← s.stand.is) refl in
             ap (λ (k : Known). k.held) known ∙ known_held zeros key.length spans last.start ∙ sym wanted;
       }
 
@@ -92,7 +92,7 @@ same_known a b t g h =
     let make : ℕ → Option Begun → List Span → Known = λ t g h. record { to = t; begun = g; held = h } in
     ap₂ (λ t g. make t g a.held) t g ∙ ap (make b.to b.begun) h
 
-same_seen : (entries : List Entry) (current other : Option (Place Known)) → AreReached entries current → AreReached entries other → place_of entries current ≡ place_of entries other → begun_of current ≡ begun_of other → held_of current ≡ held_of other → current ≡ other
+same_seen : (entries : List Entry) (current other : Option (Place Known)) → AreReached entries current → AreReached entries other → places (λ known. known.to) entries current ≡ places (λ known. known.to) entries other → begun_of current ≡ begun_of other → held_of current ≡ held_of other → current ≡ other
 same_seen entries None None a b e f h = refl
 same_seen entries None (Some other) a b e f h = cc
 same_seen entries (Some place) None a b e f h = cc
@@ -103,7 +103,7 @@ same_seen entries (Some place) (Some other) a b e f h =
 
 module _ (zeros : Bool) (strand : Option Strand) (entries : List Entry) where
   -- a coverage that keeps what is to be kept has reached the last record's chromosome
-  held_is : (past : List Feature) (current : Option (Place Known)) → AreTaken entries past → AreReached entries current → place_of entries current ≡ known_place entries past → begun_of current ≡ unfinished zeros strand entries past → held_of current ≡ kept_records strand entries past
+  held_is : (past : List Feature) (current : Option (Place Known)) → AreTaken entries past → AreReached entries current → places (λ known. known.to) entries current ≡ known_place entries past → begun_of current ≡ unfinished zeros strand entries past → held_of current ≡ kept_records strand entries past
       → Reaches zeros strand entries past current
   held_is past current t at p g h =
       let other = reached zeros strand entries past t in
@@ -113,7 +113,7 @@ module _ (zeros : Bool) (strand : Option Strand) (entries : List Entry) where
 
 -- entering a chromosome
 abbrev pub Enters : Covering → List ℕ → Output → Result (Unit {0}) Fault → Covering → Output → Type 0
-Enters = EnterAnswers next_lines CountsRecord wants_memory may_take stands_after settled_lines is_quiet
+Enters = EnterAnswers next_lines CountsRecord wants_memory may_take IsAfter settled_lines is_quiet
 
 module _ (old : Covering) where
   -- whatever coverage took the records of the past, it has this table and these rules, and keeps what is to be kept
@@ -123,7 +123,7 @@ module _ (old : Covering) where
     same_strand : first.strand ≡ old.strand
     reached : AreTaken old.entries past → Reaches old.zeros old.strand old.entries past old.current
 
-  same : (first : Covering) (past : List Feature) → stands_after first past old → Same first past
+  same : (first : Covering) (past : List Feature) → IsAfter first past old → Same first past
   same first past stands =
       let entries : first.entries ≡ old.entries = sym stands.same_entries in
       let rules : first.zeros ≡ old.zeros = sym stands.same_zeros in
@@ -134,7 +134,7 @@ module _ (old : Covering) where
       record { same_entries = entries; same_zeros = rules; same_strand = wanted; reached = λ t. held_is old.zeros old.strand old.entries past old.current t stands.reached place begun kept }
 
   -- what is done with a record exactly is done after every past
-  pub fits : (r : Feature) → FitsPast next_lines CountsRecord wants_memory may_take stands_after settled_lines is_quiet old r
+  pub fits : (r : Feature) → FitsPast next_lines CountsRecord wants_memory may_take IsAfter settled_lines is_quiet old r
   fits r = record {
     settles = λ first past stands taken.
         let s = same first past stands in
@@ -150,7 +150,7 @@ module _ (old : Covering) where
           same_entries = c.same_entries ∙ sym s.same_entries;
           same_zeros = c.same_zeros ∙ sym s.same_zeros;
           same_strand = c.same_strand ∙ sym s.same_strand;
-          place = rw s.same_entries (ap₂ place_of c.same_entries c.current ∙ k.place);
+          place = rw s.same_entries (ap₂ (places (λ known. known.to)) c.same_entries c.current ∙ k.place);
           begun = rw (s.same_entries, s.same_zeros, s.same_strand) (ap begun_of c.current ∙ k.begun);
           kept = rw (s.same_entries, s.same_strand) (ap held_of c.current ∙ k.held);
           reached = subst (λ (e : List Entry). AreReached e new.current) (sym c.same_entries) (c.at stands.reached);
@@ -179,7 +179,7 @@ module _ (old : Covering) where
   -- another chromosome of the genome file
   module _ (name : List ℕ) (size : ℕ) (chrom : List ℕ) (rank : ℕ) (off : is_on old.entries old.current chrom ≡ false) (is : Some rank ≡ rank_of (genome_names old.entries) chrom) where
     abbrev pub place_first : Place Known
-    place_first = record { rank = rank; known = unknown }
+    place_first = record { rank = rank; known = record { to = 0; begun = None; held = [] } }
 
     abbrev pub begun_there : Covering
     begun_there = record { entries = old.entries; zeros = old.zeros; strand = old.strand; current = Some place_first; is_known = true; name = name; length = size }
@@ -217,7 +217,7 @@ module _ (old : Covering) where
 
   -- the lines that are left
   pub finishes_left : (out : Output) {A : Type 0} (stop : ℕ) (result : Result A Fault) (grown : Output) → stop ≡ length old.entries → Adds out (depth_lines (left_before (depths_left old.zeros) (bare_of old.zeros) old.entries old.current stop)) result grown
-      → PutsRestAtEnd may_take stands_after settled_lines whole_output old out result grown
+      → PutsRestAtEnd may_take IsAfter settled_lines whole_output old out result grown
   finishes_left out stop result grown all p = record {
     left = depth_lines (left_before (depths_left old.zeros) (bare_of old.zeros) old.entries old.current stop);
     is = λ first past stands taken.

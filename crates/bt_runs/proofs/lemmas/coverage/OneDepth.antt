@@ -1,8 +1,8 @@
 -- The depths of one chromosome whose starts don't fall: those that are settled by the last start, what is known for the rest, and which interval is unfinished there.
-use Rattle.bt_lines.proofs.Std.{◌≡◌, ℕ, ◌+◌, ◌-◌, ◌<◌, ◌≤◌, inl, inr, List, [], ◌∷◌, ◌++◌, refl, sym, ap, ap₂, ◌∙◌, subst, arith, append_assoc, append-nil, cond, nat_lt, Bool, true, false, Option, None, zero, suc, Some, cases_Bool, cases_lt, lt-ltb, le-ltb, lt-leb, le-leb}
+use Rattle.bt_lines.proofs.Std.{◌≡◌, ℕ, ◌+◌, ◌-◌, ◌<◌, ◌≤◌, inl, inr, List, [], ◌∷◌, ◌++◌, refl, sym, ap, ap₂, ◌∙◌, ◌&&◌, max, subst, arith, append_assoc, append-nil, cond, nat_lt, Bool, true, false, Option, None, zero, suc, Some, cases_Bool, cases_lt, lt-ltb, le-ltb, lt-leb, le-leb}
 use Rattle.bt_bed.specs.model.feature.Interval.{Span}
 use Rattle.bt_runs.specs.model.Depth.{depth_of, open_at, reported, begun_across}
-use Rattle.bt_runs.specs.inside.coverage.DepthStep.{Known, bare_level, known_by, levels_by, levels_left, opened, start_from, still_open, unknown}
+use Rattle.bt_runs.specs.inside.coverage.DepthStep.{Known, known_by, levels_by, levels_left, opened, still_open}
 use Rattle.bt_runs.specs.model.Levels.{Begun, Level, begun_after, ended_after, ended_at, levels_of, next_begun, next_ended, begun_at, goes_on, levels_from}
 use Rattle.bt_runs.proofs.lemmas.coverage.DepthLemmas.{depth_of-open, depth_of-push, open_append, open_later, open_self}
 use Rattle.bt_runs.proofs.lemmas.coverage.LevelLemmas.{AreSame, StopIn, scan_run, scan_same, scan_split, ended_after-stop, levels_from-stop, stop_wider, BeginsBelow, BeginsFrom, begun_after-below, levels_split, levels_more}
@@ -17,7 +17,7 @@ abbrev pub settled_at : Bool → ℕ → List Span → ℕ → List Level
 settled_at zeros size spans start = cond (nat_lt size start) (levels_of (depth_of zeros spans) size) (ended_after (depth_of zeros spans) 0 start None)
 
 -- a record that comes in order is taken to start where it does
-pub start_same : (zeros : Bool) (size : ℕ) (spans : List Span) (start next : ℕ) → start ≤ next → start_from (known_at zeros size spans start) next ≡ next
+pub start_same : (zeros : Bool) (size : ℕ) (spans : List Span) (start next : ℕ) → start ≤ next → max next (known_at zeros size spans start).to ≡ next
 start_same zeros size spans start next up = elim (cases_lt size start) [
   | inl past ↦ rw (lt-ltb size start past) (omega arith)
   | inr within ↦ rw (le-ltb size start within) (omega arith)
@@ -133,6 +133,9 @@ depth_none : (zeros : Bool) (p : ℕ) → depth_of zeros [] p ≡ reported zeros
 unfolding depth_of
 depth_none zeros p = refl
 
+abbrev pub bare_level : Bool → ℕ → List Level
+bare_level zeros size = cond (zeros && nat_lt 0 size) (record { start = 0; stop = size; value = 0 } ∷ []) []
+
 bare_zero : (zeros : Bool) → levels_of (depth_of zeros []) 0 ≡ bare_level zeros 0
 unfolding begun_after ended_after
 bare_zero true = refl
@@ -157,7 +160,7 @@ bare_levels zeros size = elim (cases_lt 0 size) [
 ]
 
 -- before any record
-pub known_first : (zeros : Bool) (size : ℕ) → known_at zeros size [] 0 ≡ unknown
+pub known_first : (zeros : Bool) (size : ℕ) → known_at zeros size [] 0 ≡ record { to = 0; begun = None; held = [] }
 unfolding begun_after
 known_first zeros size = let within : 0 ≤ size = omega arith in rw (le-ltb size 0 within) refl
 

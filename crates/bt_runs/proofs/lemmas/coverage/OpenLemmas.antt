@@ -3,8 +3,8 @@ use Rattle.bt_lines.proofs.Std.{◌≡◌, ℕ, ◌+◌, ◌<◌, ◌≤◌, inl
 use Rattle.bt_bed.specs.model.feature.Interval.{Span}
 use Rattle.bt_runs.specs.model.Depth.{covers, depth_at}
 use Rattle.bt_runs.specs.inside.coverage.DepthStep.{still_open}
-use Rattle.bt_runs.specs.inside.coverage.OpenEnds.{CountsFrom, IsLeastFirst, StartsBelow, ends_of}
-use Rattle.bt_runs.specs.inside.coverage.OpenRecords.{CountsEnds, KeepsOpen, span_open, spans_open}
+use Rattle.bt_runs.specs.inside.coverage.Kept.{CountsFrom, IsLeastFirst, StartsBelow, ends_of}
+use Rattle.bt_runs.specs.inside.coverage.Kept.{KeepsOpen, span_open, spans_open}
 use Rattle.bt_runs.specs.declared.coverage.open_records.OpenSpan.{OpenSpan}
 use Rattle.std.specs.declared.cmp.Reverse.{Reverse}
 
@@ -142,7 +142,7 @@ all_pass : {X : Type 0} (xs : List X) → filter (λ x. true) xs ≡ xs
 all_pass [] = refl
 all_pass (x ∷ xs) = ap (λ l. x ∷ l) (all_pass xs)
 
-module _ (ends : List ℕ) (spans : List Span) (counts : CountsEnds ends spans) where
+module _ (ends : List ℕ) (spans : List Span) (counts : (test : ℕ → Bool) → length (filter test ends) ≡ length (filter (λ s. test s.stop) spans)) where
   -- there are as many
   pub as_many : length ends ≡ length spans
   as_many = ap length (sym (all_pass ends)) ∙ counts (λ e. true) ∙ ap length (all_pass spans)
@@ -175,7 +175,7 @@ counts_less position e old ends new ended counts moved test =
 
 -- what is kept at a later position, once the ends before it are out
 module _ (first position : ℕ) (spans : List Span) (ends new : List ℕ) (up : first ≤ position) (kept : KeepsOpen first spans ends) (from : CountsFrom position ends new) (all : All (λ e. position ≤ e) new) where
-  ends_later : CountsEnds new (still_open position spans)
+  ends_later : (test : ℕ → Bool) → length (filter test new) ≡ length (filter (λ s. test s.stop) (still_open position spans))
   ends_later test =
       sym (ap length (filter_both (λ e. nat_le position e) test new ∙ ap (filter test) (all_from (λ e. e) position new all)))
       ∙ from test

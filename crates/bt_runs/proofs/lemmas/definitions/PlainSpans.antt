@@ -4,7 +4,7 @@ use Rattle.bt_runs.specs.declared.plain.PlainSpan.{PlainSpan}
 use Rattle.bt_bed.specs.model.feature.Interval.{Span}
 use Rattle.bt_bed.specs.model.feature.Stretches.{IsCovered, AreApartFrom, AreStretchesOf}
 use Rattle.bt_runs.specs.model.Merged.{Bridged, runs_of}
-use Rattle.bt_runs.specs.inside.plain.PlainRuns.{span_in, spans_in, with_next_after, with_next}
+use Rattle.bt_runs.specs.inside.PlainRuns.{span_in, spans_in, with_next_after, with_next}
 use Rattle.bt_runs.proofs.lemmas.merge.Bridging.{Decides-le, only_runs}
 
 -- the program's test of a covered position

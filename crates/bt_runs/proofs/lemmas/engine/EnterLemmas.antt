@@ -1,4 +1,5 @@
--- A rule enters a chromosome: the lines that come first of those of each record on it are put, and then it does with a record what it would have done before.
+-- A rule enters a chromosome: the lines that come first of those of each record on it are put. Then it does with a record what it would have
+-- done before.
 use Rattle.bt_lines.proofs.Std.{◌≡◌, ℕ, List, [], ◌++◌, Result, Ok, Err, inl, inr, sym, ◌∙◌, subst, append-nil, append_cancel_left}
 use Rattle.bt_lines.specs.model.Fault.{no_memory}
 use Rattle.bt_lines.specs.calls.Names.{fault_value}

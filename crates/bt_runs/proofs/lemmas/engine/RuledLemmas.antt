@@ -9,7 +9,7 @@ use Rattle.bt_lines.proofs.lemmas.writer.PuttingLemmas.{grown_works}
 use Rattle.bt_bed.specs.model.feature.Feature.{Feature}
 use Rattle.bt_runs.specs.calls.Engine.{FeedAnswers, Feeds, FeedsBatch, Finishes, TakesEach}
 use Rattle.bt_runs.specs.inside.walk.Rule.{Does, DoesEach, FitsPast, Follows, PutsRestAtEnd, Taken}
-use Rattle.bt_runs.specs.calls.Ruled.{fault_of, ruled_fault, ruled_quiet, ruled_stands, ruled_takes, ruled_text, ruled_wants}
+use Rattle.bt_runs.specs.calls.Ruled.{fault_of, of_rule, ruled_fault, ruled_stands}
 use Rattle.bt_runs.specs.declared.engine.failure.Failure.{Failure}
 use Rattle.bt_runs.specs.declared.engine.rule.Ruled.{Ruled}
 use Rattle.bt_runs.proofs.lemmas.engine.CallLemmas.{other_fault}
@@ -22,13 +22,13 @@ module _ {E : Type 0} (lines : E → Feature → List ℕ) (has : E → Feature 
 
   -- one record
   module _ (old : E) (r : Feature) (out : Output) (fits : FitsPast lines has wants takes stands settled quiet old r) where
-    puts_rest : (first : Ruled E) (past : List Feature) → ruled_stands stands first past (going old) → ruled_takes takes first (past ++ r ∷ []) → (grown : Output) → Grown out (lines old r) grown
-        → PutsRest (ruled_text settled first past) (ruled_text settled first (past ++ r ∷ [])) out grown
+    puts_rest : (first : Ruled E) (past : List Feature) → ruled_stands stands first past (going old) → of_rule takes first (past ++ r ∷ []) → (grown : Output) → Grown out (lines old r) grown
+        → PutsRest (of_rule settled first past) (of_rule settled first (past ++ r ∷ [])) out grown
     puts_rest first past s t grown p = record { bytes = lines old r; goes_on = fits.settles first.rule past s.0 t; appends = p.appends }
 
     answers : (result : Result (Unit {0}) Fault) (new : Ruled E) (grown : Output) → Does lines has wants old r out result new.rule grown
         → ((done : Unit {0}) → result ≡ Ok done → new.failure ≡ None) → ((fault : Fault) → result ≡ Err fault → ruled_fault new ≡ Some (fault_value fault))
-        → FeedAnswers (ruled_takes takes) (ruled_stands stands) ruled_fault (ruled_text settled) (going old) r out result new grown
+        → FeedAnswers (of_rule takes) (ruled_stands stands) ruled_fault (of_rule settled) (going old) r out result new grown
     answers (Ok done) new grown p none kept = record {
       was_going = refl;
       going = ap (option_map fault_of) (none done refl);
@@ -68,7 +68,7 @@ module _ {E : Type 0} (lines : E → Feature → List ℕ) (has : E → Feature 
 
     feeds_by : (result : Result (Unit {0}) Fault) (new : Ruled E) (grown : Output) → Does lines has wants old r out result new.rule grown
         → ((done : Unit {0}) → result ≡ Ok done → new.failure ≡ None) → ((fault : Fault) → result ≡ Err fault → ruled_fault new ≡ Some (fault_value fault))
-        → Feeds (ruled_takes takes) (ruled_stands stands) ruled_fault (ruled_text settled) (going old) r out (ruled_quiet quiet) result new grown
+        → Feeds (of_rule takes) (ruled_stands stands) ruled_fault (of_rule settled) (going old) r out (of_rule quiet) result new grown
     feeds_by result new grown p none kept = record {
       going = λ first past s. s.1;
       answers = answers result new grown p none kept;
@@ -78,7 +78,7 @@ module _ {E : Type 0} (lines : E → Feature → List ℕ) (has : E → Feature 
     }
 
   taken_each : (old : E) (out : Output) (records : List Feature) (new : E) (grown : Output) → DoesEach (Taken lines has wants takes stands settled quiet) old out records new grown
-      → TakesEach (ruled_takes takes) (ruled_stands stands) ruled_fault (ruled_text settled) (ruled_quiet quiet) (going old) out records (going new) grown
+      → TakesEach (of_rule takes) (ruled_stands stands) ruled_fault (of_rule settled) (of_rule quiet) (going old) out records (going new) grown
   taken_each old out [] new grown each = (ap going each.0, each.1)
   taken_each old out (r ∷ records) new grown each = (
     going each.0,
@@ -90,12 +90,12 @@ module _ {E : Type 0} (lines : E → Feature → List ℕ) (has : E → Feature 
   module _ {C : Type 0} (gives : C → List Feature → C → Type 0) (has_ended : C → Type 0) (cursor : C) (out : Output) where
     batch_going : (rule : E) (result : Result (Unit {0}) Fault) (new : Ruled E) (passed : C) (grown : Output) → Follows (Taken lines has wants takes stands settled quiet) gives has_ended rule cursor out result new.rule passed grown
         → ((done : Unit {0}) → result ≡ Ok done → new.failure ≡ None) → ((fault : Fault) → result ≡ Err fault → ruled_fault new ≡ Some (fault_value fault))
-        → FeedsBatch (ruled_takes takes) (ruled_stands stands) ruled_fault (ruled_text settled) (ruled_quiet quiet) (ruled_wants wants) gives has_ended (going rule) cursor out result new passed grown
+        → FeedsBatch (of_rule takes) (ruled_stands stands) ruled_fault (of_rule settled) (of_rule quiet) (of_rule wants) gives has_ended (going rule) cursor out result new passed grown
     batch_going rule (Ok done) new passed grown f none kept = (
       record {
         records = f.records;
         given = f.given;
-        taken = subst (λ (failure : Option Failure). TakesEach (ruled_takes takes) (ruled_stands stands) ruled_fault (ruled_text settled) (ruled_quiet quiet) (going rule) out f.records (record { rule = new.rule; failure = failure }) grown)
+        taken = subst (λ (failure : Option Failure). TakesEach (of_rule takes) (ruled_stands stands) ruled_fault (of_rule settled) (of_rule quiet) (going rule) out f.records (record { rule = new.rule; failure = failure }) grown)
             (sym (none done refl)) (taken_each rule out f.records new.rule grown f.each);
       },
       f.ended,
@@ -114,15 +114,15 @@ module _ {E : Type 0} (lines : E → Feature → List ℕ) (has : E → Feature 
     -- the same for an engine that hasn't failed
     pub batch_fed : (old : Ruled E) (result : Result (Unit {0}) Fault) (new : Ruled E) (passed : C) (grown : Output) → old.failure ≡ None → Follows (Taken lines has wants takes stands settled quiet) gives has_ended old.rule cursor out result new.rule passed grown
         → ((done : Unit {0}) → result ≡ Ok done → new.failure ≡ None) → ((fault : Fault) → result ≡ Err fault → ruled_fault new ≡ Some (fault_value fault))
-        → FeedsBatch (ruled_takes takes) (ruled_stands stands) ruled_fault (ruled_text settled) (ruled_quiet quiet) (ruled_wants wants) gives has_ended old cursor out result new passed grown
+        → FeedsBatch (of_rule takes) (ruled_stands stands) ruled_fault (of_rule settled) (of_rule quiet) (of_rule wants) gives has_ended old cursor out result new passed grown
     batch_fed old result new passed grown was f none kept =
-        subst (λ (failure : Option Failure). FeedsBatch (ruled_takes takes) (ruled_stands stands) ruled_fault (ruled_text settled) (ruled_quiet quiet) (ruled_wants wants) gives has_ended (record { rule = old.rule; failure = failure }) cursor out result new passed grown)
+        subst (λ (failure : Option Failure). FeedsBatch (of_rule takes) (ruled_stands stands) ruled_fault (of_rule settled) (of_rule quiet) (of_rule wants) gives has_ended (record { rule = old.rule; failure = failure }) cursor out result new passed grown)
         (sym was) (batch_going old.rule result new passed grown f none kept)
 
 -- at the end
 pub ruled_finishes : {E A : Type 0} {takes : E → List Feature → Type 0} {stands : E → List Feature → E → Type 0} {settled whole : E → List Feature → List ℕ} (last : Ruled E) {out grown : Output}
     (result : Result A Fault) → last.failure ≡ None → PutsRestAtEnd takes stands settled whole last.rule out result grown
-    → Finishes (ruled_takes takes) (ruled_stands stands) ruled_fault (ruled_text settled) (ruled_text whole) last out result grown
+    → Finishes (of_rule takes) (ruled_stands stands) ruled_fault (of_rule settled) (of_rule whole) last out result grown
 ruled_finishes last {out = out} {grown = grown} (Ok done) none p = record {
   going = λ first past s. s.1;
   answers = record {

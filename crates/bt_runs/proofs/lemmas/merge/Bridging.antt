@@ -3,8 +3,8 @@
 -- What two lists of spans together cover comes first.
 use Rattle.bt_lines.proofs.Std.{ℕ, ◌<◌, ◌≤◌, ◌⊎◌, inl, inr, List, [], ◌∷◌, ◌++◌, ◌≡◌, ◌+◌, ◌-◌, refl, arith, Bool, ◌&&◌, Decides, nat_le, nat_lt, leb-true, le-leb, max, false≢true, cases_lt, Decides-and, Decides-or, Decides-ltb, Decides-like, Decides-below_or}
 use Rattle.bt_bed.specs.model.feature.Interval.{Span}
-use Rattle.bt_bed.specs.model.feature.Stretches.{IsCovered, AreApartFrom}
-use Rattle.bt_runs.specs.model.Merged.{Bridged, some_below, is_covered, is_bridged, end_of, runs_of, runs_are, runs_only}
+use Rattle.bt_bed.specs.model.feature.Stretches.{AreStretchesOf, IsCovered, AreApartFrom}
+use Rattle.bt_runs.specs.model.Merged.{Bridged, some_below, is_covered, is_bridged, end_of, runs_of}
 use Rattle.bt_bed.proofs.lemmas.definitions.Apart.{IsWithin, covered_from, stretches_are_same}
 use Rattle.bt_bed.proofs.lemmas.definitions.Scan.{scan_finds}
 
@@ -74,7 +74,7 @@ covered_below_end [] p c = absurd c
 covered_below_end (x ∷ xs) p (inl w) = omega arith
 covered_below_end (x ∷ xs) p (inr w) = let h = covered_below_end xs p w in omega arith
 
-pub are_runs : runs_are
+pub are_runs : (gap : ℕ) (spans : List Span) → AreStretchesOf (Bridged gap spans) (runs_of gap spans)
 unfolding runs_of
 are_runs gap spans =
     let scan = scan_finds (is_bridged gap spans) (end_of spans) in
@@ -84,7 +84,7 @@ are_runs gap spans =
       whole = λ p b. scan.whole p (let h = covered_below_end spans b.right b.right_covered in omega arith, (is_bridged-Decides gap spans p).1 b);
     }
 
-pub only_runs : runs_only
+pub only_runs : (gap : ℕ) (spans runs : List Span) → AreStretchesOf (Bridged gap spans) runs → runs ≡ runs_of gap spans
 only_runs gap spans runs h = stretches_are_same (Bridged gap spans) runs (runs_of gap spans) h (are_runs gap spans)
 
 -- ascending, and more than the gap apart

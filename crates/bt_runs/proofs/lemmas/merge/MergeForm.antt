@@ -7,7 +7,7 @@ use Rattle.bt_bed.proofs.lemmas.parse.NameLemmas.{name_ne}
 use Rattle.bt_runs.specs.model.Counted.{is_counted, counted}
 use Rattle.bt_runs.specs.model.Merged.{runs_of, runs_on}
 use Rattle.bt_runs.specs.model.MergedRuns.{is_closed, merged_runs, settled_runs}
-use Rattle.bt_runs.specs.inside.merge.MergeStep.{kept_by, left_by, settled_by, with_record}
+use Rattle.bt_runs.specs.inside.merge.UnstrandedStep.{kept_by, left_by, settled_by, with_record}
 use Rattle.bt_runs.specs.declared.merge.merge_strand.MergeStrand.{MergeStrand}
 use Rattle.bt_runs.proofs.lemmas.order.ByChromosome.{Divides, Form, NoRecords, Owes, picks_by}
 use Rattle.bt_runs.proofs.lemmas.order.ChromosomeLemmas.{runs_on-push_elsewhere, spans_on-none, spans_on-push_here}

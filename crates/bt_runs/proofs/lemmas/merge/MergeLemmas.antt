@@ -7,7 +7,10 @@ use Rattle.bt_lines.specs.calls.Putting.{CutsRest, PutsRest}
 use Rattle.bt_lines.specs.declared.fault.Fault.{Fault}
 use Rattle.bt_bed.specs.model.feature.Feature.{Feature}
 use Rattle.bt_runs.specs.calls.Engine.{AfterEach, AtEnd, FeedAnswers, Feeds, FeedsBatch, FinishAnswers, Finishes, NotTaken, TakesEach, TakesGiven}
-use Rattle.bt_runs.specs.calls.Merging.{Merging, StandsNew, Unstranded, PerStrand, merge_begun, is_quiet, kept_fault, may_take, settled_lines, stands_after, wants_memory, whole_output}
+use Rattle.bt_runs.specs.declared.merge.Kind.{Kind}
+use Rattle.bt_runs.specs.declared.merge.Kind.TheVariants.{PerStrand, Unstranded}
+use Rattle.bt_runs.specs.calls.Unstranded.{may_take}
+use Rattle.bt_runs.specs.calls.Merging.{IsAfter, is_quiet, kept_fault, merge_begun, settled_lines, wants_memory, whole_output}
 use Rattle.bt_runs.specs.calls.Unstranded as unstranded
 use Rattle.bt_runs.specs.declared.merge.merge_strand.MergeStrand.{MergeStrand}
 use Rattle.bt_runs.specs.declared.merge.merge_strand.MergeStrand.TheVariants.{All, Each, One}
@@ -17,12 +20,12 @@ use Rattle.bt_runs.specs.calls.Stranding as strands
 use Rattle.bt_runs.specs.declared.engine.rule.Ruled.{Ruled}
 
 -- A merge of one kind is after records only if it began as one of that kind. All that is said of the engine inside it holds of the merge.
-module _ {E : Type 0} (merge : E → Merging) (only : (first : Merging) (past : List Feature) (old : E) → stands_after first past (merge old) → (inner : E) × (merge inner ≡ first)) where
+module _ {E : Type 0} (merge : E → Kind) (only : (first : Kind) (past : List Feature) (old : E) → IsAfter first past (merge old) → (inner : E) × (merge inner ≡ first)) where
   abbrev MayTake : E → List Feature → Type 0
   MayTake first past = may_take (merge first) past
 
   abbrev Stands : E → List Feature → E → Type 0
-  Stands first past now = stands_after (merge first) past (merge now)
+  Stands first past now = IsAfter (merge first) past (merge now)
 
   abbrev fault : E → Option FaultValue
   fault inner = kept_fault (merge inner)
@@ -40,23 +43,23 @@ module _ {E : Type 0} (merge : E → Merging) (only : (first : Merging) (past : 
   wants inner r = wants_memory (merge inner) r
 
   module _ (old : E) where
-    after_each : (r : Feature) (P : Merging → List Feature → Type 0) → AfterEach MayTake Stands old r (λ first past. P (merge first) past) → AfterEach may_take stands_after (merge old) r P
+    after_each : (r : Feature) (P : Kind → List Feature → Type 0) → AfterEach MayTake Stands old r (λ first past. P (merge first) past) → AfterEach may_take IsAfter (merge old) r P
     after_each r P h first past s =
         let inner = only first past old s in
-        subst (λ (m : Merging). stands_after m past (merge old) → may_take m (past ++ r ∷ []) → P m past) inner.1 (h inner.0 past) s
+        subst (λ (m : Kind). IsAfter m past (merge old) → may_take m (past ++ r ∷ []) → P m past) inner.1 (h inner.0 past) s
 
-    at_end : (P : Merging → List Feature → Type 0) → AtEnd MayTake Stands old (λ first past. P (merge first) past) → AtEnd may_take stands_after (merge old) P
+    at_end : (P : Kind → List Feature → Type 0) → AtEnd MayTake Stands old (λ first past. P (merge first) past) → AtEnd may_take IsAfter (merge old) P
     at_end P h first past s =
         let inner = only first past old s in
-        subst (λ (m : Merging). stands_after m past (merge old) → may_take m past → P m past) inner.1 (h inner.0 past) s
+        subst (λ (m : Kind). IsAfter m past (merge old) → may_take m past → P m past) inner.1 (h inner.0 past) s
 
-    going : ((first : E) (past : List Feature) → Stands first past old → fault old ≡ None) → (first : Merging) (past : List Feature) → stands_after first past (merge old) → kept_fault (merge old) ≡ None
+    going : ((first : E) (past : List Feature) → Stands first past old → fault old ≡ None) → (first : Kind) (past : List Feature) → IsAfter first past (merge old) → kept_fault (merge old) ≡ None
     going h first past s =
         let inner = only first past old s in
-        h inner.0 past (subst (λ (m : Merging). stands_after m past (merge old)) (sym inner.1) s)
+        h inner.0 past (subst (λ (m : Kind). IsAfter m past (merge old)) (sym inner.1) s)
 
     module _ (r : Feature) (out : Output) (new : E) (grown : Output) where
-      not_taken : (e : FaultValue) → NotTaken MayTake Stands fault settled old r out e new grown → NotTaken may_take stands_after kept_fault settled_lines (merge old) r out e (merge new) grown
+      not_taken : (e : FaultValue) → NotTaken MayTake Stands fault settled old r out e new grown → NotTaken may_take IsAfter kept_fault settled_lines (merge old) r out e (merge new) grown
       not_taken e (inl p) = inl (record { is = p.is; kind = p.kind; same = ap merge p.same; same_output = p.same_output })
       not_taken e (inr (inl p)) = inr (inl (record {
         is = p.is;
@@ -74,17 +77,17 @@ module _ {E : Type 0} (merge : E → Merging) (only : (first : Merging) (past : 
         works = p.works;
       }))
 
-      answers : {A : Type 0} (result : Result A Fault) → FeedAnswers MayTake Stands fault settled old r out result new grown → FeedAnswers may_take stands_after kept_fault settled_lines (merge old) r out result (merge new) grown
+      answers : {A : Type 0} (result : Result A Fault) → FeedAnswers MayTake Stands fault settled old r out result new grown → FeedAnswers may_take IsAfter kept_fault settled_lines (merge old) r out result (merge new) grown
       answers (Ok done) p = record {
         was_going = p.was_going;
         going = p.going;
-        stands = after_each r (λ first past. stands_after first (past ++ r ∷ []) (merge new)) p.stands;
+        stands = after_each r (λ first past. IsAfter first (past ++ r ∷ []) (merge new)) p.stands;
         puts = after_each r (λ first past. PutsRest (settled_lines first past) (settled_lines first (past ++ r ∷ [])) out grown) p.puts;
         works = p.works;
       }
       answers (Err e) p = not_taken (fault_value e) p
 
-      pub feeds_inside : {A : Type 0} (result : Result A Fault) → Feeds MayTake Stands fault settled old r out Quiet result new grown → Feeds may_take stands_after kept_fault settled_lines (merge old) r out is_quiet result (merge new) grown
+      pub feeds_inside : {A : Type 0} (result : Result A Fault) → Feeds MayTake Stands fault settled old r out Quiet result new grown → Feeds may_take IsAfter kept_fault settled_lines (merge old) r out is_quiet result (merge new) grown
       feeds_inside result p = record {
         going = going p.going;
         answers = answers result p.answers;
@@ -94,7 +97,7 @@ module _ {E : Type 0} (merge : E → Merging) (only : (first : Merging) (past : 
       }
 
     module _ (out grown : Output) where
-      end_answers : {A : Type 0} (result : Result A Fault) → FinishAnswers MayTake Stands fault settled whole old out result grown → FinishAnswers may_take stands_after kept_fault settled_lines whole_output (merge old) out result grown
+      end_answers : {A : Type 0} (result : Result A Fault) → FinishAnswers MayTake Stands fault settled whole old out result grown → FinishAnswers may_take IsAfter kept_fault settled_lines whole_output (merge old) out result grown
       end_answers (Ok done) p = record {
         was_going = p.was_going;
         puts = at_end (λ first past. PutsRest (settled_lines first past) (whole_output first past) out grown) p.puts;
@@ -109,7 +112,7 @@ module _ {E : Type 0} (merge : E → Merging) (only : (first : Merging) (past : 
         sink_failed = p.sink_failed;
       })
 
-      pub finishes_inside : {A : Type 0} (result : Result A Fault) → Finishes MayTake Stands fault settled whole old out result grown → Finishes may_take stands_after kept_fault settled_lines whole_output (merge old) out result grown
+      pub finishes_inside : {A : Type 0} (result : Result A Fault) → Finishes MayTake Stands fault settled whole old out result grown → Finishes may_take IsAfter kept_fault settled_lines whole_output (merge old) out result grown
       finishes_inside result p = record {
         going = going p.going;
         answers = end_answers result p.answers;
@@ -119,18 +122,18 @@ module _ {E : Type 0} (merge : E → Merging) (only : (first : Merging) (past : 
 
   -- what several records do
   each_inside : (records : List Feature) (old : E) (out : Output) (new : E) (grown : Output) → TakesEach MayTake Stands fault settled Quiet old out records new grown
-      → TakesEach may_take stands_after kept_fault settled_lines is_quiet (merge old) out records (merge new) grown
+      → TakesEach may_take IsAfter kept_fault settled_lines is_quiet (merge old) out records (merge new) grown
   each_inside [] old out new grown is = (ap merge is.0, is.1)
   each_inside (r ∷ records) old out new grown more =
       (merge more.0, more.1, feeds_inside old r out more.0 more.1 (Ok tt) more.2, each_inside records more.0 more.1 new grown more.3)
 
   module _ {C : Type 0} (gives : C → List Feature → C → Type 0) (has_ended : C → Type 0) where
     given_inside : (old : E) (cursor : C) (out : Output) (new : E) (passed : C) (grown : Output) → TakesGiven MayTake Stands fault settled Quiet wants gives has_ended old cursor out new passed grown
-        → TakesGiven may_take stands_after kept_fault settled_lines is_quiet wants_memory gives has_ended (merge old) cursor out (merge new) passed grown
+        → TakesGiven may_take IsAfter kept_fault settled_lines is_quiet wants_memory gives has_ended (merge old) cursor out (merge new) passed grown
     given_inside old cursor out new passed grown p = record { records = p.records; given = p.given; taken = each_inside p.records old out new grown p.taken }
 
     pub batch_inside : {A : Type 0} (old : E) (cursor : C) (out : Output) (new : E) (passed : C) (grown : Output) (result : Result A Fault) → FeedsBatch MayTake Stands fault settled Quiet wants gives has_ended old cursor out result new passed grown
-        → FeedsBatch may_take stands_after kept_fault settled_lines is_quiet wants_memory gives has_ended (merge old) cursor out result (merge new) passed grown
+        → FeedsBatch may_take IsAfter kept_fault settled_lines is_quiet wants_memory gives has_ended (merge old) cursor out result (merge new) passed grown
     batch_inside old cursor out new passed grown (Ok done) p = (given_inside old cursor out new passed grown p.0, p.1)
     batch_inside old cursor out new passed grown (Err answer) (inl p) = inl (record {
       going = going old p.going;
@@ -152,11 +155,11 @@ module _ {E : Type 0} (merge : E → Merging) (only : (first : Merging) (past : 
     })
 
 -- a merge without regard to strands, and one of each strand
-pub only_unstranded : (first : Merging) (past : List Feature) (old : Ruled unstranded.Unstranded) → stands_after first past (Unstranded old) → (inner : Ruled unstranded.Unstranded) × (Unstranded inner ≡ first)
+pub only_unstranded : (first : Kind) (past : List Feature) (old : Ruled unstranded.Unstranded) → IsAfter first past (Unstranded old) → (inner : Ruled unstranded.Unstranded) × (Unstranded inner ≡ first)
 only_unstranded (Unstranded first) past old s = (first, refl)
 only_unstranded (PerStrand first) past old s = absurd s
 
-pub only_per_strand : (first : Merging) (past : List Feature) (old : Ruled strands.Stranding) → stands_after first past (PerStrand old) → (inner : Ruled strands.Stranding) × (PerStrand inner ≡ first)
+pub only_per_strand : (first : Kind) (past : List Feature) (old : Ruled strands.Stranding) → IsAfter first past (PerStrand old) → (inner : Ruled strands.Stranding) × (PerStrand inner ≡ first)
 only_per_strand (PerStrand first) past old s = (first, refl)
 only_per_strand (Unstranded first) past old s = absurd s
 
@@ -166,7 +169,7 @@ none_last [] x e = cc
 none_last (y ∷ xs) x e = cc
 
 -- a merge that has taken no record is after none
-pub begun_stands : (gap : ℕ) (strand : MergeStrand) → StandsNew gap strand (merge_begun gap strand)
+pub begun_stands : (gap : ℕ) (strand : MergeStrand) → IsAfter (merge_begun gap strand) [] (merge_begun gap strand)
 begun_stands gap All = (record { same_gap = refl; same_strand = refl; kept = sym (none_kept gap All); on = λ front last e. absurd (none_last front last e) }, refl)
 begun_stands gap (One strand) = (record { same_gap = refl; same_strand = refl; kept = sym (none_kept gap (One strand)); on = λ front last e. absurd (none_last front last e) }, refl)
 begun_stands gap Each = (record { same_gap = refl; chrom = λ front last e. absurd (none_last front last e); kept = sym (no_strand_runs gap) }, refl)

@@ -10,7 +10,7 @@ use Rattle.bt_runs.specs.model.Counted.{is_counted}
 use Rattle.bt_bed.specs.model.feature.Strands.{is_strand}
 use Rattle.bt_runs.specs.model.Merged.{chromosomes, merged}
 use Rattle.bt_runs.specs.model.MergedRuns.{AreTaken, is_closed, kept_runs, merged_runs, passed_by, settled_runs}
-use Rattle.bt_runs.specs.inside.merge.MergeStep.{joined_run, left_by, settled_by, with_record}
+use Rattle.bt_runs.specs.inside.merge.UnstrandedStep.{joined_run, left_by, settled_by, with_record}
 use Rattle.bt_runs.specs.model.StrandRuns.{StrandRun, runs_of_strand}
 use Rattle.bt_runs.specs.inside.merge.StrandStep.{run_from, run_with}
 use Rattle.bt_runs.specs.declared.merge.merge_strand.MergeStrand.TheVariants.{One}

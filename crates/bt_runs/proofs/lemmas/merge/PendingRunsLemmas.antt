@@ -5,7 +5,7 @@ use Rattle.bt_bed.specs.declared.record.strand.Strand.{Strand}
 use Rattle.bt_bed.specs.declared.record.strand.Strand.TheVariants.{Plus, Minus, Dot}
 use Rattle.bt_bed.specs.model.feature.Strands.{is_strand}
 use Rattle.bt_runs.specs.inside.merge.StrandStep.{last_place, place_among}
-use Rattle.bt_runs.specs.inside.merge.PendingRuns.{count_up_to, count_up_to_last, counts_up_to_last, place_of, slot_of, joined_here, lengthened, with_joined, left_runs, passed_runs, placed_run, placed_runs}
+use Rattle.bt_runs.specs.inside.merge.StrandStep.{count_up_to, counts_up_to_last, place_of, slot_of, joined_here, lengthened, with_joined, left_runs, passed_runs, placed_run, placed_runs}
 use Rattle.bt_runs.specs.declared.merge.pending_runs.PendingRun.{PendingRun}
 use Rattle.bt_lines.specs.calls.Output.{Output}
 use Rattle.bt_lines.specs.calls.Putting.{Adds, Grown, Puts}
@@ -51,10 +51,10 @@ place_counted Minus runs p some is = counted_place (place_of Minus runs) p some 
 place_counted Dot runs p some is = counted_place (place_of Dot runs) p some is
 
 -- the count of a strand with one more run, of the strand or of another
-counted_so : (strand : Strand) (runs : List PendingRun) (run : PendingRun) → is_strand run.strand strand ≡ true → count_up_to_last strand (runs ++ run ∷ []) ≡ suc (length runs)
+counted_so : (strand : Strand) (runs : List PendingRun) (run : PendingRun) → is_strand run.strand strand ≡ true → count_up_to (place_of strand (runs ++ run ∷ [])) ≡ suc (length runs)
 counted_so strand runs run t = ap count_up_to (last_place_pushed (λ (w : PendingRun). is_strand w.strand strand) runs run t)
 
-counted_not : (strand : Strand) (runs : List PendingRun) (run : PendingRun) → is_strand run.strand strand ≡ false → count_up_to_last strand (runs ++ run ∷ []) ≡ count_up_to_last strand runs
+counted_not : (strand : Strand) (runs : List PendingRun) (run : PendingRun) → is_strand run.strand strand ≡ false → count_up_to (place_of strand (runs ++ run ∷ [])) ≡ count_up_to (place_of strand runs)
 counted_not strand runs run f = ap count_up_to (last_place_other (λ (w : PendingRun). is_strand w.strand strand) runs run f)
 
 -- the counts with one more run

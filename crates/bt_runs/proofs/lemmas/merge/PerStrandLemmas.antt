@@ -14,13 +14,14 @@ use Rattle.bt_bed.proofs.lemmas.parse.NameLemmas.{name_eq, name_ne, other_name}
 use Rattle.bt_runs.specs.calls.Engine.{AfterEach}
 use Rattle.bt_runs.specs.calls.Ruled.{fault_of}
 use Rattle.bt_runs.specs.model.MergedRuns.{is_closed}
-use Rattle.bt_runs.specs.inside.merge.PendingRuns.{joined_here, left_runs, lengthened, passed_runs, pending_from, place_of, placed_run, placed_runs, with_joined}
-use Rattle.bt_runs.specs.inside.merge.PerStrand.{kept_in}
+use Rattle.bt_runs.specs.inside.merge.StrandStep.{joined_here, left_runs, lengthened, passed_runs, place_of, placed_run, placed_runs, with_joined}
+use Rattle.bt_runs.specs.inside.merge.StrandTaking.{kept_in}
 use Rattle.bt_runs.specs.inside.walk.Rule.{Does, EnterAnswers, FitsPast, PutsRestAtEnd}
 use Rattle.bt_runs.specs.model.StrandRuns.{StrandRun, kept_strand_runs, places_of, settled_strand_runs}
-use Rattle.bt_runs.specs.inside.merge.StrandStep.{added_at, left_unsettled, settled_prefix, kept_with, last_place, place_among, run_from, run_with, with_added}
-use Rattle.bt_runs.specs.inside.merge.StrandTaking.{JoinsAmong, OpensRun, Takes, joined_among, lines_by, wants_memory}
-use Rattle.bt_runs.specs.calls.Stranding.{Stranding, held_count, is_quiet, may_take, settled_lines, stands_after, strand_lines, whole_output}
+use Rattle.bt_runs.specs.inside.merge.StrandStep.{added_at, left_unsettled, settled_prefix, last_place, place_among, run_from, run_with, with_added}
+use Rattle.bt_runs.specs.inside.merge.StrandTaking.{JoinsAmong, Takes, joined_among, lines_by, wants_memory}
+use Rattle.bt_runs.specs.calls.Unstranded.{may_take}
+use Rattle.bt_runs.specs.calls.Stranding.{IsAfter, Stranding, held_count, is_quiet, settled_lines, strand_lines, whole_output}
 use Rattle.bt_runs.specs.declared.engine.failure.Failure.{Failure}
 use Rattle.bt_runs.specs.declared.engine.failure.Failure.TheVariants.{Write, Memory}
 use Rattle.bt_runs.specs.declared.merge.pending_runs.PendingRun.{PendingRun}
@@ -29,6 +30,10 @@ use Rattle.bt_runs.proofs.lemmas.merge.PendingRunsLemmas.{is_over, last_place_wi
 use Rattle.bt_runs.proofs.lemmas.engine.EnterLemmas.{enters, enters_cut, enters_short, none_more}
 use Rattle.bt_runs.proofs.lemmas.merge.UnstrandedLemmas.{last_is}
 use Rattle.bt_runs.proofs.lemmas.merge.StrandSettling.{strand_next, strand_runs_are_all, take_goes}
+
+-- a record as a run
+abbrev pub pending_from : Feature → PendingRun
+pending_from r = record { strand = r.strand; start = r.start; stop = r.stop }
 
 -- what is done with a record
 abbrev pub TakesNext : Stranding → Feature → Output → Result (Unit {0}) Fault → Stranding → Output → Type 0
@@ -169,7 +174,7 @@ module _ (old : Stranding) (r : Feature) (out : Output) (runs : List PendingRun)
   lines_is : strand_lines (placed_runs old.chrom (passed_runs true near runs)) ≡ lines_by old r
   lines_is = ap strand_lines (sym front_is)
 
-  kept_is_with : (new : List StrandRun) → with_added old.gap (placed_runs old.chrom left) r ≡ new → kept_with old.gap old.kept r ≡ new
+  kept_is_with : (new : List StrandRun) → with_added old.gap (placed_runs old.chrom left) r ≡ new → with_added old.gap (left_unsettled old.gap old.kept r) r ≡ new
   kept_is_with new is = ap (λ items. with_added old.gap items r) behind_is ∙ is
 
   takes_with : (new : Stranding) (grown : Output) → new.gap ≡ old.gap → new.chrom ≡ old.chrom → with_added old.gap (placed_runs old.chrom left) r ≡ new.kept
@@ -275,15 +280,15 @@ no_items [] e = refl
 no_items (x ∷ xs) e = absurd (cc)
 
 module _ (merge : Stranding) (r : Feature) where
-  next : AfterEach may_take stands_after merge r (λ first past. settled_lines first (past ++ r ∷ []) ≡ settled_lines first past ++ lines_by merge r)
+  next : AfterEach may_take IsAfter merge r (λ first past. settled_lines first (past ++ r ∷ []) ≡ settled_lines first past ++ lines_by merge r)
   next first past stands taken =
       rw (stands.same_gap, stands.kept) (ap strand_lines (strand_next first.gap past r taken).settled ∙ places-append (settled_strand_runs first.gap past) (settled_prefix first.gap (kept_strand_runs first.gap past) r))
 
-  keeps : AfterEach may_take stands_after merge r (λ first past. kept_strand_runs first.gap (past ++ r ∷ []) ≡ kept_with merge.gap merge.kept r)
+  keeps : AfterEach may_take IsAfter merge r (λ first past. kept_strand_runs first.gap (past ++ r ∷ []) ≡ with_added merge.gap (left_unsettled merge.gap merge.kept r) r)
   keeps first past stands taken = rw (stands.same_gap, stands.kept) (strand_next first.gap past r taken).kept
 
   -- if a run has to be opened and none was settled, the record isn't quiet
-  loud : OpensRun merge r → lines_by merge r ≡ [] → AfterEach may_take stands_after merge r (λ first past. held_count first (past ++ r ∷ []) ≤ held_count first past → ⊥)
+  loud : with_added merge.gap (left_unsettled merge.gap merge.kept r) r ≡ left_unsettled merge.gap merge.kept r ++ run_from r ∷ [] → lines_by merge r ≡ [] → AfterEach may_take IsAfter merge r (λ first past. held_count first (past ++ r ∷ []) ≤ held_count first past → ⊥)
   loud opens none first past stands taken more =
       let settled = no_items (settled_prefix merge.gap merge.kept r) (no_lines (places_of (settled_prefix merge.gap merge.kept r)) none) in
       let stay : left_unsettled merge.gap merge.kept r ≡ merge.kept = ap (λ (l : List StrandRun). drop (length l) merge.kept) settled in
@@ -294,7 +299,7 @@ module _ (merge : Stranding) (r : Feature) where
       absurd (omega arith)
 
   -- what is done with a record exactly is done after every past
-  pub fits : FitsPast lines_by Takes wants_memory may_take stands_after settled_lines is_quiet merge r
+  pub fits : FitsPast lines_by Takes wants_memory may_take IsAfter settled_lines is_quiet merge r
   fits = record {
     settles = next;
     next = λ new takes first past stands taken. record {
@@ -314,7 +319,7 @@ module _ (merge : Stranding) (r : Feature) where
 
 -- the kept runs' lines are those that are left
 pub finishes_kept : {A : Type 0} (merge : Stranding) (out : Output) (result : Result A Fault) (grown : Output) → Adds out (strand_lines merge.kept) result grown
-    → PutsRestAtEnd may_take stands_after settled_lines whole_output merge out result grown
+    → PutsRestAtEnd may_take IsAfter settled_lines whole_output merge out result grown
 finishes_kept merge out result grown p = record {
   left = strand_lines merge.kept;
   is = λ first past stands taken. rw stands.kept (ap strand_lines (strand_runs_are_all first.gap past) ∙ places-append (settled_strand_runs first.gap past) (kept_strand_runs first.gap past));
@@ -322,7 +327,7 @@ finishes_kept merge out result grown p = record {
 }
 
 abbrev pub Enters : Stranding → List ℕ → Output → Result (Unit {0}) Fault → Stranding → Output → Type 0
-Enters = EnterAnswers lines_by Takes wants_memory may_take stands_after settled_lines is_quiet
+Enters = EnterAnswers lines_by Takes wants_memory may_take IsAfter settled_lines is_quiet
 
 -- another chromosome is entered
 module _ (old : Stranding) (out : Output) (runs : List PendingRun) (kept_is : old.kept ≡ placed_runs old.chrom runs) (chrom : List ℕ) (other : bytes_eq old.chrom chrom ≡ false) where
@@ -353,6 +358,6 @@ module _ (old : Stranding) (out : Output) (runs : List PendingRun) (kept_is : ol
       (λ r at new p. record {
         gap = p.gap ∙ gap;
         chrom = p.chrom;
-        kept = p.kept ∙ rw gap (ap (λ items. kept_with old.gap items r) none) ∙ sym (ap (λ items. with_added old.gap items r) (none_behind r at));
+        kept = p.kept ∙ rw gap (ap (λ items. with_added old.gap (left_unsettled old.gap items r) r) none) ∙ sym (ap (λ items. with_added old.gap items r) (none_behind r at));
       })
       (λ r at wanted. inr (not_on r at))

@@ -7,9 +7,9 @@ use Rattle.bt_bed.specs.model.order.Rank.{AreDistinct, rank_order}
 use Rattle.bt_bed.specs.model.order.Contiguous.{AreContiguous}
 use Rattle.bt_bed.proofs.lemmas.order.ContiguousLemmas.{placed_prefix, contiguous_prefix}
 use Rattle.bt_runs.specs.model.Merged.{chromosomes, merged}
-use Rattle.bt_runs.specs.model.MergedRuns.{is_closed, passed_by, merged_runs, settled_runs, kept_runs, AreTaken, settled_runs_stay, settled_runs_begin}
-use Rattle.bt_runs.specs.calls.Settling.{Settles}
-use Rattle.bt_runs.specs.inside.merge.MergeStep.{settled_by, kept_by, with_record}
+use Rattle.bt_runs.specs.model.MergedRuns.{is_closed, passed_by, merged_runs, settled_runs, kept_runs, AreTaken}
+use Rattle.bt_runs.specs.calls.Settling.{SettledBegins, SettledStays, Settles}
+use Rattle.bt_runs.specs.inside.merge.UnstrandedStep.{settled_by, kept_by, with_record}
 use Rattle.bt_runs.specs.model.Counted.{is_counted}
 use Rattle.bt_runs.specs.declared.merge.merge_strand.MergeStrand.{MergeStrand}
 use Rattle.bt_runs.proofs.lemmas.order.ByChromosome.{Begun, InOrder, Moves, Ordered, Standing, Written, bares, begun, full_front, full_last, goes_first, goes_next, goes_on, goes_to, order_front, parts, settling, whole_left}
@@ -155,8 +155,8 @@ module _ (gap : ℕ) (strand : MergeStrand) where
       let o = ordered gap strand past t in
       whole_from o.keys o.distinct past (o.written past [] (append-nil past)) (begun (form gap strand) (At gap strand) o.keys (owes gap strand (map (λ name. name) o.keys)) o.distinct past o.in_order)
 
-pub runs_stay : settled_runs_stay
+pub runs_stay : (gap : ℕ) (strand : MergeStrand) → SettledStays (settled_runs gap strand) AreTaken
 runs_stay gap strand = stays (settled_runs gap strand) (merged_runs gap strand) AreTaken (settled_more gap strand)
 
-pub runs_begin : settled_runs_begin
+pub runs_begin : (gap : ℕ) (strand : MergeStrand) → SettledBegins (settled_runs gap strand) (merged_runs gap strand) AreTaken
 runs_begin gap strand = begins (settled_runs gap strand) (merged_runs gap strand) AreTaken (settled_more gap strand)

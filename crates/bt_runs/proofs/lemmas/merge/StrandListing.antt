@@ -9,7 +9,7 @@ use Rattle.bt_bed.proofs.lemmas.parse.NameLemmas.{name_eq, same_name}
 use Rattle.bt_bed.specs.model.feature.Strands.{is_strand}
 use Rattle.bt_runs.specs.model.Merged.{merged}
 use Rattle.bt_runs.specs.model.MergedRuns.{AreTaken, is_closed, merged_runs}
-use Rattle.bt_runs.specs.model.StrandRuns.{StrandRun, begun_by, is_in, lies_in, listed_behind, runs_of_strand, strand_runs}
+use Rattle.bt_runs.specs.model.StrandRuns.{StrandRun, begun_by, is_in, listed_behind, runs_of_strand, strand_runs}
 use Rattle.bt_runs.specs.inside.merge.StrandStep.{run_from, run_with}
 use Rattle.bt_runs.specs.declared.merge.merge_strand.MergeStrand.TheVariants.{One}
 use Rattle.bt_runs.proofs.lemmas.order.ByChromosome.{full_front, full_last, intervals_next}
@@ -17,6 +17,10 @@ use Rattle.bt_runs.proofs.lemmas.definitions.EachLemmas.{Each, Some_of, any_from
 use Rattle.bt_runs.proofs.lemmas.merge.OneStrand.{joined_to, new_run, on_strand, other_next, reaches, same_next, same_strand, strand_self, up_to}
 use Rattle.bt_runs.proofs.lemmas.definitions.Passing.{not_passed}
 use Rattle.bt_runs.proofs.lemmas.merge.SettledRuns.{taken_front}
+
+-- whether a record lies in a run
+abbrev lies_in : Interval → Interval → Bool
+lies_in run r = bytes_eq run.chrom r.chrom && (nat_le run.start r.start && nat_le r.stop run.stop)
 
 -- a record of a run
 pub record Lies (item : StrandRun) (p : Feature) : Type 0 where

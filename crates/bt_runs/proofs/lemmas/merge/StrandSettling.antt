@@ -7,9 +7,9 @@ use Rattle.bt_bed.proofs.lemmas.parse.NameLemmas.{cases_name, name_eq}
 use Rattle.bt_bed.proofs.lemmas.order.ContiguousLemmas.{last_of-push}
 use Rattle.bt_bed.specs.model.feature.Strands.{is_strand}
 use Rattle.bt_runs.specs.model.MergedRuns.{AreTaken, is_closed}
-use Rattle.bt_runs.specs.calls.Settling.{Settles}
-use Rattle.bt_runs.specs.model.StrandRuns.{StrandRun, kept_strand_runs, closed_prefix, settled_strand_runs, strand_runs, strand_runs_begin, strand_runs_stay}
-use Rattle.bt_runs.specs.inside.merge.StrandStep.{added_at, left_unsettled, settled_prefix, kept_with, last_place, place_among, run_from, run_with, with_added}
+use Rattle.bt_runs.specs.calls.Settling.{SettledBegins, SettledStays, Settles}
+use Rattle.bt_runs.specs.model.StrandRuns.{StrandRun, kept_strand_runs, closed_prefix, settled_strand_runs, strand_runs}
+use Rattle.bt_runs.specs.inside.merge.StrandStep.{added_at, left_unsettled, settled_prefix, last_place, place_among, run_from, run_with, with_added}
 use Rattle.bt_runs.proofs.lemmas.order.ByChromosome.{full_last, intervals_next}
 use Rattle.bt_runs.proofs.lemmas.definitions.EachLemmas.{Each, Some_of, each_append, each_both, each_front, each_unmap, each_weaker, map_leaves, none_each, none_from, some_each, some_out}
 use Rattle.bt_runs.proofs.lemmas.merge.OneStrand.{joined_to, last_there, new_run, parted, reaches}
@@ -262,7 +262,7 @@ module _ (gap : ℕ) where
 
     pub record Divided : Type 0 where
       pub settled : settled_strand_runs gap (past ++ r ∷ []) ≡ settled_strand_runs gap past ++ settled_prefix gap (kept_strand_runs gap past) r
-      pub kept : kept_strand_runs gap (past ++ r ∷ []) ≡ kept_with gap (kept_strand_runs gap past) r
+      pub kept : kept_strand_runs gap (past ++ r ∷ []) ≡ with_added gap (left_unsettled gap (kept_strand_runs gap past) r) r
 
     -- what one more record settles, and what is kept with it
     pub strand_next : Divided
@@ -299,8 +299,8 @@ module _ (gap : ℕ) where
   }
 
 -- so the laws
-pub stay : strand_runs_stay
+pub stay : (gap : ℕ) → SettledStays (settled_strand_runs gap) AreTaken
 stay gap = stays (settled_strand_runs gap) (strand_runs gap) AreTaken (settles_strands gap)
 
-pub begin : strand_runs_begin
+pub begin : (gap : ℕ) → SettledBegins (settled_strand_runs gap) (strand_runs gap) AreTaken
 begin gap = begins (settled_strand_runs gap) (strand_runs gap) AreTaken (settles_strands gap)

@@ -12,7 +12,8 @@ use Rattle.bt_bed.specs.model.order.Contiguous.{has_records}
 use Rattle.bt_bed.proofs.lemmas.parse.NameLemmas.{name_eq, name_ne, name_ne-sym, cases_name}
 use Rattle.bt_runs.specs.model.Counted.{is_counted, counted}
 use Rattle.bt_runs.specs.model.Merged.{runs_of, runs_on, merged, without, chromosomes}
-use Rattle.bt_runs.specs.model.MergedRuns.{runs_come_in_order}
+use Rattle.bt_runs.specs.model.MergedRuns.{merged_runs}
+use Rattle.bt_runs.specs.declared.merge.merge_strand.MergeStrand.{MergeStrand}
 use Rattle.bt_runs.proofs.lemmas.definitions.EachLemmas.{each_all, filter_drops}
 use Rattle.bt_runs.proofs.lemmas.definitions.Standing.{known_rank, later_rank}
 use Rattle.bt_runs.proofs.lemmas.order.ChromosomeLemmas.{spans_on-none, among_chromosomes, without-here, without-other}
@@ -202,6 +203,7 @@ merged-filter (n ∷ ns) gap records =
 pub by_chromosomes : (names : List (List ℕ)) (gap : ℕ) (records : List Interval) → AreDistinct names → ArePlaced (rank_order names) records → merged names gap records ≡ merged (chromosomes records) gap records
 by_chromosomes names gap records distinct placed = sym (merged-filter names gap records) ∙ ap (λ ns. merged ns gap records) (names_in_order names records distinct placed)
 
-pub in_file_order : runs_come_in_order
+pub in_file_order : (names : List (List ℕ)) (gap : ℕ) (strand : MergeStrand) (records : List Feature) → AreDistinct names → ArePlaced (rank_order names) (intervals_of records)
+    → merged names gap (counted strand records) ≡ merged_runs gap strand records
 in_file_order names gap strand records distinct placed =
     by_chromosomes names gap (counted strand records) distinct (some_placed (rank_order names) (ranks_total names) (λ r. is_counted strand r.strand) records placed)

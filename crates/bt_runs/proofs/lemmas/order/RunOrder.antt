@@ -1,6 +1,7 @@
 -- Records in a total order: the names of their chromosomes come in that order.
 use Rattle.bt_lines.proofs.Std.{◌≡◌, ℕ, inl, inr, List, [], ◌∷◌, refl, sym, ap, ◌∙◌, false, if◌then◌else◌, is_lt}
 use Rattle.std.specs.declared.cmp.Ordering.TheVariants.{Equal, Less}
+use Rattle.bt_bed.specs.model.feature.Feature.{Feature, intervals_of}
 use Rattle.bt_bed.specs.model.feature.Interval.{Interval}
 use Rattle.bt_bed.specs.model.order.Locus.{ArePlaced}
 use Rattle.bt_bed.specs.model.order.Order.{Order, IsTotal}
@@ -8,7 +9,9 @@ use Rattle.bt_bed.specs.model.order.Contiguous.{has_records}
 use Rattle.bt_bed.proofs.lemmas.order.ContiguousLemmas.{placed_contiguous}
 use Rattle.bt_runs.specs.model.Counted.{counted, is_counted}
 use Rattle.bt_runs.specs.model.Merged.{chromosomes, merged, without}
-use Rattle.bt_runs.specs.model.RunOrder.{in_order, ordered_runs, ordered_runs_come, put_in_order}
+use Rattle.bt_runs.specs.model.MergedRuns.{merged_runs}
+use Rattle.bt_runs.specs.declared.merge.merge_strand.MergeStrand.{MergeStrand}
+use Rattle.bt_runs.specs.model.RunOrder.{in_order, ordered_runs, put_in_order}
 use Rattle.bt_runs.proofs.lemmas.order.ChromosomeLemmas.{among_chromosomes}
 use Rattle.bt_runs.proofs.lemmas.order.FileOrder.{same_chromosome, some_placed, without_absent}
 
@@ -49,7 +52,8 @@ module _ (order : Order) (total : IsTotal order) where
             ap (in_order order) one ∙ rest ∙ sym one
       ]
 
-pub ordered_come : ordered_runs_come
+pub ordered_come : (order : Order) (gap : ℕ) (strand : MergeStrand) (records : List Feature) → IsTotal order → ArePlaced order (intervals_of records)
+    → ordered_runs order gap strand records ≡ merged_runs gap strand records
 unfolding ordered_runs
 ordered_come order gap strand records total placed =
     ap (λ names. merged names gap (counted strand records))

@@ -1,6 +1,6 @@
 use Rattle.bt_lines.proofs.Std.{ℕ, ◌+◌, ◌-◌, ◌<◌, ◌≤◌}
 use Rattle.bt_bed.specs.model.feature.Stretches.{IsCovered}
-use Rattle.bt_runs.specs.inside.plain.PlainRuns.{spans_in}
+use Rattle.bt_runs.specs.inside.PlainRuns.{spans_in}
 use Rattle.bt_runs.proofs.plain.has_right.Given as goal
 
 -- no covered position so far is near

@@ -1,6 +1,6 @@
 use Rattle.bt_lines.proofs.Std.{arith, sym, ◌∙◌, false≢true}
 use Rattle.bt_runs.specs.model.Merged.{Bridged}
-use Rattle.bt_runs.specs.inside.plain.PlainRuns.{spans_in}
+use Rattle.bt_runs.specs.inside.PlainRuns.{spans_in}
 use Rattle.bt_runs.proofs.lemmas.definitions.PlainSpans.{below_with, below_without, runs_below-all}
 use Rattle.bt_runs.proofs.plain.plain_runs.Goals as goal
 use Rattle.bt_runs.proofs.plain.plain_runs.Goals.{then-is_bridged+in_ok-add_position, else-is_bridged}

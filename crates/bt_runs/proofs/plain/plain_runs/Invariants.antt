@@ -1,4 +1,4 @@
-use Rattle.bt_runs.specs.inside.plain.PlainRuns.{spans_in}
+use Rattle.bt_runs.specs.inside.PlainRuns.{spans_in}
 use Rattle.bt_runs.proofs.lemmas.definitions.PlainSpans.{AreRunsBelow}
 use Rattle.bt_runs.proofs.plain.plain_runs.Given as goal
 

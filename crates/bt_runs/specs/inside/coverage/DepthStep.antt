@@ -15,10 +15,6 @@ pub record Known : Type 0 where
   pub begun : Option Begun
   pub held : List Span
 
--- before its first record
-abbrev pub unknown : Known
-unknown = record { to = 0; begun = None; held = [] }
-
 -- the intervals that end on the way to a position, and the one that isn't ended there
 abbrev pub ended_to : Bool → Known → ℕ → List Level
 ended_to zeros known stop =
@@ -55,42 +51,30 @@ known_by zeros counted size known start stop =
     cond (nat_lt size start) (record { to = size; begun = None; held = [] })
     (record { to = start; begun = begun_to zeros known start; held = held })
 
--- the depth of a chromosome without records, from end to end
-abbrev pub bare_level : Bool → ℕ → List Level
-bare_level zeros size =
-    cond (zeros && nat_lt 0 size) (record { start = 0; stop = size; value = 0 } ∷ []) []
-
 -- levels on a chromosome
 abbrev pub levels_on : List ℕ → List Level → List DepthInterval
 levels_on name levels = map (depth_on name) levels
 
 -- a chromosome without records, from end to end
 abbrev pub bare_of : Bool → Entry → List DepthInterval
-bare_of zeros entry = levels_on entry.name (bare_level zeros entry.length)
+bare_of zeros entry =
+    let all : Level = record { start = 0; stop = entry.length; value = 0 } in
+    levels_on entry.name (cond (zeros && nat_lt 0 entry.length) (all ∷ []) [])
 
 -- what is left of one
 abbrev pub depths_left : Bool → Entry → Known → List DepthInterval
 depths_left zeros entry known = levels_on entry.name (levels_left zeros entry.length known)
 
--- where a record is taken to start: in order that is its start
-abbrev pub start_from : Known → ℕ → ℕ
-start_from known start = max start known.to
-
--- what is known with a record, and what it settles
-abbrev pub known_with : Bool → Bool → ℕ → Known → ℕ → ℕ → Known
-known_with zeros counted size known start stop = known_by zeros counted size known (start_from known start) stop
-
-abbrev pub levels_with : Bool → ℕ → Known → ℕ → List Level
-levels_with zeros size known start = levels_by zeros size known (start_from known start)
-
--- a record settles the intervals that end below its start, and may be open from there on
+-- a record settles the intervals that end below its start, and may be open from there on. In order its start isn't below
+-- the position up to which depths are known
 abbrev pub depth_walk : Bool → Option Strand → Walk DepthInterval Known
 depth_walk zeros strand = record {
   bare = bare_of zeros;
-  fresh = unknown;
+  fresh = record { to = 0; begun = None; held = [] };
   left = depths_left zeros;
-  step = λ entry known r. levels_on entry.name (levels_with zeros entry.length known r.start);
-  after = λ entry known r. known_with zeros (is_counted_by strand r.strand) entry.length known r.start r.stop;
+  step = λ entry known r. levels_on entry.name (levels_by zeros entry.length known (max r.start known.to));
+  after = λ entry known r.
+      known_by zeros (is_counted_by strand r.strand) entry.length known (max r.start known.to) r.stop;
 }
 
 -- what the line of an interval with its depth has after the name: a tab, the start, a tab, the stop, a tab, the depth and

@@ -1,11 +1,16 @@
--- What one more record does to the runs of several strands that a merge keeps.
-use Rattle.std.specs.Prelude.{ℕ, suc, Bool, cond, List, [], ◌∷◌, ◌++◌, drop, get_or, length, set}
-use Rattle.std.specs.Prelude.{Option, Some, None}
+-- What one more record does to the runs of several strands that a merge keeps, and to those that wait without their
+-- chromosome: the place of the last one of each strand, how the record is joined to it, and which of them are closed.
+use Rattle.std.specs.Prelude.{ℕ, suc, Bool, cond, List, [], ◌∷◌, ◌++◌, drop, get_or, length, set, Option}
+use Rattle.std.specs.Prelude.{Some, None, true, false, not, ◌||◌, map, max, nat_lt}
+use Rattle.std.specs.List.{slice_get, take_while}
 use Rattle.bt_bed.specs.model.feature.Feature.{Feature, interval_of}
 use Rattle.bt_bed.specs.model.feature.Strands.{is_strand}
+use Rattle.bt_bed.specs.declared.record.strand.Strand.{Strand}
+use Rattle.bt_bed.specs.declared.record.strand.Strand.TheVariants.{Plus, Minus, Dot}
 use Rattle.bt_runs.specs.model.MergedRuns.{is_closed}
-use Rattle.bt_runs.specs.inside.merge.MergeStep.{joined_run}
+use Rattle.bt_runs.specs.inside.merge.UnstrandedStep.{joined_run}
 use Rattle.bt_runs.specs.model.StrandRuns.{StrandRun, closed_prefix}
+use Rattle.bt_runs.specs.declared.merge.pending_runs.PendingRun.{PendingRun}
 
 -- the runs that the record settles: those up to the first that it doesn't close
 abbrev pub settled_prefix : ℕ → List StrandRun → Feature → List StrandRun
@@ -48,6 +53,57 @@ abbrev pub with_added : ℕ → List StrandRun → Feature → List StrandRun
 with_added gap items r =
     added_at gap items r (last_place (λ item. is_strand item.strand r.strand) items)
 
--- the runs that are kept after the record
-abbrev pub kept_with : ℕ → List StrandRun → Feature → List StrandRun
-kept_with gap items r = with_added gap (left_unsettled gap items r) r
+-- the place of the last run of a strand
+abbrev pub place_of : Strand → List PendingRun → Option ℕ
+place_of strand runs = last_place (λ (w : PendingRun). is_strand w.strand strand) runs
+
+-- how many elements there are up to the one at a place, that one too; 0 if there is no place
+abbrev pub count_up_to : Option ℕ → ℕ
+count_up_to None = 0
+count_up_to (Some place) = suc place
+
+-- how many runs there are up to the last one of each strand, in the strand's slot; 0 if none is of it
+abbrev pub counts_up_to_last : List PendingRun → List ℕ
+counts_up_to_last runs =
+    map (λ strand. count_up_to (place_of strand runs)) (Plus ∷ Minus ∷ Dot ∷ [])
+
+-- the slot of a strand
+abbrev pub slot_of : Strand → ℕ
+slot_of Plus = 0
+slot_of Minus = 1
+slot_of Dot = 2
+
+-- the run that is lengthened up to `stop`
+abbrev pub lengthened : ℕ → PendingRun → PendingRun
+lengthened stop run = record { strand = run.strand; start = run.start; stop = max run.stop stop }
+
+-- whether a record is joined to the run at a place, which must not end below `reach`,
+-- and the runs with it
+abbrev pub joined_here : ℕ → ℕ → List PendingRun → ℕ → Option PendingRun → Bool × List PendingRun
+joined_here reach stop runs place None = (false, runs)
+joined_here reach stop runs place (Some run) =
+    cond (nat_lt run.stop reach) (false, runs) (true, set runs place (lengthened stop run))
+
+abbrev pub with_joined : ℕ → ℕ → List PendingRun → Option ℕ → Bool × List PendingRun
+with_joined reach stop runs None = (false, runs)
+with_joined reach stop runs (Some place) = joined_here reach stop runs place (slice_get runs place)
+
+-- a run on the chromosome of this name
+abbrev pub placed_run : List ℕ → PendingRun → StrandRun
+placed_run chrom run =
+    record {
+      strand = run.strand;
+      run = record { chrom = chrom; start = run.start; stop = run.stop };
+    }
+
+abbrev pub placed_runs : List ℕ → List PendingRun → List StrandRun
+placed_runs chrom runs = map (placed_run chrom) runs
+
+-- the first runs that are closed: all, if the record lies elsewhere,
+-- and else those that end below `reach`
+abbrev pub passed_runs : Bool → ℕ → List PendingRun → List PendingRun
+passed_runs here reach runs = take_while (λ (w : PendingRun). not here || nat_lt w.stop reach) runs
+
+-- and those after them
+abbrev pub left_runs : Bool → ℕ → List PendingRun → List PendingRun
+left_runs here reach runs = drop (length (passed_runs here reach runs)) runs

@@ -1,32 +1,45 @@
--- What a merge of all its records together does with one more record, exactly.
-use Rattle.std.specs.Prelude.{◌≡◌, ◌==◌, ℕ, cond, List, [], ◌∷◌}
+-- What one more record does to the runs that a merge of all its records together keeps, exactly.
+use Rattle.std.specs.Prelude.{ℕ, not, cond, List, [], ◌∷◌, max, filter, Some, ◌≡◌, ◌==◌}
 use Rattle.bt_bed.specs.model.feature.Feature.{Feature, interval_of}
 use Rattle.bt_bed.specs.model.feature.Interval.{Interval}
 use Rattle.bt_bed.specs.model.feature.IntervalLine.{interval_lines}
-use Rattle.bt_runs.specs.inside.merge.MergeStep.{kept_by, settled_by}
+use Rattle.bt_runs.specs.model.Counted.{is_counted}
+use Rattle.bt_runs.specs.model.MergedRuns.{is_closed, passed_by}
+use Rattle.bt_runs.specs.declared.merge.merge_strand.MergeStrand.{MergeStrand}
 use Rattle.bt_runs.specs.calls.Unstranded.{Unstranded}
 use Rattle.bt_runs.specs.declared.merge.unstranded_merge.OpenRun.{OpenRun}
+
+-- the run with the record joined to it
+abbrev pub joined_run : Interval → Interval → Interval
+joined_run run r = record { chrom = run.chrom; start = run.start; stop = max run.stop r.stop }
+
+-- the runs with the record: joined to the first of them, or as the only one
+abbrev pub with_record : List Interval → Interval → List Interval
+with_record [] r = r ∷ []
+with_record (run ∷ runs) r = joined_run run r ∷ runs
+
+-- the runs that the record closes
+abbrev pub settled_by : ℕ → List Interval → Interval → List Interval
+settled_by gap runs r = passed_by gap runs (Some r)
+
+-- and the others
+abbrev pub left_by : ℕ → List Interval → Interval → List Interval
+left_by gap runs r = filter (λ run. not (is_closed gap r run)) runs
+
+-- the runs that are kept after the record, which is added if it counts
+abbrev pub kept_by : ℕ → MergeStrand → List Interval → Feature → List Interval
+kept_by gap strand runs r =
+    let left = left_by gap runs (interval_of r) in
+    cond (is_counted strand r.strand) (with_record left (interval_of r)) left
 
 -- the run of these numbers, or none
 abbrev pub kept_at : List ℕ → OpenRun → List Interval
 kept_at chrom run =
     cond (run.stop == 0) [] (record { chrom = chrom; start = run.start; stop = run.stop } ∷ [])
 
--- the merge with this run
-abbrev pub with_run : Unstranded → OpenRun → Unstranded
-with_run merge run = record merge { kept = kept_at merge.chrom run }
-
--- it is on the chromosome
-abbrev pub is_on : Unstranded → List ℕ → Type 0
-is_on merge name = merge.chrom ≡ name
-
 -- the line of each run that the record settles
 abbrev pub lines_by : Unstranded → Feature → List ℕ
 lines_by merge r = interval_lines (settled_by merge.gap merge.kept (interval_of r))
-
--- the record lies on another chromosome, whose name has to be kept
-abbrev pub IsElsewhere : Unstranded → Feature → Type 0
-IsElsewhere old r = old.chrom ≡ r.chrom → ⊥
 
 -- the merge took the record
 pub record Takes (old : Unstranded) (r : Feature) (new : Unstranded) : Type 0 where

@@ -1,16 +1,26 @@
--- What the rule of a complement does with a record, exactly.
-use Rattle.std.specs.Prelude.{◌≡◌, ◌⊎◌, ℕ, Bool, true, List, None}
+-- What the rule of a complement does with a record, exactly, and how far its cursor says that gaps are settled.
+use Rattle.std.specs.Prelude.{◌≡◌, ◌⊎◌, ℕ, Bool, true, List, None, max, min, Option, option_map}
 use Rattle.bt_bed.specs.model.feature.Feature.{Feature}
 use Rattle.bt_bed.specs.model.order.Genome.{genome_names}
 use Rattle.bt_bed.specs.calls.GenomeTable.{entries}
 use Rattle.bt_bed.specs.model.feature.IntervalLine.{interval_lines}
 use Rattle.bt_bed.specs.model.order.Rank.{rank_of}
 use Rattle.bt_runs.specs.calls.Complementing.{Complementing}
-use Rattle.bt_runs.specs.inside.walk.GapCursor.{seen}
 use Rattle.bt_runs.specs.model.Gaps.{length_in}
 use Rattle.bt_runs.specs.inside.walk.GapStep.{gap_walk}
-use Rattle.bt_runs.specs.inside.walk.Walk.{is_on, walk_step}
+use Rattle.bt_runs.specs.inside.walk.Walk.{is_on, walk_step, Place}
 use Rattle.bt_runs.specs.declared.complement.gap_cursor.GapCursor.{GapCursor}
+
+-- the chromosome that was reached, if one was, and the position up to which its gaps are settled
+abbrev pub seen : GapCursor → Option (Place ℕ)
+seen cursor = option_map (λ rank. record { rank = rank; known = cursor.end }) cursor.rank
+
+-- a record that ends here is taken out of the gap after it
+pub record Covers (old : GapCursor) (stop : ℕ) (new : GapCursor) : Type 0 where
+  pub same_entries : entries new.genome.now ≡ entries old.genome.now
+  pub same_rank : new.rank ≡ old.rank
+  pub same_length : new.length ≡ old.length
+  pub end : new.end ≡ max old.end (min stop old.length)
 
 -- a complement with this cursor
 abbrev pub complement_at : Bool → GapCursor → Complementing
@@ -20,10 +30,6 @@ complement_at limit cursor = record {
   current = seen cursor;
   bases = cursor.length;
 }
-
--- the same complement with another one
-abbrev pub with_cursor : Complementing → GapCursor → Complementing
-with_cursor complement cursor = complement_at complement.limit cursor
 
 -- the records are on the chromosome of this name: the one that was reached, or one that the genome file lacks
 pub record IsOnChrom (complement : Complementing) (name : List ℕ) : Type 0 where
@@ -37,13 +43,7 @@ next_lines old r = interval_lines (walk_step (gap_walk old.limit) old.entries ol
 
 -- the complement with the record
 abbrev pub with_record : Complementing → Feature → Complementing
-with_record old r = record {
-  entries = old.entries;
-  limit = old.limit;
+with_record old r = record old {
   current = (walk_step (gap_walk old.limit) old.entries old.current r).0;
   bases = length_in old.entries r.chrom;
 }
-
--- the rule has become what it is with the record
-abbrev pub IsWith : Complementing → Feature → Complementing → Type 0
-IsWith old r new = new ≡ with_record old r

@@ -13,13 +13,9 @@ gap_between name start stop =
 abbrev pub last_gap : Entry → ℕ → List Interval
 last_gap entry end = gap_between entry.name end entry.length
 
--- a chromosome whole
-abbrev pub whole_of : Entry → List Interval
-whole_of entry = last_gap entry 0
-
--- one without records, which isn't wanted with -L
+-- a chromosome without records: all of it, or nothing with -L
 abbrev pub bare_gap : Bool → Entry → List Interval
-bare_gap limit entry = cond limit [] (whole_of entry)
+bare_gap limit entry = cond limit [] (last_gap entry 0)
 
 -- a record settles the gap before it, and is taken out of the last one
 abbrev pub gap_walk : Bool → Walk Interval ℕ

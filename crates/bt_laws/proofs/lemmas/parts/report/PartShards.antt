@@ -1,5 +1,6 @@
 -- Parts with their own parts of the genome file: complement, genomecov and merge.
 use Rattle.bt_lines.proofs.Std.{◌≡◌, ℕ, Bool, true, false, List, [], ◌∷◌, ◌++◌, filter, append-nil, Option, Some, None, refl, sym, ap, ap₂, ◌∙◌, cond, not, ◌||◌, map, Result, Ok, Err, subst, IsTrue, bytes_eq, flat_map, nat_le, nat_lt, AllByRecursion, or_left, or_right, flat_map-append, map-append, filter-append}
+use Rattle.std.specs.Option.{option_map_or}
 use Rattle.std.specs.declared.cmp.Ordering.{Ordering}
 use Rattle.std.specs.declared.cmp.Ordering.TheVariants.{Less, Equal, Greater}
 use Rattle.bt_bed.specs.model.feature.Feature.{Feature, interval_of, intervals_of}
@@ -10,7 +11,7 @@ use Rattle.bt_bed.specs.inside.RankTotal.{ranks_total}
 use Rattle.bt_bed.specs.model.order.Contiguous.{has_records}
 use Rattle.bt_bed.proofs.lemmas.parse.NameLemmas.{name_eq, name_ne}
 use Rattle.bt_bed.proofs.lemmas.order.RankLemmas.{among_ranked}
-use Rattle.bt_runs.specs.model.Gaps.{is_over_at, AreTaken, complement, gaps_of, gaps_on, is_asked, over_by, settled_gaps}
+use Rattle.bt_runs.specs.model.Gaps.{is_over_at, AreTaken, complement, gaps_of, gaps_on, is_asked, is_over, settled_gaps}
 use Rattle.bt_tool.specs.model.report.Written.{Written, complement_written, coverage_written, merge_written, pooled_written}
 use Rattle.bt_laws.proofs.lemmas.parts.order.PartGenomes.{agree_first, agree_second, apart_both, entry_less, names_both, among_append, no_first, agree_good, records_both, within_before}
 use Rattle.bt_laws.proofs.lemmas.Lists.{all_flat_map, all_so, filter_all, filter_none, filter_same, flat_map_same, all_any, all_both, all_map, map_same}
@@ -30,7 +31,7 @@ use Rattle.bt_bed.specs.model.order.Sorting.{sorting_of}
 use Rattle.bt_bed.specs.declared.record.strand.Strand.{Strand}
 use Rattle.bt_bed.proofs.lemmas.definitions.GoodBedLemmas.{non_empty_from, placed_lines}
 use Rattle.bt_laws.proofs.lemmas.records.GenomeLemmas.{distinct_genome}
-use Rattle.bt_runs.specs.model.Depth.{DepthInterval, counted_on, coverage, depth_line, depth_of, depth_on, depths_on, ended_by, is_counted_by, settled_depths}
+use Rattle.bt_runs.specs.model.Depth.{DepthInterval, counted_on, coverage, depth_line, depth_of, depth_on, depths_on, is_counted_by, is_ended_by, settled_depths}
 use Rattle.bt_runs.specs.model.Levels.{levels_of}
 use Rattle.bt_runs.specs.model.MergedRuns.{passed_by}
 use Rattle.bt_runs.specs.model.Merged.{merged}
@@ -237,14 +238,14 @@ module _ (limit : Bool) where
   unfolding complement gaps_here
   complement_is entries records = flat_filter (gaps_on (intervals_of records)) (is_asked limit (intervals_of records)) entries
 
-  over_same : (names : List (List ℕ)) (items : List Interval) (o : Option Interval) → over_by names items o ≡ ended gap_chrom gap_ends interval_line gaps_here names items o
+  over_same : (names : List (List ℕ)) (items : List Interval) (o : Option Interval) → option_map_or (λ last. filter (is_over names last) items) o [] ≡ ended gap_chrom gap_ends interval_line gaps_here names items o
   over_same names items None = refl
   over_same names items (Some last) = refl
 
   gaps_settled : (entries : List Entry) (records : List Feature) → settled_gaps limit entries records ≡ settled_of gap_chrom gap_ends interval_line gaps_here entries records
   unfolding settled_gaps
   gaps_settled entries records =
-      ap (λ items. over_by (genome_names entries) items (last_of (intervals_of records))) (complement_is entries records)
+      ap (λ items. option_map_or (λ last. filter (is_over (genome_names entries) last) items) (last_of (intervals_of records)) []) (complement_is entries records)
       ∙ over_same (genome_names entries) (whole_of gap_chrom gap_ends interval_line gaps_here entries records) (last_of (intervals_of records))
 
   gaps_named : (records : List Feature) (e : Entry) → AllByRecursion (λ gap. gap.chrom ≡ e.name) (gaps_here records e)
@@ -300,14 +301,14 @@ module _ (zeros : Bool) (strand : Option Strand) where
   unfolding coverage
   coverage_is entries records = refl
 
-  ended_same : (names : List (List ℕ)) (items : List DepthInterval) (o : Option Interval) → ended_by names items o ≡ ended depth_chrom depth_ends depth_line depths_here names items o
+  ended_same : (names : List (List ℕ)) (items : List DepthInterval) (o : Option Interval) → option_map_or (λ last. filter (is_ended_by names last) items) o [] ≡ ended depth_chrom depth_ends depth_line depths_here names items o
   ended_same names items None = refl
   ended_same names items (Some last) = refl
 
   depths_settled : (entries : List Entry) (records : List Feature) → settled_depths zeros strand entries records ≡ settled_of depth_chrom depth_ends depth_line depths_here entries records
   unfolding settled_depths
   depths_settled entries records =
-      ap (λ items. ended_by (genome_names entries) items (last_of (intervals_of records))) (coverage_is entries records)
+      ap (λ items. option_map_or (λ last. filter (is_ended_by (genome_names entries) last) items) (last_of (intervals_of records)) []) (coverage_is entries records)
       ∙ ended_same (genome_names entries) (whole_of depth_chrom depth_ends depth_line depths_here entries records) (last_of (intervals_of records))
 
   depths_named : (records : List Feature) (e : Entry) → AllByRecursion (λ item. item.chrom ≡ e.name) (depths_here records e)

@@ -1,5 +1,5 @@
 use Rattle.bt_lines.proofs.Std.{err_from_is_err_and}
-use Rattle.bt_runs.specs.inside.coverage.CountSeen.{known_seen}
+use Rattle.bt_runs.specs.inside.coverage.Kept.{known_seen}
 use Rattle.bt_runs.specs.inside.coverage.DepthStep.{begun_to, ended_to}
 use Rattle.bt_runs.specs.model.Levels.{ended_at}
 use Rattle.bt_runs.proofs.lemmas.coverage.DepthLines.{left_cut}

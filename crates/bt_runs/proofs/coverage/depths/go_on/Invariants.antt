@@ -1,6 +1,6 @@
 use Rattle.bt_lines.proofs.Std.{◌≡◌, ◌-◌, ◌≤◌, All}
 use Rattle.bt_lines.specs.calls.Putting.{Grown}
-use Rattle.bt_runs.specs.inside.coverage.CountSeen.{begun_seen}
+use Rattle.bt_runs.specs.inside.coverage.Kept.{begun_seen}
 use Rattle.bt_runs.specs.model.Depth.{depth_lines, depth_of}
 use Rattle.bt_runs.specs.inside.coverage.DepthStep.{levels_on, still_open}
 use Rattle.bt_runs.specs.model.Levels.{begun_after, ended_after}

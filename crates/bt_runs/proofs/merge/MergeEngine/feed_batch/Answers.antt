@@ -1,4 +1,4 @@
-use Rattle.bt_runs.specs.calls.Merging.{PerStrand, Unstranded}
+use Rattle.bt_runs.specs.declared.merge.Kind.TheVariants.{PerStrand, Unstranded}
 use Rattle.bt_runs.proofs.lemmas.merge.MergeLemmas.{batch_inside, only_per_strand, only_unstranded}
 use Rattle.bt_runs.proofs.merge.MergeEngine.feed_batch.Goals as goal
 use Rattle.bt_runs.proofs.merge.MergeEngine.feed_batch.Goals.{in-PerStrand, in-Unstranded}

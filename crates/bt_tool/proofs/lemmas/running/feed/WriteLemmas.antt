@@ -18,7 +18,9 @@ use Rattle.bt_bed.specs.model.order.Sorting.{sorting_of}
 use Rattle.bt_bed.proofs.lemmas.definitions.GoodBedLemmas.{placed_good, placed_lines}
 use Rattle.bt_runs.specs.model.Gaps.{settled_gaps, AreTaken as AreTakenBy}
 use Rattle.bt_runs.specs.model.MergedRuns.{AreTaken, merged_runs, passed_by, settled_runs}
-use Rattle.bt_runs.specs.calls.Merging.{Merging, Unstranded, PerStrand, merge_begun, settled_lines, whole_output}
+use Rattle.bt_runs.specs.calls.Merging.{merge_begun, settled_lines, whole_output}
+use Rattle.bt_runs.specs.declared.merge.Kind.{Kind}
+use Rattle.bt_runs.specs.declared.merge.Kind.TheVariants.{PerStrand, Unstranded}
 use Rattle.bt_runs.specs.model.StrandRuns.{places_of, settled_strand_runs, strand_runs}
 use Rattle.bt_runs.specs.calls.Settling.{SettledBegins, SettledStays}
 use Rattle.bt_runs.specs.declared.merge.merge_strand.MergeStrand.{MergeStrand}
@@ -49,11 +51,11 @@ lines_begin settled whole Taken begins past more taken =
     (interval_lines s.0, ap interval_lines s.1 ∙ flat_map-append interval_line (settled past) s.0)
 
 -- what a merge writes, chromosomes as they come
-abbrev pub merge_as_they_come : Merging → Written Feature
+abbrev pub merge_as_they_come : Kind → Written Feature
 merge_as_they_come merge = record { whole = whole_output merge; settled = settled_lines merge }
 
 -- a merge that has taken no record has settled nothing
-pub merge_begins : (merge : Merging) → settled_lines merge [] ≡ []
+pub merge_begins : (merge : Kind) → settled_lines merge [] ≡ []
 unfolding settled_runs
 merge_begins (Unstranded merge) = refl
 merge_begins (PerStrand merge) = ap (λ items. interval_lines (places_of items)) (no_strand_settled merge.rule.gap)
@@ -65,13 +67,13 @@ merge_settles_none order d Each = ap (λ items. interval_lines (places_of items)
 merge_settles_none order d (One strand) = refl
 
 -- what it has settled stays, and begins the whole
-pub merge_stays : (merge : Merging) → SettledStays (settled_lines merge) AreTaken
+pub merge_stays : (merge : Kind) → SettledStays (settled_lines merge) AreTaken
 merge_stays (Unstranded merge) = lines_stay (settled_runs merge.rule.gap merge.rule.strand) AreTaken (runs_stay merge.rule.gap merge.rule.strand)
 merge_stays (PerStrand merge) = lines_stay (λ records. places_of (settled_strand_runs merge.rule.gap records)) AreTaken (λ past more taken.
     let s = stay merge.rule.gap past more taken in
     (places_of s.0, ap places_of s.1 ∙ map-append (λ item. item.run) (settled_strand_runs merge.rule.gap past) s.0))
 
-pub merge_begins_whole : (merge : Merging) → SettledBegins (settled_lines merge) (whole_output merge) AreTaken
+pub merge_begins_whole : (merge : Kind) → SettledBegins (settled_lines merge) (whole_output merge) AreTaken
 merge_begins_whole (Unstranded merge) = lines_begin (settled_runs merge.rule.gap merge.rule.strand) (merged_runs merge.rule.gap merge.rule.strand) AreTaken (runs_begin merge.rule.gap merge.rule.strand)
 merge_begins_whole (PerStrand merge) = lines_begin (λ records. places_of (settled_strand_runs merge.rule.gap records)) (λ records. places_of (strand_runs merge.rule.gap records)) AreTaken (λ past more taken.
     let s = begin merge.rule.gap past more taken in
@@ -125,7 +127,7 @@ module _ (order : Order) (total : IsTotal order) where
       settled_same d strand (items_in (good (bed_format (sorting_of order)) First lines)) (placed_lines First order lines total)
 
   -- a merge ran as the command says
-  pub merge_runs : {A : Type 0} (device : Source A) (d : ℕ) (strand : MergeStrand) (merge : Merging) → merge ≡ merge_begun d strand
+  pub merge_runs : {A : Type 0} (device : Source A) (d : ℕ) (strand : MergeStrand) (merge : Kind) → merge ≡ merge_begun d strand
       → (first : A) (out : Output) (fault : Option FaultValue) (new : A) (grown : Output)
       → RunsAlone device (of_records order (merge_as_they_come merge)) first out fault new grown
       → RunsAlone device (of_records order (merge_written order d strand)) first out fault new grown

@@ -1,10 +1,10 @@
 use Rattle.bt_lines.proofs.Std.{◌≡◌, ◌∙◌, ℕ, Some, arith, refl, subst, sym, err_from_is_err_and}
 use Rattle.bt_bed.specs.calls.GenomeTable.{entries}
-use Rattle.bt_runs.specs.inside.walk.GapCursor.{seen}
+use Rattle.bt_runs.specs.inside.walk.GapRule.{seen}
 use Rattle.bt_runs.specs.inside.walk.GapRule.{complement_at}
 use Rattle.bt_runs.specs.inside.walk.GapStep.{bare_gap, last_gap}
 use Rattle.bt_runs.specs.inside.walk.Walk.{IsNamed, left_before}
-use Rattle.bt_runs.proofs.lemmas.complement.GapRuleLemmas.{cursor_reached, enters_failing, enters_next, goes_other, has_chrom, lacks_chrom, on_found, other_rank, rank_placed, same_rank}
+use Rattle.bt_runs.proofs.lemmas.complement.GapRuleLemmas.{cursor_reached, enters_failing, enters_here, enters_next, goes_other, has_chrom, lacks_chrom, on_found, other_rank, rank_placed, same_rank}
 use Rattle.bt_runs.proofs.lemmas.order.GenomeRanks.{length_read, name_read}
 use Rattle.bt_runs.proofs.complement.gap_rule.GapRuleRule.enter.Goals as goal
 
@@ -69,3 +69,11 @@ returns-clause-enters g c =
     (enters_next (complement_at limit cursor) (cursor_reached cursor) c.args.chrom.now c.args.out.now.output (record { rank = rank; known = 0 })
     (left_before last_gap (bare_gap limit) (entries cursor.genome.now) (seen cursor) rank) (goes_other limit cursor c.args.chrom.now rank (sym c.in-Some.ensures) other)
     c.length.result c.put_before.new.out.output (on_found (entries cursor.genome.now) c.args.chrom.now rank (sym c.in-Some.ensures)) c.in_ok-put_before.ensures)
+
+pub returns-in_default-clause-enters : goal.returns-in_default-clause-enters
+returns-in_default-clause-enters g c =
+    rw (← c.self.view_is) (enters_here (complement_at c.self.inside.limit c.self.inside.cursor) (cursor_reached c.self.inside.cursor) c.args.chrom.now c.args.out.now.output 0)
+
+pub returns-then-eq-clause-enters : goal.returns-then-eq-clause-enters
+returns-then-eq-clause-enters g c =
+    rw (← c.self.view_is) (enters_here (complement_at c.self.inside.limit c.self.inside.cursor) (cursor_reached c.self.inside.cursor) c.args.chrom.now c.args.out.now.output c.length-self-inside.result)

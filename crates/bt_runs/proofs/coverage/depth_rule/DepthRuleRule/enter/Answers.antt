@@ -1,6 +1,6 @@
 use Rattle.bt_lines.proofs.Std.{[], ◌≡◌, ◌∙◌, false, true, arith, refl, sym, err_from_is_err_and}
 use Rattle.bt_bed.specs.calls.GenomeTable.{entries}
-use Rattle.bt_runs.specs.inside.coverage.CountSeen.{seen}
+use Rattle.bt_runs.specs.inside.coverage.Kept.{seen}
 use Rattle.bt_runs.specs.calls.Covering.{Covering}
 use Rattle.bt_runs.specs.inside.walk.Walk.{is_on}
 use Rattle.bt_runs.proofs.lemmas.coverage.DepthSteps.{enters_failing, enters_moved, enters_there, is_there}

@@ -1,7 +1,7 @@
 use Rattle.bt_lines.proofs.Std.{Err, subst, sym}
 use Rattle.bt_bed.specs.calls.GenomeTable.{entries}
 use Rattle.bt_bed.specs.declared.parse.bounds.Bounds.{Bounds}
-use Rattle.bt_runs.specs.inside.coverage.CountSeen.{seen}
+use Rattle.bt_runs.specs.inside.coverage.Kept.{seen}
 use Rattle.bt_runs.specs.calls.Covering.{CountsRecord, Covering, IsOnChrom, next_lines, wants_memory, with_chrom}
 use Rattle.bt_runs.specs.inside.walk.Rule.{Does}
 use Rattle.bt_runs.proofs.lemmas.coverage.DepthCounts.{step_err}

@@ -4,13 +4,13 @@ use Rattle.bt_lines.specs.calls.Putting.{FailsToPut}
 use Rattle.bt_lines.specs.declared.fault.Fault.{Fault}
 use Rattle.bt_bed.proofs.lemmas.order.ResultLemmas.{passed_on}
 use Rattle.bt_bed.specs.model.feature.IntervalLine.{interval_line}
-use Rattle.bt_runs.specs.inside.merge.PerStrand.{kept_in}
-use Rattle.bt_runs.specs.inside.merge.PendingRuns.{pending_from, placed_run, placed_runs}
+use Rattle.bt_runs.specs.inside.merge.StrandTaking.{kept_in}
+use Rattle.bt_runs.specs.inside.merge.StrandStep.{placed_run, placed_runs}
 use Rattle.bt_runs.specs.inside.merge.StrandTaking.{JoinsAmong}
 use Rattle.bt_runs.specs.calls.Stranding.{Stranding}
 use Rattle.bt_runs.specs.declared.engine.failure.Failure.{Failure}
 use Rattle.bt_runs.specs.declared.merge.per_strand_merge.OnlyRun.{OnlyRun}
-use Rattle.bt_runs.proofs.lemmas.merge.PerStrandLemmas.{TakesNext, fails_alone, fails_among, holding, takes_alone, takes_left}
+use Rattle.bt_runs.proofs.lemmas.merge.PerStrandLemmas.{TakesNext, fails_alone, fails_among, holding, pending_from, takes_alone, takes_left}
 use Rattle.bt_runs.proofs.merge.per_strand_merge.PerStrandMerge.take.Goals as goal
 use Rattle.bt_runs.proofs.merge.per_strand_merge.PerStrandMerge.take.Goals.{in-Ok-true, in-Ok-false, in-Err}
 

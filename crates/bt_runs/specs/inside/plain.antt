@@ -1,2 +1,0 @@
--- Words of contracts inside of the crate.
-pub mod PlainRuns
