@@ -18,7 +18,7 @@ use Rattle.bt_bed.proofs.lemmas.parse.NameLemmas.{name_ne}
 use Rattle.bt_seq.specs.model.Alignment.{Alignment, Fields, alignment_at, alignment_of, columns_say, fields_of, fields_say, gives_nothing, is_skipped, max_flag, max_position, max_quality, value_up_to}
 use Rattle.bt_seq.specs.model.BedLines.{bed_lines, read_name, strand_sign}
 use Rattle.bt_seq.specs.model.Cigar.{is_letter, length_of, onto_part, operations_in, operations_of_parts, parts_of, reference_length, with_part}
-use Rattle.bt_seq.specs.model.GoodSam.{sam_format}
+use Rattle.bt_seq.specs.model.GoodSam.{sam_format, sam_good}
 use Rattle.bt_tool.specs.model.report.Written.{alignment_lines, alignments_written}
 use Rattle.bt_tool.specs.model.report.Inputs.{Inputs}
 use Rattle.bt_tool.specs.model.report.RecordReport.{report_by}
@@ -310,7 +310,7 @@ told_lines cigar members (Some fault) = refl
 
 output_is : (inputs : Inputs) (cigar : Bool) → inputs.genome ≡ None → (report_of (BamToBed false cigar) inputs).output ≡ alignment_lines false cigar (alignments_of inputs)
 unfolding report_of
-output_is inputs cigar none = ap (λ g. (report_on (BamToBed false cigar) (chromosomes_of g) inputs.first inputs.second).output) none ∙ told_lines cigar _ _
+output_is inputs cigar none = ap (λ g. (report_on (BamToBed false cigar) (chromosomes_of g) inputs.first inputs.second).output) none ∙ told_lines cigar (alignments_of inputs) (sam_good First inputs.first).fault
 
 pub bamtobed_input : bamtobed_is_input
 unfolding report_of
