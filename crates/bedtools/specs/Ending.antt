@@ -15,8 +15,8 @@ ReportsUnopened plan name message =
 -- an input of the plan has this name, or its output
 abbrev pub IsFile : PlanSeen → Word → Type 0
 IsFile plan name =
-    (plan.genome ≡ Some name)
-    ⊎ ((plan.first ≡ name) ⊎ ((plan.second ≡ Some name) ⊎ (plan.output ≡ Some name)))
+    (plan.names.genome ≡ Some name)
+    ⊎ ((plan.names.first ≡ name) ⊎ ((plan.names.second ≡ Some name) ⊎ (plan.names.output ≡ Some name)))
 
 -- a file of the plan can't be opened
 pub record CannotBegin (plan : PlanSeen) (message : Message) : Type 0 where

@@ -116,7 +116,7 @@ fn run_opened(rt: &HostRuntime, plan: &Plan) -> Result<Outcome, Message>
 // Creates the output file of a plan, or takes standard output if it has none. `Err` if it can't be
 // created, or is one of the inputs: that isn't touched.
 fn open_output(rt: &HostRuntime, plan: &Plan) -> Result<Output, Message>
-    ensures { IfErr result (λ message. (word : Word) × ((plan_seen plan.now).output ≡ Some word)
+    ensures { IfErr result (λ message. (word : Word) × ((plan_seen plan.now).names.output ≡ Some word)
         × ReportsUnopened (plan_seen plan.now) word message) }
 {
     let Some(name) = &plan.output else {

@@ -3,7 +3,7 @@
 
 ghost use Rattle.std.specs.Prelude.{List};
 ghost use Rattle.bt_tool.specs.calls.run.Headline.{ShowsReport};
-ghost use Rattle.bt_tool.specs.model.report.Report.{ReportsUsage};
+ghost use Rattle.bt_tool.specs.model.report.Report.{ReportsAnswer};
 ghost use Rattle.bt_tool.specs.model.usage.Table.{Word};
 ghost use Rattle.bt_tool.specs.model.usage.Options.{options};
 ghost use Rattle.bt_tool.specs.declared.options.usage.Usage.{Usage};
@@ -16,6 +16,6 @@ use bt_lines::{Sink, Source};
 /// status that `report` gives from the words and the whole texts.
 pub fn runs_show_the_report<G: Source, A: Source, B: Source, K: Sink>()
     ensures usage { (words : List Word) (usage : Usage) → options words ≡ Err usage
-        → ReportsUsage words usage }
+        → ReportsAnswer words (Err usage) }
     ensures run { ShowsReport G.Source A.Source B.Source K.Sink }
 {}

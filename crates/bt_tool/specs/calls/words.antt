@@ -3,4 +3,3 @@ pub mod Given
 pub mod Lent
 pub mod Limits
 pub mod Plan
-pub mod Refusal

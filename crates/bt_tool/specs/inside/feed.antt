@@ -1,7 +1,5 @@
 -- Words of contracts inside of the crate.
 pub mod ConvertSteps
 pub mod Feeding
-pub mod FeedsBuffered
 pub mod Flushing
 pub mod Passed
-pub mod RunsBy

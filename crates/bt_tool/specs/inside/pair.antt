@@ -2,7 +2,5 @@
 pub mod Endings
 pub mod MaskLoop
 pub mod Pair
-pub mod Progress
 pub mod Rounds
 pub mod SweepLoop
-pub mod SweepSteps

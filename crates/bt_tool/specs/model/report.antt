@@ -1,6 +1,5 @@
 -- What one has to believe: the definitions that the report names.
 pub mod Behaviour
-pub mod ConvertReport
 pub mod Inputs
 pub mod MaskReport
 pub mod RecordReport

@@ -5,12 +5,16 @@ ghost use Rattle.bt_lines.specs.calls.LentLine.{line_seen};
 ghost use Rattle.bt_lines.specs.calls.Names.{fault_value};
 ghost use Rattle.bt_lines.specs.calls.Output.{HoldsBlock};
 ghost use Rattle.bt_lines.specs.calls.Reader.{HasRead, fault_kept};
-ghost use Rattle.bt_tool.specs.model.report.Behaviour.{of_bamtobed};
+ghost use Rattle.bt_seq.specs.model.GoodSam.{sam_format};
+ghost use Rattle.bt_seq.specs.model.SamKind.{is_sam_kind};
+ghost use Rattle.bt_tool.specs.model.report.Behaviour.{of_members};
+ghost use Rattle.bt_tool.specs.model.report.RecordReport.{IsOneOf};
+ghost use Rattle.bt_tool.specs.model.report.Written.{alignments_written};
 ghost use Rattle.bt_tool.specs.inside.feed.ConvertSteps.{ConvertsAll, ConvertsLine, sam_reader};
 ghost use Rattle.bt_tool.specs.inside.feed.Feeding.{IsFresh};
 ghost use Rattle.bt_tool.specs.inside.feed.Passed.{IsOwnFault};
 ghost use Rattle.bt_tool.specs.calls.run.OwnReads.{AnswersNoRead};
-ghost use Rattle.bt_tool.specs.inside.feed.RunsBy.{RunsAlone};
+ghost use Rattle.bt_tool.specs.calls.run.Writing.{RunsAlone};
 
 use bt_bed::at_line;
 use bt_lines::{Fault, Input, Line, LineReader, Out, Place, Sink, Source};
@@ -69,7 +73,7 @@ pub(crate) fn convert<A: Source, K: Sink>(
     out: &mut Out<K>,
 ) -> (Option<Fault>, A)
     requires { HoldsBlock out.old.output.took out.old.output.put }
-    ensures { RunsAlone A.Source (of_bamtobed split cigar)
+    ensures { RunsAlone A.Source (of_members (IsOneOf is_sam_kind) (alignments_written split cigar) sam_format)
         first out.old.output (option_map fault_value result.0) result.1 out.new.output }
 {
     let mut lines = LineReader::new(alloc, first, Input::First);

@@ -6,18 +6,21 @@ ghost use Rattle.bt_lines.specs.calls.Output.{HoldsBlock};
 ghost use Rattle.bt_lines.specs.calls.Reader.{HasRead};
 ghost use Rattle.bt_bed.specs.model.feature.Feature.{Feature, intervals_of};
 ghost use Rattle.bt_bed.specs.model.feature.Interval.{AreNonEmpty};
+ghost use Rattle.bt_bed.specs.model.feature.LineKind.{IsBedKind};
 ghost use Rattle.bt_bed.specs.model.order.Order.{IsTotal};
 ghost use Rattle.bt_bed.specs.model.order.Locus.{ArePlaced};
 ghost use Rattle.bt_bed.specs.model.input.GoodBed.{bed_format};
 ghost use Rattle.bt_bed.specs.calls.Records.{below, last_locus, order_in, view_of};
 ghost use Rattle.bt_bed.specs.model.order.Sorting.{sorting_of};
+ghost use Rattle.bt_bed.specs.calls.Batch.{HasEnded, Passes};
+ghost use Rattle.bt_bed.specs.declared.read.batch.Batch.{Batch};
+ghost use Rattle.bt_runs.specs.calls.Engine.{FeedsBatch};
 ghost use Rattle.bt_runs.specs.calls.Settling.{SettledBegins, SettledStays};
 ghost use Rattle.bt_tool.specs.model.report.Behaviour.{of_records};
-ghost use Rattle.bt_tool.specs.inside.feed.Feeding.{FeedsRecords, IsFresh};
-ghost use Rattle.bt_tool.specs.inside.feed.FeedsBuffered.{FeedsBuffered};
+ghost use Rattle.bt_tool.specs.inside.feed.Feeding.{AreInOrder, ConsumesGiven, FeedsMembers, IsFresh};
 ghost use Rattle.bt_tool.specs.inside.feed.Passed.{KeepsOwnFault};
 ghost use Rattle.bt_tool.specs.calls.run.OwnReads.{AnswersNoRead};
-ghost use Rattle.bt_tool.specs.inside.feed.RunsBy.{RunsAlone};
+ghost use Rattle.bt_tool.specs.calls.run.Writing.{RunsAlone};
 
 use bt_bed::{ChromOrder, Records};
 use bt_lines::{Fault, Input, LineReader, Out, Sink, Source};
@@ -39,8 +42,8 @@ fn feed_all<S: Source, O: ChromOrder, E: Engine, K: Sink>(
     requires takes { (past : List Feature) → ArePlaced (order_in records.old) (intervals_of past)
         → AreNonEmpty (intervals_of past) → E.takes engine.old past }
     requires block { HoldsBlock out.old.output.took out.old.output.put }
-    ensures feeds { FeedsRecords (E.settled engine.old) S.Source
-        (λ past. E.is_after engine.old past engine.new) records.old out.old.output result records.new out.new.output }
+    ensures feeds { FeedsMembers (E.settled engine.old) (IsBedKind (order_in records.old)) (AreInOrder (order_in records.old)) S.Source
+        (λ past. E.is_after engine.old past engine.new) (view_of records.old) out.old.output result (view_of records.new) out.new.output }
     ensures reads { AnswersNoRead result → HasRead S.is_read (below records.old) (below records.new) }
     ensures own_failure { KeepsOwnFault S.is_read (below records.old) (view_of records.new) }
 {
@@ -56,8 +59,9 @@ fn feed_buffered<S: Source, O: ChromOrder, E: Engine, K: Sink>(
     engine: &mut E,
     out: &mut Out<K>,
 ) -> Result<(), Fault>
-    ensures { FeedsBuffered S.Source E.takes E.is_after E.fault E.settled E.quiet E.wants
-        records.old engine.old out.old.output result records.new engine.new out.new.output }
+    ensures { (first : Batch) × (last : Batch) × ConsumesGiven S.Source records.old first last records.new
+        × FeedsBatch E.takes E.is_after E.fault E.settled E.quiet E.wants Passes HasEnded
+        engine.old first out.old.output result engine.new last out.new.output }
 {
     let mut batch = records.buffered();
     let fed = engine.feed_batch(&mut batch, out);

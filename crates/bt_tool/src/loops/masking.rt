@@ -1,13 +1,10 @@
 //! Masking a FASTA input by a BED input: a masking engine is given the lines and the records.
 
-ghost use Rattle.std.specs.Prelude.{◌≡◌, Some, option_map};
+ghost use Rattle.std.specs.Prelude.{Some, option_map};
 ghost use Rattle.bt_lines.specs.calls.Names.{fault_value};
-ghost use Rattle.bt_lines.specs.calls.Output.{HoldsBlock, Output};
-ghost use Rattle.bt_lines.specs.calls.Reader.{HasRead, fault_kept as line_fault};
-ghost use Rattle.bt_bed.specs.calls.Blocks.{below, fault_kept, view_of};
+ghost use Rattle.bt_lines.specs.calls.Output.{HoldsBlock};
 ghost use Rattle.bt_tool.specs.model.report.Behaviour.{of_maskfasta};
-ghost use Rattle.bt_tool.specs.inside.pair.MaskLoop.{AdvancesMask, GoesOn};
-ghost use Rattle.bt_tool.specs.inside.feed.RunsBy.{RunsBy};
+ghost use Rattle.bt_tool.specs.calls.run.Writing.{RunsBy};
 
 use crate::loops::sources::Sources;
 use crate::loops::two_inputs::{TwoInputEngine, run_two};
@@ -16,32 +13,6 @@ use bt_lines::{Fault, Input, LineReader, Out, Sink, Source};
 use bt_seq::{Mask, MaskHow, MaskWant};
 use bt_sweep::Want;
 use std::alloc::Global;
-
-// Gives an engine the lines and the records that are buffered, as far as it wants them.
-fn advance_buffered<A: Source, B: Source, K: Sink>(
-    lines: &mut LineReader<A>,
-    records: &mut Blocks<B>,
-    mask: &mut Mask,
-    out: &mut Out<K>,
-) -> Result<(), Fault>
-    ensures gives { (start : MaskRun A B) (before : Output) → GoesOn A.Source B.Source start before
-        lines.old (view_of records.old) mask.old out.old.output
-        → AdvancesMask A.Source B.Source start before
-        lines.old (view_of records.old) mask.old result lines.new (view_of records.new) mask.new out.new.output }
-    ensures reads_first { HasRead A.is_read lines.old lines.new }
-    ensures reads_second { HasRead B.is_read (below records.old) (below records.new) }
-    ensures keeps { line_fault lines.new ≡ line_fault lines.old }
-    ensures keeps_second { fault_kept records.new ≡ fault_kept records.old }
-{
-    let mut texts = lines.buffered();
-    let mut beds = records.buffered();
-    let masked = mask.advance(&mut texts, &mut beds, out);
-    let consumed = texts.consumed();
-    lines.consume(consumed);
-    let consumed = beds.consumed();
-    records.consume(consumed);
-    masked
-}
 
 // A reader of lines and one of records, and the masking engine that is given their lines and records.
 struct MaskRun<A, B> {
@@ -87,7 +58,14 @@ impl<A: Source, B: Source> TwoInputEngine for MaskRun<A, B> {
     }
 
     fn give_buffered<K: Sink>(&mut self, out: &mut Out<K>) -> Result<(), Fault> {
-        advance_buffered(&mut self.lines, &mut self.records, &mut self.mask, out)
+        let mut texts = self.lines.buffered();
+        let mut beds = self.records.buffered();
+        let masked = self.mask.advance(&mut texts, &mut beds, out);
+        let consumed = texts.consumed();
+        self.lines.consume(consumed);
+        let consumed = beds.consumed();
+        self.records.consume(consumed);
+        masked
     }
 
     // The engine wants both inputs to their ends, so nothing is left to check.

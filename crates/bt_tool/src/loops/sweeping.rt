@@ -7,13 +7,16 @@ ghost use Rattle.bt_lines.specs.calls.Reader.{HasRead};
 ghost use Rattle.bt_bed.specs.model.feature.LineKind.{IsBedKind};
 ghost use Rattle.bt_bed.specs.model.order.Order.{IsTotal};
 ghost use Rattle.bt_bed.specs.calls.Records.{below, buffered_in, fault_kept, order_in, view_of};
+ghost use Rattle.bt_bed.specs.calls.Batch.{HasEnded, Passes, line_in};
+ghost use Rattle.bt_bed.specs.declared.read.batch.Batch.{Batch};
+ghost use Rattle.bt_sweep.specs.calls.Advancing.{AdvancesOn};
 ghost use Rattle.bt_sweep.specs.calls.SweepView.{order_of as sweep_order, state_of};
 ghost use Rattle.bt_tool.specs.model.report.Behaviour.{of_intersect};
+ghost use Rattle.bt_tool.specs.inside.feed.Feeding.{ConsumesGiven};
 ghost use Rattle.bt_tool.specs.inside.feed.Passed.{HasTaken, KeepsOwnFault};
 ghost use Rattle.bt_tool.specs.inside.pair.SweepLoop.{ReadsRest};
-ghost use Rattle.bt_tool.specs.inside.pair.SweepSteps.{AdvancesSweep};
 ghost use Rattle.bt_tool.specs.calls.run.OwnReads.{AnswersNoRead};
-ghost use Rattle.bt_tool.specs.inside.feed.RunsBy.{RunsBy};
+ghost use Rattle.bt_tool.specs.calls.run.Writing.{RunsBy};
 
 use crate::loops::sources::Sources;
 use crate::loops::two_inputs::{TwoInputEngine, run_two};
@@ -40,8 +43,11 @@ fn advance_buffered<A: Source, B: Source, O: ChromOrder, K: Sink>(
 ) -> Result<(), Fault>
     requires order { sweep_order sweep.old ≡ order_in first.old }
     requires second { sweep_order sweep.old ≡ order_in second.old }
-    ensures advances { AdvancesSweep A.Source B.Source (sweep_order sweep.old)
-        first.old second.old (state_of sweep.old) out.old.output result first.new second.new (state_of sweep.new) out.new.output }
+    ensures advances { (firsts : Batch) × (seconds : Batch) × (last_firsts : Batch) × (last_seconds : Batch)
+        × ConsumesGiven A.Source first.old firsts last_firsts first.new
+        × ConsumesGiven B.Source second.old seconds last_seconds second.new
+        × AdvancesOn Passes HasEnded Passes HasEnded line_in (sweep_order sweep.old) (state_of sweep.old) firsts seconds
+        out.old.output result (state_of sweep.new) last_firsts last_seconds out.new.output }
     ensures order { sweep_order sweep.new ≡ sweep_order sweep.old }
 {
     let mut firsts = first.buffered();

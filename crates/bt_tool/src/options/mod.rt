@@ -9,19 +9,20 @@ pub(crate) mod table;
 pub(crate) mod takes;
 pub(crate) mod usage;
 
-ghost use Rattle.std.specs.Prelude.{◌≡◌, ◌≤◌, Ok, Err, Some, None, string_bytes, IsTrue, MatchResult, IfOk, IfErr, length, option_map};
-ghost use Rattle.bt_tool.specs.model.usage.Character.{is_printable};
+ghost use Rattle.std.specs.Prelude.{◌≡◌, ◌≤◌, Ok, Some, None, string_bytes, IsTrue, MatchResult, IfOk, IfErr, length, option_and_then, option_map};
+ghost use Rattle.bt_tool.specs.model.usage.Table.{character_of, is_printable};
 ghost use Rattle.bt_tool.specs.calls.words.Limits.{is_limit, is_shown_as, is_within_limits};
-ghost use Rattle.bt_tool.specs.model.usage.Fraction.{one_in_billionths};
+ghost use Rattle.bt_tool.specs.model.usage.Fraction.{fraction_of, one_in_billionths};
 ghost use Rattle.bt_tool.specs.calls.words.Given.{items_in};
 ghost use Rattle.bt_tool.specs.calls.words.Lent.{table_lent};
-ghost use Rattle.bt_tool.specs.model.usage.Options.{billionths_by, command_by, command_of, counted_strand_by, fault_together, hit_shape, limit_by, mask_by, mask_how_by, number_by, options, plan_of, rule_by, shape_by, strand_by};
+ghost use Rattle.bt_tool.specs.model.usage.Options.{command_by, command_of, denoted, fault_together, hit_shape, mask_how_by, options, plan_of, rule_by, shape_by, strand_by};
 ghost use Rattle.bt_tool.specs.calls.words.Plan.{plan_seen, words_seen};
-ghost use Rattle.bt_tool.specs.calls.words.Refusal.{CanBeTold, IsRefusalOf};
-ghost use Rattle.bt_tool.specs.model.report.Report.{ReportsPlan, ReportsRefusal};
+ghost use Rattle.bt_tool.specs.calls.words.Plan.{CanBeTold, IsRefusalOf};
+ghost use Rattle.bt_tool.specs.model.report.Report.{ReportsAnswer, ReportsRefusal};
 ghost use Rattle.bt_tool.specs.model.usage.Table.{table_of};
 ghost use Rattle.bt_tool.specs.model.usage.Usage.{no_command};
-ghost use Rattle.bt_lines.specs.model.Number.{max_number};
+ghost use Rattle.bt_bed.specs.model.feature.Record.{strand_named};
+ghost use Rattle.bt_lines.specs.model.Number.{max_number, value_of as number_of};
 
 use crate::options::character::character;
 use crate::options::fraction::fraction;
@@ -89,7 +90,7 @@ fn command(tool: Tool, given: Given<'_>) -> Command
 
 // The number of a value, 0 without one.
 fn number_of(value: Option<&str>) -> u64
-    ensures value { result ≡ number_by (option_map (λ value. value.now) value.entry) }
+    ensures value { result ≡ denoted number_of 0 (option_map (λ value. value.now) value.entry) }
     ensures limit { result ≤ max_number }
 {
     match value {
@@ -100,7 +101,7 @@ fn number_of(value: Option<&str>) -> u64
 
 // How many records may be held, by a value; without one that isn't limited.
 fn limit_of(value: Option<&str>) -> Option<u64>
-    ensures value { result ≡ limit_by (option_map (λ value. value.now) value.entry) }
+    ensures value { result ≡ option_and_then number_of (option_map (λ value. value.now) value.entry) }
     ensures limit { IsTrue (is_limit result) }
 {
     match value {
@@ -123,7 +124,7 @@ fn rule_of(given: Given<'_>, both: bool) -> HitRule
 
 // The fraction of a value in billionths, 0 without one.
 fn billionths_of(value: Option<&str>) -> u64
-    ensures value { result ≡ billionths_by (option_map (λ value. value.now) value.entry) }
+    ensures value { result ≡ denoted fraction_of 0 (option_map (λ value. value.now) value.entry) }
     ensures limit { result ≤ one_in_billionths }
 {
     match value {
@@ -149,7 +150,7 @@ fn strand_of(each: bool, value: Option<&str>) -> MergeStrand
 
 // The strand whose records are counted: without a value all are.
 fn counted_strand(value: Option<&str>) -> Option<Strand>
-    ensures { result ≡ counted_strand_by (option_map (λ value. value.now) value.entry) }
+    ensures { result ≡ option_map strand_named (option_map (λ value. value.now) value.entry) }
 {
     match value {
         None => None,
@@ -172,7 +173,7 @@ fn mask_how_of(given: Given<'_>) -> MaskHow
 
 // The character of a value, `N` without one.
 fn character_of(value: Option<&str>) -> u8
-    ensures value { result ≡ mask_by (option_map (λ value. value.now) value.entry) }
+    ensures value { result ≡ denoted character_of 78 (option_map (λ value. value.now) value.entry) }
     ensures limit { IsTrue (is_printable result) }
 {
     match value {
@@ -251,7 +252,7 @@ pub fn plan(alloc: Global, words: &[String]) -> Result<Plan, Refusal>
     ensures tellable { IfErr result (CanBeTold (length words.now)) }
 
     // What a user sees of the words, by the report over the whole texts of the inputs.
-    ensures reported { IfOk result (λ plan. ReportsPlan (words_seen words.now) (plan_seen plan)) }
+    ensures reported { IfOk result (λ plan. ReportsAnswer (words_seen words.now) (Ok (plan_seen plan))) }
     ensures told { IfErr result (ReportsRefusal (words_seen words.now)) }
 {
     planned(alloc, words)

@@ -12,12 +12,13 @@ ghost use Rattle.bt_bed.specs.calls.GenomeTable.{entries, names_of};
 ghost use Rattle.bt_bed.specs.model.order.Rank.{AreDistinct};
 ghost use Rattle.bt_sweep.specs.model.Subtract.{subtract_shape};
 ghost use Rattle.bt_tool.specs.model.report.Behaviour.{behaviour_of, entries_in, of_intersect, of_maskfasta, of_records, order_of};
-ghost use Rattle.bt_tool.specs.calls.run.Chromosomes.{ReadsChromosomes, WritesOutput};
+ghost use Rattle.bt_tool.specs.model.report.Inputs.{OfBoth};
+ghost use Rattle.bt_tool.specs.calls.run.Chromosomes.{ReadsChromosomes};
 ghost use Rattle.bt_tool.specs.calls.run.RunContract.{Runs};
 ghost use Rattle.bt_tool.specs.calls.words.Limits.{is_within_limits};
 ghost use Rattle.bt_tool.specs.model.usage.Table.{IsNamedBy, table_of, tool_of};
-ghost use Rattle.bt_tool.specs.calls.run.OwnReads.{AnswersNoRead, IsOwnFailure, IsOwnFailureIf, ReadsServe, ReadsServeIf, TellsNoRead, TellsOwnReads};
-ghost use Rattle.bt_tool.specs.inside.feed.RunsBy.{RunsAlone, RunsBy};
+ghost use Rattle.bt_tool.specs.calls.run.OwnReads.{AnswersNoRead, IsOwnFailure, IsOwnFailureIf, ReadsServe, TellsNoRead, TellsOwnReads};
+ghost use Rattle.bt_tool.specs.calls.run.Writing.{RunsAlone, RunsBy};
 ghost use Rattle.bt_tool.specs.model.report.Written.{complement_written, coverage_written, merge_written};
 
 use crate::loops::converting::convert;
@@ -68,8 +69,8 @@ pub fn run<G: Source, A: Source, B: Source, K: Sink>(
         plan.now.command genome first second out (option_map fault_value result.outcome.fault)
         result.genome result.first result.second result.out }
     ensures reads { option_map fault_value result.outcome.fault ≢ Some write_failed → TellsNoRead (option_map fault_value result.outcome.fault)
-        → ReadsServeIf G.is_read genome result.genome × ReadsServe A.is_read first result.first
-        × ReadsServeIf B.is_read second result.second }
+        → OfBoth (ReadsServe G.is_read) genome result.genome × ReadsServe A.is_read first result.first
+        × OfBoth (ReadsServe B.is_read) second result.second }
     ensures own_failure { TellsOwnReads (IsOwnFailureIf G.is_read genome result.genome)
         (IsOwnFailure A.is_read first result.first)
         (IsOwnFailureIf B.is_read second result.second)
@@ -98,7 +99,7 @@ fn read_genome<G: Source>(
     ensures genome { is_some result.1 ≡ is_some genome }
     ensures named { MatchResult result.0 (λ table. is_some table ≡ is_some genome) (λ _. ⊤) }
     ensures read { ReadsChromosomes G.Source genome result.0 result.1 }
-    ensures reads { AnswersNoRead result.0 → ReadsServeIf G.is_read genome result.1 }
+    ensures reads { AnswersNoRead result.0 → OfBoth (ReadsServe G.is_read) genome result.1 }
     ensures own_failure { MatchResult result.0 (λ _. ⊤) (λ fault. TellsOwnReads
         (IsOwnFailureIf G.is_read genome result.1) ⊥ ⊥ (Some (fault_value fault))) }
 {
@@ -137,14 +138,12 @@ fn write_output<A: Source, B: Source, K: Sink>(
     requires distinct { MatchResult chromosomes
         (λ table. IfSome table (λ table. AreDistinct (names_of table))) (λ _. ⊤) }
     requires block { HoldsBlock out.old.output.took out.old.output.put }
-    ensures written { WritesOutput A.Source B.Source command chromosomes sources.first sources.second
-        out.old.output (option_map fault_value result.0) result.1.first result.1.second out.new.output }
+    ensures written { MatchResult chromosomes
+        (λ table. RunsBy A.Source B.Source (behaviour_of command (option_map entries table))
+        sources.first sources.second out.old.output (option_map fault_value result.0) result.1.first result.1.second out.new.output)
+        (λ fault. (option_map fault_value result.0 ≡ Some (fault_value fault)) × (result.1.first ≡ sources.first)
+        × (result.1.second ≡ sources.second) × (out.new.output ≡ out.old.output)) }
     ensures second { is_some result.1.second ≡ is_some sources.second }
-    ensures reads { TellsNoRead (option_map fault_value result.0)
-        → ReadsServe A.is_read sources.first result.1.first × ReadsServeIf B.is_read sources.second result.1.second }
-    ensures own_failure { MatchResult chromosomes (λ _. TellsOwnReads ⊥
-        (IsOwnFailure A.is_read sources.first result.1.first)
-        (IsOwnFailureIf B.is_read sources.second result.1.second) (option_map fault_value result.0)) (λ _. ⊤) }
 {
     match chromosomes {
         Ok(table) => {
@@ -190,14 +189,20 @@ fn write_records<A: Source, B: Source, K: Sink>(
             (fault, Sources { first, second })
         }
         Command::Intersect { shape, rule, held } => {
-            let limit = held;
-            let config = SweepConfig { shape, rule, limit };
+            let config = SweepConfig {
+                shape,
+                rule,
+                limit: held,
+            };
             sweep_both(setup, config, Sources { first, second }, out)
         }
         Command::Subtract { whole, rule, held } => {
-            let limit = held;
             let shape = shape_left(whole);
-            let config = SweepConfig { shape, rule, limit };
+            let config = SweepConfig {
+                shape,
+                rule,
+                limit: held,
+            };
             sweep_both(setup, config, Sources { first, second }, out)
         }
         Command::BamToBed { split, cigar } => {

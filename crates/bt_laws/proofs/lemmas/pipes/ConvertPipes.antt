@@ -1,5 +1,6 @@
 -- The lines of alignments that are sorted are an input.
 use Rattle.bt_lines.proofs.Std.{◌≡◌, ◌||◌, ℕ, ◌+◌, ◌-◌, ◌<◌, ◌≤◌, Bool, true, false, cond, List, [], ◌∷◌, ◌++◌, append-nil, append_assoc, map, filter, length, Option, Some, None, Result, Ok, Err, inl, inr, refl, sym, ap, ◌∙◌, subst, arith, eqb, leb, ltb, decimal, codes, if◌then◌else◌, option_map, AllByRecursion, join_with_byte, ends_with_byte, strip_last, cases_lt, false≢true, lt-ltb, All-append, All-cons, All-from_recursion, All-nil, join_with_byte-slice_split}
+use Rattle.bt_lines.specs.model.Fault.{FaultValue}
 use Rattle.bt_lines.specs.model.Handed.{lines_handed}
 use Rattle.bt_lines.specs.calls.LentLine.{NoLineFeed}
 use Rattle.bt_lines.specs.model.Lines.{TextLine, pieces}
@@ -17,9 +18,10 @@ use Rattle.bt_bed.proofs.lemmas.parse.NameLemmas.{name_ne}
 use Rattle.bt_seq.specs.model.Alignment.{Alignment, Fields, alignment_at, alignment_of, columns_say, fields_of, fields_say, gives_nothing, is_skipped, max_flag, max_position, max_quality, value_up_to}
 use Rattle.bt_seq.specs.model.BedLines.{bed_lines, read_name, strand_sign}
 use Rattle.bt_seq.specs.model.Cigar.{is_letter, length_of, onto_part, operations_in, operations_of_parts, parts_of, reference_length, with_part}
-use Rattle.bt_seq.specs.model.GoodSam.{sam_format}
-use Rattle.bt_tool.specs.model.report.ConvertReport.{alignment_lines}
+use Rattle.bt_seq.specs.model.GoodSam.{sam_format, sam_good}
+use Rattle.bt_tool.specs.model.report.Written.{alignment_lines, alignments_written}
 use Rattle.bt_tool.specs.model.report.Inputs.{Inputs}
+use Rattle.bt_tool.specs.model.report.RecordReport.{report_by}
 use Rattle.bt_tool.specs.model.report.Report.{chromosomes_of, report_of, report_on}
 use Rattle.bt_tool.specs.declared.planning.plan_type.Command.TheVariants.{BamToBed}
 use Rattle.bt_laws.specs.pipes.ConvertPipes.{aligned_at, aligned_record, alignments_of, bamtobed_is_input}
@@ -302,9 +304,13 @@ record_is cigar a is =
     ap (record_with a.chrom a.start a.stop) (tail_plain cigar a is ∙ tail_kept cigar a)
     ∙ ap (λ s. record { chrom = a.chrom; start = a.start; stop = a.stop; strand = s; rest = kept_columns (read_name a ∷ columns_after cigar a) }) (strand_is cigar a is)
 
+told_lines : (cigar : Bool) (members : List Alignment) (fault : Option FaultValue) → (report_by (alignments_written false cigar) members fault).output ≡ alignment_lines false cigar members
+told_lines cigar members None = refl
+told_lines cigar members (Some fault) = refl
+
 output_is : (inputs : Inputs) (cigar : Bool) → inputs.genome ≡ None → (report_of (BamToBed false cigar) inputs).output ≡ alignment_lines false cigar (alignments_of inputs)
 unfolding report_of
-output_is inputs cigar none = ap (λ g. (report_on (BamToBed false cigar) (chromosomes_of g) inputs.first inputs.second).output) none
+output_is inputs cigar none = ap (λ g. (report_on (BamToBed false cigar) (chromosomes_of g) inputs.first inputs.second).output) none ∙ told_lines cigar (alignments_of inputs) (sam_good First inputs.first).fault
 
 pub bamtobed_input : bamtobed_is_input
 unfolding report_of

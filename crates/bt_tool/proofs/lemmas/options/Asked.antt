@@ -7,8 +7,8 @@ use Rattle.bt_tool.specs.model.usage.Options.{asked, checked, command_of, fault_
 use Rattle.bt_tool.specs.model.usage.Table.{Word, Table, table_of, takes}
 use Rattle.bt_tool.specs.model.usage.Usage.{IsTellable, names_word, no_command, unknown_option, required_missing, options_exclusive, input_named_twice}
 use Rattle.bt_tool.specs.calls.words.Plan.{plan_seen}
-use Rattle.bt_tool.specs.calls.words.Refusal.{IsRefusalOf}
-use Rattle.bt_tool.specs.model.report.Report.{ReportsPlan, ReportsRefusal, report, answer_of}
+use Rattle.bt_tool.specs.calls.words.Plan.{IsRefusalOf}
+use Rattle.bt_tool.specs.model.report.Report.{ReportsAnswer, ReportsRefusal, report, answer_of}
 use Rattle.bt_tool.specs.declared.planning.plan_type.Plan.{Plan}
 use Rattle.bt_tool.specs.declared.options.usage.Refusal.{Refusal}
 use Rattle.bt_tool.specs.declared.options.usage.Refusal.TheVariants.{Usage as InWords, NoMemory}
@@ -142,7 +142,7 @@ pub options-tellable : (words : List Word) (usage : Usage) → options words ≡
     → IsTellable usage (length words)
 options-tellable words usage e = named-tellable words (command_of words) usage refl e
 
-pub reports_plan : {E : Type 0} (words : List Word) (result : Result Plan E) → IfOk result (λ plan. options words ≡ Ok (plan_seen plan)) → IfOk result (λ plan. ReportsPlan words (plan_seen plan))
+pub reports_plan : {E : Type 0} (words : List Word) (result : Result Plan E) → IfOk result (λ plan. options words ≡ Ok (plan_seen plan)) → IfOk result (λ plan. ReportsAnswer words (Ok (plan_seen plan)))
 unfolding report
 reports_plan words (Ok plan) h = λ genome first second. ap (λ answer. answer_of words answer genome first second) h
 reports_plan words (Err e) h = tt

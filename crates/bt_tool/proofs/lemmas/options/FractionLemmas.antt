@@ -169,7 +169,7 @@ fraction-limit whole decimals n e =
     let within = (and_parts (few_decimals whole decimals) (within_one whole decimals) (and_parts (decimal_digits whole decimals) _ (and_parts (whole_digits whole decimals) _ (and_parts (some_digit whole decimals) _ is.0).1).1).1).1 in
     subst (λ k. k ≤ one_in_billionths) is.1 (leb-true (billionths_in whole decimals) one_in_billionths within)
 
--- a number that is at most so many, or 0
+-- a number that is at most `most`, or 0
 pub limit-or : (most : ℕ) (o : Option ℕ) → ((n : ℕ) → o ≡ Some n → n ≤ most) → unwrap_or o 0 ≤ most
 limit-or most None h = omega arith
 limit-or most (Some n) h = h n refl

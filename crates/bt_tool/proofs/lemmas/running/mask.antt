@@ -4,4 +4,5 @@ pub mod MaskBoth
 pub mod MaskFacts
 pub mod MaskGiven
 pub mod MaskRounds
+pub mod MaskSteps
 pub mod MaskedLemmas

@@ -1,9 +1,7 @@
 use Rattle.bt_lines.proofs.Std.{refl, option_map}
 use Rattle.bt_lines.specs.calls.Names.{fault_value}
 use Rattle.bt_bed.specs.calls.GenomeTable.{entries}
-use Rattle.bt_tool.specs.model.report.Behaviour.{order_of}
 use Rattle.bt_tool.specs.declared.planning.plan_type.Command.TheVariants.{Merge, Complement, Coverage, BamToBed}
-use Rattle.bt_tool.proofs.lemmas.running.sweep.SubtractLemmas.{subtract_runs}
 use Rattle.bt_tool.proofs.lemmas.running.whole.OwnFailureLemmas.{runs_alone}
 use Rattle.bt_tool.proofs.running.write_records.Goals as goal
 
@@ -34,6 +32,4 @@ returns-in-BamToBed-clause-runs g c =
 pub returns-in-Subtract-clause-runs : goal.returns-in-Subtract-clause-runs
 returns-in-Subtract-clause-runs g c =
     let swept = c.sweep_both-in-Subtract in
-    rw c.in-Subtract.is
-    (subtract_runs g.A.Source g.B.Source (order_of (option_map entries c.args.setup.now.genome.now)) c.in-Subtract.whole c.in-Subtract.rule c.in-Subtract.held c.args.sources.first c.args.sources.second c.args.out.now.output
-    (option_map fault_value swept.result.0) swept.result.1.first swept.result.1.second swept.new.out.output (rw c.shape_left-shape.ensures at swept.ensures.runs))
+    rw c.in-Subtract.is (rw c.shape_left-shape.ensures at swept.ensures.runs)

@@ -1,5 +1,5 @@
 -- A failed read is reported only if a read of the run failed, whatever its source did before.
-use Rattle.std.specs.Prelude.{◌≡◌, ◌≢◌, ℕ, ◌^◌, ◌≤◌, ◌⊎◌, ⊤, Option, Some, None, Result, Ok, Err}
+use Rattle.std.specs.Prelude.{◌≡◌, ◌≢◌, ℕ, ◌^◌, ◌≤◌, ◌⊎◌, ⊤, Option, Some, Result, Ok, Err}
 use Rattle.bt_lines.specs.calls.Device.{ReadsFail, ReadsOn}
 use Rattle.bt_lines.specs.model.Fault.{FaultValue, read_failed}
 use Rattle.bt_lines.specs.calls.Names.{fault_value}
@@ -7,16 +7,11 @@ use Rattle.bt_lines.specs.declared.fault.Fault.{Fault}
 use Rattle.bt_lines.specs.declared.fault.Input.{Input}
 use Rattle.bt_lines.specs.declared.fault.Input.TheVariants.{Genome, First, Second}
 
--- the reads of a run served, and gave more bytes than a text may have
-pub record GivesTooMany {S : Type 0} (IsRead : S → Option ℕ → S → Type 0)
-    (before after : S) : Type 0 where
-  pub given : ℕ
-  pub served : ReadsOn IsRead before given after
-  pub past : 2 ^ 63 ≤ given
-
--- The last read of a run failed, whatever the source did before, or its reads gave too many bytes.
+-- The last read of a run failed, whatever the source did before, or its reads served and gave more
+-- bytes than a text may have.
 abbrev pub IsOwnFailure : {S : Type 0} → (S → Option ℕ → S → Type 0) → S → S → Type 0
-IsOwnFailure IsRead before after = ReadsFail IsRead before after ⊎ GivesTooMany IsRead before after
+IsOwnFailure IsRead before after = ReadsFail IsRead before after
+    ⊎ ((given : ℕ) × ReadsOn IsRead before given after × (2 ^ 63 ≤ given))
 
 -- the same of an input that may not be there
 abbrev pub IsOwnFailureIf : {S : Type 0} → (S → Option ℕ → S → Type 0) → Option S → Option S
@@ -37,13 +32,6 @@ pub record ReadsServe {S : Type 0} (IsRead : S → Option ℕ → S → Type 0)
     (before after : S) : Type 0 where
   pub given : ℕ
   pub served : ReadsOn IsRead before given after
-
--- the same of an input that may not be there
-abbrev pub ReadsServeIf : {S : Type 0} → (S → Option ℕ → S → Type 0) → Option S → Option S
-    → Type 0
-ReadsServeIf IsRead None None = ⊤
-ReadsServeIf IsRead (Some before) (Some after) = ReadsServe IsRead before after
-ReadsServeIf IsRead _ _ = ⊥
 
 -- a failed read is reported of an input only if this holds of it
 pub record TellsOwnReads (OfGenome OfFirst OfSecond : Type 0) (fault : Option FaultValue) : Type 0 where

@@ -1,5 +1,5 @@
 -- What a run gives, by what its inputs hand over.
-use Rattle.std.specs.Prelude.{◌≡◌, ◌≢◌, ℕ, ◌+◌, ◌⊎◌, Bool, true, false, List, ◌++◌, Option, Some}
+use Rattle.std.specs.Prelude.{◌≡◌, ◌≢◌, ℕ, ◌+◌, ◌⊎◌, false, List, ◌++◌, Option, Some}
 use Rattle.std.specs.Prelude.{None, Err, is_some, take}
 use Rattle.bt_lines.specs.declared.device.Sink.{Ghosts as Sink}
 use Rattle.bt_lines.specs.declared.device.Source.{Ghosts as Source}
@@ -7,30 +7,19 @@ use Rattle.bt_lines.specs.model.Fault.{FaultValue, no_memory, write_failed}
 use Rattle.bt_lines.specs.calls.Output.{block_size}
 use Rattle.bt_lines.specs.model.Handed.{Handed}
 use Rattle.bt_lines.specs.model.Lines.{text_lines}
-use Rattle.bt_lines.specs.declared.fault.Input.{Input}
 use Rattle.bt_lines.specs.declared.fault.Input.TheVariants.{Genome, First, Second}
 use Rattle.bt_lines.specs.declared.fault.Place.{Place}
 use Rattle.bt_bed.specs.model.order.Genome.{Entry}
 use Rattle.bt_bed.specs.model.feature.LineKind.{is_genome_kind}
 use Rattle.bt_tool.specs.model.report.Behaviour.{behaviour_of}
-use Rattle.bt_tool.specs.model.usage.Kinds.{IsOneOf}
+use Rattle.bt_tool.specs.model.report.RecordReport.{IsOneOf}
 use Rattle.bt_tool.specs.calls.run.FaultSource.{IsFaultButWrite, IsOfInput, IsWithin}
 use Rattle.bt_tool.specs.calls.run.FaultSource.{ReadsNoFurther, TellsDevice, TellsInput}
 use Rattle.bt_tool.specs.calls.run.FaultSource.{TellsInputIf}
-use Rattle.bt_tool.specs.model.report.Inputs.{HandsUpToIf, HoldsIf, Holds, Inputs, Reads, ReadsIf}
+use Rattle.bt_tool.specs.model.report.Inputs.{HandsUpTo, Holds, Inputs, OfBoth, Reads, ReadsIf}
 use Rattle.bt_tool.specs.model.report.Inputs.{ServesIf}
-use Rattle.bt_tool.specs.model.report.Report.{chromosomes_of, reaches_on, report_of, settles_on}
+use Rattle.bt_tool.specs.model.report.Report.{behaviour_on, chromosomes_of, report_of}
 use Rattle.bt_tool.specs.declared.planning.plan_type.Command.{Command}
-
--- whether a fault lies in the genome file
-abbrev pub is_of_genome : Input → Bool
-is_of_genome Genome = true
-is_of_genome First = false
-is_of_genome Second = false
-
-abbrev pub lies_in_genome : Option Place → Bool
-lies_in_genome None = false
-lies_in_genome (Some place) = is_of_genome place.input
 
 module _ {G A B K : Type 0} (source_g : Source G) (source_a : Source A) (source_b : Source B)
     (sink : Sink K) where
@@ -45,9 +34,9 @@ module _ {G A B K : Type 0} (source_g : Source G) (source_a : Source A) (source_
   -- these are the whole texts of the inputs, what they never hand over included
   pub record HoldInputs (genome : Option G) (first : A) (second : Option B)
       (inputs : Inputs) : Type 0 where
-    pub genome_file : HoldsIf source_g.left genome inputs.genome
+    pub genome_file : OfBoth (Holds source_g.left) genome inputs.genome
     pub first_input : Holds source_a.left first inputs.first
-    pub second_input : HoldsIf source_b.left second inputs.second
+    pub second_input : OfBoth (Holds source_b.left) second inputs.second
 
   -- A fault of an input other than the genome file, of a kind that a line of it can have. With a
   -- genome file that is by some list of its chromosomes, and without one in the order of the names'
@@ -95,9 +84,9 @@ module _ {G A B K : Type 0} (source_g : Source G) (source_a : Source A) (source_
     pub near : (inputs : Inputs) (before : List ℕ) → HoldInputs genome first second inputs
         → sink.took out ≡ Some before
         → ReadsNoFurther (λ n. IsWithin (source_a.end_told first_after) inputs.first.text n
-        → HandsUpToIf source_b.left (reaches_on command (chromosomes_of inputs.genome) inputs.second
-        (take n (text_lines inputs.first.text)) + block_size) second second_after)
-        (settles_on command (chromosomes_of inputs.genome) inputs.second) inputs.first.text
+        → OfBoth (HandsUpTo source_b.left ((behaviour_on command (chromosomes_of inputs.genome)).reaches
+        inputs.second (take n (text_lines inputs.first.text)) + block_size)) second second_after)
+        ((behaviour_on command (chromosomes_of inputs.genome)).settles inputs.second) inputs.first.text
         (source_a.left first_after) before (sink.took out_after) (fault ≡ Some write_failed)
         (IsFaultButWrite fault) (sink.took out_after)
     -- Whatever the devices do, known or not: a run that ends without a fault has met no failure of
@@ -108,11 +97,12 @@ module _ {G A B K : Type 0} (source_g : Source G) (source_a : Source A) (source_
         × ((source_a.has_failed first_after ≡ source_a.has_failed first)
         × (sink.has_failed out_after ≡ sink.has_failed out))
     -- If the genome file's text is at fault no other input was touched, whatever else failed.
-    pub after_genome : (file : Option Handed) → HoldsIf source_g.left genome file → (wrong : FaultValue)
+    pub after_genome : (file : Option Handed) → OfBoth (Holds source_g.left) genome file → (wrong : FaultValue)
         → chromosomes_of file ≡ Err wrong
         → (first_after ≡ first) × (second_after ≡ second)
     -- Nor was it after a fault that is reported of the genome file, whatever the devices do.
-    pub untouched : (told : FaultValue) → fault ≡ Some told → lies_in_genome told.place ≡ true
+    pub untouched : (told : FaultValue) → fault ≡ Some told
+        → (place : Place) → told.place ≡ Some place → place.input ≡ Genome
         → (first_after ≡ first) × (second_after ≡ second)
     -- What the fault may be, whatever the devices do. It is one that a line of an input can have (without
     -- a genome file none of it, and no unknown chromosome). Or it is a failed read, only if its source

@@ -3,7 +3,7 @@ use Rattle.std.specs.Prelude.{ℕ, Bool, true, ◌&&◌, Option, None, Some, nat
 use Rattle.bt_lines.specs.model.Number.{max_number}
 use Rattle.bt_seq.specs.declared.mask.mask_how.MaskHow.{MaskHow}
 use Rattle.bt_seq.specs.declared.mask.mask_how.MaskHow.TheVariants.{Soft, Hard}
-use Rattle.bt_tool.specs.model.usage.Character.{is_printable}
+use Rattle.bt_tool.specs.model.usage.Table.{is_printable}
 use Rattle.bt_tool.specs.model.usage.Fraction.{one_in_billionths}
 use Rattle.bt_tool.specs.declared.planning.plan_type.Command.{Command}
 use Rattle.bt_tool.specs.declared.planning.plan_type.Command.TheVariants.{Merge, Complement}

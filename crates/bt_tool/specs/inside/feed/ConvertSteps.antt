@@ -17,18 +17,10 @@ use Rattle.bt_seq.specs.model.BedLines.{bed_lines, lines_if}
 use Rattle.bt_seq.specs.calls.BamToBedState.{Converting}
 use Rattle.bt_seq.specs.model.GoodSam.{sam_format}
 use Rattle.bt_seq.specs.model.SamKind.{is_sam_kind}
-use Rattle.bt_tool.specs.model.usage.Kinds.{IsOneOf}
-use Rattle.bt_tool.specs.model.report.ConvertReport.{alignment_lines}
+use Rattle.bt_tool.specs.model.report.RecordReport.{IsOneOf}
+use Rattle.bt_tool.specs.model.report.Written.{alignment_lines}
 use Rattle.bt_tool.specs.inside.feed.Feeding.{FeedsMembers}
 use Rattle.bt_tool.specs.inside.feed.Passed.{IsKeptBelow, lines_read}
-
--- what the line says was written
-pub record LineWritten (old : Converting) (line : TextLine) (out : Output) (new : Converting)
-    (grown : Output) : Type 0 where
-  pub said : Option Alignment
-  pub says : alignment_of line.text ≡ Ok said
-  pub writes : Grown out (lines_if old.split old.with_cigar said) grown
-  pub unchanged : new ≡ old
 
 -- the line is at fault
 pub record LineRefused (input : Input) (line : TextLine) (out : Output) (fault : FaultValue)
@@ -38,19 +30,17 @@ pub record LineRefused (input : Input) (line : TextLine) (out : Output) (fault :
   pub is : fault ≡ fault_at_line input line.number kind
   pub unchanged : grown ≡ out
 
--- the lines of its alignment couldn't be written
-pub record LineUnwritten (old : Converting) (line : TextLine) (out : Output) (fault : FaultValue)
-    (grown : Output) : Type 0 where
-  pub said : Alignment
-  pub says : alignment_of line.text ≡ Ok (Some said)
-  pub fails : FailsToAdd out (bed_lines old.split old.with_cigar said) fault grown
-
--- what a line of the input does
+-- what a line of the input does: what it says was written, or the line is at fault, or the lines of
+-- its alignment couldn't be written
 abbrev pub ConvertsLine : {T : Type 0} → Input → Converting → TextLine → Output → Result T Fault
     → Converting → Output → Type 0
-ConvertsLine input old line out (Ok done) new grown = LineWritten old line out new grown
+ConvertsLine input old line out (Ok done) new grown = (said : Option Alignment)
+    × (alignment_of line.text ≡ Ok said) × Grown out (lines_if old.split old.with_cigar said) grown
+    × (new ≡ old)
 ConvertsLine input old line out (Err fault) new grown =
-    LineRefused input line out (fault_value fault) grown ⊎ LineUnwritten old line out (fault_value fault) grown
+    LineRefused input line out (fault_value fault) grown
+    ⊎ ((said : Alignment) × (alignment_of line.text ≡ Ok (Some said))
+    × FailsToAdd out (bed_lines old.split old.with_cigar said) (fault_value fault) grown)
 
 -- a reader of lines as one of the alignments on them
 abbrev pub sam_reader : {S : Type 0} → LineReader S → MemberReader S Alignment ⊤

@@ -13,28 +13,22 @@ use Rattle.bt_lines.specs.declared.fault.Kind.{Kind}
 use Rattle.bt_bed.specs.model.feature.Feature.{Feature, intervals_of}
 use Rattle.bt_bed.specs.model.input.Good.{Member}
 use Rattle.bt_bed.specs.model.feature.Interval.{AreNonEmpty}
-use Rattle.bt_bed.specs.model.feature.LineKind.{IsBedKind}
 use Rattle.bt_bed.specs.model.order.Locus.{ArePlaced}
 use Rattle.bt_bed.specs.model.order.Order.{Order}
+use Rattle.bt_bed.specs.calls.Batch.{Passes, left, line_in}
 use Rattle.bt_bed.specs.calls.Reading.{MemberReader, good_coming}
-use Rattle.bt_bed.specs.calls.Records.{order_in, view_of}
+use Rattle.bt_bed.specs.calls.Records.{below, order_in, view_of}
 use Rattle.bt_bed.specs.declared.order.ChromOrder.{Ghosts}
+use Rattle.bt_bed.specs.declared.read.batch.Batch.{Batch}
 use Rattle.bt_bed.specs.declared.read.records.Records.{Records}
 pub use Rattle.bt_tool.specs.inside.feed.Passed.{ComeFirst, member_items}
-use Rattle.bt_tool.specs.inside.feed.Passed.{AreAll, HasFaultBehind, IsReadFor, LacksMemory}
+use Rattle.bt_tool.specs.inside.feed.Passed.{AreAll, HasFaultBehind, HasTaken, IsReadFor, LacksMemory}
 use Rattle.bt_tool.specs.calls.run.FaultSource.{IsPutTo}
 
 -- these lines were put after what was put before
 abbrev pub PutsLines : Output → List ℕ → Output → Type 0
 PutsLines old lines new =
     (before : List ℕ) → old.put ≡ Some before → new.put ≡ Some (before ++ lines)
-
--- the first of these lines were
-pub record PutsFront (old : Output) (lines : List ℕ) (new : Output) : Type 0 where
-  pub front : List ℕ
-  pub rest : List ℕ
-  pub parts : lines ≡ front ++ rest
-  pub puts : PutsLines old front new
 
 -- the sink took a prefix of what was put before and these lines, and failed
 pub record CutsLines (old : Output) (lines : List ℕ) (new : Output) : Type 0 where
@@ -49,12 +43,6 @@ pub record HasPut (old : Output) (lines : List ℕ) (new : Output) : Type 0 wher
   pub works : WorksAsBefore old new
   pub block : HoldsBlock new.took new.put
   pub grows : Grows old.took new.took
-
--- an output later on: the sink took no less, and unless a write failed no less was put
-pub record GoesOn (old new : Output) : Type 0 where
-  pub took : Grows old.took new.took
-  pub put : (new.has_failed ≡ true) ⊎ Grows old.put new.put
-  pub stays_failed : old.has_failed ≡ true → new.has_failed ≡ true
 
 -- of these bytes, put after what was put before, the sink took all but a block;
 -- and unless a write failed, all of them were put
@@ -142,11 +130,11 @@ abbrev pub AreInOrder : Order → List Feature → Type 0
 AreInOrder order records =
     ArePlaced order (intervals_of records) × AreNonEmpty (intervals_of records)
 
-module _ {S O : Type 0} {g : Ghosts O} (settled : List Feature → List ℕ)
-    (device : Source S) where
-  -- what feeding an engine with all records does
-  abbrev pub FeedsRecords : {T : Type 0} → (List Feature → Type 0) → Records S O g → Output
-      → Result T Fault → Records S O g → Output → Type 0
-  FeedsRecords Stands old out answer new grown =
-      FeedsMembers settled (IsBedKind (order_in old)) (AreInOrder (order_in old)) device
-      Stands (view_of old) out answer (view_of new) grown
+-- a reader consumed what was given of its batch, and has buffered what the batch has left
+pub record ConsumesGiven {S O : Type 0} {g : Ghosts O} (device : Source S) (old : Records S O g)
+    (first last : Batch) (new : Records S O g) : Type 0 where
+  pub takes : (records : List Feature) → Passes first records last
+      → HasTaken device (view_of old) records (view_of new)
+  pub left_is : (view_of new).buffered ≡ left last
+  pub line_is : line_in last ≡ lines_given (below new)
+  pub order : order_in new ≡ order_in old

@@ -1,10 +1,10 @@
 -- How a run over two readers of members ends.
 use Rattle.std.specs.Prelude.{◌≡◌, ℕ, ◌≤◌, ◌⊎◌, All, Bool, true, false, List, [], ◌∷◌, ◌++◌, Option}
-use Rattle.std.specs.Prelude.{Some, None, IfSome, IsSome, length, option_to_list}
+use Rattle.std.specs.Prelude.{Some, None, IfSome, IsSome, option_to_list}
 use Rattle.bt_lines.specs.model.Fault.{FaultValue, no_memory, read_failed, write_failed}
 use Rattle.bt_lines.specs.calls.Output.{Output, Grows}
 use Rattle.bt_lines.specs.calls.Putting.{WorksAsBefore}
-use Rattle.bt_lines.specs.calls.Reader.{HasRead, Hands, lines_given, lines_left, source_of}
+use Rattle.bt_lines.specs.calls.Reader.{HasRead, Hands, lines_given}
 use Rattle.bt_lines.specs.declared.fault.Input.{Input}
 use Rattle.bt_lines.specs.declared.fault.Input.TheVariants.{Second}
 use Rattle.bt_lines.specs.declared.fault.Kind.{Kind}
@@ -12,20 +12,11 @@ use Rattle.bt_bed.specs.model.input.Good.{Member, items_in}
 use Rattle.bt_bed.specs.model.feature.LineKind.{fault_at_line}
 use Rattle.bt_bed.specs.calls.Reading.{MemberReader, good_coming}
 use Rattle.bt_tool.specs.inside.feed.Feeding.{CutsLines, PutsLines, TookButBlock, member_items}
-use Rattle.bt_tool.specs.inside.pair.Pair.{JoinDef, Pair, Serves, SettlesPair}
+use Rattle.bt_tool.specs.inside.pair.Pair.{HasNoMore, IsKnown, JoinDef, Pair, Serves, SettlesPair}
 use Rattle.bt_tool.specs.inside.feed.Passed.{AreAll, HasFaultBehind, IsReadFor, IsReadTo}
 use Rattle.bt_tool.specs.inside.feed.Passed.{KeepsOwnFault}
 use Rattle.bt_tool.specs.calls.run.FaultSource.{IsFaultButWrite}
 use Rattle.bt_tool.specs.calls.run.OwnReads.{TellsNoRead}
-
--- the members of the second input are known
-abbrev pub IsKnown : {A B X Y U V : Type 0} → Pair A B X Y U V → Type 0
-IsKnown pair = IsSome (good_coming pair.source_b.left pair.second)
-
--- the first input reported its end, and it has at most `count` lines
-abbrev pub HasNoMore : {A B X Y U V : Type 0} → Pair A B X Y U V → MemberReader A X U → ℕ → Type 0
-HasNoMore pair first count = (pair.source_a.end_told (source_of first.below) ≡ true)
-    × IfSome (lines_left pair.source_a.left pair.first.below) (λ lines. length lines ≤ count)
 
 module _ {A B X Y U V : Type 0} (join : JoinDef X Y) (pair : Pair A B X Y U V)
     (out : Output) where
@@ -55,18 +46,13 @@ module _ {A B X Y U V : Type 0} (join : JoinDef X Y) (pair : Pair A B X Y U V)
     pub second_bytes : (bytes : List ℕ) × Hands pair.source_b.left pair.second.below bytes second.below
     pub grows : Grows out.took grown.took
 
-  -- the fault of the first input, after these members
-  abbrev pub FirstFails : List (Member X) → MemberReader A X U → FaultValue → Type 0
-  FirstFails past first fault = HasFaultBehind pair.source_a pair.first
-      join.first_kinds past fault first
-
   -- all good members of the first input are written, and its fault is reported
   pub record FirstStops (written given : List X) (first : MemberReader A X U)
       (second : MemberReader B Y V) (fault : FaultValue) : Type 0 where
     pub past : List (Member X)
     pub all : written ≡ member_items past
     pub all_given : given ≡ member_items past
-    pub cause : FirstFails past first fault
+    pub cause : HasFaultBehind pair.source_a pair.first join.first_kinds past fault first
     pub serves : Serves pair.source_b.has_failed pair.second second
 
   -- the fault of the second input, after these members

@@ -1,14 +1,12 @@
 -- How far masking the lines of a reader by the records of another has come, and how it ends, as a run
 -- over two inputs.
-use Rattle.std.specs.Prelude.{◌≡◌, ◌⊎◌, ⊤, ℕ, ◌+◌, ◌*◌, ◌<◌, ◌≤◌, Bool, true, false, not, List, []}
-use Rattle.std.specs.Prelude.{Option, Some, IsTrue, is_some, length, Result, Ok, Err}
+use Rattle.std.specs.Prelude.{◌≡◌, ◌⊎◌, ⊤, ℕ, ◌+◌, ◌*◌, Bool, true, false, not, List, []}
+use Rattle.std.specs.Prelude.{Option, Some, IsTrue, is_some, length}
 use Rattle.std.specs.List.{list_any}
 use Rattle.bt_lines.specs.declared.device.Source.{Ghosts as Source}
 use Rattle.bt_lines.specs.model.Fault.{FaultValue}
-use Rattle.bt_lines.specs.calls.Names.{fault_value}
 use Rattle.bt_lines.specs.calls.Output.{Output}
 use Rattle.bt_lines.specs.calls.Reader.{buffered_bytes, has_ended, input_of, room as line_room}
-use Rattle.bt_lines.specs.declared.fault.Fault.{Fault}
 use Rattle.bt_lines.specs.declared.fault.Input.TheVariants.{First}
 use Rattle.bt_lines.specs.declared.reader.line_reader.LineReader.{LineReader}
 use Rattle.bt_bed.specs.model.feature.Feature.{Feature}
@@ -31,14 +29,13 @@ use Rattle.bt_sweep.specs.declared.sweep.want.Want.{Want}
 use Rattle.bt_sweep.specs.declared.sweep.want.Want.TheVariants.{A as WantA, B as WantB}
 use Rattle.bt_sweep.specs.declared.sweep.want.Want.TheVariants.{Nothing as WantNothing}
 use Rattle.bt_tool.specs.declared.loops.masking.MaskRun.{MaskRun}
-use Rattle.bt_tool.specs.model.usage.Kinds.{IsOneOf}
+use Rattle.bt_tool.specs.model.report.RecordReport.{IsOneOf}
 use Rattle.bt_tool.specs.model.report.SweepReport.{bytes_up_to}
 use Rattle.bt_tool.specs.model.report.MaskReport.{is_fasta_kind, is_mask_kind, last_needed}
-use Rattle.bt_tool.specs.inside.pair.Pair.{JoinDef, Pair, item_ahead}
-use Rattle.bt_tool.specs.inside.pair.Progress.{Comes, PairStage}
-use Rattle.bt_tool.specs.inside.pair.Endings.{HaveRead, IsOverWith, PairEnds}
+use Rattle.bt_tool.specs.inside.pair.Pair.{Comes, JoinDef, Pair, PairStage, item_ahead}
+use Rattle.bt_tool.specs.inside.pair.Endings.{HaveRead, IsOverWith}
 use Rattle.bt_tool.specs.inside.pair.Rounds.{IsBuffered}
-use Rattle.bt_tool.specs.inside.feed.Passed.{IsKeptBelow, lines_read}
+use Rattle.bt_tool.specs.inside.feed.Passed.{lines_read}
 
 -- a reader of lines as one of the lines of sequences, if those that were given have come so far
 abbrev pub line_members : {S : Type 0} → Bool → Reached → LineReader S
@@ -98,26 +95,19 @@ mask_rounds true WantBed = 3
 mask_rounds false WantBed = 1
 mask_rounds waits Nothing = 0
 
-module _ {A B : Type 0} (lines : LineReader A) (second : MemberReader B Feature (Option Locus)) where
-  -- it falls with each line and each record, and if neither comes
-  abbrev pub mask_left : Masking → ℕ
-  mask_left mask =
-      4 * (line_room lines + room second) + mask_rounds (is_some mask.waiting) mask.want
-
-  -- what is wanted is buffered
-  abbrev pub IsMaskReady : MaskWant → Type 0
-  IsMaskReady want =
-      IsBuffered (wanted_by want) (length (buffered_bytes lines)) (length second.buffered)
-
 module _ {A B : Type 0} where
   abbrev pub mask_wanted : MaskRun A B → Want
   mask_wanted now = wanted_by now.mask.want
 
   abbrev pub is_mask_ready : MaskRun A B → Type 0
-  is_mask_ready now = IsMaskReady now.lines (view_of now.records) now.mask.want
+  is_mask_ready now =
+      IsBuffered (mask_wanted now) (length (buffered_bytes now.lines))
+      (length (view_of now.records).buffered)
 
+  -- it falls with each line and each record, and if neither comes
   abbrev pub left_to_mask : MaskRun A B → ℕ
-  left_to_mask now = mask_left now.lines (view_of now.records) now.mask
+  left_to_mask now = 4 * (line_room now.lines + room (view_of now.records))
+      + mask_rounds (is_some now.mask.waiting) now.mask.want
 
 module _ {A B : Type 0} (source_a : Source A) (source_b : Source B) where
   abbrev pub mask_pair : Bool → LineReader A → MemberReader B Feature (Option Locus)
@@ -154,26 +144,6 @@ module _ {A B : Type 0} (source_a : Source A) (source_b : Source B) (start : Mas
   abbrev pub GoesOn : LineReader A → MemberReader B Feature (Option Locus) → Masking → Output
       → Type 0
   GoesOn lines second mask grown = (reached : Reached) × Masks reached lines second mask grown
-
-  -- masking has ended
-  abbrev pub MaskEnds : Option FaultValue → LineReader A → MemberReader B Feature (Option Locus)
-      → Output → Type 0
-  MaskEnds fault lines second grown = (members : MemberReader A SequenceLine Reached)
-      × (members.below ≡ lines)
-      × PairEnds (mask_join start.mask.how) begun_pair out fault members second grown
-      × IsKeptBelow members lines
-
-  -- what is buffered was given, as far as it is wanted
-  abbrev pub AdvancesMask : {T : Type 0} → LineReader A → MemberReader B Feature (Option Locus)
-      → Masking → Result T Fault → LineReader A → MemberReader B Feature (Option Locus) → Masking
-      → Output → Type 0
-  AdvancesMask old old_second old_mask (Ok done) lines second mask grown =
-      GoesOn lines second mask grown
-      × (mask_left lines second mask ≤ mask_left old old_second old_mask)
-      × (IsMaskReady old old_second old_mask.want
-      → mask_left lines second mask < mask_left old old_second old_mask)
-  AdvancesMask old old_second old_mask (Err fault) lines second mask grown =
-      MaskEnds (Some (fault_value fault)) lines second grown
 
   -- the lines and the records so far were given, and all reads served
   pub record MaskComes (now : MaskRun A B) (grown : Output) : Type 0 where

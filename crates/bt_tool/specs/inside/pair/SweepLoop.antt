@@ -1,5 +1,5 @@
 -- How far a sweep over two readers has come, and how it ends, as a run over two inputs.
-use Rattle.std.specs.Prelude.{◌≡◌, ◌⊎◌, ℕ, ◌≤◌, ◌<◌, All, true, List, ◌++◌, Option, Some, None}
+use Rattle.std.specs.Prelude.{◌≡◌, ℕ, ◌≤◌, All, true, List, ◌++◌, Option, Some, None}
 use Rattle.std.specs.Prelude.{Result, Ok, Err, ⊤, ◌+◌, ◌*◌, [], Bool, false, IsTrue, is_some}
 use Rattle.std.specs.Prelude.{length, option_to_list}
 use Rattle.std.specs.List.{list_all}
@@ -8,7 +8,7 @@ use Rattle.bt_lines.specs.model.Fault.{FaultValue, read_failed}
 use Rattle.bt_lines.specs.model.Lines.{TextLine}
 use Rattle.bt_lines.specs.calls.Names.{fault_value}
 use Rattle.bt_lines.specs.calls.Output.{Output}
-use Rattle.bt_lines.specs.calls.Reader.{Hands, end_told, lines_given}
+use Rattle.bt_lines.specs.calls.Reader.{end_told, lines_given}
 use Rattle.bt_lines.specs.declared.fault.Fault.{Fault}
 use Rattle.bt_lines.specs.declared.fault.Input.{Input}
 use Rattle.bt_lines.specs.declared.fault.Kind.{Kind}
@@ -33,9 +33,8 @@ use Rattle.bt_sweep.specs.declared.sweep.want.Want.{Want}
 use Rattle.bt_tool.specs.declared.loops.sweeping.SweepConfig.{SweepConfig}
 use Rattle.bt_tool.specs.declared.loops.sweeping.SweepRun.{SweepRun}
 use Rattle.bt_tool.specs.model.report.SweepReport.{IsSweptKind, bytes_up_to, decider}
-use Rattle.bt_tool.specs.inside.pair.Pair.{JoinDef, Pair}
-use Rattle.bt_tool.specs.inside.pair.Progress.{Comes, PairStage}
-use Rattle.bt_tool.specs.inside.pair.Endings.{HaveRead, IsKnown, IsOverWith}
+use Rattle.bt_tool.specs.inside.pair.Pair.{Comes, IsKnown, JoinDef, Pair, PairStage}
+use Rattle.bt_tool.specs.inside.pair.Endings.{HaveRead, IsOverWith}
 use Rattle.bt_tool.specs.inside.pair.Rounds.{IsBuffered}
 use Rattle.bt_tool.specs.inside.feed.Passed.{AreAll, Passes, StopsAfter}
 
@@ -157,12 +156,6 @@ module _ {A B O : Type 0} {g : Ghosts O} where
 
 module _ {S A State : Type 0} (device : Source S)
     (old : MemberReader S A State) (past : List (Member A)) (before : MemberReader S A State) where
-  -- the rest of the members were consumed
-  pub record ChecksAll (new : MemberReader S A State) : Type 0 where
-    pub more : List (Member A)
-    pub passes : Passes device old (past ++ more) new
-    pub all : AreAll device old (past ++ more)
-
   -- a fault lies after some of them
   pub record ChecksUpTo (Kinds : Kind → Type 0) (fault : FaultValue)
       (new : MemberReader S A State) : Type 0 where
@@ -173,9 +166,11 @@ module _ {S A State : Type 0} (device : Source S)
     pub before_end : end_told before.below ≡ true → (input : Input) (line : ℕ)
         → fault ≡ read_failed input line → ⊥
 
+  -- the rest of the members were consumed, or those before a fault
   abbrev pub ChecksRest : {T : Type 0} → (Kind → Type 0) → Result T Fault → MemberReader S A State
       → Type 0
-  ChecksRest Kinds (Ok done) new = ChecksAll new
+  ChecksRest Kinds (Ok done) new = (more : List (Member A))
+      × Passes device old (past ++ more) new × AreAll device old (past ++ more)
   ChecksRest Kinds (Err fault) new = ChecksUpTo Kinds (fault_value fault) new
 
 -- reading on to the end, from wherever the reader is
@@ -186,16 +181,3 @@ ReadsRest {S} {A} {State} {T} device Kinds before result new =
     → ((state : State) (line : TextLine) (kind : Kind) → old.format.says state line ≡ Err kind
     → Kinds kind)
     → ChecksRest device old past before Kinds result new
-
--- how far it has come
-module _ {S A State : Type 0} (device : Source S)
-    (before now : MemberReader S A State) where
-  pub record IsReadOn : Type 0 where
-    pub bytes : (bytes : List ℕ) × Hands device.left before.below bytes now.below
-    pub rises : lines_given before.below ≤ lines_given now.below
-    -- the member that was ahead is consumed, if any is
-    pub moves : (now ≡ before) ⊎ (lines_given before.below < lines_given now.below)
-    pub going : before.fault ≡ None → now.fault ≡ None
-    pub passes : (old : MemberReader S A State) (past : List (Member A))
-        → Passes device old past before
-        → (more : List (Member A)) × Passes device old (past ++ more) now

@@ -13,21 +13,20 @@ use Rattle.bt_bed.specs.model.feature.LineKind.{IsBedKind}
 use Rattle.bt_bed.specs.model.order.Order.{Order}
 use Rattle.bt_bed.specs.model.order.Rank.{rank_order}
 use Rattle.bt_bed.specs.model.order.Sorting.{sorting_of}
+use Rattle.bt_seq.specs.model.GoodSam.{sam_format}
 use Rattle.bt_seq.specs.model.SamKind.{is_sam_kind}
 use Rattle.bt_seq.specs.declared.mask.mask_how.MaskHow.{MaskHow}
+use Rattle.bt_sweep.specs.model.Subtract.{subtract_shape}
 use Rattle.bt_sweep.specs.declared.hits.hit_rule.HitRule.{HitRule}
 use Rattle.bt_sweep.specs.declared.output.shape.Shape.{Shape}
-use Rattle.bt_tool.specs.model.report.ConvertReport.{bamtobed_report, bamtobed_settles}
 use Rattle.bt_tool.specs.model.report.Inputs.{or_empty}
-use Rattle.bt_tool.specs.model.usage.Kinds.{IsNoKind, IsOneOf}
 use Rattle.bt_tool.specs.model.report.MaskReport.{is_fasta_kind, is_mask_kind, mask_reaches}
 use Rattle.bt_tool.specs.model.report.MaskReport.{mask_report, mask_settles}
-use Rattle.bt_tool.specs.model.report.RecordReport.{Report, members_report, members_settle}
+use Rattle.bt_tool.specs.model.report.RecordReport.{IsOneOf, Report, members_report, members_settle}
 use Rattle.bt_tool.specs.model.report.SweepReport.{IsSweptKind, intersect_reaches, intersect_report}
-use Rattle.bt_tool.specs.model.report.SweepReport.{intersect_settles, subtract_reaches}
-use Rattle.bt_tool.specs.model.report.SweepReport.{subtract_report, subtract_settles}
-use Rattle.bt_tool.specs.model.report.Written.{Written, complement_written, coverage_written}
-use Rattle.bt_tool.specs.model.report.Written.{merge_written}
+use Rattle.bt_tool.specs.model.report.SweepReport.{intersect_settles}
+use Rattle.bt_tool.specs.model.report.Written.{Written, alignments_written, complement_written}
+use Rattle.bt_tool.specs.model.report.Written.{coverage_written, merge_written}
 use Rattle.bt_tool.specs.declared.planning.plan_type.Command.{Command}
 use Rattle.bt_tool.specs.declared.planning.plan_type.Command.TheVariants.{Merge, Complement}
 use Rattle.bt_tool.specs.declared.planning.plan_type.Command.TheVariants.{Intersect, Subtract}
@@ -54,14 +53,14 @@ of_members Kinds written format = record {
   settles = λ second. members_settle written format;
   reaches = λ second lines. 0;
   FirstKinds = Kinds;
-  SecondKinds = IsNoKind;
+  SecondKinds = λ kind. ⊥;
 }
 
 -- a command of one input of records, in an order of their chromosomes
 abbrev pub of_records : Order → Written Feature → Behaviour
 of_records order written = of_members (IsBedKind order) written (bed_format (sorting_of order))
 
--- intersect, and what subtract does by the same records
+-- intersect, and in the shapes of what is left subtract
 abbrev pub of_intersect : Order → Shape → HitRule → Option ℕ → Behaviour
 of_intersect order shape rule limit = record {
   report = λ first second. intersect_report order shape rule limit first (or_empty second);
@@ -69,24 +68,6 @@ of_intersect order shape rule limit = record {
   reaches = λ second. intersect_reaches order (or_empty second);
   FirstKinds = IsBedKind order;
   SecondKinds = IsSweptKind order limit;
-}
-
-abbrev pub of_subtract : Order → Bool → HitRule → Option ℕ → Behaviour
-of_subtract order whole rule limit = record {
-  report = λ first second. subtract_report order whole rule limit first (or_empty second);
-  settles = λ second. subtract_settles order whole rule (or_empty second);
-  reaches = λ second. subtract_reaches order (or_empty second);
-  FirstKinds = IsBedKind order;
-  SecondKinds = IsSweptKind order limit;
-}
-
-abbrev pub of_bamtobed : Bool → Bool → Behaviour
-of_bamtobed split cigar = record {
-  report = λ first second. bamtobed_report split cigar first;
-  settles = λ second. bamtobed_settles split cigar;
-  reaches = λ second lines. 0;
-  FirstKinds = IsOneOf is_sam_kind;
-  SecondKinds = IsNoKind;
 }
 
 abbrev pub of_maskfasta : MaskHow → Bool → Behaviour
@@ -118,6 +99,7 @@ behaviour_of (Coverage zeros strand) chromosomes =
 behaviour_of (Intersect shape rule held) chromosomes =
     of_intersect (order_of chromosomes) shape rule held
 behaviour_of (Subtract whole rule held) chromosomes =
-    of_subtract (order_of chromosomes) whole rule held
-behaviour_of (BamToBed split cigar) chromosomes = of_bamtobed split cigar
+    of_intersect (order_of chromosomes) (subtract_shape whole) rule held
+behaviour_of (BamToBed split cigar) chromosomes =
+    of_members (IsOneOf is_sam_kind) (alignments_written split cigar) sam_format
 behaviour_of (MaskFasta how full) chromosomes = of_maskfasta how full

@@ -15,6 +15,12 @@ pub record Inputs : Type 0 where
 abbrev pub or_empty : Option Handed → Handed
 or_empty handed = unwrap_or handed (whole_text [])
 
+-- this holds of two, both of which may be missing
+abbrev pub OfBoth : {S T : Type 0} → (S → T → Type 0) → Option S → Option T → Type 0
+OfBoth P None None = ⊤
+OfBoth P (Some one) (Some other) = P one other
+OfBoth P _ _ = ⊥
+
 -- a source handed over at most this many bytes
 pub record HandsUpTo {S : Type 0} (left : S → Option (List ℕ)) (most : ℕ)
     (before after : S) : Type 0 where
@@ -22,17 +28,9 @@ pub record HandsUpTo {S : Type 0} (left : S → Option (List ℕ)) (most : ℕ)
   pub consumed : Consumes (left before) (left after) handed
   pub read : length handed ≤ most
 
--- the same of an input that may not be there
-abbrev pub HandsUpToIf : {S : Type 0} → (S → Option (List ℕ)) → ℕ → Option S → Option S → Type 0
-HandsUpToIf left most None None = ⊤
-HandsUpToIf left most (Some before) (Some after) = HandsUpTo left most before after
-HandsUpToIf left most _ _ = ⊥
-
 -- an input that may be missing hasn't failed since
 abbrev pub ServesIf : {S : Type 0} → (S → Bool) → Option S → Option S → Type 0
-ServesIf failed None None = ⊤
-ServesIf failed (Some before) (Some after) = failed after ≡ failed before
-ServesIf failed _ _ = ⊥
+ServesIf failed = OfBoth (λ before after. failed after ≡ failed before)
 
 -- what came of a text, of which these bytes were handed over: all of it, or if a read failed or
 -- 2^63 bytes came, what came before that
@@ -57,13 +55,7 @@ module _ {S : Type 0} (device : Source S) where
   ReadsIf _ _ _ = ⊥
 
 -- this is the whole text of a source, what it never hands over included
-module _ {S : Type 0} (left : S → Option (List ℕ)) where
-  pub record Holds (source : S) (handed : Handed) : Type 0 where
-    pub text : List ℕ
-    pub known : left source ≡ Some text
-    pub is : handed ≡ whole_text text
-
-  abbrev pub HoldsIf : Option S → Option Handed → Type 0
-  HoldsIf None None = ⊤
-  HoldsIf (Some source) (Some handed) = Holds source handed
-  HoldsIf _ _ = ⊥
+pub record Holds {S : Type 0} (left : S → Option (List ℕ)) (source : S) (handed : Handed) : Type 0 where
+  pub text : List ℕ
+  pub known : left source ≡ Some text
+  pub is : handed ≡ whole_text text

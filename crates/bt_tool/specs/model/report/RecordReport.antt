@@ -1,20 +1,21 @@
 -- The report on the members of one input: the bytes written and the fault reported.
-use Rattle.std.specs.Prelude.{ℕ, List, Option, Some, None}
+use Rattle.std.specs.Prelude.{◌≡◌, ℕ, Bool, true, List, Option, Some, None}
 use Rattle.bt_lines.specs.model.Fault.{FaultValue}
 use Rattle.bt_lines.specs.model.Handed.{Handed}
 use Rattle.bt_lines.specs.model.Lines.{TextLine}
 use Rattle.bt_lines.specs.declared.fault.Input.TheVariants.{First}
-use Rattle.bt_bed.specs.model.feature.Feature.{Feature}
+use Rattle.bt_lines.specs.declared.fault.Kind.{Kind}
 use Rattle.bt_bed.specs.model.input.Good.{Format, Good, good, good_handed, items_in}
-use Rattle.bt_bed.specs.model.input.GoodBed.{bed_format}
-use Rattle.bt_bed.specs.model.order.Order.{Order}
-use Rattle.bt_bed.specs.model.order.Sorting.{sorting_of}
 use Rattle.bt_tool.specs.model.report.Written.{Written}
 
 -- what a run writes, and the fault that it tells, if there is one
 pub record Report : Type 0 where
   pub output : List ℕ
   pub fault : Option FaultValue
+
+-- a fault is of one of the kinds that pass the test
+abbrev pub IsOneOf : (Kind → Bool) → Kind → Type 0
+IsOneOf test kind = test kind ≡ true
 
 -- the lines of all members, or if a line is at fault, those that the members before it settle
 abbrev pub report_by : {A : Type 0} → Written A → List A → Option FaultValue → Report
@@ -33,10 +34,3 @@ members_report written format first = good_report written (good_handed format Fi
 -- the lines that the members on these lines of the first input settle
 abbrev pub members_settle : {A State : Type 0} → Written A → Format A State → List TextLine → List ℕ
 members_settle written format lines = written.settled (items_in (good format First lines))
-
--- the same of records, in an order of their chromosomes
-abbrev pub records_report : Written Feature → Order → Handed → Report
-records_report written order = members_report written (bed_format (sorting_of order))
-
-abbrev pub records_settle : Written Feature → Order → List TextLine → List ℕ
-records_settle written order = members_settle written (bed_format (sorting_of order))

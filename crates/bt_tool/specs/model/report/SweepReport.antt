@@ -1,6 +1,6 @@
--- The reports of intersect and subtract: what two inputs make them write, and how much of the
+-- The report of intersect, and so of subtract: what two inputs make it write, and how much of the
 -- second the first lines of the first need.
-use Rattle.std.specs.Prelude.{◌≡◌, ◌⊎◌, ℕ, Bool, true, List, [], ◌∷◌, take, Option, Some, None}
+use Rattle.std.specs.Prelude.{◌≡◌, ◌⊎◌, ℕ, true, List, [], ◌∷◌, take, Option, Some, None}
 use Rattle.std.specs.Prelude.{if◌then◌else◌, is_some}
 use Rattle.std.specs.List.{list_all}
 use Rattle.bt_lines.specs.model.Fault.{FaultValue}
@@ -19,7 +19,6 @@ use Rattle.bt_bed.specs.model.order.Sorting.{sorting_of}
 use Rattle.bt_sweep.specs.model.Deciding.{decides}
 use Rattle.bt_sweep.specs.model.IntersectLines.{intersect}
 use Rattle.bt_sweep.specs.model.Limit.{limited}
-use Rattle.bt_sweep.specs.model.Subtract.{subtract, subtract_shape}
 use Rattle.bt_sweep.specs.model.SweepMeeting.{intersect_met}
 use Rattle.bt_sweep.specs.declared.hits.hit_rule.HitRule.{HitRule}
 use Rattle.bt_sweep.specs.declared.output.shape.Shape.{Shape}
@@ -57,15 +56,6 @@ abbrev pub intersect_settles : Order → Shape → HitRule → Handed → List T
 intersect_settles order shape rule second lines =
     intersect shape rule (records_on order lines) (items_in (bed_good Second order second))
 
--- the report of subtract on its inputs: the pieces that are left, or the complete records
-abbrev pub subtract_report : Order → Bool → HitRule → Option ℕ → Handed → Handed → Report
-subtract_report order whole rule limit = intersect_report order (subtract_shape whole) rule limit
-
--- what is left of the records on these lines, by all of the second input
-abbrev pub subtract_settles : Order → Bool → HitRule → Handed → List TextLine → List ℕ
-subtract_settles order whole rule second lines =
-    subtract whole rule (records_on order lines) (items_in (bed_good Second order second))
-
 -- the first record that decides all of these, if there is one
 abbrev pub decider : Order → List Feature → List (Member Feature) → Option (Member Feature)
 decider order as_given [] = None
@@ -84,7 +74,3 @@ abbrev pub intersect_reaches : Order → Handed → List TextLine → ℕ
 intersect_reaches order second lines =
     bytes_up_to (text_lines second.text)
     (decider order (records_on order lines) (bed_good Second order second).members)
-
--- subtract needs as much of it
-abbrev pub subtract_reaches : Order → Handed → List TextLine → ℕ
-subtract_reaches = intersect_reaches

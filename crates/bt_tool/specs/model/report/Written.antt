@@ -1,5 +1,5 @@
 -- What a command of one input writes, by the members of that input.
-use Rattle.std.specs.Prelude.{ℕ, Bool, List, Option}
+use Rattle.std.specs.Prelude.{ℕ, Bool, List, Option, flat_map}
 use Rattle.bt_bed.specs.model.feature.Feature.{Feature, intervals_of}
 use Rattle.bt_bed.specs.model.order.Genome.{Entry}
 use Rattle.bt_bed.specs.model.feature.Interval.{last_of}
@@ -13,6 +13,8 @@ use Rattle.bt_runs.specs.model.RunOrder.{ordered_runs}
 use Rattle.bt_runs.specs.model.StrandRuns.{places_of, settled_strand_runs, strand_runs}
 use Rattle.bt_runs.specs.declared.merge.merge_strand.MergeStrand.{MergeStrand}
 use Rattle.bt_runs.specs.declared.merge.merge_strand.MergeStrand.TheVariants.{All, Each, One}
+use Rattle.bt_seq.specs.model.Alignment.{Alignment}
+use Rattle.bt_seq.specs.model.BedLines.{bed_lines}
 
 -- the lines of the output if these are all members, and those that they settle, which no later
 -- member can change
@@ -54,4 +56,15 @@ abbrev pub coverage_written : List Entry → Bool → Option Strand → Written 
 coverage_written entries zeros strand = record {
   whole = λ records. depth_lines (coverage zeros strand entries records);
   settled = λ records. depth_lines (settled_depths zeros strand entries records);
+}
+
+-- the BED lines of alignments, in their order
+abbrev pub alignment_lines : Bool → Bool → List Alignment → List ℕ
+alignment_lines split cigar alignments = flat_map (bed_lines split cigar) alignments
+
+-- each alignment settles its own
+abbrev pub alignments_written : Bool → Bool → Written Alignment
+alignments_written split cigar = record {
+  whole = alignment_lines split cigar;
+  settled = alignment_lines split cigar;
 }

@@ -6,7 +6,6 @@ use Rattle.std.specs.Prelude.{option_and_then, option_map, option_to_list, unwra
 use Rattle.std.specs.List.{list_any}
 use Rattle.std.specs.Option.{option_map_or, option_or}
 use Rattle.bt_bed.specs.model.feature.Record.{strand_named}
-use Rattle.bt_bed.specs.declared.record.strand.Strand.{Strand}
 use Rattle.bt_lines.specs.model.Number.{value_of as number_of}
 use Rattle.bt_runs.specs.declared.merge.merge_strand.MergeStrand.{MergeStrand}
 use Rattle.bt_runs.specs.declared.merge.merge_strand.MergeStrand.TheVariants.{All, Each, One}
@@ -23,20 +22,24 @@ use Rattle.bt_tool.specs.declared.planning.tool.Tool.TheVariants.{Merge, Complem
 use Rattle.bt_tool.specs.declared.planning.tool.Tool.TheVariants.{Subtract, Coverage, BamToBed}
 use Rattle.bt_tool.specs.declared.planning.tool.Tool.TheVariants.{MaskFasta}
 use Rattle.bt_tool.specs.declared.options.usage.Usage.{Usage}
-use Rattle.bt_tool.specs.model.usage.Character.{character_of}
+use Rattle.bt_tool.specs.model.usage.Table.{character_of}
 use Rattle.bt_tool.specs.model.usage.Fraction.{fraction_of}
 use Rattle.bt_tool.specs.model.usage.Items.{Item, IsLongestDivision, items_of, spelled}
 use Rattle.bt_tool.specs.model.usage.Table.{Word, Table, command_named, table_of, takes}
 use Rattle.bt_tool.specs.model.usage.Usage.{no_command, unknown_option, value_missing, bad_value}
 use Rattle.bt_tool.specs.model.usage.Usage.{required_missing, options_exclusive, input_named_twice}
 
--- a plan, its names as bytes
-pub record PlanSeen : Type 0 where
-  pub command : Command
+-- the names of the inputs and of the output
+pub record Named : Type 0 where
   pub genome : Option Word
   pub first : Word
   pub second : Option Word
   pub output : Option Word
+
+-- a plan, its names as bytes
+pub record PlanSeen : Type 0 where
+  pub command : Command
+  pub names : Named
 
 -- the last item of an option
 abbrev pub last_item : Word → List Item → Option Item
@@ -77,14 +80,11 @@ word_fault table at words = fault_past table at (items_of table words) words
 abbrev pub is_standard_input : Word → Bool
 is_standard_input name = bytes_eq name (codes "-") || bytes_eq name (codes "stdin")
 
--- names of outputs that mean standard output
-abbrev pub is_standard_output : Word → Bool
-is_standard_output name = bytes_eq name (codes "-") || bytes_eq name (codes "stdout")
-
--- the output of this name: none if it is standard output
+-- the output of this name: none if it is standard output, which `-` and `stdout` mean
 abbrev pub output_by : Option Word → Option Word
 output_by None = None
-output_by (Some name) = if is_standard_output name then None else Some name
+output_by (Some name) =
+    if bytes_eq name (codes "-") || bytes_eq name (codes "stdout") then None else Some name
 
 -- the records that are merged: with -s those of each strand separately, else those of the strand
 -- that is the value of -S, and without one all
@@ -93,27 +93,15 @@ strand_by true value = Each
 strand_by false None = All
 strand_by false (Some word) = One (strand_named word)
 
--- the strand whose records are counted, by the value of -strand; without one all are
-abbrev pub counted_strand_by : Option Word → Option Strand
-counted_strand_by value = option_map strand_named value
-
--- the number that the value of an option denotes, 0 without one
-abbrev pub number_by : Option Word → ℕ
-number_by value = unwrap_or (option_and_then number_of value) 0
-
--- how many records may be held, by the value of -held; without one that isn't limited
-abbrev pub limit_by : Option Word → Option ℕ
-limit_by value = option_and_then number_of value
-
--- the fraction that the value of an option denotes, in billionths, 0 without one
-abbrev pub billionths_by : Option Word → ℕ
-billionths_by value = unwrap_or (option_and_then fraction_of value) 0
+-- what the value of an option denotes, and without one that denotes something this
+abbrev pub denoted : {A : Type 0} → (Word → Option A) → A → Option Word → A
+denoted reading without value = unwrap_or (option_and_then reading value) without
 
 -- what makes a hit: the fraction of -f, of both records or of the first alone,
 -- and equal strands with -s
 abbrev pub rule_by : List Item → Bool → HitRule
 rule_by items both = record {
-  billionths = billionths_by (value_of items (codes "-f"));
+  billionths = denoted fraction_of 0 (value_of items (codes "-f"));
   both = both;
   same_strand = is_given items (codes "-s");
 }
@@ -134,41 +122,32 @@ shape_by items = if is_given items (codes "-u") then Once
     else (if is_given items (codes "-wo") then Overlap
     else hit_shape (is_given items (codes "-wa")) (is_given items (codes "-wb")))))
 
--- the character that stands for a masked base, by the value of -mc; without one it is `N`
-abbrev pub mask_by : Option Word → ℕ
-mask_by value = unwrap_or (option_and_then character_of value) 78
-
--- what stands for a masked base: with -soft its lower case
+-- what stands for a masked base: with -soft its lower case, else the character of -mc, or `N`
 abbrev pub mask_how_by : List Item → MaskHow
 mask_how_by items =
-    if is_given items (codes "-soft") then Soft else Hard (mask_by (value_of items (codes "-mc")))
+    if is_given items (codes "-soft") then Soft
+    else Hard (denoted character_of 78 (value_of items (codes "-mc")))
 
--- the command that the items mean
+-- the command that the items mean: with -held at most that many records are held, and with -strand
+-- those of one strand are counted
 abbrev pub command_by : Tool → List Item → Command
 command_by Merge items =
-    does.Merge (number_by (value_of items (codes "-d")))
+    does.Merge (denoted number_of 0 (value_of items (codes "-d")))
     (strand_by (is_given items (codes "-s")) (value_of items (codes "-S")))
 command_by Complement items = does.Complement (is_given items (codes "-L"))
 command_by Intersect items =
     does.Intersect (shape_by items) (rule_by items (is_given items (codes "-r")))
-    (limit_by (value_of items (codes "-held")))
+    (option_and_then number_of (value_of items (codes "-held")))
 command_by Subtract items =
     does.Subtract (is_given items (codes "-A")) (rule_by items false)
-    (limit_by (value_of items (codes "-held")))
+    (option_and_then number_of (value_of items (codes "-held")))
 command_by Coverage items =
     does.Coverage (is_given items (codes "-bga"))
-    (counted_strand_by (value_of items (codes "-strand")))
+    (option_map strand_named (value_of items (codes "-strand")))
 command_by BamToBed items =
     does.BamToBed (is_given items (codes "-split")) (is_given items (codes "-cigar"))
 command_by MaskFasta items =
     does.MaskFasta (mask_how_by items) (is_given items (codes "-fullHeader"))
-
--- the names of the inputs and of the output, as the items give them
-pub record Named : Type 0 where
-  pub genome : Option Word
-  pub first : Word
-  pub second : Option Word
-  pub output : Option Word
 
 -- the names that the items of a table give, a first input that is not named being `stdin`
 abbrev pub named_by : Table → List Item → Named
@@ -217,19 +196,10 @@ fault_together table items =
     else (if reads_twice (named_by table items) then Some input_named_twice
     else None))
 
--- the plan of a command with these names
-abbrev pub plan_with : Command → Named → PlanSeen
-plan_with command named = record {
-  command = command;
-  genome = named.genome;
-  first = named.first;
-  second = named.second;
-  output = named.output;
-}
-
 -- the plan that the items of a command mean
 abbrev pub plan_of : Tool → List Item → PlanSeen
-plan_of tool items = plan_with (command_by tool items) (named_by (table_of tool) items)
+plan_of tool items =
+    record { command = command_by tool items; names = named_by (table_of tool) items }
 
 -- the plan of the items, or what they have or lack together
 abbrev pub checked : Tool → List Item → Result PlanSeen Usage

@@ -1,13 +1,12 @@
 -- The commands, and for each its options, those that it requires, and what their values name.
 -- The options are those of the tool's page in the bedtools manual; that merge has `-g`, and intersect
--- and subtract `-held`, is this program's own rule. A later command is a row of `commands` and a table.
-use Rattle.std.specs.Prelude.{ℕ, Bool, false, true, ◌||◌, List, [], ◌∷◌, Option, Some, None}
-use Rattle.std.specs.Prelude.{bytes_eq, codes, find, is_some, length, nat_lt, option_map, IsTrue}
-use Rattle.std.specs.Prelude.{IsSome, IsNone}
+-- and subtract `-held`, is this program's own rule. A later command is a name and a table.
+use Rattle.std.specs.Prelude.{ℕ, Bool, false, true, ◌&&◌, ◌||◌, List, [], ◌∷◌, Option, Some, None}
+use Rattle.std.specs.Prelude.{bytes_eq, codes, find, if◌then◌else◌, is_some, length, nat_le, nat_lt}
+use Rattle.std.specs.Prelude.{option_map, IsTrue, IsSome, IsNone}
 use Rattle.std.specs.List.{list_any}
 use Rattle.std.specs.Option.{option_map_or}
 use Rattle.bt_lines.specs.model.Number.{value_of as number_of}
-use Rattle.bt_tool.specs.model.usage.Character.{character_of}
 use Rattle.bt_tool.specs.model.usage.Fraction.{fraction_of}
 use Rattle.bt_tool.specs.declared.planning.plan_type.Command.{Command}
 use Rattle.bt_tool.specs.declared.planning.plan_type.Command.TheVariants as does
@@ -22,6 +21,16 @@ use Rattle.bt_tool.specs.declared.planning.tool.Tool.TheVariants.{MaskFasta}
 -- a word of the command line, as its bytes
 abbrev pub Word : Type 0
 Word = List ℕ
+
+-- the printable characters of ASCII, no space
+abbrev pub is_printable : ℕ → Bool
+is_printable byte = nat_le 33 byte && nat_le byte 126
+
+-- the byte of a word of one of them
+abbrev pub character_of : List ℕ → Option ℕ
+character_of [] = None
+character_of (byte ∷ []) = if is_printable byte then Some byte else None
+character_of (byte ∷ next ∷ bytes) = None
 
 -- Whether an option may have this value, or none. A file name isn't empty, a number is
 -- one of bt_lines, a fraction is at most 1, a strand is `+` or `-`,
@@ -89,22 +98,15 @@ plain_table first = record {
 
 abbrev pub merge_table : Table
 merge_table = record (plain_table (codes "-i")) {
-  options = row (codes "-i") FileName
-      ∷ row (codes "-g") FileName
-      ∷ row (codes "-d") Number
-      ∷ row (codes "-s") Nothing
-      ∷ row (codes "-S") Strand
-      ∷ [];
+  options = row (codes "-i") FileName ∷ row (codes "-g") FileName ∷ row (codes "-d") Number
+      ∷ row (codes "-s") Nothing ∷ row (codes "-S") Strand ∷ [];
   exclusive = (codes "-s", codes "-S") ∷ [];
   genome = Some (codes "-g");
 }
 
 abbrev pub complement_table : Table
 complement_table = record (plain_table (codes "-i")) {
-  options = row (codes "-i") FileName
-      ∷ row (codes "-g") FileName
-      ∷ row (codes "-L") Nothing
-      ∷ [];
+  options = row (codes "-i") FileName ∷ row (codes "-g") FileName ∷ row (codes "-L") Nothing ∷ [];
   required = codes "-g" ∷ [];
   genome = Some (codes "-g");
 }
@@ -113,21 +115,11 @@ complement_table = record (plain_table (codes "-i")) {
 -- where it changes nothing.
 abbrev pub intersect_table : Table
 intersect_table = record (plain_table (codes "-a")) {
-  options = row (codes "-a") FileName
-      ∷ row (codes "-b") FileName
-      ∷ row (codes "-g") FileName
-      ∷ row (codes "-wa") Nothing
-      ∷ row (codes "-wb") Nothing
-      ∷ row (codes "-wo") Nothing
-      ∷ row (codes "-u") Nothing
-      ∷ row (codes "-v") Nothing
-      ∷ row (codes "-c") Nothing
-      ∷ row (codes "-f") Fraction
-      ∷ row (codes "-r") Nothing
-      ∷ row (codes "-s") Nothing
-      ∷ row (codes "-sorted") Nothing
-      ∷ row (codes "-held") Number
-      ∷ [];
+  options = row (codes "-a") FileName ∷ row (codes "-b") FileName ∷ row (codes "-g") FileName
+      ∷ row (codes "-wa") Nothing ∷ row (codes "-wb") Nothing ∷ row (codes "-wo") Nothing
+      ∷ row (codes "-u") Nothing ∷ row (codes "-v") Nothing ∷ row (codes "-c") Nothing
+      ∷ row (codes "-f") Fraction ∷ row (codes "-r") Nothing ∷ row (codes "-s") Nothing
+      ∷ row (codes "-sorted") Nothing ∷ row (codes "-held") Number ∷ [];
   required = codes "-a" ∷ codes "-b" ∷ [];
   exclusive = (codes "-wa", codes "-wo") ∷ (codes "-wb", codes "-wo") ∷ (codes "-wb", codes "-u")
       ∷ (codes "-wb", codes "-v") ∷ (codes "-wb", codes "-c") ∷ (codes "-wo", codes "-u")
@@ -140,14 +132,9 @@ intersect_table = record (plain_table (codes "-a")) {
 -- The fraction of subtract is always that of the first record alone.
 abbrev pub subtract_table : Table
 subtract_table = record (plain_table (codes "-a")) {
-  options = row (codes "-a") FileName
-      ∷ row (codes "-b") FileName
-      ∷ row (codes "-g") FileName
-      ∷ row (codes "-A") Nothing
-      ∷ row (codes "-f") Fraction
-      ∷ row (codes "-s") Nothing
-      ∷ row (codes "-held") Number
-      ∷ [];
+  options = row (codes "-a") FileName ∷ row (codes "-b") FileName ∷ row (codes "-g") FileName
+      ∷ row (codes "-A") Nothing ∷ row (codes "-f") Fraction ∷ row (codes "-s") Nothing
+      ∷ row (codes "-held") Number ∷ [];
   required = codes "-a" ∷ codes "-b" ∷ [];
   genome = Some (codes "-g");
   second = Some (codes "-b");
@@ -156,12 +143,8 @@ subtract_table = record (plain_table (codes "-a")) {
 -- One of -bg and -bga has to be given, and both together are -bga.
 abbrev pub coverage_table : Table
 coverage_table = record (plain_table (codes "-i")) {
-  options = row (codes "-i") FileName
-      ∷ row (codes "-g") FileName
-      ∷ row (codes "-bg") Nothing
-      ∷ row (codes "-bga") Nothing
-      ∷ row (codes "-strand") Strand
-      ∷ [];
+  options = row (codes "-i") FileName ∷ row (codes "-g") FileName ∷ row (codes "-bg") Nothing
+      ∷ row (codes "-bga") Nothing ∷ row (codes "-strand") Strand ∷ [];
   required = codes "-g" ∷ [];
   one_of = codes "-bg" ∷ codes "-bga" ∷ [];
   genome = Some (codes "-g");
@@ -169,21 +152,15 @@ coverage_table = record (plain_table (codes "-i")) {
 
 abbrev pub bamtobed_table : Table
 bamtobed_table = record (plain_table (codes "-i")) {
-  options = row (codes "-i") FileName
-      ∷ row (codes "-split") Nothing
-      ∷ row (codes "-cigar") Nothing
+  options = row (codes "-i") FileName ∷ row (codes "-split") Nothing ∷ row (codes "-cigar") Nothing
       ∷ [];
 }
 
 abbrev pub maskfasta_table : Table
 maskfasta_table = record (plain_table (codes "-fi")) {
-  options = row (codes "-fi") FileName
-      ∷ row (codes "-bed") FileName
-      ∷ row (codes "-fo") FileName
-      ∷ row (codes "-soft") Nothing
-      ∷ row (codes "-mc") Character
-      ∷ row (codes "-fullHeader") Nothing
-      ∷ [];
+  options = row (codes "-fi") FileName ∷ row (codes "-bed") FileName ∷ row (codes "-fo") FileName
+      ∷ row (codes "-soft") Nothing ∷ row (codes "-mc") Character
+      ∷ row (codes "-fullHeader") Nothing ∷ [];
   required = codes "-fi" ∷ codes "-bed" ∷ [];
   exclusive = (codes "-soft", codes "-mc") ∷ [];
   second = Some (codes "-bed");
@@ -199,16 +176,6 @@ table_of Coverage = coverage_table
 table_of BamToBed = bamtobed_table
 table_of MaskFasta = maskfasta_table
 
--- the tools by their names
-abbrev pub commands : List (Word × Tool)
-commands =
-    (codes "merge", Merge) ∷ (codes "complement", Complement) ∷ (codes "intersect", Intersect)
-    ∷ (codes "subtract", Subtract) ∷ (codes "genomecov", Coverage) ∷ (codes "bamtobed", BamToBed)
-    ∷ (codes "maskfasta", MaskFasta) ∷ []
-
-abbrev pub command_named : Word → Option Tool
-command_named word = option_map (λ row. row.1) (find (λ row. bytes_eq word row.0) commands)
-
 -- the word that names a tool
 abbrev pub tool_name : Tool → Word
 tool_name Merge = codes "merge"
@@ -218,6 +185,10 @@ tool_name Subtract = codes "subtract"
 tool_name Coverage = codes "genomecov"
 tool_name BamToBed = codes "bamtobed"
 tool_name MaskFasta = codes "maskfasta"
+
+abbrev pub command_named : Word → Option Tool
+command_named word = find (λ tool. bytes_eq word (tool_name tool))
+    (Merge ∷ Complement ∷ Intersect ∷ Subtract ∷ Coverage ∷ BamToBed ∷ MaskFasta ∷ [])
 
 -- the tool of a command
 abbrev pub tool_of : Command → Tool

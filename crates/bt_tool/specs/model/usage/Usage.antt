@@ -3,11 +3,10 @@ use Rattle.std.specs.Prelude.{ℕ, ◌<◌, ◌≤◌, Bool, List, [], ◌∷◌
 use Rattle.std.specs.Prelude.{if◌then◌else◌, nat_eq, nat_le, slice_index_or}
 use Rattle.bt_tool.specs.declared.options.usage.Usage.{Usage}
 use Rattle.bt_tool.specs.declared.options.usage.UsageKind.{UsageKind}
-use Rattle.bt_tool.specs.declared.options.usage.UsageKind.TheVariants.{NoCommand, UnknownOption}
-use Rattle.bt_tool.specs.declared.options.usage.UsageKind.TheVariants.{ValueMissing, BadValue}
+use Rattle.bt_tool.specs.declared.options.usage.UsageKind.TheVariants.{BadValue, InputNamedTwice}
+use Rattle.bt_tool.specs.declared.options.usage.UsageKind.TheVariants.{NoCommand, OptionsExclusive}
 use Rattle.bt_tool.specs.declared.options.usage.UsageKind.TheVariants.{RequiredMissing}
-use Rattle.bt_tool.specs.declared.options.usage.UsageKind.TheVariants.{OptionsExclusive}
-use Rattle.bt_tool.specs.declared.options.usage.UsageKind.TheVariants.{InputNamedTwice}
+use Rattle.bt_tool.specs.declared.options.usage.UsageKind.TheVariants.{UnknownOption, ValueMissing}
 use Rattle.bt_tool.specs.model.usage.Table.{Word}
 
 abbrev pub number_of : UsageKind → ℕ

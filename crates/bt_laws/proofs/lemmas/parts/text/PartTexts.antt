@@ -1,18 +1,16 @@
 -- The reports of bamtobed, merge, intersect and subtract on two concatenated texts, and on any number.
 use Rattle.bt_lines.proofs.Std.{◌≡◌, ℕ, Bool, List, [], ◌∷◌, ◌++◌, append-nil, Option, Some, None, refl, sym, ap, ◌∙◌, map, Ok, ap₂, flat_map-append, IsTrue, AllByRecursion}
-use Rattle.bt_lines.specs.model.Fault.{FaultValue}
 use Rattle.bt_lines.specs.model.Lines.{lines_from, text_lines}
 use Rattle.bt_lines.specs.declared.fault.Input.TheVariants.{First, Second}
 use Rattle.bt_bed.specs.model.input.Good.{Good, good, good_from, items_in}
 use Rattle.bt_seq.specs.model.Alignment.{Alignment, alignment_of}
 use Rattle.bt_seq.specs.model.BedLines.{bed_lines}
 use Rattle.bt_seq.specs.model.GoodSam.{sam_format}
-use Rattle.bt_tool.specs.model.report.ConvertReport.{alignment_lines}
 use Rattle.bt_laws.specs.parts.Parts.{AreOfLines, StandsBefore, joined, ComeBefore, said_records}
-use Rattle.bt_tool.specs.model.report.RecordReport.{Report, good_report, report_by}
+use Rattle.bt_tool.specs.model.report.RecordReport.{Report, good_report}
 use Rattle.bt_tool.specs.model.report.Report.{report_of, chromosomes_of, report_on}
 use Rattle.bt_laws.specs.parts.SplitLaws.{bamtobed_divides, on_text, ArePairs, PairsAscend, Texts, TextsAscend, intersect_divides, joined_texts, merge_divides, on_texts, subtract_divides, PairsAddUp}
-use Rattle.bt_tool.specs.model.report.Written.{Written, merge_written}
+use Rattle.bt_tool.specs.model.report.Written.{alignment_lines, alignments_written, merge_written}
 use Rattle.bt_tool.specs.declared.planning.plan_type.Command.TheVariants.{BamToBed, Intersect, Merge, Subtract}
 use Rattle.bt_tool.proofs.lemmas.running.members.CameMembers.{good_whole}
 use Rattle.bt_laws.proofs.lemmas.parts.order.PartGood.{IsJoint, good_joint}
@@ -45,26 +43,15 @@ use Rattle.bt_laws.proofs.lemmas.parts.report.PartSweep.{AreSplit, sweep_report,
 use Rattle.bt_tool.specs.declared.planning.plan_type.Command.{Command}
 
 module _ (split cigar : Bool) where
-  -- each alignment settles its own lines
-  lines_written : Written Alignment
-  lines_written = record { whole = alignment_lines split cigar; settled = alignment_lines split cigar }
-
-  same_report : (members : List Alignment) (fault : Option FaultValue) → report_by lines_written members fault ≡ record { output = alignment_lines split cigar members; fault = fault }
-  unfolding lines_written
-  same_report members None = refl
-  same_report members (Some fault) = refl
-
   on_sam : List ℕ → Report
-  on_sam text = good_report lines_written (good sam_format First (text_lines text))
+  on_sam text = good_report (alignments_written split cigar) (good sam_format First (text_lines text))
 
   sam_is : (text : List ℕ) → on_text (BamToBed split cigar) None text ≡ on_sam text
   unfolding report_of on_sam
   sam_is text =
-      ap (λ (g : Good Alignment). record { output = alignment_lines split cigar (items_in g); fault = g.fault }) (good_whole sam_format First text)
-      ∙ sym (same_report (items_in (good sam_format First (text_lines text))) (good sam_format First (text_lines text)).fault)
+      ap (good_report (alignments_written split cigar)) (good_whole sam_format First text)
 
-  lines_split : (ones twos : List Alignment) → Splits lines_written lines_written lines_written ones twos
-  unfolding lines_written
+  lines_split : (ones twos : List Alignment) → Splits (alignments_written split cigar) (alignments_written split cigar) (alignments_written split cigar) ones twos
   lines_split ones twos =
       let both = flat_map-append (bed_lines split cigar) ones twos in
       record { all = both; first = refl; begin = ([], sym (append-nil (alignment_lines split cigar (ones ++ twos)) ∙ both)) }
@@ -75,7 +62,7 @@ module _ (split cigar : Bool) where
   sam_joins : (one two : List ℕ) → StandsBefore one two → Joins (on_sam one) (on_sam two) (on_sam (one ++ two))
   unfolding on_sam
   sam_joins one two ends =
-      good_joins lines_written lines_written lines_written (good sam_format First (text_lines one)) (good sam_format First (text_lines two)) (good sam_format First (text_lines (one ++ two))) (sam_joint one two ends) (lines_split _ _)
+      good_joins (alignments_written split cigar) (alignments_written split cigar) (alignments_written split cigar) (good sam_format First (text_lines one)) (good sam_format First (text_lines two)) (good sam_format First (text_lines (one ++ two))) (sam_joint one two ends) (lines_split _ _)
 
   text_joins : (one two : List ℕ) → StandsBefore one two → Joins (on_text (BamToBed split cigar) None one) (on_text (BamToBed split cigar) None two) (on_text (BamToBed split cigar) None (one ++ two))
   text_joins one two ends = rw (sam_is one, sam_is two, sam_is (one ++ two)) (sam_joins one two ends)

@@ -5,7 +5,7 @@ use Rattle.bt_lines.proofs.lemmas.reader.block.ReadsLemmas.{some_is}
 use Rattle.bt_lines.specs.model.Fault.{FaultValue, read_failed}
 use Rattle.bt_lines.specs.model.Lines.{TextLine, text_lines}
 use Rattle.bt_lines.specs.calls.Output.{Output, HoldsBlock}
-use Rattle.bt_lines.specs.calls.Putting.{Grown}
+use Rattle.bt_lines.specs.calls.Putting.{FailsToAdd, Grown}
 use Rattle.bt_lines.specs.calls.Reader.{GivesEnd, GivesFault, GivesLine, IsKept, IsSound, source_of, input_of, bytes_taken, fault_kept, feeds_taken, lines_given, lines_left}
 use Rattle.bt_lines.specs.declared.fault.Input.{Input}
 use Rattle.bt_lines.specs.declared.fault.Input.TheVariants.{First}
@@ -19,17 +19,15 @@ use Rattle.bt_seq.specs.calls.BamToBedState.{Converting}
 use Rattle.bt_seq.specs.model.GoodSam.{sam_format}
 use Rattle.bt_seq.specs.model.SamKind.{is_sam_kind}
 use Rattle.bt_seq.proofs.lemmas.sam.SamKindLemmas.{kinds_of_lines, wrong_kinds}
-use Rattle.bt_tool.specs.model.usage.Kinds.{IsOneOf}
-use Rattle.bt_tool.specs.model.report.ConvertReport.{alignment_lines}
-use Rattle.bt_tool.specs.inside.feed.ConvertSteps.{LineRefused, LineUnwritten, LineWritten, sam_reader}
-use Rattle.bt_tool.specs.model.report.Behaviour.{of_bamtobed, of_members}
-use Rattle.bt_tool.specs.calls.run.Writing.{WritesAlone}
+use Rattle.bt_tool.specs.model.report.RecordReport.{IsOneOf}
+use Rattle.bt_tool.specs.inside.feed.ConvertSteps.{LineRefused, sam_reader}
+use Rattle.bt_tool.specs.model.report.Behaviour.{of_members}
+use Rattle.bt_tool.specs.calls.run.Writing.{WritesBy}
 use Rattle.bt_tool.specs.inside.feed.Feeding.{FeedsAll, FeedsUpTo, IsFresh}
 use Rattle.bt_tool.proofs.lemmas.running.members.Filled.{IsStopped}
 use Rattle.bt_tool.specs.inside.feed.Passed.{KeepsOwnFault, Passes, member_items}
-use Rattle.bt_tool.specs.model.report.RecordReport.{report_by}
 use Rattle.bt_tool.specs.calls.run.OwnReads.{IsOwnFailure, TellsOwnReads}
-use Rattle.bt_tool.specs.model.report.Written.{Written}
+use Rattle.bt_tool.specs.model.report.Written.{alignment_lines, alignments_written}
 use Rattle.bt_tool.proofs.lemmas.running.feed.DrivingLemmas.{drives_all, drives_fault}
 use Rattle.bt_tool.proofs.lemmas.running.feed.FeedLemmas.{Fed, fails_writing, fed_all, fed_none, fed_up_to, goes_same, put_more}
 use Rattle.bt_tool.proofs.lemmas.running.members.LinePassing.{came, passes_none, passes_some, read_line}
@@ -37,7 +35,6 @@ use Rattle.bt_bed.proofs.lemmas.read.good.ReadingLemmas.{Going as Steps, going_e
 use Rattle.bt_tool.proofs.lemmas.running.members.CameMembers.{BeginsAt, begins_over}
 use Rattle.bt_tool.proofs.lemmas.running.feed.FaultLemmas.{line_no_read}
 use Rattle.bt_tool.proofs.lemmas.running.whole.OwnFailureLemmas.{feeds_own}
-use Rattle.bt_tool.proofs.lemmas.running.feed.WritingLemmas.{alone_writes}
 
 -- an alignment on its line
 abbrev member_on : TextLine → Alignment → Member Alignment
@@ -119,15 +116,15 @@ module _ {S : Type 0} (split cigar : Bool) (device : Source S) where
         with_it a says = passes_some device (sam_reader old) (sam_reader now) g.past g.fed.passes (sam_reader new) line gives kept refl refl gives.goes a says refl
 
         -- the lines of its alignment couldn't be written
-        pub stops_writing : (converting : Converting) → converting.split ≡ split → converting.with_cigar ≡ cigar → (fault : FaultValue) (later : Output) → (unwritten : LineUnwritten converting line grown fault later)
+        pub stops_writing : (converting : Converting) → converting.split ≡ split → converting.with_cigar ≡ cigar → (fault : FaultValue) (later : Output) → ((said : Alignment) × (alignment_of line.text ≡ Ok (Some said)) × FailsToAdd grown (bed_lines converting.split converting.with_cigar said) fault later)
             → UpTo fault (sam_reader new) later
         stops_writing converting same same_cigar fault later unwritten =
-            let a = unwritten.said in
-            let fails = unwritten.fails.puts in
+            let a = unwritten.0 in
+            let fails = unwritten.2.puts in
             let lines = bed_lines converting.split converting.with_cigar a in
             let is : lines ≡ bed_lines split cigar a = ap (λ s. bed_lines s converting.with_cigar a) same ∙ ap (λ c. bed_lines split c a) same_cigar in
-            fails_writing lines_of (IsOneOf is_sam_kind) Any device (sam_reader old) out g.past (g.past ++ member_on line a ∷ []) a (map-append (λ m. m.item) g.past (member_on line a ∷ [])) (sam_reader new) (with_it a unwritten.says)
-            (read_line device (sam_reader old) (sam_reader now) g.past g.fed.passes (sam_reader new) line gives kept refl refl gives.goes a unwritten.says refl)
+            fails_writing lines_of (IsOneOf is_sam_kind) Any device (sam_reader old) out g.past (g.past ++ member_on line a ∷ []) a (map-append (λ m. m.item) g.past (member_on line a ∷ [])) (sam_reader new) (with_it a unwritten.1)
+            (read_line device (sam_reader old) (sam_reader now) g.past g.fed.passes (sam_reader new) line gives kept refl refl gives.goes a unwritten.1 refl)
             grown g.fed.put tt fault later lines
             (pushed a ∙ ap (λ l. lines_of (member_items g.past) ++ l) (sym is)) fails.is fails.front fails.failed fails.sink_failed fails.grows
 
@@ -147,25 +144,15 @@ module _ {S : Type 0} (split cigar : Bool) (device : Source S) where
             goes_with (g.past ++ member_on line a ∷ []) (bed_lines split cigar a) later (with_it a says) (ap lines_of (map-append (λ m. m.item) g.past (member_on line a ∷ [])) ∙ pushed a) writes
 
         -- what it says was written
-        pub going_line : (converting after : Converting) → converting.split ≡ split → converting.with_cigar ≡ cigar → (later : Output) → LineWritten converting line grown after later → Going old out new later
+        pub going_line : (converting after : Converting) → converting.split ≡ split → converting.with_cigar ≡ cigar → (later : Output) → ((said : Option Alignment) × (alignment_of line.text ≡ Ok said) × Grown grown (lines_if converting.split converting.with_cigar said) later × (after ≡ converting)) → Going old out new later
         going_line converting after same same_cigar later written =
-            goes_by written.said later written.says
-            (subst (λ s. Grown grown (lines_if s cigar written.said) later) same (subst (λ c. Grown grown (lines_if converting.split c written.said) later) same_cigar written.writes))
+            goes_by written.0 later written.1
+            (subst (λ s. Grown grown (lines_if s cigar written.0) later) same (subst (λ c. Grown grown (lines_if converting.split c written.0) later) same_cigar written.2))
 
 -- a line that was refused is no failed read
 pub refused_no_read : (input : Input) (line : TextLine) (out : Output) (fault : FaultValue) (grown : Output) → LineRefused input line out fault grown → (other : Input) (at : ℕ) → Some fault ≡ Some (read_failed other at) → ⊥
 refused_no_read input line out fault grown refused other at e =
     line_no_read input line.number refused.kind other at (kinds_of_lines refused.kind (wrong_kinds line.text refused.kind refused.says)) (sym refused.is ∙ some_is fault (read_failed other at) e)
-
--- what bamtobed writes of its alignments: the lines of each, whatever comes after it
-abbrev bamtobed_written : Bool → Bool → Written Alignment
-bamtobed_written split cigar = record { whole = alignment_lines split cigar; settled = alignment_lines split cigar }
-
--- that is its report
-reported : (split cigar : Bool) (members : List Alignment) (fault : Option FaultValue)
-    → report_by (bamtobed_written split cigar) members fault ≡ record { output = alignment_lines split cigar members; fault = fault }
-reported split cigar members None = refl
-reported split cigar members (Some fault) = refl
 
 -- a reader that has given nothing yet, over the input of a run
 module _ {S : Type 0} (split cigar : Bool) (device : Source S) (first : S) (reader : LineReader S) (source : source_of reader ≡ first) (input : input_of reader ≡ First)
@@ -178,27 +165,20 @@ module _ {S : Type 0} (split cigar : Bool) (device : Source S) (first : S) (read
 
   module _ (converting : Converting) (same : converting ≡ record { split = split; with_cigar = cigar; fault = None }) (out : Output) (new : MemberReader S Alignment ⊤) (last : S) (ended : source_of new.below ≡ last) (grown : Output) where
     abbrev Writes : Option FaultValue → Type 0
-    Writes fault = WritesAlone device (of_bamtobed split cigar) first out fault last grown
-
-    as_reported : (fault : Option FaultValue) → WritesAlone device (of_members (IsOneOf is_sam_kind) (bamtobed_written split cigar) sam_format) first out fault last grown → Writes fault
-    as_reported fault =
-        alone_writes device device (of_members (IsOneOf is_sam_kind) (bamtobed_written split cigar) sam_format) (of_bamtobed split cigar)
-        (λ one two. reported split cigar _ _) (λ two lines. refl) first None out fault last grown (λ t tells. tells)
+    Writes fault = WritesBy device device (of_members (IsOneOf is_sam_kind) (alignments_written split cigar) sam_format) first None out fault last None grown
 
     -- all of the input was read
     pub writes_all : FeedsAll (alignment_lines converting.split converting.with_cigar) (IsOneOf is_sam_kind) (λ past. ⊤) device (λ past. ⊤) (sam_reader reader) out new grown → Writes None
     writes_all fed =
         let is = subst (λ (m : Converting). FeedsAll (alignment_lines m.split m.with_cigar) (IsOneOf is_sam_kind) (λ past. ⊤) device (λ past. ⊤) (sam_reader reader) out new grown) same fed in
-        as_reported None
-        (drives_all (bamtobed_written split cigar) (IsOneOf is_sam_kind) (λ past. ⊤) (λ past. ⊤) more_lines more_lines device sam_format (λ text. tt) (sam_reader reader) first out starts_reader new last ended
-        (λ past. ⊤) grown is grown (goes_same grown) [] (sym (append-nil _)) (Appends-nil grown.put) refl)
+        drives_all (alignments_written split cigar) (IsOneOf is_sam_kind) (λ past. ⊤) (λ past. ⊤) more_lines more_lines device sam_format (λ text. tt) (sam_reader reader) first out starts_reader new last ended
+        (λ past. ⊤) grown is grown (goes_same grown) [] (sym (append-nil _)) (Appends-nil grown.put) refl
 
     -- or it was read up to a fault
     pub writes_up_to : (fault : FaultValue) → FeedsUpTo (alignment_lines converting.split converting.with_cigar) (IsOneOf is_sam_kind) (λ past. ⊤) device (sam_reader reader) out fault new grown → Writes (Some fault)
     writes_up_to fault fed =
-        as_reported (Some fault)
-        (drives_fault (bamtobed_written split cigar) (IsOneOf is_sam_kind) (λ past. ⊤) (λ past. ⊤) more_lines more_lines device sam_format (λ text. tt) (sam_reader reader) first out starts_reader new last ended
-        fault grown (subst (λ (m : Converting). FeedsUpTo (alignment_lines m.split m.with_cigar) (IsOneOf is_sam_kind) (λ past. ⊤) device (sam_reader reader) out fault new grown) same fed))
+        drives_fault (alignments_written split cigar) (IsOneOf is_sam_kind) (λ past. ⊤) (λ past. ⊤) more_lines more_lines device sam_format (λ text. tt) (sam_reader reader) first out starts_reader new last ended
+        fault grown (subst (λ (m : Converting). FeedsUpTo (alignment_lines m.split m.with_cigar) (IsOneOf is_sam_kind) (λ past. ⊤) device (sam_reader reader) out fault new grown) same fed)
 
     -- a failed read that is reported is of a read that failed then
     pub own_up_to : KeepsOwnFault device.is_read reader new → (fault : FaultValue) → FeedsUpTo (alignment_lines converting.split converting.with_cigar) (IsOneOf is_sam_kind) (λ past. ⊤) device (sam_reader reader) out fault new grown

@@ -32,17 +32,17 @@ use Rattle.bt_bed.specs.declared.read.records.Records.{Records}
 use Rattle.bt_bed.proofs.lemmas.definitions.GoodBedLemmas.{placed_good, non_empty_good}
 use Rattle.bt_tool.specs.calls.run.FaultSource.{IsFaultButWrite, IsReported, IsWithin, ReadsNoFurther, TellsDevice, TellsInput}
 use Rattle.bt_tool.specs.model.report.Behaviour.{of_members}
-use Rattle.bt_tool.specs.model.report.Inputs.{Holds, HoldsIf}
-use Rattle.bt_tool.specs.calls.run.Writing.{WritesAlone}
+use Rattle.bt_tool.specs.model.report.Inputs.{Holds, OfBoth}
+use Rattle.bt_tool.specs.calls.run.Writing.{WritesBy}
 use Rattle.bt_tool.proofs.lemmas.running.members.Coming.{Came}
-use Rattle.bt_tool.specs.inside.feed.Feeding.{StopCause, CutsLines, PutsFront, PutsLines, FeedsAll, FeedsUpTo, GoesOn, TookButBlock}
+use Rattle.bt_tool.specs.inside.feed.Feeding.{StopCause, CutsLines, PutsLines, FeedsAll, FeedsUpTo, TookButBlock}
 use Rattle.bt_tool.specs.inside.feed.Passed.{IsReadFor, member_items}
 use Rattle.bt_tool.specs.model.report.RecordReport.{Report, members_report, members_settle, report_by}
 use Rattle.bt_tool.specs.model.report.Written.{Written}
-use Rattle.bt_tool.proofs.lemmas.running.feed.FeedLemmas.{front_all, goes_works, text_grows, took_later}
+use Rattle.bt_tool.proofs.lemmas.running.feed.FeedLemmas.{GoesOn, front_all, goes_works, text_grows, took_later}
 use Rattle.bt_tool.proofs.lemmas.running.feed.FaultLemmas.{memory_no_write, placed_no_write}
 use Rattle.bt_tool.proofs.lemmas.running.members.CameMembers.{BeginsAt, at_whole, came_whole, good_whole, handed_to, says_fault, tells_fault}
-use Rattle.bt_tool.proofs.lemmas.running.members.SeenLemmas.{puts_front}
+use Rattle.bt_tool.proofs.lemmas.running.members.SeenLemmas.{PutsFront, puts_front}
 use Rattle.bt_tool.proofs.lemmas.running.feed.WritingLemmas.{is_whole, named_alone}
 
 items_both : {A : Type 0} (past rest : List (Member A)) → member_items (past ++ rest) ≡ member_items past ++ member_items rest
@@ -187,7 +187,7 @@ module _ {S A State : Type 0} (written : Written A) (kinds : Kind → Type 0) (S
         elim taking.cause [ inl behind ↦ inl (tells_fault device format First first old starts new last ended kinds past fault hands behind) | inr lacks ↦ inr (inr lacks.is) ]
     named_by past hands (inr writing) = inr (inl (writing.is, writing.cuts.sink_failed))
 
-    pub drives_fault : FeedsUpTo written.settled kinds Sorted device old out fault new grown → WritesAlone device (of_members kinds written format) first out (Some fault) last grown
+    pub drives_fault : FeedsUpTo written.settled kinds Sorted device old out fault new grown → WritesBy device device (of_members kinds written format) first None out (Some fault) last None grown
     drives_fault fed = record {
       whole = λ one two before reads others put write memory. reported_by fed.past one before (inl reads) put write memory fed.took.bytes fed.cause;
       told = λ one two before holds others put is. reported_by fed.past one before (inr (is_whole device first last (Some fault) one holds is)) put is.no_write is.no_growth fed.took.bytes fed.cause;
@@ -207,7 +207,7 @@ module _ {S A State : Type 0} (written : Written A) (kinds : Kind → Type 0) (S
 
   module _ (Stands : List A → Type 0) (grown : Output) (fed : FeedsAll written.settled kinds Sorted device Stands old out new grown) (finished : Output) (goes : GoesOn grown finished) where
     abbrev Ends : Option FaultValue → Type 0
-    Ends fault = WritesAlone device (of_members kinds written format) first out fault last finished
+    Ends fault = WritesBy device device (of_members kinds written format) first None out fault last None finished
 
     -- the report if all records were taken
     report_all : (other : Option FaultValue) (handed : Handed) → Came device first last other handed → report handed ≡ report_by written (member_items fed.past) None
@@ -218,7 +218,7 @@ module _ {S A State : Type 0} (written : Written A) (kinds : Kind → Type 0) (S
     report_whole : (one : Handed) → Holds device.left first one → report one ≡ report_by written (member_items fed.past) None
     report_whole one holds = rw holds.is (report_of (whole_text holds.text) fed.past None (of_text holds.text holds.known (λ good. (good.members ≡ fed.past) × (good.fault ≡ None)) fed.whole))
 
-    near_end : (fault : Option FaultValue) → (IsFaultButWrite fault → ⊥) → (one : Handed) (two : Option Handed) (before taken : List ℕ) → Holds device.left first one → HoldsIf device.left None two → out.put ≡ Some before → out.took ≡ Some taken
+    near_end : (fault : Option FaultValue) → (IsFaultButWrite fault → ⊥) → (one : Handed) (two : Option Handed) (before taken : List ℕ) → Holds device.left first one → OfBoth (Holds device.left) None two → out.put ≡ Some before → out.took ≡ Some taken
         → ReadsNoFurther (λ n. IsWithin (device.end_told last) one.text n → ⊤) (members_settle written format) one.text (device.left last) before finished.took (finished.has_failed ≡ true) (IsFaultButWrite fault) finished.put
     near_end fault never one two before taken holds others put known =
         near_by one before taken holds put known fed.took.bytes fed.took.before fed.took.read finished

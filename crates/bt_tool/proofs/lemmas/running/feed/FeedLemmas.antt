@@ -30,8 +30,8 @@ use Rattle.bt_bed.specs.calls.CursorLaws.{batch_gives_more}
 use Rattle.bt_bed.specs.declared.read.batch.Batch.{Batch}
 use Rattle.bt_runs.specs.calls.Engine.{FailsAtGiven, FeedsBatch, NotTaken, TakesEach}
 use Rattle.bt_tool.specs.calls.run.FaultSource.{IsPutTo}
-use Rattle.bt_tool.specs.inside.feed.Feeding.{HasPut, AreInOrder, GoesOn, IsFresh, Took, TookButBlock, FeedsAll, FeedsUpTo}
-use Rattle.bt_tool.specs.inside.feed.FeedsBuffered.{ConsumesGiven}
+use Rattle.bt_tool.specs.inside.feed.Feeding.{HasPut, AreInOrder, IsFresh, Took, TookButBlock, FeedsAll, FeedsUpTo}
+use Rattle.bt_tool.specs.inside.feed.Feeding.{ConsumesGiven}
 use Rattle.bt_tool.specs.inside.feed.Passed.{HasTaken, IsReadFor, Passes, member_items}
 use Rattle.bt_tool.proofs.lemmas.running.members.Filled.{IsFilled, IsOver, IsStopped}
 use Rattle.bt_tool.proofs.lemmas.running.feed.ComeLemmas.{begins_with}
@@ -79,6 +79,12 @@ took_more_than (Some first) (Some took) None taken size e f g h = absurd g.1
 took_more_than (Some first) (Some took) (Some more) taken size e f g h =
     let parts : more ≡ took ++ g.0 = g.1 in
     omega (arith, ap length parts, length-append took g.0, h)
+
+-- an output later on: the sink took no less, and unless a write failed no less was put
+pub record GoesOn (old new : Output) : Type 0 where
+  pub took : Grows old.took new.took
+  pub put : (new.has_failed ≡ true) ⊎ Grows old.put new.put
+  pub stays_failed : old.has_failed ≡ true → new.has_failed ≡ true
 
 -- an output goes on as it is, after a failed write, or as it works
 pub goes_same : (out : Output) → GoesOn out out

@@ -29,9 +29,9 @@ use Rattle.bt_runs.proofs.lemmas.order.RunOrder.{ordered_come}
 use Rattle.bt_runs.proofs.lemmas.merge.SettledRuns.{runs_begin, runs_stay}
 use Rattle.bt_runs.proofs.lemmas.merge.StrandSettling.{begin, no_strand_settled, stay}
 use Rattle.bt_tool.specs.model.report.Behaviour.{of_records}
-use Rattle.bt_tool.specs.inside.feed.RunsBy.{RunsAlone}
+use Rattle.bt_tool.specs.calls.run.Writing.{RunsAlone}
 use Rattle.bt_tool.proofs.lemmas.running.feed.WritingLemmas.{alone_writes}
-use Rattle.bt_tool.specs.model.report.RecordReport.{records_report, records_settle, report_by}
+use Rattle.bt_tool.specs.model.report.RecordReport.{members_report, members_settle, report_by}
 use Rattle.bt_tool.specs.model.report.Written.{Written, merge_written, pooled_written, coverage_written}
 use Rattle.bt_bed.specs.declared.record.strand.Strand.{Strand}
 use Rattle.bt_runs.specs.model.Depth.{coverage, depth_line, depth_lines, settled_depths}
@@ -116,13 +116,13 @@ module _ (order : Order) (total : IsTotal order) where
 
   -- so what a merge writes, chromosomes as they come, is the report
   merge_reports : (d : ℕ) (strand : MergeStrand) (handed : Handed)
-      → records_report (merge_as_they_come (merge_begun d strand)) order handed ≡ records_report (merge_written order d strand) order handed
+      → members_report (merge_as_they_come (merge_begun d strand)) (bed_format (sorting_of order)) handed ≡ members_report (merge_written order d strand) (bed_format (sorting_of order)) handed
   merge_reports d strand handed =
       let good = bed_good First order handed in
       report_same d strand (items_in good) good.fault (placed_good First order handed total)
 
   merge_settles : (d : ℕ) (strand : MergeStrand) (lines : List TextLine)
-      → records_settle (merge_as_they_come (merge_begun d strand)) order lines ≡ records_settle (merge_written order d strand) order lines
+      → members_settle (merge_as_they_come (merge_begun d strand)) (bed_format (sorting_of order)) lines ≡ members_settle (merge_written order d strand) (bed_format (sorting_of order)) lines
   merge_settles d strand lines =
       settled_same d strand (items_in (good (bed_format (sorting_of order)) First lines)) (placed_lines First order lines total)
 
@@ -133,8 +133,8 @@ module _ (order : Order) (total : IsTotal order) where
       → RunsAlone device (of_records order (merge_written order d strand)) first out fault new grown
   merge_runs device d strand merge begun first out fault new grown runs = record {
     written = alone_writes device device (of_records order (merge_as_they_come merge)) (of_records order (merge_written order d strand))
-        (λ one two. ap (λ m. records_report (merge_as_they_come m) order one) begun ∙ merge_reports d strand one)
-        (λ two lines. ap (λ m. records_settle (merge_as_they_come m) order lines) begun ∙ merge_settles d strand lines)
+        (λ one two. ap (λ m. members_report (merge_as_they_come m) (bed_format (sorting_of order)) one) begun ∙ merge_reports d strand one)
+        (λ two lines. ap (λ m. members_settle (merge_as_they_come m) (bed_format (sorting_of order)) lines) begun ∙ merge_settles d strand lines)
         first None out fault new grown (λ t tells. tells) runs.written;
     reads = runs.reads;
     own_failure = runs.own_failure;

@@ -9,14 +9,14 @@ use Rattle.bt_lines.specs.declared.fault.Input.TheVariants.{First}
 use Rattle.bt_bed.specs.model.order.Genome.{Entry}
 use Rattle.bt_tool.specs.model.report.Behaviour.{Behaviour, behaviour_of}
 use Rattle.bt_tool.proofs.lemmas.running.members.Coming.{IsWhole}
-use Rattle.bt_tool.specs.model.report.Inputs.{HandsUpToIf, Holds, HoldsIf, ServesIf}
+use Rattle.bt_tool.specs.model.report.Inputs.{HandsUpTo, Holds, OfBoth, ServesIf}
 use Rattle.bt_tool.specs.model.report.RecordReport.{Report}
 use Rattle.bt_tool.specs.calls.run.FaultSource.{IsFaultButWrite, IsOfInput, IsPutTo, IsReported, IsWithin, ReadsNoFurther, TellsInput}
-use Rattle.bt_tool.specs.calls.run.Writing.{WritesAlone, WritesBy}
+use Rattle.bt_tool.specs.calls.run.Writing.{WritesBy}
 use Rattle.bt_tool.specs.declared.planning.plan_type.Command.{Command}
 
 -- an input that wasn't touched handed nothing over, and hasn't failed
-pub hands_none : {S : Type 0} (left : S → Option (List ℕ)) (source : Option S) (handed : Option Handed) (most : ℕ) → HoldsIf left source handed → HandsUpToIf left most source source
+pub hands_none : {S : Type 0} (left : S → Option (List ℕ)) (source : Option S) (handed : Option Handed) (most : ℕ) → OfBoth (Holds left) source handed → OfBoth (HandsUpTo left most) source source
 hands_none left None handed most holds = tt
 hands_none left (Some source) handed most holds = record { handed = []; consumed = Consumes-nil (left source); read = omega arith }
 
@@ -60,7 +60,7 @@ module _ {A B : Type 0} (source_a : Source A) (source_b : Source B) where
   -- what a command of one input writes, a second that isn't touched beside it, by a behaviour that says the same
   module _ (mine yours : Behaviour) (same : (one : Handed) (two : Option Handed) → mine.report one None ≡ yours.report one two) (same_settle : (two : Option Handed) (lines : List TextLine) → mine.settles None lines ≡ yours.settles two lines)
       (first : A) (second : Option B) (out : Output) (fault : Option FaultValue) (first_after : A) (grown : Output)
-      (same_kinds : (t : FaultValue) → TellsInput source_a mine.FirstKinds First first first_after t → TellsInput source_a yours.FirstKinds First first first_after t) (w : WritesAlone source_a mine first out fault first_after grown) where
+      (same_kinds : (t : FaultValue) → TellsInput source_a mine.FirstKinds First first first_after t → TellsInput source_a yours.FirstKinds First first first_after t) (w : WritesBy source_a source_a mine first None out fault first_after None grown) where
     pub alone_writes : WritesBy source_a source_b yours first second out fault first_after second grown
     alone_writes = record {
       whole = λ one two before reads others put write memory. subst (λ r. IsReported r before fault grown) (same one two) (w.whole one None before reads tt put write memory);
@@ -76,7 +76,7 @@ module _ {A B : Type 0} (source_a : Source A) (source_b : Source B) where
           let s = w.served none in
           ((s.0.0, serves_none source_b.has_failed second), s.1);
       near = λ one two before taken holds others put known.
-          near_as _ (λ n. IsWithin (source_a.end_told first_after) one.text n → HandsUpToIf source_b.left (yours.reaches two (take n (text_lines one.text)) + block_size) second second)
+          near_as _ (λ n. IsWithin (source_a.end_told first_after) one.text n → OfBoth (HandsUpTo source_b.left (yours.reaches two (take n (text_lines one.text)) + block_size)) second second)
           (λ n beside end. hands_none source_b.left second two (yours.reaches two (take n (text_lines one.text)) + block_size) others)
           (mine.settles None) (yours.settles two) (same_settle two) one.text (source_a.left first_after) before grown.took grown.took (grown.has_failed ≡ true) (grown.has_failed ≡ true) (IsFaultButWrite fault) (IsFaultButWrite fault) grown.put grown.put
           (λ size took. took) (λ size kept. kept) (λ bytes is stops. is stops) (w.near one None before taken holds tt put known);
@@ -91,7 +91,7 @@ module _ {A B : Type 0} (source_a : Source A) (source_b : Source B) where
       → ((one : Handed) (two : Option Handed) → (behaviour_of command chromosomes).report one None ≡ (behaviour_of command chromosomes).report one two)
       → ((two : Option Handed) (lines : List TextLine) → (behaviour_of command chromosomes).settles None lines ≡ (behaviour_of command chromosomes).settles two lines)
       → (is : Command) → is ≡ command → (first : A) (second : Option B) (out : Output) (fault : Option FaultValue) (first_after : A) (grown : Output)
-      → WritesAlone source_a (behaviour_of command chromosomes) first out fault first_after grown
+      → WritesBy source_a source_a (behaviour_of command chromosomes) first None out fault first_after None grown
       → WritesBy source_a source_b (behaviour_of is chromosomes) first second out fault first_after second grown
   behaves_alone command chromosomes same same_settle is e first second out fault first_after grown w =
       let behaviour = behaviour_of command chromosomes in

@@ -26,11 +26,12 @@ use Rattle.bt_seq.specs.model.Sequences.{Reached, SequenceLine, line_says, seque
 use Rattle.bt_tool.specs.inside.feed.Feeding.{member_items}
 use Rattle.bt_tool.specs.model.report.MaskReport.{is_fasta_kind}
 use Rattle.bt_tool.specs.declared.loops.masking.MaskRun.{MaskRun}
-use Rattle.bt_tool.specs.inside.pair.MaskLoop.{MaskEnds, Masks, leaves_some, line_members, nothing_reached, stage_of}
-use Rattle.bt_tool.specs.inside.pair.Pair.{JoinDef, Pair, SettlesPair, item_ahead}
+use Rattle.bt_tool.specs.inside.pair.MaskLoop.{Masks, leaves_some, line_members, nothing_reached, stage_of}
+use Rattle.bt_tool.proofs.lemmas.running.mask.MaskSteps.{MaskEnds}
+use Rattle.bt_tool.specs.inside.pair.Pair.{IsKnown, JoinDef, Pair, SettlesPair, item_ahead}
 use Rattle.bt_tool.proofs.lemmas.running.pair.Following.{Follows, TakesFurther}
-use Rattle.bt_tool.specs.inside.pair.Progress.{PairStage}
-use Rattle.bt_tool.specs.inside.pair.Endings.{AsksFor, IsKnown}
+use Rattle.bt_tool.specs.inside.pair.Pair.{PairStage}
+use Rattle.bt_tool.specs.inside.pair.Endings.{AsksFor}
 use Rattle.bt_tool.specs.inside.feed.Passed.{HasTaken}
 use Rattle.bt_tool.proofs.lemmas.running.feed.FaultLemmas.{line_no_read}
 use Rattle.bt_tool.proofs.lemmas.running.members.LineMembers.{has_taken, known_members, passes_known, refused, refuses, refuses_read, say_count, wrong_is_text}

@@ -34,9 +34,10 @@ use Rattle.bt_seq.specs.declared.mask.mask_how.MaskHow.{MaskHow}
 use Rattle.bt_seq.specs.declared.mask.mask_want.MaskWant.{MaskWant}
 use Rattle.bt_seq.specs.declared.mask.mask_want.MaskWant.TheVariants.{Line as WantLine, Bed as WantBed, Nothing}
 use Rattle.bt_tool.specs.declared.loops.masking.MaskRun.{MaskRun}
-use Rattle.bt_tool.specs.inside.pair.MaskLoop.{AdvancesMask, IsMaskReady, MaskEnds, Masks, mask_join, mask_left, mask_rounds}
+use Rattle.bt_tool.specs.inside.pair.MaskLoop.{Masks, mask_join, mask_rounds}
+use Rattle.bt_tool.proofs.lemmas.running.mask.MaskSteps.{AdvancesMask, IsMaskReady, MaskEnds, mask_left}
 use Rattle.bt_tool.specs.inside.pair.Pair.{SettlesPair, item_ahead}
-use Rattle.bt_tool.specs.inside.pair.Progress.{PairStage}
+use Rattle.bt_tool.specs.inside.pair.Pair.{PairStage}
 use Rattle.bt_tool.specs.inside.feed.Passed.{HasTaken}
 use Rattle.bt_tool.proofs.lemmas.running.members.MemberLemmas.{items_from, some_map}
 use Rattle.bt_tool.proofs.lemmas.running.mask.MaskAdvanced.{come_on, fails_write, lacks_room, refuses_line, settled}

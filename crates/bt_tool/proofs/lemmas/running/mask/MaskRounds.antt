@@ -24,7 +24,8 @@ use Rattle.bt_tool.specs.declared.loops.masking.MaskRun.{MaskRun}
 use Rattle.bt_tool.specs.calls.run.OwnReads.{TellsNoRead}
 use Rattle.bt_tool.specs.inside.feed.Passed.{IsOwnFault, KeepsOwnFault}
 use Rattle.bt_tool.proofs.lemmas.running.members.Filled.{IsFilled, IsOver}
-use Rattle.bt_tool.specs.inside.pair.MaskLoop.{AdvancesMask, GoesOn, MaskComes, MaskEnds, MaskIsOver, is_mask_ready, left_to_mask, wanted_by, IsMaskReady, Masks, mask_left, mask_rounds, line_members, mask_join, mask_pair, nothing_reached}
+use Rattle.bt_tool.specs.inside.pair.MaskLoop.{GoesOn, MaskComes, MaskIsOver, is_mask_ready, left_to_mask, wanted_by, Masks, mask_rounds, line_members, mask_join, mask_pair, nothing_reached}
+use Rattle.bt_tool.proofs.lemmas.running.mask.MaskSteps.{AdvancesMask, MaskEnds, IsMaskReady, mask_left}
 use Rattle.bt_tool.specs.inside.pair.Rounds.{IsLessOrReady, IsLessIfReady, LeadsTo}
 use Rattle.bt_tool.proofs.lemmas.running.members.BlockMembers.{block_filled, block_over, block_stopped, blocks_going}
 use Rattle.bt_tool.proofs.lemmas.running.mask.MaskedLemmas.{finishes, stops_lines, stops_records, ends_alone, ends_lines, ends_waiting, fails_at_end, line_made, lines_done, none_waits, record_made}

@@ -33,10 +33,11 @@ use Rattle.bt_seq.specs.declared.mask.mask_want.MaskWant.TheVariants.{Line as Wa
 use Rattle.bt_tool.specs.inside.feed.Feeding.{member_items}
 use Rattle.bt_tool.specs.model.report.MaskReport.{is_fasta_kind, is_mask_kind}
 use Rattle.bt_tool.specs.declared.loops.masking.MaskRun.{MaskRun}
-use Rattle.bt_tool.specs.inside.pair.MaskLoop.{AreOwned, MaskEnds, Masks, begun_pair, leaves_some, line_members, mask_join, nothing_reached, stage_of}
-use Rattle.bt_tool.specs.inside.pair.Pair.{JoinDef, Pair, SettlesPair, item_ahead}
-use Rattle.bt_tool.specs.inside.pair.Endings.{AsksFor, IsKnown}
-use Rattle.bt_tool.specs.inside.pair.Progress.{Comes}
+use Rattle.bt_tool.specs.inside.pair.MaskLoop.{AreOwned, Masks, begun_pair, leaves_some, line_members, mask_join, nothing_reached, stage_of}
+use Rattle.bt_tool.proofs.lemmas.running.mask.MaskSteps.{MaskEnds}
+use Rattle.bt_tool.specs.inside.pair.Pair.{IsKnown, JoinDef, Pair, SettlesPair, item_ahead}
+use Rattle.bt_tool.specs.inside.pair.Endings.{AsksFor}
+use Rattle.bt_tool.specs.inside.pair.Pair.{Comes}
 use Rattle.bt_tool.proofs.lemmas.running.members.Filled.{IsFilled, IsOver, IsStopped}
 use Rattle.bt_tool.proofs.lemmas.running.members.LineMembers.{gives_over, gives_unread, passes_made, wrong_is_text}
 use Rattle.bt_tool.proofs.lemmas.running.mask.MaskGiven.{ahead_first, first_of}

@@ -4,7 +4,7 @@ use Rattle.bt_lines.specs.model.Fault.{FaultValue}
 use Rattle.bt_lines.specs.calls.Output.{Output}
 use Rattle.bt_lines.specs.calls.Putting.{FailsToAdd}
 use Rattle.bt_bed.specs.model.input.Good.{Good, Member, items_in}
-use Rattle.bt_tool.specs.inside.feed.Feeding.{CutsLines, PutsFront, PutsLines, member_items}
+use Rattle.bt_tool.specs.inside.feed.Feeding.{CutsLines, PutsLines, member_items}
 use Rattle.bt_tool.proofs.lemmas.running.feed.FeedLemmas.{front_all}
 
 -- the members before some others, by their items
@@ -29,6 +29,13 @@ if_known (Some x) P h = h refl
 pub seen_items : {A : Type 0} (past : List (Member A)) (o : Option (Member A)) → member_items (past ++ option_to_list o) ≡ member_items past ++ option_to_list (option_map (λ m. m.item) o)
 seen_items past None = map-append (λ m. m.item) past []
 seen_items past (Some m) = map-append (λ m. m.item) past (m ∷ [])
+
+-- the first of these lines were put
+pub record PutsFront (old : Output) (lines : List ℕ) (new : Output) : Type 0 where
+  pub front : List ℕ
+  pub rest : List ℕ
+  pub parts : lines ≡ front ++ rest
+  pub puts : PutsLines old front new
 
 pub puts_front : (out : Output) (lines : List ℕ) (grown : Output) → PutsLines out lines grown → PutsFront out lines grown
 puts_front out lines grown puts = record { front = lines; rest = []; parts = sym (append-nil lines); puts = puts }

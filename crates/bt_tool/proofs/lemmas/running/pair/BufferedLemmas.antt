@@ -18,7 +18,7 @@ use Rattle.bt_bed.specs.declared.read.records.Records.{Records}
 use Rattle.bt_bed.proofs.lemmas.read.good.TokenLemmas.{taken_are, token_is}
 use Rattle.bt_runs.specs.calls.Engine.{FeedsBatch}
 use Rattle.bt_sweep.specs.calls.Taking.{ComesNext}
-use Rattle.bt_tool.specs.inside.feed.FeedsBuffered.{ConsumesGiven}
+use Rattle.bt_tool.specs.inside.feed.Feeding.{ConsumesGiven}
 use Rattle.bt_tool.specs.inside.feed.Passed.{HasTaken}
 use Rattle.bt_tool.specs.inside.pair.Pair.{item_ahead}
 use Rattle.bt_tool.proofs.lemmas.running.members.PassedLemmas.{has_taken}

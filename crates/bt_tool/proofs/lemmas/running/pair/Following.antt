@@ -5,7 +5,7 @@ use Rattle.bt_lines.specs.calls.Reader.{end_told, source_of}
 use Rattle.bt_bed.specs.model.input.Good.{Member}
 use Rattle.bt_bed.specs.calls.Reading.{MemberReader}
 use Rattle.bt_tool.specs.inside.feed.Passed.{IsReadFor, Passes}
-use Rattle.bt_tool.specs.inside.pair.Progress.{PairStage, firsts_given}
+use Rattle.bt_tool.specs.inside.pair.Pair.{PairStage, firsts_given}
 
 -- from one stage on more members of the first input were given, some of those given were written,
 -- and more members of the second were taken

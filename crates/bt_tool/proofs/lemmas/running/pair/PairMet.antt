@@ -17,14 +17,15 @@ use Rattle.bt_tool.specs.model.report.SweepReport.{met_report}
 use Rattle.bt_tool.specs.calls.run.Writing.{WritesBy}
 use Rattle.bt_tool.proofs.lemmas.running.members.Coming.{Came}
 use Rattle.bt_tool.specs.calls.run.FaultSource.{IsFaultButWrite, IsReported, IsWithin, ReadsNoFurther, TellsDevice, TellsInput}
-use Rattle.bt_tool.specs.inside.feed.Feeding.{PutsFront, PutsLines, member_items}
-use Rattle.bt_tool.specs.model.report.Inputs.{HandsUpTo, Holds, HoldsIf, Reads, ReadsIf, or_empty}
+use Rattle.bt_tool.specs.inside.feed.Feeding.{PutsLines, member_items}
+use Rattle.bt_tool.specs.model.report.Inputs.{HandsUpTo, Holds, OfBoth, Reads, ReadsIf, or_empty}
 use Rattle.bt_tool.specs.inside.pair.Pair.{JoinDef, MayCome, Pair, Serves}
 use Rattle.bt_tool.proofs.lemmas.running.pair.Met.{met_by, met_whole, rule_of}
-use Rattle.bt_tool.specs.inside.pair.Endings.{PairEnds, FirstFails, FirstStops, InputsEnd, LimitStops, RestStops, SecondFails, SecondStops, Why}
+use Rattle.bt_tool.specs.inside.feed.Passed.{HasFaultBehind}
+use Rattle.bt_tool.specs.inside.pair.Endings.{PairEnds, FirstStops, InputsEnd, LimitStops, RestStops, SecondFails, SecondStops, Why}
 use Rattle.bt_tool.proofs.lemmas.running.members.CameMembers.{BeginsAt, at_whole, came_cut, came_whole, is_known, says_fault, tells_fault, text_known}
 use Rattle.bt_tool.proofs.lemmas.running.feed.FaultLemmas.{memory_no_write, tells_no_write}
-use Rattle.bt_tool.proofs.lemmas.running.members.SeenLemmas.{puts_front}
+use Rattle.bt_tool.proofs.lemmas.running.members.SeenLemmas.{PutsFront, puts_front}
 use Rattle.bt_tool.proofs.lemmas.running.feed.WritingLemmas.{is_whole}
 
 pub record AreLimits {X Y : Type 0} (join : JoinDef X Y) : Type 0 where
@@ -46,7 +47,7 @@ pub record AreLimits {X Y : Type 0} (join : JoinDef X Y) : Type 0 where
 
 -- an input that is there
 module _ {S : Type 0} (device : Source S) where
-  held_if : (source : S) (handed : Option Handed) → HoldsIf device.left (Some source) handed → Holds device.left source (or_empty handed)
+  held_if : (source : S) (handed : Option Handed) → OfBoth (Holds device.left) (Some source) handed → Holds device.left source (or_empty handed)
   held_if source None h = absurd h
   held_if source (Some handed) h = h
 
@@ -258,7 +259,7 @@ module _ {A B X Y U V : Type 0} (join : JoinDef X Y) (pair : Pair A B X Y U V) (
   here_by one two known may = (w.wrote.settles known).whatever (items_in (limit one two)) (limit one two).fault (limits.ordered (items_in (good_one one)) (good_two two) (in_order two)) may
 
   -- what the fault of an input says of it
-  first_wrong : (past : List (Member X)) (other : FaultValue) (one : Handed) → CameOne (Some other) one → FirstFails join pair out past first other
+  first_wrong : (past : List (Member X)) (other : FaultValue) (one : Handed) → CameOne (Some other) one → HasFaultBehind pair.source_a pair.first join.first_kinds past other first
       → ((good_one one).members ≡ past) × ((good_one one).fault ≡ Some other)
   first_wrong past other one came fails =
       says_fault pair.source_a first_format First one_before pair.first begins first one_after ended join.first_kinds past other one came w.wrote.first_bytes fails
@@ -398,7 +399,7 @@ module _ {A B X Y U V : Type 0} (join : JoinDef X Y) (pair : Pair A B X Y U V) (
       let rest = at_whole pair.source_a first_format First one_before pair.first begins first one_after ended one e (λ good. (rest : List X) × (items_in good ≡ w.written ++ rest)) w.wrote.first_begins in
       rw (holds.is, others.is) (meets_front join (good_one (whole_text one)) (limit (whole_text one) (whole_text two)) w.written w.bytes (here_by (whole_text one) (whole_text two) (known_by two f) may) rest.0 rest.1)
 
-  first_named : (past : List (Member X)) (other : FaultValue) → FirstFails join pair out past first other → TellsInput pair.source_a join.first_kinds First one_before one_after other
+  first_named : (past : List (Member X)) (other : FaultValue) → HasFaultBehind pair.source_a pair.first join.first_kinds past other first → TellsInput pair.source_a join.first_kinds First one_before one_after other
   first_named past other fails =
       tells_fault pair.source_a first_format First one_before pair.first begins first one_after ended join.first_kinds past other w.wrote.first_bytes fails
 

@@ -17,8 +17,8 @@ use Rattle.bt_tool.specs.model.report.SweepReport.{bytes_up_to}
 use Rattle.bt_tool.specs.calls.run.FaultSource.{IsFaultButWrite, IsWithin, ReadsNoFurther}
 use Rattle.bt_tool.specs.inside.feed.Feeding.{TookButBlock, member_items}
 use Rattle.bt_tool.specs.model.report.Inputs.{HandsUpTo}
-use Rattle.bt_tool.specs.inside.pair.Pair.{JoinDef, MayCome, Pair}
-use Rattle.bt_tool.specs.inside.pair.Endings.{AsksFor, PairEnds, HasNoMore, StaysNear}
+use Rattle.bt_tool.specs.inside.pair.Pair.{HasNoMore, JoinDef, MayCome, Pair}
+use Rattle.bt_tool.specs.inside.pair.Endings.{AsksFor, PairEnds, StaysNear}
 use Rattle.bt_tool.proofs.lemmas.running.members.CameMembers.{BeginsAt, at_whole, good_whole, handed_to, is_known, some_of}
 use Rattle.bt_tool.proofs.lemmas.running.pair.PairMet.{may_come}
 

@@ -14,15 +14,15 @@ use Rattle.bt_lines.specs.declared.fault.Kind.{Kind}
 use Rattle.bt_bed.specs.model.input.Good.{Good, Member, items_in}
 use Rattle.bt_bed.specs.model.feature.LineKind.{fault_at_line}
 use Rattle.bt_bed.specs.calls.Reading.{MemberReader, ahead_in, first_from, good_coming}
-use Rattle.bt_tool.specs.inside.feed.Feeding.{ComeFirst, CutsLines, GoesOn, HasPut, member_items}
-use Rattle.bt_tool.specs.inside.pair.Pair.{JoinDef, Pair, Serves, SettlesPair, item_ahead}
-use Rattle.bt_tool.specs.inside.pair.Progress.{Comes, PairStage, firsts_given}
+use Rattle.bt_tool.specs.inside.feed.Feeding.{ComeFirst, CutsLines, HasPut, member_items}
+use Rattle.bt_tool.specs.inside.pair.Pair.{IsKnown, JoinDef, Pair, Serves, SettlesPair, item_ahead}
+use Rattle.bt_tool.specs.inside.pair.Pair.{Comes, PairStage, firsts_given}
 use Rattle.bt_tool.proofs.lemmas.running.pair.Following.{TakesFurther}
-use Rattle.bt_tool.specs.inside.pair.Endings.{AsksFor, PairEnds, IsKnown, LastTold, SecondFails, StaysNear, Why, Wrote}
+use Rattle.bt_tool.specs.inside.pair.Endings.{AsksFor, PairEnds, LastTold, SecondFails, StaysNear, Why, Wrote}
 use Rattle.bt_tool.specs.inside.feed.Passed.{AreAll, IsReadFor, IsReadTo, Passes, StopsAfter}
 use Rattle.bt_tool.proofs.lemmas.running.members.Filled.{IsOver, IsStopped}
 use Rattle.bt_tool.proofs.lemmas.running.feed.ComeLemmas.{begins_with, up_to}
-use Rattle.bt_tool.proofs.lemmas.running.feed.FeedLemmas.{goes_failed, goes_same, put_more, took_later, took_lines}
+use Rattle.bt_tool.proofs.lemmas.running.feed.FeedLemmas.{GoesOn, goes_failed, goes_same, put_more, took_later, took_lines}
 use Rattle.bt_tool.proofs.lemmas.running.members.MemberLemmas.{passes_all, passes_end, passes_stop, read_at_stop, read_here}
 use Rattle.bt_tool.proofs.lemmas.running.pair.PairSettles.{settles_end}
 use Rattle.bt_tool.proofs.lemmas.running.pair.PairTurns.{all_written, none_pushed, read_same, seen_alone, settles_ended}

@@ -8,10 +8,9 @@ use Rattle.bt_lines.specs.calls.Putting.{Grown}
 use Rattle.bt_bed.specs.model.input.Good.{Member}
 use Rattle.bt_bed.specs.calls.Reading.{MemberReader, first_from, good_coming, members_from}
 use Rattle.bt_tool.specs.inside.feed.Feeding.{HasPut, member_items}
-use Rattle.bt_tool.specs.inside.pair.Pair.{JoinDef, Pair, SettlesPair, item_ahead}
-use Rattle.bt_tool.specs.inside.pair.Progress.{Comes, PairStage, firsts_given}
+use Rattle.bt_tool.specs.inside.pair.Pair.{HasNoMore, IsKnown, JoinDef, Pair, SettlesPair, item_ahead}
+use Rattle.bt_tool.specs.inside.pair.Pair.{Comes, PairStage, firsts_given}
 use Rattle.bt_tool.proofs.lemmas.running.pair.Following.{Follows, TakesFurther}
-use Rattle.bt_tool.specs.inside.pair.Endings.{HasNoMore, IsKnown}
 use Rattle.bt_tool.specs.inside.feed.Passed.{AreAll, HasTaken, IsReadFor, Passes}
 use Rattle.bt_tool.proofs.lemmas.running.members.Filled.{IsFilled, IsOver}
 use Rattle.bt_tool.proofs.lemmas.running.feed.FeedLemmas.{put_more, put_none}

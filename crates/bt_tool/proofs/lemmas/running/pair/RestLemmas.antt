@@ -1,18 +1,18 @@
 -- Lemmas on reading an input to its end, from wherever its reader is.
-use Rattle.bt_lines.proofs.Std.{◌≡◌, ℕ, suc, ◌≤◌, ◌<◌, inl, inr, List, [], ◌∷◌, ◌++◌, length, Option, None, Some, Err, refl, sym, ap, ◌∙◌, subst, append-nil, append_assoc, arith, option_to_list, All, false≢true, All-push}
+use Rattle.bt_lines.proofs.Std.{◌≡◌, ℕ, suc, ◌≤◌, ◌<◌, ◌⊎◌, inl, inr, List, [], ◌∷◌, ◌++◌, length, Option, None, Some, Err, refl, sym, ap, ◌∙◌, subst, append-nil, append_assoc, arith, option_to_list, All, false≢true, All-push}
 use Rattle.bt_lines.specs.declared.device.Source.{Ghosts as Source}
 use Rattle.bt_lines.specs.model.Fault.{FaultValue}
 use Rattle.bt_lines.specs.model.Lines.{TextLine}
 use Rattle.bt_lines.specs.calls.Device.{ReadsCounted}
-use Rattle.bt_lines.specs.calls.Reader.{HasRead, bytes_taken, lines_given, source_of}
+use Rattle.bt_lines.specs.calls.Reader.{Hands, HasRead, bytes_taken, lines_given, source_of}
 use Rattle.bt_lines.specs.declared.reader.line_reader.LineReader.{LineReader}
 use Rattle.bt_lines.specs.declared.fault.Kind.{Kind}
 use Rattle.bt_lines.proofs.lemmas.reader.lines.ReaderLemmas.{hands_none, hands_both}
 use Rattle.bt_bed.specs.model.input.Good.{Member}
 use Rattle.bt_bed.specs.calls.Reading.{MemberReader, ahead_in, first_from, members_from}
-use Rattle.bt_tool.specs.inside.feed.Passed.{HasTaken, Passes}
+use Rattle.bt_tool.specs.inside.feed.Passed.{AreAll, HasTaken, Passes}
 use Rattle.bt_tool.proofs.lemmas.running.members.Filled.{IsFilled, IsOver, IsStopped}
-use Rattle.bt_tool.specs.inside.pair.SweepLoop.{ChecksAll, ChecksUpTo, IsReadOn}
+use Rattle.bt_tool.specs.inside.pair.SweepLoop.{ChecksUpTo}
 use Rattle.bt_tool.proofs.lemmas.running.feed.ComeLemmas.{up_to}
 use Rattle.bt_tool.proofs.lemmas.running.members.MemberLemmas.{fails_before_end, passes_all, passes_end, passes_fill, passes_stop, passes_take}
 
@@ -33,6 +33,15 @@ reads_taken {S} device old taken now new has read =
     let bytes : bytes_taken now.below ≡ bytes_taken new.below = omega (arith, has.takes.hands.counted) in
     subst (λ (n : ℕ). ReadsCounted device.is_read (source_of old) (bytes_taken old) (source_of new.below) n) bytes
     (subst (λ (s : S). ReadsCounted device.is_read (source_of old) (bytes_taken old) s (bytes_taken now.below)) (sym has.takes.source) read)
+
+-- how far a reader has come
+pub record IsReadOn {S A State : Type 0} (device : Source S) (before now : MemberReader S A State) : Type 0 where
+  pub bytes : (bytes : List ℕ) × Hands device.left before.below bytes now.below
+  pub rises : lines_given before.below ≤ lines_given now.below
+  -- the member that was ahead is consumed, if any is
+  pub moves : (now ≡ before) ⊎ (lines_given before.below < lines_given now.below)
+  pub going : before.fault ≡ None → now.fault ≡ None
+  pub passes : (old : MemberReader S A State) (past : List (Member A)) → Passes device old past before → (more : List (Member A)) × Passes device old (past ++ more) now
 
 module _ {S A State : Type 0} (device : Source S) (before : MemberReader S A State) where
   pub reads_start : IsReadOn device before before
@@ -69,14 +78,10 @@ module _ {S A State : Type 0} (device : Source S) (before : MemberReader S A Sta
         }
 
     pub reads_end : (new : MemberReader S A State) → IsOver device now new → (old : MemberReader S A State) (past : List (Member A))
-        → Passes device old past before → ChecksAll device old past before new
+        → Passes device old past before → (more : List (Member A)) × Passes device old (past ++ more) new × AreAll device old (past ++ more)
     reads_end new over old past p =
         let was = on.passes old past p in
-        record {
-          more = was.0;
-          passes = passes_end device old (past ++ was.0) now was.1 new over;
-          all = passes_all device old (past ++ was.0) now was.1 new over;
-        }
+        (was.0, passes_end device old (past ++ was.0) now was.1 new over, passes_all device old (past ++ was.0) now was.1 new over)
 
     -- the member that was ahead at first was consumed
     low_ahead : (new : MemberReader S A State) → lines_given now.below ≤ lines_given new.below → now.buffered ≡ [] → (o : Option (Member A)) → ahead_in before ≡ o → (past : List (Member A)) → All (λ m. m.line ≤ lines_given new.below) past

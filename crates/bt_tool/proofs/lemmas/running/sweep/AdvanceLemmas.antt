@@ -28,7 +28,7 @@ use Rattle.bt_sweep.specs.declared.sweep.phase.Phase.{Phase}
 use Rattle.bt_sweep.proofs.lemmas.sweep.KeepLemmas.{decided_before}
 use Rattle.bt_tool.specs.inside.pair.Pair.{item_ahead}
 use Rattle.bt_tool.specs.inside.feed.Passed.{HasTaken}
-use Rattle.bt_tool.specs.inside.feed.FeedsBuffered.{ConsumesGiven}
+use Rattle.bt_tool.specs.inside.feed.Feeding.{ConsumesGiven}
 use Rattle.bt_tool.proofs.lemmas.running.pair.BufferedLemmas.{next_then}
 use Rattle.bt_tool.proofs.lemmas.running.members.PassedLemmas.{last_up_to}
 

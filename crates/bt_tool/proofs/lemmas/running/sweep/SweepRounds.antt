@@ -35,8 +35,7 @@ use Rattle.bt_tool.specs.inside.feed.Passed.{KeepsOwnFault}
 use Rattle.bt_tool.specs.inside.pair.Endings.{HaveRead, PairEnds}
 use Rattle.bt_tool.specs.inside.pair.Rounds.{IsBuffered, IsLessIfReady, IsLessOrReady, LeadsTo}
 use Rattle.bt_bed.specs.calls.SortedReader.{fault_in}
-use Rattle.bt_tool.specs.inside.feed.FeedsBuffered.{ConsumesGiven}
-use Rattle.bt_tool.specs.inside.pair.SweepSteps.{AdvancesSweep}
+use Rattle.bt_tool.specs.inside.feed.Feeding.{ConsumesGiven}
 use Rattle.bt_tool.proofs.lemmas.running.sweep.AdvanceLemmas.{TakesBoth}
 use Rattle.bt_tool.proofs.lemmas.running.whole.OwnFailureLemmas.{none_kept, own_then, told_kept}
 use Rattle.bt_tool.proofs.lemmas.running.pair.RestLemmas.{some_buffered}
@@ -357,10 +356,11 @@ module _ {A B O : Type 0} {g : Ghosts O} (source_a : Source A) (source_b : Sourc
         (none_kept source_b.is_read (below old.second) (view_of new.second).fault (below new.second) (takes.second_taken.takes.goes ∙ none_second))
 
   pub gave_both : {T : Type 0} (new : SweepRun A B O g) (later : Output) (answer : Result T Fault) → sweep_order new.sweep ≡ order
-      → AdvancesSweep source_a source_b order old.first old.second sweep grown answer new.first new.second (state_of new.sweep) later → Leads Given answer new later
+      → ((firsts : Batch) × (seconds : Batch) × (last_firsts : Batch) × (last_seconds : Batch) × ConsumesGiven source_a old.first firsts last_firsts new.first × ConsumesGiven source_b old.second seconds last_seconds new.second
+      × AdvancesOn Passes HasEnded Passes HasEnded line_in order sweep firsts seconds grown answer (state_of new.sweep) last_firsts last_seconds later) → Leads Given answer new later
   gave_both {T} new later answer same gives =
-      gave new later gives.firsts gives.seconds gives.last_firsts gives.last_seconds gives.consumes gives.consumes_second answer same
-      (subst (λ (o : Order). AdvancesOn Passes HasEnded Passes HasEnded line_in o sweep gives.firsts gives.seconds grown answer (state_of new.sweep) gives.last_firsts gives.last_seconds later) s.order_is gives.advances)
+      gave new later gives.0 gives.1 gives.2 gives.3 gives.4 gives.5 answer same
+      (subst (λ (o : Order). AdvancesOn Passes HasEnded Passes HasEnded line_in o sweep gives.0 gives.1 grown answer (state_of new.sweep) gives.2 gives.3 later) s.order_is gives.6)
 
   -- ---- the first input has ended
 

@@ -44,13 +44,13 @@ use Rattle.bt_sweep.specs.calls.SweepView.{state_of}
 use Rattle.bt_tool.specs.declared.loops.sweeping.SweepConfig.{SweepConfig}
 use Rattle.bt_tool.specs.declared.loops.sweeping.SweepRun.{SweepRun}
 use Rattle.bt_tool.specs.inside.feed.Feeding.{member_items}
-use Rattle.bt_tool.specs.inside.pair.Pair.{JoinDef, Pair, SettlesPair, item_ahead}
-use Rattle.bt_tool.specs.inside.pair.Progress.{Comes}
+use Rattle.bt_tool.specs.inside.pair.Pair.{IsKnown, JoinDef, Pair, SettlesPair, item_ahead}
+use Rattle.bt_tool.specs.inside.pair.Pair.{Comes}
 use Rattle.bt_tool.proofs.lemmas.running.pair.Following.{TakesFurther}
-use Rattle.bt_tool.specs.inside.pair.Endings.{AsksFor, IsKnown, PairEnds}
+use Rattle.bt_tool.specs.inside.pair.Endings.{AsksFor, PairEnds}
 use Rattle.bt_bed.specs.calls.SortedReader.{fault_in}
 use Rattle.bt_tool.specs.inside.pair.SweepLoop.{AreBegun, AreWithin, ReadsRest, Sweeps, config_of, records_pair, stage_of, sweep_join, sweep_rounds}
-use Rattle.bt_tool.specs.inside.feed.FeedsBuffered.{ConsumesGiven}
+use Rattle.bt_tool.specs.inside.feed.Feeding.{ConsumesGiven}
 use Rattle.bt_tool.specs.inside.feed.Passed.{Passes, StopsAfter}
 use Rattle.bt_tool.proofs.lemmas.running.sweep.AdvanceLemmas.{TakesBoth, ahead_placed, seen_then}
 use Rattle.bt_tool.proofs.lemmas.running.pair.BufferedLemmas.{first_then, line_then}
@@ -538,8 +538,8 @@ module _ {A B O : Type 0} {g : Ghosts O} (source_a : Source A) (source_b : Sourc
           → Ends (fault_in result) first second_now grown
       finishes_both {T} (Ok unit) second_now reads =
           let checks = subst (λ (o : Order). ReadsRest {T = T} source_b (IsBedKind o) (view_of second) (Ok unit) (view_of second_now)) (s.second_order ∙ begun.same_order) reads (view_of old_second) s.past_second s.comes.second_passes wrong_bed in
-          stop.ends_rest join pair out (stage_of stage) s.past_first s.past_second (view_of first) (view_of second) grown s.comes asks_here s.fits done (view_of second_now) (λ some. absurd (false≢true (ap is_some (sym checks.passes.going) ∙ some))) checks.passes.bytes (s.past_second ++ checks.more) None
-          (inl (refl, checks.all, record { served = checks.passes.served; within = checks.passes.kept.within checks.passes.clear }, refl))
+          stop.ends_rest join pair out (stage_of stage) s.past_first s.past_second (view_of first) (view_of second) grown s.comes asks_here s.fits done (view_of second_now) (λ some. absurd (false≢true (ap is_some (sym checks.1.going) ∙ some))) checks.1.bytes (s.past_second ++ checks.0) None
+          (inl (refl, checks.2, record { served = checks.1.served; within = checks.1.kept.within checks.1.clear }, refl))
       finishes_both {T} (Err fault) second_now reads =
           let checks = subst (λ (o : Order). ReadsRest {T = T} source_b (IsBedKind o) (view_of second) (Err fault) (view_of second_now)) (s.second_order ∙ begun.same_order) reads (view_of old_second) s.past_second s.comes.second_passes wrong_bed in
           stop.stops_rest join pair out (stage_of stage) s.past_first s.past_second (view_of first) (view_of second) grown s.comes asks_here s.fits done (view_of second_now) (λ some. checks.low) (s.past_second ++ checks.more) (fault_value fault)

@@ -16,10 +16,10 @@ use Rattle.bt_bed.specs.model.order.Genome.{Entry, genome_handed, genome_of}
 use Rattle.bt_bed.specs.calls.GenomeTable.{EntryIsWrong, EntryUnread, ReadsAll, ReadingStops, StopCause, entries}
 use Rattle.bt_bed.specs.model.feature.LineKind.{fault_at_line, is_genome_kind}
 use Rattle.bt_bed.specs.declared.order.genome.Genome.{Genome}
-use Rattle.bt_tool.specs.model.usage.Kinds.{IsOneOf}
+use Rattle.bt_tool.specs.model.report.RecordReport.{IsOneOf}
 use Rattle.bt_tool.specs.calls.run.Chromosomes.{KnowsChromosomes, LacksChromosomes}
 use Rattle.bt_tool.specs.calls.run.FaultSource.{IsOfInput, TellsInput}
-use Rattle.bt_tool.specs.model.report.Inputs.{HoldsIf, Reads, ReadsIf}
+use Rattle.bt_tool.specs.model.report.Inputs.{Holds, OfBoth, Reads, ReadsIf}
 use Rattle.bt_tool.specs.model.report.Report.{chromosomes_of, of_file}
 use Rattle.bt_tool.specs.calls.run.OwnReads.{IsOwnFailure, TellsOwnReads}
 use Rattle.bt_tool.proofs.lemmas.running.feed.FaultLemmas.{memory_no_write, placed_no_write}
@@ -28,7 +28,7 @@ use Rattle.bt_tool.proofs.lemmas.running.members.HandedLemmas.{cut_text, handed_
 
 -- what is said of the whole text is said of what the device holds
 held_as : {G : Type 0} (left : G → Option (List ℕ)) (genome : G) (P : Option Handed → Type 0) → ((text : List ℕ) → left genome ≡ Some text → P (Some (whole_text text)))
-    → (handed : Option Handed) → HoldsIf left (Some genome) handed → P handed
+    → (handed : Option Handed) → OfBoth (Holds left) (Some genome) handed → P handed
 held_as left genome P h None holds = absurd holds
 held_as left genome P h (Some handed) holds = subst (λ x. P (Some x)) (sym holds.is) (h holds.text holds.known)
 

@@ -1,5 +1,5 @@
 -- Lemmas on failed reads that are reported: each is of a read that failed in the run, whatever its source did before.
-use Rattle.bt_lines.proofs.Std.{◌≡◌, ℕ, Option, None, Some, Err, List, ap, sym, subst, ◌∙◌, inl, inr, arith, ◌⊎◌, ◌≢◌, ⊤, MatchResult, Ok, Result, false≢true}
+use Rattle.bt_lines.proofs.Std.{◌≡◌, ℕ, Option, None, Some, Err, List, ap, sym, subst, ◌∙◌, inl, inr, arith, ◌⊎◌, ◌≢◌, ⊤, MatchResult, Ok, Result, false≢true, option_map}
 use Rattle.bt_lines.specs.declared.device.Source.{Ghosts as Source}
 use Rattle.bt_lines.proofs.lemmas.reader.block.ReadsLemmas.{memory_no_read, some_is, unread_then}
 use Rattle.bt_lines.specs.model.Fault.{FaultValue, no_memory, read_failed, write_failed}
@@ -23,17 +23,18 @@ use Rattle.bt_bed.specs.declared.order.genome.Genome.{Genome as GenomeTable}
 use Rattle.bt_bed.specs.model.order.Genome.{Entry}
 use Rattle.bt_lines.specs.model.Handed.{Handed}
 use Rattle.bt_lines.specs.model.Lines.{TextLine}
+use Rattle.bt_bed.specs.calls.GenomeTable.{entries}
 use Rattle.bt_tool.specs.model.report.Behaviour.{behaviour_of}
-use Rattle.bt_tool.specs.inside.feed.RunsBy.{RunsAlone, RunsBy}
+use Rattle.bt_tool.specs.calls.run.Writing.{RunsAlone, RunsBy}
 use Rattle.bt_tool.proofs.lemmas.running.feed.WritingLemmas.{behaves_alone}
-use Rattle.bt_tool.specs.calls.run.Chromosomes.{WritesOutput}
 use Rattle.bt_tool.specs.inside.feed.Feeding.{FeedsUpTo}
 use Rattle.bt_tool.specs.inside.feed.Flushing.{Flushes, FlushesAll, FlushFails, StaysFailed}
 use Rattle.bt_tool.specs.inside.pair.Pair.{JoinDef, Pair}
 use Rattle.bt_tool.specs.inside.pair.Endings.{PairEnds, InputsEnd, Why}
 use Rattle.bt_tool.specs.inside.feed.Passed.{HasFaultBehind, IsKeptBelow, IsOwnFault, KeepsOwnFault}
 use Rattle.bt_tool.specs.model.report.SweepReport.{IsSweptKind}
-use Rattle.bt_tool.specs.calls.run.OwnReads.{AnswersNoRead, IsOwnFailure, ReadsServe, ReadsServeIf, TellsNoRead, TellsOwnReads}
+use Rattle.bt_tool.specs.model.report.Inputs.{OfBoth}
+use Rattle.bt_tool.specs.calls.run.OwnReads.{AnswersNoRead, IsOwnFailure, IsOwnFailureIf, ReadsServe, TellsNoRead, TellsOwnReads}
 use Rattle.bt_tool.specs.declared.planning.plan_type.Command.{Command}
 use Rattle.bt_tool.proofs.lemmas.running.members.CameMembers.{BeginsAt}
 use Rattle.bt_tool.proofs.lemmas.running.feed.FaultLemmas.{write_no_read}
@@ -83,11 +84,11 @@ kept_below IsRead old reader lines is below own input line e = subst (IsOwnFault
 pub own_failure_of : {S : Type 0} (IsRead : S → Option ℕ → S → Type 0) (first last : S) (old new : LineReader S) → source_of old ≡ first → source_of new ≡ last → bytes_taken old ≡ 0 → IsUnread IsRead old new → IsOwnFailure IsRead first last
 own_failure_of IsRead first last old new starts ends fresh (inl fails) = inl (subst (λ s. ReadsFail IsRead s last) starts (subst (λ s. ReadsFail IsRead (source_of old) s) ends fails))
 own_failure_of IsRead first last old new starts ends fresh (inr (read, past)) =
-    inr (record {
-      given = read.given;
-      served = subst (λ s. ReadsOn IsRead s read.given last) starts (subst (λ s. ReadsOn IsRead (source_of old) read.given s) ends read.served);
-      past = omega (arith, past, read.counted, fresh);
-    })
+    inr (
+      read.given,
+      subst (λ s. ReadsOn IsRead s read.given last) starts (subst (λ s. ReadsOn IsRead (source_of old) read.given s) ends read.served),
+      omega (arith, past, read.counted, fresh),
+    )
 
 -- what the reads of a reader gave is what those of its run did
 pub served_of : {S : Type 0} (IsRead : S → Option ℕ → S → Type 0) (first last : S) (old new : LineReader S) → source_of old ≡ first → source_of new ≡ last → HasRead IsRead old new → ReadsServe IsRead first last
@@ -100,7 +101,7 @@ served_of IsRead first last old new starts ends read = record {
 pub serve_same : {S : Type 0} (IsRead : S → Option ℕ → S → Type 0) (source : S) → ReadsServe IsRead source source
 serve_same IsRead source = record { given = 0; served = begun }
 
-pub serve_same_if : {S : Type 0} (IsRead : S → Option ℕ → S → Type 0) (source : Option S) → ReadsServeIf IsRead source source
+pub serve_same_if : {S : Type 0} (IsRead : S → Option ℕ → S → Type 0) (source : Option S) → OfBoth (ReadsServe IsRead) source source
 serve_same_if IsRead None = tt
 serve_same_if IsRead (Some source) = serve_same IsRead source
 
@@ -244,17 +245,33 @@ flushed_no_read old new fault answer flush no_write never input line e = elim fl
 -- the genome file was read, or its fault reported, and then the other inputs
 module _ {A B : Type 0} (source_a : Source A) (source_b : Source B) (command : Command) (first : A) (second : Option B) (out : Output) (fault : Option FaultValue) (first_after : A)
     (second_after : Option B) (grown : Output) where
-  pub all_own : (G F S : Type 0) (chromosomes : Result (Option GenomeTable) Fault) → MatchResult chromosomes (λ _. ⊤) (λ fault. TellsOwnReads G ⊥ ⊥ (Some (fault_value fault)))
-      → WritesOutput source_a source_b command chromosomes first second out fault first_after second_after grown
-      → MatchResult chromosomes (λ _. TellsOwnReads ⊥ F S fault) (λ _. ⊤) → TellsOwnReads G F S fault
-  all_own G F S (Ok table) read written own = record { genome_file = λ line e. absurd (own.genome_file line e); first_input = own.first_input; second_input = own.second_input }
-  all_own G F S (Err wrong) read written own = record {
-    genome_file = λ line e. read.genome_file line (sym written.is ∙ e);
-    first_input = λ line e. absurd (read.first_input line (sym written.is ∙ e));
-    second_input = λ line e. absurd (read.second_input line (sym written.is ∙ e));
+  -- the output was written by the chromosomes that were read, or the run ended with their fault
+  abbrev pub WritesOutput : Result (Option GenomeTable) Fault → Type 0
+  WritesOutput chromosomes = MatchResult chromosomes
+      (λ table. RunsBy source_a source_b (behaviour_of command (option_map entries table)) first second out fault first_after second_after grown)
+      (λ wrong. (fault ≡ Some (fault_value wrong)) × (first_after ≡ first) × (second_after ≡ second) × (grown ≡ out))
+
+  pub all_own : (G : Type 0) (chromosomes : Result (Option GenomeTable) Fault) → MatchResult chromosomes (λ _. ⊤) (λ fault. TellsOwnReads G ⊥ ⊥ (Some (fault_value fault)))
+      → WritesOutput chromosomes → TellsOwnReads G (IsOwnFailure source_a.is_read first first_after) (IsOwnFailureIf source_b.is_read second second_after) fault
+  all_own G (Ok table) read written =
+      let own = written.own_failure in
+      record { genome_file = λ line e. absurd (own.genome_file line e); first_input = own.first_input; second_input = own.second_input }
+  all_own G (Err wrong) read written = record {
+    genome_file = λ line e. read.genome_file line (sym written.0 ∙ e);
+    first_input = λ line e. absurd (read.first_input line (sym written.0 ∙ e));
+    second_input = λ line e. absurd (read.second_input line (sym written.0 ∙ e));
   }
 
   -- if no failed read is reported, the genome file has none
-  pub genome_no_read : (chromosomes : Result (Option GenomeTable) Fault) → WritesOutput source_a source_b command chromosomes first second out fault first_after second_after grown → TellsNoRead fault → AnswersNoRead chromosomes
+  pub genome_no_read : (chromosomes : Result (Option GenomeTable) Fault) → WritesOutput chromosomes → TellsNoRead fault → AnswersNoRead chromosomes
   genome_no_read (Ok table) written never = tt
-  genome_no_read (Err wrong) written never = λ input line e. never input line (written.is ∙ e)
+  genome_no_read (Err wrong) written never = λ input line e. never input line (written.0 ∙ e)
+
+  -- and all reads of the others served
+  pub all_serve : (chromosomes : Result (Option GenomeTable) Fault) → WritesOutput chromosomes → TellsNoRead fault
+      → ReadsServe source_a.is_read first first_after × OfBoth (ReadsServe source_b.is_read) second second_after
+  all_serve (Ok table) written never = written.reads never
+  all_serve (Err wrong) written never = (
+    subst (λ s. ReadsServe source_a.is_read first s) (sym written.1) (serve_same source_a.is_read first),
+    subst (λ s. OfBoth (ReadsServe source_b.is_read) second s) (sym written.2) (serve_same_if source_b.is_read second),
+  )

@@ -14,6 +14,7 @@ use Rattle.bt_lines.specs.declared.fault.Fault.{Fault}
 use Rattle.bt_lines.specs.declared.fault.Input.{Input}
 use Rattle.bt_lines.specs.declared.fault.Input.TheVariants.{First, Second, Genome as FromGenome}
 use Rattle.bt_lines.specs.declared.fault.Kind.{Kind}
+use Rattle.bt_lines.specs.declared.fault.Place.{Place}
 use Rattle.bt_bed.specs.model.order.Genome.{Entry}
 use Rattle.bt_bed.specs.calls.GenomeTable.{entries}
 use Rattle.bt_bed.specs.model.input.Good.{good_from}
@@ -21,22 +22,36 @@ use Rattle.bt_bed.specs.model.feature.LineKind.{is_genome_kind}
 use Rattle.bt_bed.specs.declared.order.genome.Genome.{Genome}
 use Rattle.bt_runs.specs.model.Depth.{settled_depths}
 use Rattle.bt_runs.specs.model.Gaps.{settled_gaps}
-use Rattle.bt_tool.specs.model.usage.Kinds.{IsOneOf}
-use Rattle.bt_tool.specs.calls.run.Chromosomes.{KnowsChromosomes, LacksChromosomes, ReadsChromosomes, StopsAtGenome, WritesOutput}
+use Rattle.bt_tool.specs.model.report.RecordReport.{IsOneOf}
+use Rattle.bt_tool.specs.calls.run.Chromosomes.{KnowsChromosomes, LacksChromosomes, ReadsChromosomes}
 use Rattle.bt_tool.specs.calls.run.FaultSource.{IsFaultButWrite, IsOfInput, IsPutTo, IsWithin, ReadsNoFurther, TellsDevice, TellsInput, TellsInputIf}
 use Rattle.bt_tool.specs.calls.run.Writing.{WritesBy}
 use Rattle.bt_tool.specs.inside.feed.Flushing.{Flushes, FlushesAll, FlushFails, StaysFailed}
-use Rattle.bt_tool.specs.calls.run.RunContract.{Runs, TellsOther, is_of_genome, lies_in_genome}
-use Rattle.bt_tool.specs.model.report.Inputs.{HandsUpToIf, Inputs}
+use Rattle.bt_tool.specs.calls.run.RunContract.{Runs, TellsOther}
+use Rattle.bt_tool.specs.model.report.Inputs.{HandsUpTo, Inputs, OfBoth}
 use Rattle.bt_tool.specs.model.report.RecordReport.{Report}
 use Rattle.bt_tool.specs.model.report.Behaviour.{behaviour_of, order_of}
-use Rattle.bt_tool.specs.model.report.Report.{chromosomes_of, reaches_on, report_of, report_on, settles_on}
+use Rattle.bt_tool.specs.model.report.Report.{behaviour_on, chromosomes_of, report_of, report_on}
 use Rattle.bt_tool.specs.declared.planning.plan_type.Command.{Command}
 use Rattle.bt_tool.specs.declared.planning.plan_type.Command.TheVariants.{Merge, Complement, Intersect, Subtract, Coverage, BamToBed, MaskFasta}
+use Rattle.bt_tool.proofs.lemmas.running.whole.OwnFailureLemmas.{WritesOutput}
 use Rattle.bt_tool.proofs.lemmas.running.feed.WriteLemmas.{merge_settles_none}
 use Rattle.bt_tool.proofs.lemmas.running.feed.WritingLemmas.{hands_none, near_as}
 use Rattle.bt_tool.proofs.lemmas.running.members.MemberLemmas.{some_map}
 use Rattle.bt_tool.proofs.lemmas.running.feed.FaultLemmas.{memory_no_write, tells_no_write}
+
+-- whether a fault lies in the genome file
+abbrev is_of_genome : Input → Bool
+is_of_genome FromGenome = true
+is_of_genome First = false
+is_of_genome Second = false
+
+abbrev lies_in_genome : Option Place → Bool
+lies_in_genome None = false
+lies_in_genome (Some place) = is_of_genome place.input
+
+lies : (o : Option Place) (place : Place) → o ≡ Some place → place.input ≡ FromGenome → lies_in_genome o ≡ true
+lies o place e is = ap lies_in_genome e ∙ ap is_of_genome is
 
 -- known bytes that are kept
 kept_known : (a b : Option (List ℕ)) (x : List ℕ) → a ≡ Some x → Keeps a b → b ≡ Some x
@@ -144,7 +159,7 @@ none_settle (Coverage zeros strand) chromosomes second = refl
 none_settle (BamToBed split cigar) chromosomes second = refl
 none_settle (MaskFasta how full) chromosomes second = refl
 
-none_settle_on : (command : Command) (chromosomes : Result (Option (List Entry)) FaultValue) (second : Option Handed) → settles_on command chromosomes second [] ≡ []
+none_settle_on : (command : Command) (chromosomes : Result (Option (List Entry)) FaultValue) (second : Option Handed) → (behaviour_on command chromosomes).settles second [] ≡ []
 none_settle_on command (Err fault) second = refl
 none_settle_on command (Ok chromosomes) second = none_settle command chromosomes second
 
@@ -188,7 +203,7 @@ write_of_if device kinds input (Some before) (Some after) tells = tells_no_write
 -- an input that wasn't touched was read at most up to its first line
 near_untouched : (Beside : ℕ → Type 0) → ((n : ℕ) → Beside n) → (command : Command) (chromosomes : Result (Option (List Entry)) FaultValue) (second : Option Handed) (text before : List ℕ) (left took more : Option (List ℕ)) → left ≡ Some text → took ≡ Some before → Grows took more
     → (Failed Stops : Type 0) (later : Option (List ℕ)) → Failed ⊎ IsPutTo (length (before ++ [])) later → (Stops → later ≡ Some (before ++ []))
-    → ReadsNoFurther Beside (settles_on command chromosomes second) text left before more Failed Stops later
+    → ReadsNoFurther Beside ((behaviour_on command chromosomes).settles second) text left before more Failed Stops later
 near_untouched Beside has command chromosomes second text before left took more e t g Failed Stops later kept exact = record {
   n = 1;
   some = omega arith;
@@ -216,7 +231,7 @@ module _ {G A B K : Type 0} (source_g : Source G) (source_a : Source A) (source_
   -- how far the second input was read by the time that this many lines of the first were
   abbrev Beside : Inputs → ℕ → Type 0
   Beside inputs n = IsWithin (source_a.end_told first_after) inputs.first.text n
-      → HandsUpToIf source_b.left (reaches_on command (chromosomes_of inputs.genome) inputs.second (take n (text_lines inputs.first.text)) + block_size) second second_after
+      → OfBoth (HandsUpTo source_b.left ((behaviour_on command (chromosomes_of inputs.genome)).reaches inputs.second (take n (text_lines inputs.first.text)) + block_size)) second second_after
 
   -- the chromosomes were read, and the output written by them
   module _ (table : Option Genome) (knows : KnowsChromosomes source_g genome genome_after table) (writes : WritesBy source_a source_b (behaviour_of command (option_map entries table)) first second begun fault first_after second_after mid) where
@@ -278,25 +293,27 @@ module _ {G A B K : Type 0} (source_g : Source G) (source_a : Source A) (source_
           let devices = writes.served was.0 in
           ((knows.served, devices.0.1), (devices.0.0, failed_after ∙ was.1 ∙ devices.1 ∙ served));
       after_genome = λ file holds wrong e. absurd (other_chromosomes (chromosomes_of file) chromosomes wrong (knows.told file holds) e);
-      untouched = λ t e lies. absurd (others_elsewhere t (writes.named t (placed_by begun mid new fault answer t e lies flushes.ends)) lies);
+      untouched = λ t e place at is.
+          let there = lies t.place place at is in
+          absurd (others_elsewhere t (writes.named t (placed_by begun mid new fault answer t e there flushes.ends)) there);
       named = λ t e.
           rw failed_after (named_by begun mid new fault answer (λ t e. of_others t (writes.named t e)) flushes.ends t e);
     }
 
   -- the genome file is at fault, and nothing else was touched
-  module _ (wrong : FaultValue) (lacks : LacksChromosomes source_g genome genome_after wrong) (stops : StopsAtGenome first second begun wrong fault first_after second_after mid) where
+  module _ (wrong : FaultValue) (lacks : LacksChromosomes source_g genome genome_after wrong) (stops : (fault ≡ Some wrong) × (first_after ≡ first) × (second_after ≡ second) × (mid ≡ begun)) where
     report_wrong : (inputs : Inputs) → chromosomes_of inputs.genome ≡ Err wrong → report_of command inputs ≡ record { output = []; fault = Some wrong }
     unfolding report_of
     report_wrong inputs e = ap (λ c. report_on command c inputs.first inputs.second) e
 
     begun_put : (before : List ℕ) → sink.took out ≡ Some before → mid.put ≡ Some (before ++ [])
-    begun_put before known = ap (λ (o : Output). o.put) stops.unchanged ∙ put ∙ known ∙ ap Some (sym (append-nil before))
+    begun_put before known = ap (λ (o : Output). o.put) stops.3 ∙ put ∙ known ∙ ap Some (sym (append-nil before))
 
     mid_grows : Grows begun.took mid.took
-    mid_grows = subst (λ (o : Output). Grows begun.took o.took) (sym stops.unchanged) ([], Appends-nil begun.took)
+    mid_grows = subst (λ (o : Output). Grows begun.took o.took) (sym stops.3) ([], Appends-nil begun.took)
 
     no_write : fault ≡ Some write_failed → ⊥
-    no_write e = lacks.no_write (some_is wrong write_failed (sym stops.is ∙ e))
+    no_write e = lacks.no_write (some_is wrong write_failed (sym stops.0 ∙ e))
 
     genome_named : (t : FaultValue) → TellsInputIf source_g (IsOneOf is_genome_kind) FromGenome genome genome_after wrong ⊎ (wrong ≡ no_memory) → wrong ≡ t
         → (GenomeTells t ⊎ OthersTell t) ⊎ TellsDevice mid.sink_has_failed t
@@ -307,11 +324,11 @@ module _ {G A B K : Type 0} (source_g : Source G) (source_a : Source A) (source_
     runs_wrong = record {
       whole = λ inputs before reads known served memory.
           let w = whole_by begun mid new fault answer (Some wrong) (before ++ [])
-          (λ write growth. (stops.is, begun_put before known)) (λ e. absurd (no_write e)) (sym failed_after ∙ served) memory flushes.ends in
+          (λ write growth. (stops.0, begun_put before known)) (λ e. absurd (no_write e)) (sym failed_after ∙ served) memory flushes.ends in
           let same = report_wrong inputs (lacks.whole inputs.genome reads.genome_file (λ e. memory (w.0 ∙ ap Some e))) in
           subst (λ (r : Report). (answer ≡ r.fault) × (sink.took out_after ≡ Some (before ++ r.output))) (sym same) (w.0, took_after ∙ w.1);
       told = λ inputs before holds known is.
-          let w = told_by begun mid new fault answer (Some wrong) (before ++ []) (λ of_input. (stops.is, begun_put before known)) is flushes.ends in
+          let w = told_by begun mid new fault answer (Some wrong) (before ++ []) (λ of_input. (stops.0, begun_put before known)) is flushes.ends in
           let same = report_wrong inputs (lacks.told inputs.genome holds.genome_file (subst IsOfInput w.0 is)) in
           subst (λ (r : Report). (answer ≡ r.fault) × (sink.took out_after ≡ Some (before ++ r.output))) (sym same) (w.0, took_after ∙ w.1);
       prefix = λ inputs before holds known.
@@ -320,20 +337,20 @@ module _ {G A B K : Type 0} (source_g : Source G) (source_a : Source A) (source_
           (f.0, f.1, took_after ∙ f.2, f.3);
       near = λ inputs before holds known.
           let text = holds.first_input in
-          rw (text.is, stops.untouched, stops.other_untouched, took_after)
+          rw (text.is, stops.1, stops.2, took_after)
           (near_untouched _ (λ n within. hands_none source_b.left second inputs.second _ holds.second_input)
           command (chromosomes_of inputs.genome) inputs.second text.text before (source_a.left first) begun.took new.took text.known (took ∙ known) (grows_both begun.took mid.took new.took mid_grows flushes.grows)
           (answer ≡ Some write_failed) (IsFaultButWrite answer) new.took (kept_by begun mid new fault answer (length (before ++ [])) (inr (before ++ [], begun_put before known, omega arith)) flushes.ends)
           (λ other. exact_by begun mid new fault answer (before ++ []) (λ was. begun_put before known) other flushes.ends));
       served = λ none.
           let was = served_by begun mid new fault answer flushes.ends none in
-          absurd (let apart : None ≡ Some wrong = sym was.0 ∙ stops.is in cc);
-      after_genome = λ file holds wrong e. (stops.untouched, stops.other_untouched);
-      untouched = λ t e lies. (stops.untouched, stops.other_untouched);
+          absurd (let apart : None ≡ Some wrong = sym was.0 ∙ stops.0 in cc);
+      after_genome = λ file holds wrong e. (stops.1, stops.2);
+      untouched = λ t e place at is. (stops.1, stops.2);
       named = λ t e.
-          rw failed_after (named_by begun mid new fault answer (λ t e. genome_named t lacks.named (some_is wrong t (sym stops.is ∙ e))) flushes.ends t e);
+          rw failed_after (named_by begun mid new fault answer (λ t e. genome_named t lacks.named (some_is wrong t (sym stops.0 ∙ e))) flushes.ends t e);
     }
 
-  pub runs_by : (chromosomes : Result (Option Genome) Fault) → ReadsChromosomes source_g genome chromosomes genome_after → WritesOutput source_a source_b command chromosomes first second begun fault first_after second_after mid → RunsSo
-  runs_by (Ok table) knows writes = runs_written table knows writes
+  pub runs_by : (chromosomes : Result (Option Genome) Fault) → ReadsChromosomes source_g genome chromosomes genome_after → WritesOutput source_a source_b command first second begun fault first_after second_after mid chromosomes → RunsSo
+  runs_by (Ok table) knows writes = runs_written table knows writes.written
   runs_by (Err wrong) lacks stops = runs_wrong (fault_value wrong) lacks stops

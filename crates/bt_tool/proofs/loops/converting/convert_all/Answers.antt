@@ -60,7 +60,7 @@ loop-line-preserved g c =
     record {
       going = going_line first.split first.with_cigar _ c.args.lines.now c.args.out.now.output c.loop-line.lines c.loop-line.out.output now.going c.next.follows.lender-at-none (line_seen c.in-Some.line) gives.answers
           gives.sound c.loop-line.converter c.convert_line.new.converter (ap (λ (m : Converting). m.split) now.same) (ap (λ (m : Converting). m.with_cigar) now.same) c.convert_line.new.out.output written;
-      same = written.unchanged ∙ now.same;
+      same = written.3 ∙ now.same;
       input = now.input;
       read = has_read_then g.S.Source.is_read c.args.lines.now c.loop-line.lines c.next.follows.lender-at-none now.read gives.own_failure;
     }

@@ -2,9 +2,10 @@ use Rattle.bt_lines.proofs.Std.{◌≡◌, ◌∙◌, ◌++◌, Err, ap, append-
 use Rattle.bt_lines.proofs.lemmas.reader.block.ReadsLemmas.{has_read_then, reads_same}
 use Rattle.bt_lines.specs.calls.Names.{fault_value}
 use Rattle.bt_lines.specs.calls.Reader.{HasRead}
-use Rattle.bt_bed.specs.calls.Records.{below, view_of}
+use Rattle.bt_bed.specs.calls.Records.{below, order_in, view_of}
+use Rattle.bt_bed.specs.model.feature.LineKind.{IsBedKind}
 use Rattle.bt_bed.proofs.lemmas.order.ResultLemmas.{passed_on}
-use Rattle.bt_tool.specs.inside.feed.Feeding.{FeedsRecords}
+use Rattle.bt_tool.specs.inside.feed.Feeding.{AreInOrder, FeedsMembers}
 use Rattle.bt_tool.specs.calls.run.OwnReads.{AnswersNoRead}
 use Rattle.bt_tool.proofs.lemmas.running.feed.FeedLemmas.{failed_at, feeds_all, going_fill, going_start, going_taken, stops_feeding, stops_reading}
 use Rattle.bt_tool.proofs.lemmas.running.pair.BufferedLemmas.{given_by}
@@ -21,7 +22,7 @@ loop-records-init g c = (
 
 pub returns-in_err-fill-clause-feeds : goal.returns-in_err-fill-clause-feeds
 returns-in_err-fill-clause-feeds g c =
-    passed_on (λ r. FeedsRecords (g.E.Engine.settled c.args.engine.now) g.S.Source (λ past. g.E.Engine.is_after c.args.engine.now past c.loop-records.engine) c.args.records.now c.args.out.now.output r c.fill.new.self c.loop-records.out.output) c.from_residual.result c.in_err-fill.field-0.0 c.from_residual.ensures.1
+    passed_on (λ r. FeedsMembers (g.E.Engine.settled c.args.engine.now) (IsBedKind (order_in c.args.records.now)) (AreInOrder (order_in c.args.records.now)) g.S.Source (λ past. g.E.Engine.is_after c.args.engine.now past c.loop-records.engine) (view_of c.args.records.now) c.args.out.now.output r (view_of c.fill.new.self) c.loop-records.out.output) c.from_residual.result c.in_err-fill.field-0.0 c.from_residual.ensures.1
     (stops_reading g.E.Engine.takes g.E.Engine.is_after g.E.Engine.fault g.E.Engine.settled c.args.engine.now g.S.Source c.args.records.now c.args.out.now.output c.requires.sorted c.requires.total c.requires.none_last c.requires.takes
     c.loop-records.records c.loop-records.engine c.loop-records.out.output c.loop-records.invariant.0 c.fill.new.self (fault_value c.in_err-fill.field-0.0)
     (is_stopped g.S.Source c.loop-records.records c.fill.new.self c.in_err-fill.field-0.0 c.in_err-fill.ensures))
@@ -44,26 +45,26 @@ loop-records-preserved g c =
     c.loop-records.records c.loop-records.engine c.loop-records.out.output c.loop-records.invariant.0 c.fill.new.self (is_filled g.S.Source c.loop-records.records c.fill.new.self fills) fills.order in
     let takes = c.in_ok-feed_buffered.ensures in (
       going_taken g.E.Engine.takes g.E.Engine.is_after g.E.Engine.fault g.E.Engine.settled c.args.engine.now g.S.Source c.args.records.now c.args.out.now.output c.requires.sorted c.requires.total c.requires.none_last c.requires.takes
-          c.fill.new.self c.loop-records.engine c.loop-records.out.output filled g.E.Engine.quiet c.feed_buffered.new.records c.feed_buffered.new.engine c.feed_buffered.new.out.output takes.feeds.0.records (takes.consumes.takes takes.feeds.0.records takes.feeds.0.given) takes.consumes.order takes.feeds.0.taken,
+          c.fill.new.self c.loop-records.engine c.loop-records.out.output filled g.E.Engine.quiet c.feed_buffered.new.records c.feed_buffered.new.engine c.feed_buffered.new.out.output takes.3.0.records (takes.2.takes takes.3.0.records takes.3.0.given) takes.2.order takes.3.0.taken,
       has_read_then g.S.Source.is_read (below c.args.records.now) (below c.loop-records.records) (below c.feed_buffered.new.records) c.loop-records.invariant.1
           (has_read_then g.S.Source.is_read (below c.loop-records.records) (below c.fill.new.self) (below c.feed_buffered.new.records) fills.own_failure
-          (taken_reads g.S.Source (view_of c.fill.new.self) takes.feeds.0.records (view_of c.feed_buffered.new.records) (takes.consumes.takes takes.feeds.0.records takes.feeds.0.given))),
+          (taken_reads g.S.Source (view_of c.fill.new.self) takes.3.0.records (view_of c.feed_buffered.new.records) (takes.2.takes takes.3.0.records takes.3.0.given))),
     )
 
 pub loop-records-smaller : goal.loop-records-smaller
 loop-records-smaller g c =
     let filled = is_filled g.S.Source c.loop-records.records c.fill.new.self (rw c.if-branch.true at c.in_ok-fill.ensures) in
     let fed = c.in_ok-feed_buffered.ensures in
-    let has = fed.consumes.takes fed.feeds.0.records fed.feeds.0.given in
-    let all : (view_of c.fill.new.self).buffered ≡ fed.feeds.0.records = has.takes.buffered ∙ ap (λ l. fed.feeds.0.records ++ l) (fed.consumes.left_is ∙ fed.feeds.1.none) ∙ append-nil fed.feeds.0.records in
+    let has = fed.2.takes fed.3.0.records fed.3.0.given in
+    let all : (view_of c.fill.new.self).buffered ≡ fed.3.0.records = has.takes.buffered ∙ ap (λ l. fed.3.0.records ++ l) (fed.2.left_is ∙ fed.3.1.none) ∙ append-nil fed.3.0.records in
     omega (arith, filled.gives.shrinks, has.takes.shrinks, ap length all, some_buffered _ (view_of c.fill.new.self).buffered _ filled.gives.ahead)
 
 pub returns-in_err-feed_buffered-clause-own_failure : goal.returns-in_err-feed_buffered-clause-own_failure
 returns-in_err-feed_buffered-clause-own_failure g c =
     let filled = is_filled g.S.Source c.loop-records.records c.fill.new.self (rw c.if-branch.true at c.in_ok-fill.ensures) in
     let gives = c.in_err-feed_buffered.ensures in
-    let given = given_by {A = Unit {0}} g.E.Engine.takes g.E.Engine.is_after g.E.Engine.fault g.E.Engine.settled g.E.Engine.quiet g.E.Engine.wants c.loop-records.engine gives.first c.loop-records.out.output (Err c.in_err-feed_buffered.field-0.0) c.feed_buffered.new.engine gives.last c.feed_buffered.new.out.output gives.feeds in
-    none_kept g.S.Source.is_read _ _ _ ((gives.consumes.takes given.0 given.1).takes.goes ∙ filled.gives.goes ∙ c.loop-records.invariant.0.fed.passes.going)
+    let given = given_by {A = Unit {0}} g.E.Engine.takes g.E.Engine.is_after g.E.Engine.fault g.E.Engine.settled g.E.Engine.quiet g.E.Engine.wants c.loop-records.engine gives.0 c.loop-records.out.output (Err c.in_err-feed_buffered.field-0.0) c.feed_buffered.new.engine gives.1 c.feed_buffered.new.out.output gives.3 in
+    none_kept g.S.Source.is_read _ _ _ ((gives.2.takes given.0 given.1).takes.goes ∙ filled.gives.goes ∙ c.loop-records.invariant.0.fed.passes.going)
 
 pub returns-in_err-feed_buffered-clause-feeds : goal.returns-in_err-feed_buffered-clause-feeds
 returns-in_err-feed_buffered-clause-feeds g c =
@@ -71,18 +72,18 @@ returns-in_err-feed_buffered-clause-feeds g c =
     let filled = going_fill g.E.Engine.takes g.E.Engine.is_after g.E.Engine.fault g.E.Engine.settled c.args.engine.now g.S.Source c.args.records.now c.args.out.now.output c.requires.sorted c.requires.total c.requires.none_last c.requires.takes
     c.loop-records.records c.loop-records.engine c.loop-records.out.output c.loop-records.invariant.0 c.fill.new.self (is_filled g.S.Source c.loop-records.records c.fill.new.self fills) fills.order in
     let gives = c.in_err-feed_buffered.ensures in
-    passed_on (λ r. FeedsRecords (g.E.Engine.settled c.args.engine.now) g.S.Source (λ past. g.E.Engine.is_after c.args.engine.now past c.feed_buffered.new.engine) c.args.records.now c.args.out.now.output r c.feed_buffered.new.records c.feed_buffered.new.out.output) c.from_residual-in_err-feed_buffered.result c.in_err-feed_buffered.field-0.0 c.from_residual-in_err-feed_buffered.ensures.1
+    passed_on (λ r. FeedsMembers (g.E.Engine.settled c.args.engine.now) (IsBedKind (order_in c.args.records.now)) (AreInOrder (order_in c.args.records.now)) g.S.Source (λ past. g.E.Engine.is_after c.args.engine.now past c.feed_buffered.new.engine) (view_of c.args.records.now) c.args.out.now.output r (view_of c.feed_buffered.new.records) c.feed_buffered.new.out.output) c.from_residual-in_err-feed_buffered.result c.in_err-feed_buffered.field-0.0 c.from_residual-in_err-feed_buffered.ensures.1
     (stops_feeding g.E.Engine.takes g.E.Engine.is_after g.E.Engine.fault g.E.Engine.settled c.args.engine.now g.S.Source c.args.records.now c.args.out.now.output c.requires.sorted c.requires.total c.requires.none_last c.requires.takes
-    c.fill.new.self c.loop-records.engine c.loop-records.out.output filled g.E.Engine.quiet g.E.Engine.wants c.in_err-feed_buffered.field-0.0 c.feed_buffered.new.records c.feed_buffered.new.engine c.feed_buffered.new.out.output gives.first gives.last gives.consumes (failed_at gives.feeds c.args.engine.now _ filled.stands))
+    c.fill.new.self c.loop-records.engine c.loop-records.out.output filled g.E.Engine.quiet g.E.Engine.wants c.in_err-feed_buffered.field-0.0 c.feed_buffered.new.records c.feed_buffered.new.engine c.feed_buffered.new.out.output gives.0 gives.1 gives.2 (failed_at gives.3 c.args.engine.now _ filled.stands))
 
 pub returns-in_err-feed_buffered-clause-reads : goal.returns-in_err-feed_buffered-clause-reads
 returns-in_err-feed_buffered-clause-reads g c = λ never.
     let fills = rw c.if-branch.true at c.in_ok-fill.ensures in
     let gives = c.in_err-feed_buffered.ensures in
-    let given = given_by {A = Unit {0}} g.E.Engine.takes g.E.Engine.is_after g.E.Engine.fault g.E.Engine.settled g.E.Engine.quiet g.E.Engine.wants c.loop-records.engine gives.first c.loop-records.out.output (Err c.in_err-feed_buffered.field-0.0) c.feed_buffered.new.engine gives.last c.feed_buffered.new.out.output gives.feeds in
+    let given = given_by {A = Unit {0}} g.E.Engine.takes g.E.Engine.is_after g.E.Engine.fault g.E.Engine.settled g.E.Engine.quiet g.E.Engine.wants c.loop-records.engine gives.0 c.loop-records.out.output (Err c.in_err-feed_buffered.field-0.0) c.feed_buffered.new.engine gives.1 c.feed_buffered.new.out.output gives.3 in
     has_read_then g.S.Source.is_read (below c.args.records.now) (below c.loop-records.records) (below c.feed_buffered.new.records) c.loop-records.invariant.1
     (has_read_then g.S.Source.is_read (below c.loop-records.records) (below c.fill.new.self) (below c.feed_buffered.new.records) fills.own_failure
-    (taken_reads g.S.Source (view_of c.fill.new.self) given.0 (view_of c.feed_buffered.new.records) (gives.consumes.takes given.0 given.1)))
+    (taken_reads g.S.Source (view_of c.fill.new.self) given.0 (view_of c.feed_buffered.new.records) (gives.2.takes given.0 given.1)))
 
 pub returns-clause-feeds : goal.returns-clause-feeds
 returns-clause-feeds g c =

@@ -22,13 +22,12 @@ consume-requires-2 g c =
 
 pub returns-clause-advances : goal.returns-clause-advances
 returns-clause-advances g c =
-    let p = passed_both (sweep_order c.args.sweep.now) (state_of c.args.sweep.now) c.buffered-firsts.result c.buffered-seconds.result c.args.out.now.output c.advance-swept.result (state_of c.advance-swept.new.self) c.advance-swept.new.a c.advance-swept.new.b c.advance-swept.new.out.output c.advance-swept.ensures.advances in
-    record {
-      firsts = c.buffered-firsts.result;
-      seconds = c.buffered-seconds.result;
-      last_firsts = c.advance-swept.new.a;
-      last_seconds = c.advance-swept.new.b;
-      consumes = consumes_given c.args.first.now c.buffered-firsts.result c.buffered-firsts.ensures.lends c.advance-swept.new.a p.0.0 p.0.1 c.consumed-first_consumed.result c.consumed-first_consumed.ensures g.A.Source c.buffered-firsts.ensures.comes c.consume.new.self c.consume.ensures;
-      consumes_second = consumes_given c.args.second.now c.buffered-seconds.result c.buffered-seconds.ensures.lends c.advance-swept.new.b p.1.0 p.1.1 c.consumed-second_consumed.result c.consumed-second_consumed.ensures g.B.Source c.buffered-seconds.ensures.comes c.consume-2.new.self c.consume-2.ensures;
-      advances = c.advance-swept.ensures.advances;
-    }
+    let p = passed_both (sweep_order c.args.sweep.now) (state_of c.args.sweep.now) c.buffered-firsts.result c.buffered-seconds.result c.args.out.now.output c.advance-swept.result (state_of c.advance-swept.new.self) c.advance-swept.new.a c.advance-swept.new.b c.advance-swept.new.out.output c.advance-swept.ensures.advances in (
+      c.buffered-firsts.result,
+      c.buffered-seconds.result,
+      c.advance-swept.new.a,
+      c.advance-swept.new.b,
+      consumes_given c.args.first.now c.buffered-firsts.result c.buffered-firsts.ensures.lends c.advance-swept.new.a p.0.0 p.0.1 c.consumed-first_consumed.result c.consumed-first_consumed.ensures g.A.Source c.buffered-firsts.ensures.comes c.consume.new.self c.consume.ensures,
+      consumes_given c.args.second.now c.buffered-seconds.result c.buffered-seconds.ensures.lends c.advance-swept.new.b p.1.0 p.1.1 c.consumed-second_consumed.result c.consumed-second_consumed.ensures g.B.Source c.buffered-seconds.ensures.comes c.consume-2.new.self c.consume-2.ensures,
+      c.advance-swept.ensures.advances,
+    )
