@@ -10,7 +10,7 @@ use Rattle.bt_lines.specs.calls.Output.{Output}
 use Rattle.bt_lines.specs.calls.Putting.{FailsToAdd, Grown}
 use Rattle.bt_lines.specs.declared.reader.buffered_lines.BufferedLines.{BufferedLines}
 use Rattle.bt_lines.specs.declared.fault.Fault.{Fault}
-use Rattle.bt_seq.specs.calls.GivenLines.{PassesLines}
+use Rattle.bt_seq.specs.calls.MaskSettles.{PassesLines}
 use Rattle.bt_seq.specs.calls.MaskSettles.{GoesOn}
 use Rattle.bt_seq.specs.calls.MaskStage.{IsNext, MaskStage, want_at}
 use Rattle.bt_seq.specs.calls.MaskStanding.{MaskMovesTo, MaskStandsAt}

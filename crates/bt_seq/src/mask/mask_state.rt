@@ -6,11 +6,11 @@ ghost use Rattle.bt_lines.specs.calls.Names.{fault_value};
 ghost use Rattle.bt_bed.specs.calls.Bed.{feature_lent};
 ghost use Rattle.bt_bed.specs.model.feature.LineKind.{fault_at_line};
 ghost use Rattle.bt_lines.specs.calls.Buffered.{lines_in};
-ghost use Rattle.bt_seq.specs.inside.mask.CopyThrough.{CopiesThrough};
+ghost use Rattle.bt_seq.specs.inside.CopyThrough.{CopiesThrough};
 ghost use Rattle.bt_seq.specs.calls.MaskAdvance.{GivesLines};
 ghost use Rattle.bt_seq.specs.calls.MaskState.{ChecksBed, Keeps, Moves, TakesBed, TakesLine, Waiting, Writes, WritesGiven, decides_by, decides_up_to, with_extent, writes_at_once};
 ghost use Rattle.bt_seq.specs.model.Sequences.{is_header};
-ghost use Rattle.bt_seq.specs.inside.mask.Window.{limit, no_bases};
+ghost use Rattle.bt_seq.specs.inside.Window.{limit, no_bases};
 
 use crate::bamtobed::put_text::put_text;
 use crate::mask::copy_through::CopyThrough;
@@ -54,7 +54,7 @@ pub(crate) struct MaskState {
 impl Model for MaskState {
     ghost use Rattle.std.specs.Prelude.{None, Some, if◌then◌else◌};
     ghost use Rattle.bt_seq.specs.calls.MaskState.{Masking};
-    ghost use Rattle.bt_seq.specs.inside.mask.Phase.{waits_in, want_in};
+    ghost use Rattle.bt_seq.specs.inside.Phase.{waits_in, want_in};
 
     ghost Value = { Masking };
 

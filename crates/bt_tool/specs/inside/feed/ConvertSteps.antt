@@ -1,5 +1,6 @@
 -- What a run does with one line of a SAM input, and with all of them.
-use Rattle.std.specs.Prelude.{◌≡◌, ◌⊎◌, ⊤, Option, Some, Result, Ok, Err}
+use Rattle.std.specs.Prelude.{◌≡◌, ◌⊎◌, ⊤, [], Option, Some, Result, Ok, Err}
+use Rattle.std.specs.Option.{option_map_or}
 use Rattle.bt_lines.specs.declared.device.Source.{Ghosts as Source}
 use Rattle.bt_lines.specs.model.Fault.{FaultValue}
 use Rattle.bt_lines.specs.model.Lines.{TextLine}
@@ -13,8 +14,8 @@ use Rattle.bt_lines.specs.declared.reader.line_reader.LineReader.{LineReader}
 use Rattle.bt_bed.specs.model.feature.LineKind.{fault_at_line}
 use Rattle.bt_bed.specs.calls.Reading.{MemberReader}
 use Rattle.bt_seq.specs.model.Alignment.{Alignment, alignment_of}
-use Rattle.bt_seq.specs.model.BedLines.{bed_lines, lines_if}
-use Rattle.bt_seq.specs.calls.BamToBedState.{Converting}
+use Rattle.bt_seq.specs.model.BedLines.{bed_lines}
+use Rattle.bt_seq.specs.calls.Sam.{Converting}
 use Rattle.bt_seq.specs.model.GoodSam.{sam_format}
 use Rattle.bt_seq.specs.model.SamKind.{is_sam_kind}
 use Rattle.bt_tool.specs.model.usage.Kinds.{IsOneOf}
@@ -27,7 +28,7 @@ pub record LineWritten (old : Converting) (line : TextLine) (out : Output) (new 
     (grown : Output) : Type 0 where
   pub said : Option Alignment
   pub says : alignment_of line.text ≡ Ok said
-  pub writes : Grown out (lines_if old.split old.with_cigar said) grown
+  pub writes : Grown out (option_map_or (bed_lines old.split old.with_cigar) said []) grown
   pub unchanged : new ≡ old
 
 -- the line is at fault

@@ -16,10 +16,9 @@ use Rattle.bt_seq.proofs.lemmas.mask.steps.LineStepLemmas.{gives_line}
 use Rattle.bt_seq.proofs.lemmas.mask.bases.MaskingLemmas.{passes_line}
 use Rattle.bt_seq.proofs.lemmas.mask.steps.SettleLemmas.{decided_goes, goes_more, goes_nowhere, line_goes, record_goes}
 use Rattle.bt_seq.proofs.lemmas.mask.steps.StandLemmas.{stays_at, wants_bed, wants_line}
-use Rattle.bt_seq.specs.inside.mask.CopyThrough.{CopiesThrough, StayEach, passed_all}
-use Rattle.bt_seq.specs.calls.GivenLines.{PassesLines}
+use Rattle.bt_seq.specs.inside.CopyThrough.{CopiesThrough, StayEach, passed_all}
+use Rattle.bt_seq.specs.calls.MaskSettles.{PassesLines, GoesOn}
 use Rattle.bt_seq.specs.calls.MaskAdvance.{BothCome, ComesAfter, ComesNext, FailsAfter, FailsAtRecord, GivesBoth, GivesLines, HasCome, LinesCome, asks_more, left_to_give}
-use Rattle.bt_seq.specs.calls.MaskSettles.{GoesOn}
 use Rattle.bt_seq.specs.calls.MaskStage.{IsNext, MaskStage, is_written_at_once, reached, want_of, with_decided, with_line, with_record}
 use Rattle.bt_seq.specs.calls.MaskStanding.{MaskMovesTo, MaskStandsAt}
 use Rattle.bt_seq.specs.calls.MaskState.{Masking, TakesLine, passed, stays_as_given}
@@ -280,7 +279,7 @@ module _ {C : Type 0} (gives : C → List Feature → C → Type 0) (line_at : C
 
       took_by : (new : Masking) (grown : Output) → Waits (Ok Yes) new grown → NoneWaits (Ok Yes) new grown → (o : Option SequenceLine) → stage.waiting ≡ o
           → (grown ≡ out) × MaskMovesTo old.how old.full (with_record stage r) new
-      took_by new grown waits none None e = let t = none stage stands e is_next in (t.same_output, t.stands)
+      took_by new grown waits none None e = let t = none stage stands e is_next in (t.1, t.0)
       took_by new grown waits none (Some a) e = let t = waits stage a stands e is_next in (t.same_output, t.stands)
 
       come_taken : (new : Masking) (grown : Output) → Waits (Ok Yes) new grown → NoneWaits (Ok Yes) new grown

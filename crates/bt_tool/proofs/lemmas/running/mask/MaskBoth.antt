@@ -22,9 +22,8 @@ use Rattle.bt_bed.specs.calls.Reading.{MemberReader, state_behind}
 use Rattle.bt_bed.specs.declared.read.batch.Batch.{Batch}
 use Rattle.bt_seq.proofs.lemmas.mask.steps.SettleLemmas.{goes_more, line_goes}
 use Rattle.bt_seq.proofs.lemmas.mask.steps.StandLemmas.{wants_line}
-use Rattle.bt_seq.specs.calls.GivenLines.{SayEach}
+use Rattle.bt_seq.specs.calls.MaskSettles.{SayEach, GoesOn}
 use Rattle.bt_seq.specs.calls.MaskAdvance.{BothCome, ComesAfter, ComesNext, FailsAtLines, FailsAtRecord, FailsBehind, HasCome, StopsAt}
-use Rattle.bt_seq.specs.calls.MaskSettles.{GoesOn}
 use Rattle.bt_seq.specs.calls.MaskStage.{IsNext, MaskStage, given, is_written_at_once, reached, want_at, want_of, with_line}
 use Rattle.bt_seq.specs.calls.MaskStanding.{MaskStandsAt, kept_line}
 use Rattle.bt_seq.specs.calls.MaskSteps.{FailsWithLine, RefusesLine, bytes_with}
