@@ -33,7 +33,7 @@ pub record Waits (stage : MaskStage) (line : SequenceLine) : Type 0 where
 
 -- The engine is at the stage, if this line was given last: what waits, what is wanted and what is held are
 -- those of the stage.
-pub record StandsAfter (stage : MaskStage) (last : Option SequenceLine) (m : Masking) : Type 0 where
+pub record IsAtStage (stage : MaskStage) (last : Option SequenceLine) (m : Masking) : Type 0 where
   pub waiting_is : m.waiting ≡ option_map kept_line stage.waiting
   pub want_is : m.want ≡ want_at stage
   pub bed_ended_is : m.bed_ended ≡ stage.bed_ended
@@ -50,7 +50,7 @@ pub record StandsAfter (stage : MaskStage) (last : Option SequenceLine) (m : Mas
 
 -- the engine is at the stage
 abbrev pub MaskStandsAt : MaskStage → Masking → Type 0
-MaskStandsAt stage m = StandsAfter stage (last_or None (given stage)) m
+MaskStandsAt stage m = IsAtStage stage (last_or None (given stage)) m
 
 -- it is at the stage, and masks and names sequences like this
 pub record MaskMovesTo (how : MaskHow) (full : Bool) (stage : MaskStage)

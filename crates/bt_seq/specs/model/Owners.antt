@@ -68,17 +68,6 @@ block_decides bases None records = true
 block_decides bases (Some []) records = list_any (λ r. nat_le bases r.start) records
 block_decides bases (Some (name ∷ names)) records = false
 
--- the block, if it belongs to no sequence
-abbrev pub unowned_or : {A : Type 0} → Option (List (List ℕ)) → Block A → Option (Block A)
-    → Option (Block A)
-unowned_or None block later = Some block
-unowned_or (Some names) block later = later
-
--- the first of the blocks that belongs to no sequence
-abbrev pub first_unowned : {A : Type 0} → List (Owned A) → Option (Block A)
-first_unowned [] = None
-first_unowned (o ∷ os) = unowned_or o.left o.block (first_unowned os)
-
 -- the names after the sequence of the last block: these, if there is none
 abbrev pub left_at_last : {A : Type 0} → Option (List (List ℕ)) → List (Owned A)
     → Option (List (List ℕ))

@@ -115,7 +115,7 @@ impl Mask {
     }
 
     // Takes what it wants next, and returns true if that is available.
-    #[tactic(auto, using(crate::proofs::lemmas::mask::steps::AdvanceLemmas::line_shrinks, crate::proofs::lemmas::mask::steps::AdvanceLemmas::lines_both, crate::proofs::lemmas::mask::steps::AdvanceLemmas::record_shrinks))]
+    #[tactic(auto, using(crate::proofs::lemmas::mask::steps::AdvanceLemmas::line_shrinks, crate::proofs::lemmas::mask::steps::AdvanceLemmas::record_shrinks))]
     #[inline(always)]
     fn gives_next<C: Cursor, K: Sink>(
         &mut self,
@@ -132,7 +132,7 @@ impl Mask {
             self.new lines.new records.new out.new.output }
     {
         match self.want() {
-            MaskWant::Line => self.state.give_lines(lines, out),
+            MaskWant::Line => self.state.give_lines::<C, K>(lines, out),
             MaskWant::Bed => self.give_record(records, out),
             MaskWant::Nothing => Ok(false),
         }

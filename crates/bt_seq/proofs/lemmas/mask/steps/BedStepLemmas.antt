@@ -21,7 +21,7 @@ use Rattle.bt_seq.specs.calls.MaskPrefixes.{extent_of}
 use Rattle.bt_seq.specs.calls.Matching.{owner_by, Matched, matched_with, owner_of}
 use Rattle.bt_seq.specs.inside.MaskInside.{Counts, IsDecided, KnowsLast, KnowsNone, decided_up_to}
 use Rattle.bt_seq.specs.calls.MaskStage.{IsNext, MaskStage, given, held_by, reached, want_of, with_bed_ended, with_decided, with_record}
-use Rattle.bt_seq.specs.calls.MaskStanding.{MaskMovesTo, StandsAfter, Waits, kept_line}
+use Rattle.bt_seq.specs.calls.MaskStanding.{MaskMovesTo, IsAtStage, Waits, kept_line}
 use Rattle.bt_seq.specs.calls.MaskSteps.{ChecksRecord, EndsRecords, GivesBed, LacksSequence, WritesLine}
 use Rattle.bt_seq.specs.model.Masked.{decided, held_for, masked_line}
 use Rattle.bt_seq.specs.calls.MaskState.{Masking, TakesBed, Writes, decides, decides_by, decides_up_to, holding, holds, holds_by, line_bytes, with_owner, with_extent}
@@ -85,8 +85,8 @@ decides_left bases left r e = grind (arith, nat_tests)
 
 -- a line waits
 module _ (how : MaskHow) (full : Bool) (stage : MaskStage) (line : SequenceLine) (waits : stage.waiting ≡ Some line) (old : Masking) (stands : MaskMovesTo how full stage old) where
-  at_last : StandsAfter stage (Some line) old
-  at_last = subst (λ (l : Option SequenceLine). StandsAfter stage l old) (last_waits stage line waits) stands.stands
+  at_last : IsAtStage stage (Some line) old
+  at_last = subst (λ (l : Option SequenceLine). IsAtStage stage l old) (last_waits stage line waits) stands.stands
 
   as_waits : Waits stage line
   as_waits = stands.stands.waits line waits

@@ -3,7 +3,7 @@ use Rattle.bt_lines.proofs.Std.{◌≡◌, ℕ, Bool, true, false, List, [], ◌
 use Rattle.std.specs.List.{last_or}
 use Rattle.bt_bed.specs.model.feature.Feature.{Feature}
 use Rattle.bt_seq.specs.calls.MaskStage.{MaskStage, given, reached_by, want_of}
-use Rattle.bt_seq.specs.calls.MaskStanding.{IsOpen, MaskMovesTo, MaskStandsAt, StandsAfter}
+use Rattle.bt_seq.specs.calls.MaskStanding.{IsOpen, MaskMovesTo, MaskStandsAt, IsAtStage}
 use Rattle.bt_seq.specs.model.Masked.{is_unnamed}
 use Rattle.bt_seq.specs.calls.MaskState.{Masking}
 use Rattle.bt_seq.specs.model.Sequences.{SequenceLine}
@@ -12,8 +12,8 @@ use Rattle.bt_seq.specs.declared.mask.mask_want.MaskWant.TheVariants.{Line, Bed}
 
 -- the engine is at the stage, if this is the last line
 pub stands_at : (how : MaskHow) (full : Bool) (stage : MaskStage) (m : Masking) (last : Option SequenceLine) → last_or None (given stage) ≡ last → m.how ≡ how → m.full ≡ full
-    → StandsAfter stage last m → MaskMovesTo how full stage m
-stands_at how full stage m last e same_how same_full s = record { stands = subst (λ (l : Option SequenceLine). StandsAfter stage l m) (sym e) s; how_is = same_how; full_is = same_full }
+    → IsAtStage stage last m → MaskMovesTo how full stage m
+stands_at how full stage m last e same_how same_full s = record { stands = subst (λ (l : Option SequenceLine). IsAtStage stage l m) (sym e) s; how_is = same_how; full_is = same_full }
 
 -- the engine stays as it is
 pub stays_at : (stage : MaskStage) (m : Masking) → MaskStandsAt stage m → MaskMovesTo m.how m.full stage m
