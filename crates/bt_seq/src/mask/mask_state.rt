@@ -140,7 +140,7 @@ impl MaskState {
 
     // Takes the lines that nothing masks, and the one after them, and returns true if there is one. Whatever records
     // a cursor is at, they stay.
-    #[tactic(auto, using(crate::proofs::lemmas::mask::steps::AdvanceLemmas::gave_copied, crate::proofs::lemmas::mask::steps::AdvanceLemmas::wants_more))]
+    #[tactic(auto, using(crate::proofs::lemmas::mask::steps::AdvanceLemmas::wants_more))]
     #[inline(always)]
     pub(crate) fn give_lines<C: Cursor, K: Sink>(
         &mut self,
