@@ -113,7 +113,7 @@ module _ (how : MaskHow) (full : Bool) (stage : MaskStage) (r : Feature) (number
     pub is : fault ≡ fault_at_line Second number NoSequence
     pub same_output : grown ≡ out
 
-  -- what the result says: if its block belongs to a sequence, the stage has it
+  -- what the result says; at a stage each block that was taken belongs to a sequence
   abbrev pub ChecksRecord : Result Taken Fault → Masking → Output → Type 0
   ChecksRecord (Ok Yes) new grown = MaskMovesTo how full (with_record stage r) new × (grown ≡ out)
   ChecksRecord (Ok No) new grown = ⊥

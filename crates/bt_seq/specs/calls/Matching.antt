@@ -66,7 +66,8 @@ owner_by None = Nobody
 owner_by (Some []) = Own
 owner_by (Some (name ∷ names)) = Earlier
 
--- its own is found, if a record that begins a block has none of the names left before the last
+-- The sequence of the next record's block is found, if a record that begins a block has none of the
+-- names that are left before the last.
 abbrev pub owners_are_found : Type 0
 owners_are_found = (names : List (List ℕ)) (records : List Feature) (m : Matched) (r : Feature)
     → Knows names records m
