@@ -1,7 +1,4 @@
 -- What calls do, as contracts say it.
-pub mod BamToBedState
-pub mod GivenLines
-pub mod HeldMasks
 pub mod MaskAdvance
 pub mod MaskPrefixes
 pub mod MaskSettles

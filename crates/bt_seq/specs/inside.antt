@@ -1,3 +1,7 @@
 -- Words of contracts inside of the crate.
-pub mod mask
-pub mod sam
+pub mod CigarSteps
+pub mod CopyThrough
+pub mod LineEnds
+pub mod MaskInside
+pub mod Phase
+pub mod Window

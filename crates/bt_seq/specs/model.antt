@@ -3,9 +3,7 @@ pub mod Alignment
 pub mod AlignmentBlocks
 pub mod BedLines
 pub mod Cigar
-pub mod Flag
 pub mod GoodSam
-pub mod MaskHow
 pub mod Masked
 pub mod Owners
 pub mod SamKind

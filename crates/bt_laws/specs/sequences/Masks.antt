@@ -9,8 +9,8 @@ use Rattle.bt_lines.specs.model.Fault.{FaultValue}
 use Rattle.bt_seq.specs.model.Masked.{decided, mask_rule, masked_line, held_for}
 use Rattle.bt_seq.specs.model.Sequences.{SequenceLine}
 use Rattle.bt_seq.specs.declared.mask.mask_how.MaskHow.{MaskHow}
-use Rattle.std.specs.List.{AllByRecursion}
-use Rattle.bt_seq.specs.calls.MaskStage.{MaskStage, line_given_last}
+use Rattle.std.specs.List.{last_or, AllByRecursion}
+use Rattle.bt_seq.specs.calls.MaskStage.{MaskStage}
 use Rattle.bt_seq.specs.calls.MaskState.{Masking}
 use Rattle.bt_seq.specs.calls.MaskStanding.{IsOpen}
 use Rattle.bt_lines.specs.calls.Output.{Output}
@@ -52,7 +52,7 @@ faultless_are_masked =
 -- that did.
 abbrev pub taken_are_first : Type 0
 taken_are_first = (lines : List SequenceLine) (before rest : List Feature)
-    → IsOpen (line_given_last lines) (before ++ rest)
+    → IsOpen (last_or None lines) (before ++ rest)
     → (before ++ rest ≡ []) ⊎ (AllByRecursion (λ line. decided line before ≡ true) lines → ⊥)
 
 -- a record that leaves the line undecided and hasn't to be held is taken, and nothing is written

@@ -2,9 +2,8 @@
 
 ghost use Rattle.std.specs.Prelude.{◌≡◌, [], ◌∷◌, Some, None, codes, true, false};
 ghost use Rattle.bt_bed.specs.model.feature.LineKind.{fault_at_line};
-ghost use Rattle.bt_seq.specs.calls.HeldMasks.{held_mask_alone};
+ghost use Rattle.bt_seq.specs.calls.MaskPrefixes.{decided_lines_stay, first_unowned_is_told, held_mask_alone, masked_lines_are_before, masked_lines_stay, owned_lack_none};
 ghost use Rattle.bt_seq.specs.calls.Matching.{owners_are_found};
-ghost use Rattle.bt_seq.specs.calls.MaskPrefixes.{decided_lines_stay, first_unowned_is_told, masked_lines_are_before, masked_lines_stay, owned_lack_none};
 ghost use Rattle.bt_laws.specs.sequences.Masks.{faultless_are_masked, masked_are_a_prefix, taken_are_first, quiet_records_are_taken};
 ghost use Rattle.bt_seq.specs.model.Masked.{mask_texts};
 ghost use Rattle.bt_laws.specs.sequences.Owners.{blocks_are_maximal_runs, owners_are_first, owners_stay, owners_were, unowned_find_no_name};

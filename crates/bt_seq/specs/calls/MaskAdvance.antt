@@ -10,8 +10,7 @@ use Rattle.bt_lines.specs.calls.Output.{Output}
 use Rattle.bt_lines.specs.calls.Putting.{FailsToAdd, Grown}
 use Rattle.bt_lines.specs.declared.reader.buffered_lines.BufferedLines.{BufferedLines}
 use Rattle.bt_lines.specs.declared.fault.Fault.{Fault}
-use Rattle.bt_seq.specs.calls.GivenLines.{PassesLines}
-use Rattle.bt_seq.specs.calls.MaskSettles.{GoesOn}
+use Rattle.bt_seq.specs.calls.MaskSettles.{GoesOn, PassesLines}
 use Rattle.bt_seq.specs.calls.MaskStage.{IsNext, MaskStage, want_at}
 use Rattle.bt_seq.specs.calls.MaskStanding.{MaskMovesTo, MaskStandsAt}
 use Rattle.bt_seq.specs.calls.MaskState.{Masking}
@@ -64,36 +63,6 @@ module _ (how : MaskHow) (full : Bool) where
       FailsToWriteLine how full stage waiting r out fault grown
       ⊎ FailsToHoldRecord how full stage waiting r out fault grown
 
-  -- what was given last failed, after the lines before it
-  pub record FailsAfter (old : MaskStage) (lines : List TextLine) (taken : List Feature) (out : Output)
-      (Fails : MaskStage → List TextLine → Output → Type 0) : Type 0 where
-    pub before : List TextLine
-    pub failing : List TextLine
-    pub parts : lines ≡ before ++ failing
-    pub mask : Masking
-    pub through : Output
-    pub comes : HasCome old before taken out mask through
-    pub fails : Fails comes.stage failing through
-
-  -- what giving lines does
-  abbrev pub LinesCome : {A : Type 0} → MaskStage → List TextLine → Output → Result A Fault
-      → Masking → Output → Type 0
-  LinesCome stage lines out (Ok done) new grown =
-      (comes : HasCome stage lines [] out new grown) × (comes.stage.ahead ≡ stage.ahead)
-  LinesCome stage lines out (Err fault) new grown =
-      (new.want ≡ Nothing)
-      × FailsAfter stage lines [] out
-      (λ at failing through. (at.ahead ≡ stage.ahead) × (want_at at ≡ Line)
-      × FailsAtLines at failing through (fault_value fault) grown)
-
--- lines of those that are buffered were given
-pub record GivesLines {A : Type 0} (old : Masking) (lines : BufferedLines) (out : Output)
-    (answer : Result A Fault) (new : Masking) (left : BufferedLines) (grown : Output) : Type 0 where
-  pub texts : List TextLine
-  pub passes : PassesLines lines texts left
-  pub comes : (stage : MaskStage) → MaskStandsAt stage old
-      → LinesCome old.how old.full stage texts out answer new grown
-
 module _ {C : Type 0} (gives : C → List Feature → C → Type 0) (line_at : C → ℕ)
     (has_ended : C → Type 0) where
   -- whatever record comes next, it is the one ahead, if one is known to be
@@ -114,14 +83,21 @@ module _ {C : Type 0} (gives : C → List Feature → C → Type 0) (line_at : C
 
   module _ (how : MaskHow) (full : Bool) (old : MaskStage) (lines : List TextLine)
       (taken : List Feature) (out : Output) (from : C) where
-    -- what was given last failed: lines, or the record that comes next
-    abbrev pub FailsBehind : FaultValue → C → Output → Type 0
-    FailsBehind fault records grown =
-        FailsAfter how full old lines taken out
-        (λ at failing through. ComesNext at.ahead records × ComesAfter old.ahead from taken at.ahead
-        × (((want_at at ≡ Line) × FailsAtLines how full at failing through fault grown)
-        ⊎ ((r : Feature) × (later : C) × (failing ≡ []) × (want_at at ≡ Bed) × gives records (r ∷ []) later
-        × FailsAtRecord how full at.waiting at r (line_at later) through fault grown)))
+    -- what was given last failed, after the lines before it: lines, or the record that comes next
+    pub record FailsAfter (fault : FaultValue) (records : C) (grown : Output) : Type 0 where
+      pub before : List TextLine
+      pub failing : List TextLine
+      pub parts : lines ≡ before ++ failing
+      pub mask : Masking
+      pub through : Output
+      pub comes : HasCome how full old before taken out mask through
+      pub next : ComesNext comes.stage.ahead records
+      pub after : ComesAfter old.ahead from taken comes.stage.ahead
+      pub fails : ((want_at comes.stage ≡ Line)
+          × FailsAtLines how full comes.stage failing through fault grown)
+          ⊎ ((r : Feature) × (later : C) × (failing ≡ []) × (want_at comes.stage ≡ Bed)
+          × gives records (r ∷ []) later
+          × FailsAtRecord how full comes.stage.waiting comes.stage r (line_at later) through fault grown)
 
     -- what the result says
     abbrev pub BothCome : {A : Type 0} → Result A Fault → Masking → C → Output → Type 0
@@ -129,7 +105,7 @@ module _ {C : Type 0} (gives : C → List Feature → C → Type 0) (line_at : C
         (comes : HasCome how full old lines taken out new grown)
         × ComesNext comes.stage.ahead records × ComesAfter old.ahead from taken comes.stage.ahead
     BothCome (Err fault) new records grown =
-        (new.want ≡ Nothing) × FailsBehind (fault_value fault) records grown
+        (new.want ≡ Nothing) × FailsAfter (fault_value fault) records grown
 
   -- lines and records were given, one after another
   pub record GivesBoth {A : Type 0} (old : Masking) (lines : BufferedLines) (records : C)

@@ -1,15 +1,31 @@
 -- How a masking engine goes on from one stage to another, and which lines are settled then.
-use Rattle.std.specs.Prelude.{◌≡◌, ℕ, Bool, true, false, cond, List, [], ◌++◌, flat_map}
-use Rattle.std.specs.Prelude.{option_to_list}
+use Rattle.std.specs.Prelude.{◌≡◌, ℕ, ◌+◌, Bool, true, false, cond, List, [], ◌∷◌, ◌++◌, flat_map}
+use Rattle.std.specs.Prelude.{length, option_to_list, Some, Ok}
 use Rattle.std.specs.List.{list_all}
 use Rattle.bt_bed.specs.model.feature.Feature.{Feature}
 use Rattle.bt_bed.specs.model.input.GoodBlocks.{AreInBlocks}
+use Rattle.bt_lines.specs.calls.Buffered.{lines_in}
 use Rattle.bt_lines.specs.model.Lines.{TextLine}
-use Rattle.bt_seq.specs.calls.GivenLines.{SayEach}
-use Rattle.bt_seq.specs.calls.MaskStage.{MaskStage, given, reached}
+use Rattle.bt_lines.specs.declared.reader.buffered_lines.BufferedLines.{BufferedLines}
+use Rattle.bt_seq.specs.calls.MaskStage.{MaskStage, given, reached, reached_by}
 use Rattle.bt_seq.specs.model.Masked.{decided, masked_line}
-use Rattle.bt_seq.specs.model.Sequences.{SequenceLine}
+use Rattle.bt_seq.specs.model.Sequences.{Reached, SequenceLine, line_says}
 use Rattle.bt_seq.specs.declared.mask.mask_how.MaskHow.{MaskHow}
+
+-- these lines were consumed of those that are buffered
+pub record PassesLines (old : BufferedLines) (lines : List TextLine) (new : BufferedLines) : Type 0 where
+  pub left_is : lines_in old ≡ lines ++ lines_in new
+  pub all_is : new.all ≡ old.all
+  pub given : new.lines ≡ old.lines + length lines
+  pub open_is : new.is_open ≡ old.is_open
+
+-- each says a line of a sequence, after those before it
+abbrev pub SayEach : Bool → Reached → List TextLine → List SequenceLine → Type 0
+SayEach full reached [] items = items ≡ []
+SayEach full reached (line ∷ lines) [] = ⊥
+SayEach full reached (line ∷ lines) (item ∷ items) =
+    (line_says full reached line ≡ Ok (Some item))
+    × SayEach full (reached_by (Some item)) lines items
 
 -- the records that were seen: those taken, and the one ahead
 abbrev pub seen_at : MaskStage → List Feature

@@ -2,6 +2,7 @@
 -- which records of the BED input were taken. Then what it wants there, and what it holds.
 use Rattle.std.specs.Prelude.{◌≡◌, ⊤, ◌||◌, ◌&&◌, not, Bool, true, false, cond, List, [], ◌∷◌, ◌++◌}
 use Rattle.std.specs.Prelude.{Option, Some, None, is_some, option_to_list}
+use Rattle.std.specs.List.{last_or}
 use Rattle.bt_bed.specs.model.feature.Feature.{Feature}
 use Rattle.bt_seq.specs.model.Masked.{decided, held_for, is_unnamed}
 use Rattle.bt_seq.specs.model.Sequences.{Reached, SequenceLine, bases_up_to, is_header}
@@ -35,12 +36,6 @@ first_stage =
 abbrev pub given : MaskStage → List SequenceLine
 given stage = stage.written ++ option_to_list stage.waiting
 
--- the last of lines, if there is one
-abbrev pub line_given_last : List SequenceLine → Option SequenceLine
-line_given_last [] = None
-line_given_last (line ∷ []) = Some line
-line_given_last (line ∷ next ∷ lines) = line_given_last (next ∷ lines)
-
 -- how far a line has come
 abbrev pub reached_by : Option SequenceLine → Reached
 reached_by None = record { names = []; bases = 0 }
@@ -48,7 +43,7 @@ reached_by (Some line) = record { names = line.names; bases = bases_up_to line }
 
 -- how far the lines given have come
 abbrev pub reached : MaskStage → Reached
-reached stage = reached_by (line_given_last (given stage))
+reached stage = reached_by (last_or None (given stage))
 
 -- what is wanted: a record while a line waits, then a line; after the last line the records
 -- that are left; and nothing once both inputs have ended

@@ -1,12 +1,12 @@
 -- The stage of a masking engine.
 use Rattle.std.specs.Prelude.{◌≡◌, ◌⊎◌, Bool, true, false, List, [], map, Option, Some, None}
 use Rattle.std.specs.Prelude.{is_some, option_map}
+use Rattle.std.specs.List.{last_or}
 use Rattle.bt_bed.specs.model.feature.Feature.{Feature}
 use Rattle.bt_bed.specs.model.input.GoodBlocks.{AreInBlocks}
-use Rattle.bt_seq.specs.calls.HeldMasks.{extent_of}
-use Rattle.bt_seq.specs.inside.mask.MaskInside.{KnowsStage}
-use Rattle.bt_seq.specs.calls.MaskStage.{MaskStage, given, held_by, line_given_last, reached_by}
-use Rattle.bt_seq.specs.calls.MaskStage.{want_at}
+use Rattle.bt_seq.specs.calls.MaskPrefixes.{extent_of}
+use Rattle.bt_seq.specs.inside.MaskInside.{KnowsStage}
+use Rattle.bt_seq.specs.calls.MaskStage.{MaskStage, given, held_by, reached_by, want_at}
 use Rattle.bt_seq.specs.model.Masked.{decided, is_unnamed}
 use Rattle.bt_seq.specs.calls.MaskState.{Masking, Waiting}
 use Rattle.bt_seq.specs.model.Owners.{left_after}
@@ -33,7 +33,7 @@ pub record Waits (stage : MaskStage) (line : SequenceLine) : Type 0 where
 
 -- The engine is at the stage, if this line was given last: what waits, what is wanted and what is held are
 -- those of the stage.
-pub record StandsAfter (stage : MaskStage) (last : Option SequenceLine) (m : Masking) : Type 0 where
+pub record IsAtStage (stage : MaskStage) (last : Option SequenceLine) (m : Masking) : Type 0 where
   pub waiting_is : m.waiting ≡ option_map kept_line stage.waiting
   pub want_is : m.want ≡ want_at stage
   pub bed_ended_is : m.bed_ended ≡ stage.bed_ended
@@ -50,7 +50,7 @@ pub record StandsAfter (stage : MaskStage) (last : Option SequenceLine) (m : Mas
 
 -- the engine is at the stage
 abbrev pub MaskStandsAt : MaskStage → Masking → Type 0
-MaskStandsAt stage m = StandsAfter stage (line_given_last (given stage)) m
+MaskStandsAt stage m = IsAtStage stage (last_or None (given stage)) m
 
 -- it is at the stage, and masks and names sequences like this
 pub record MaskMovesTo (how : MaskHow) (full : Bool) (stage : MaskStage)

@@ -4,7 +4,7 @@ use Rattle.bt_seq.specs.declared.mask.matching.Owner.{Owner}
 use Rattle.bt_bed.specs.declared.record.taken.Taken.TheVariants.{Yes, No}
 use Rattle.bt_bed.specs.declared.record.taken.Taken.{Taken}
 use Rattle.std.specs.Prelude.{◌≡◌, ◌⊎◌, ℕ, ◌&&◌, ◌||◌, not, Bool, true, false, List, ◌++◌, length}
-use Rattle.std.specs.Prelude.{nat_lt, Option, Some, None, is_none, ⊤, nat_le, Result, Ok, Err}
+use Rattle.std.specs.Prelude.{nat_lt, Option, Some, None, is_none, nat_le, Result, Ok, Err}
 use Rattle.std.specs.Prelude.{if◌then◌else◌, cond, [], ◌∷◌, is_some, nat_eq}
 use Rattle.bt_bed.specs.model.feature.Feature.{Feature}
 use Rattle.bt_bed.specs.model.feature.LineKind.{fault_at_line}
@@ -19,8 +19,8 @@ use Rattle.bt_lines.specs.declared.fault.Kind.TheVariants.{TextBeforeHeader, NoS
 use Rattle.bt_lines.specs.declared.reader.line.LineEnd.{LineEnd}
 use Rattle.bt_seq.specs.calls.Matching.{Matched, named, matched_with, owner_of}
 use Rattle.bt_seq.specs.model.Sequences.{is_header, name_in}
-use Rattle.bt_seq.specs.inside.mask.MaskedBases.{masked_in}
-use Rattle.bt_seq.specs.inside.mask.Window.{Bounds, gone_on, limit, no_bases}
+use Rattle.bt_seq.specs.inside.Window.{masked_in}
+use Rattle.bt_seq.specs.inside.Window.{Bounds, gone_on, limit, no_bases}
 use Rattle.bt_seq.specs.declared.mask.mask_how.MaskHow.{MaskHow}
 use Rattle.bt_seq.specs.declared.mask.mask_want.MaskWant.{MaskWant}
 use Rattle.bt_seq.specs.declared.mask.mask_want.MaskWant.TheVariants.{Line, Bed, Nothing}
@@ -135,12 +135,6 @@ abbrev pub passed : Masking → List ℕ → Masking
 passed m text =
     record m { window = gone_on m.window (length text); waiting = None; want = Line }
 
--- taking such a line, which is written as it is
-abbrev pub PassesLine : Masking → Waiting → Output → Masking → Output → Type 0
-PassesLine old line out new grown =
-    (stays_as_given old line.text ≡ true) × (new ≡ passed old line.text)
-    × Grown out (line.text ++ end_bytes line.ending) grown
-
 -- with the sequence of the block of a record on this chromosome
 abbrev pub with_owner : Masking → List ℕ → Masking
 with_owner m chrom = record m { matched = matched_with m.matched chrom }
@@ -197,16 +191,10 @@ TakesBed old line r out (Err fault) new grown =
     × (((decides old r ≡ true) × FailsToAdd out (line_bytes old line) (fault_value fault) grown)
     ⊎ ((decides old r ≡ false) × (holds old r ≡ true) × (fault_value fault ≡ no_memory) × (grown ≡ out)))
 
--- the block belongs to a sequence
-abbrev pub has_owner : Owner → Type 0
-has_owner Own = ⊤
-has_owner Earlier = ⊤
-has_owner Nobody = ⊥
-
--- checking a record after the last line
+-- checking a record after the last line: its block belongs to a sequence
 abbrev pub ChecksBed : {A : Type 0} → Masking → Feature → ℕ → Result A Fault → Masking → Type 0
 ChecksBed old r line (Ok done) new =
-    has_owner (owner_of old.matched r.chrom) × (new ≡ with_owner old r.chrom)
+    (owner_of old.matched r.chrom ≡ Nobody → ⊥) × (new ≡ with_owner old r.chrom)
 ChecksBed old r line (Err fault) new =
     (owner_of old.matched r.chrom ≡ Nobody) × (fault_value fault ≡ fault_at_line Second line NoSequence)
     × (new.want ≡ Nothing)

@@ -1,7 +1,7 @@
--- Which sequence the block of a record belongs to, as an engine comes to know it line by line: what it knows is what
--- the lists of names and records say.
+-- Which sequence the block of a record belongs to, as an engine comes to know it line by line.
 use Rattle.std.specs.Prelude.{◌≡◌, ◌⊎◌, ℕ, ◌&&◌, not, Bool, true, false, List, [], ◌∷◌, ◌++◌}
-use Rattle.std.specs.Prelude.{Option, Some, None, bytes_eq, if◌then◌else◌}
+use Rattle.std.specs.Prelude.{Option, Some, None, bytes_eq, option_map, if◌then◌else◌}
+use Rattle.std.specs.List.{last_or}
 use Rattle.bt_bed.specs.model.feature.Feature.{Feature}
 use Rattle.bt_seq.specs.model.Owners.{goes_on, left_after, names_behind}
 use Rattle.bt_seq.specs.declared.mask.matching.Owner.{Owner}
@@ -40,9 +40,7 @@ named m name = record { name = Some name; last = m.last; own = false }
 
 -- the chromosome of the last record, if there is one
 abbrev pub last_chrom : List Feature → Option (List ℕ)
-last_chrom [] = None
-last_chrom (r ∷ []) = Some r.chrom
-last_chrom (r ∷ s ∷ rs) = last_chrom (s ∷ rs)
+last_chrom records = option_map (λ r. r.chrom) (last_or None records)
 
 -- the last block belongs to the last of the names
 pub record KnowsOwn (names : List (List ℕ)) (records : List Feature) (m : Matched) : Type 0 where
@@ -68,14 +66,11 @@ owner_by None = Nobody
 owner_by (Some []) = Own
 owner_by (Some (name ∷ names)) = Earlier
 
--- a record that begins a block has none of the names that are left before the last
-abbrev pub HasNoneBefore : (names : List (List ℕ)) (records : List Feature) (m : Matched) → Feature
-    → Knows names records m → Type 0
-HasNoneBefore names records m r knows =
-    goes_on records r ≡ false → (e : KnowsEarlier names records m)
-    → names_behind r.chrom e.before ≡ None
-
+-- The sequence of the next record's block is found, if a record that begins a block has none of the
+-- names that are left before the last.
 abbrev pub owners_are_found : Type 0
 owners_are_found = (names : List (List ℕ)) (records : List Feature) (m : Matched) (r : Feature)
-    (knows : Knows names records m) → HasNoneBefore names records m r knows
+    → Knows names records m
+    → (goes_on records r ≡ false → (e : KnowsEarlier names records m)
+    → names_behind r.chrom e.before ≡ None)
     → owner_of m r.chrom ≡ owner_by (left_after names (records ++ r ∷ []))

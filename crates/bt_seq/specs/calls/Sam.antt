@@ -1,7 +1,8 @@
--- Alignments, columns and blocks that are borrowed, as the definitions see them.
-use Rattle.std.specs.Prelude.{◌≡◌, ℕ, List, [], ◌∷◌, ◌++◌, Option, Some, None, Result, Ok, Err}
-use Rattle.std.specs.Prelude.{option_map}
+-- Alignments, columns and blocks that are borrowed, as the definitions see them, and a converter.
+use Rattle.std.specs.Prelude.{◌≡◌, ℕ, Bool, List, [], ◌∷◌, ◌++◌, map, Option, Some, None, Result, Ok}
+use Rattle.std.specs.Prelude.{Err, option_map, option_to_list}
 use Rattle.bt_bed.specs.model.feature.Interval.{Span}
+use Rattle.bt_lines.specs.model.Fault.{FaultValue}
 use Rattle.bt_lines.specs.model.Lines.{pieces}
 use Rattle.bt_lines.specs.declared.fault.Kind.{Kind}
 use Rattle.bt_seq.specs.model.Alignment.{Alignment, Fields}
@@ -48,10 +49,15 @@ IsCut text (Some cut) = pieces 9 text ≡ cut.0.now ∷ pieces 9 cut.1.now
 abbrev pub span_given : ℕ × ℕ → Span
 span_given pair = record { start = pair.0; stop = pair.1 }
 
-abbrev pub spans_given : Option (ℕ × ℕ) → List Span
-spans_given None = []
-spans_given (Some pair) = span_given pair ∷ []
-
 -- the blocks that are still to come
 abbrev pub blocks_left : SamBlocks → List Span
-blocks_left blocks = spans_given blocks.whole ++ blocks_in blocks.at (operations_in blocks.rest.now)
+blocks_left blocks =
+    map span_given (option_to_list blocks.whole)
+    ++ blocks_in blocks.at (operations_in blocks.rest.now)
+
+-- A converter of alignments, which keeps nothing of them: whether they are cut at each N, whether the
+-- CIGAR is written, and the fault that was returned.
+pub record Converting : Type 0 where
+  pub split : Bool
+  pub with_cigar : Bool
+  pub fault : Option FaultValue

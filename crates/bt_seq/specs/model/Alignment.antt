@@ -1,8 +1,8 @@
 -- What a line of a SAM file says: nothing, an alignment, or what is wrong with it (Sequence
 -- Alignment/Map Format Specification, section 1.3 for header lines, 1.4 for the mandatory fields).
 use Rattle.std.specs.Prelude.{ℕ, ◌+◌, ◌-◌, ◌==◌, ◌||◌, Bool, true, List, [], ◌∷◌, codes, length}
-use Rattle.std.specs.Prelude.{bytes_eq, nat_le, nat_lt, Option, Some, None, Result, Ok, Err}
-use Rattle.std.specs.Prelude.{if◌then◌else◌}
+use Rattle.std.specs.Prelude.{bit_and, bytes_eq, nat_le, nat_lt, not, option_and_then, Option, Some}
+use Rattle.std.specs.Prelude.{None, Result, Ok, Err, if◌then◌else◌}
 use Rattle.bt_lines.specs.model.Lines.{pieces}
 use Rattle.bt_lines.specs.model.Number.{max_number, value_of}
 use Rattle.bt_lines.specs.declared.fault.Kind.{Kind}
@@ -10,7 +10,6 @@ use Rattle.bt_lines.specs.declared.fault.Kind.TheVariants.{TooFewColumns, EmptyN
 use Rattle.bt_lines.specs.declared.fault.Kind.TheVariants.{BadPosition, BadQuality, BadCigar}
 use Rattle.bt_lines.specs.declared.fault.Kind.TheVariants.{StopTooLarge}
 use Rattle.bt_seq.specs.model.Cigar.{length_of}
-use Rattle.bt_seq.specs.model.Flag.{is_first, is_last, is_reverse, is_unmapped}
 
 -- an alignment that gives BED lines
 pub record Alignment : Type 0 where
@@ -53,26 +52,30 @@ fields_of _ = None
 
 -- a number of at most the limit
 abbrev pub up_to : ℕ → Option ℕ → Option ℕ
-up_to limit None = None
-up_to limit (Some number) = if nat_le number limit then Some number else None
+up_to limit number = option_and_then (λ n. if nat_le n limit then Some n else None) number
 
 -- the number that a text denotes, if it is at most the limit
 abbrev pub value_up_to : ℕ → List ℕ → Option ℕ
 value_up_to limit text = up_to limit (value_of text)
 
+-- whether a bit of FLAG is set (section 1.4, field 2): 0x4 for an unmapped segment, 0x10 for one that
+-- is reverse complemented, 0x40 for the first segment of the template, 0x80 for the last
+abbrev pub has_bit : ℕ → ℕ → Bool
+has_bit flag bit = not (bit_and flag bit == 0)
+
 -- an alignment that gives no BED line: the read is unmapped, has no reference name or no position,
 -- or covers no reference base
 abbrev pub gives_nothing : ℕ → List ℕ → ℕ → ℕ → Bool
 gives_nothing flag chrom position span =
-    is_unmapped flag || bytes_eq chrom (codes "*") || (position == 0) || (span == 0)
+    has_bit flag 4 || bytes_eq chrom (codes "*") || (position == 0) || (span == 0)
 
 -- the alignment of these values; the position is counted from 1
 abbrev pub alignment_at : Fields → ℕ → ℕ → ℕ → ℕ → Alignment
 alignment_at fields flag position quality span = record {
   name = fields.name;
-  first = is_first flag;
-  last = is_last flag;
-  reverse = is_reverse flag;
+  first = has_bit flag 64;
+  last = has_bit flag 128;
+  reverse = has_bit flag 16;
   chrom = fields.chrom;
   start = position - 1;
   stop = position - 1 + span;
@@ -99,26 +102,15 @@ columns_say fields (Some flag) (byte ∷ bytes) (Some position) (Some quality) N
 columns_say fields (Some flag) (byte ∷ bytes) (Some position) (Some quality) (Some span) =
     values_say fields flag position quality span
 
--- the limits of FLAG, POS and MAPQ
-abbrev pub max_flag : ℕ
-max_flag = 65535
-
-abbrev pub max_position : ℕ
-max_position = 2147483647
-
-abbrev pub max_quality : ℕ
-max_quality = 255
-
--- what the columns say, if there are enough of them
+-- what the columns say, if there are enough of them; FLAG, POS and MAPQ have these limits
 unfoldable pub fields_say : Option Fields → Result (Option Alignment) Kind
 fields_say None = Err TooFewColumns
 fields_say (Some fields) =
-    columns_say fields (value_up_to max_flag fields.flag) fields.chrom
-    (value_up_to max_position fields.position) (value_up_to max_quality fields.quality)
+    columns_say fields (value_up_to 65535 fields.flag) fields.chrom
+    (value_up_to 2147483647 fields.position) (value_up_to 255 fields.quality)
     (length_of fields.cigar)
 
--- whether a line says nothing: it is blank, or a header line,
--- which begins with `@`; both may come anywhere
+-- whether a line says nothing: it is blank, or a header line, which begins with `@`
 abbrev pub is_skipped : List ℕ → Bool
 is_skipped [] = true
 is_skipped (byte ∷ bytes) = byte == 64

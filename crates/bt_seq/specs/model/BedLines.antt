@@ -1,7 +1,6 @@
 -- The BED lines of an alignment (UCSC BED description, fields chrom to strand; bedtools manual,
 -- bamtobed, options -split and -cigar).
 use Rattle.std.specs.Prelude.{ℕ, Bool, List, [], ◌∷◌, ◌++◌, codes, decimal, flat_map, if◌then◌else◌}
-use Rattle.std.specs.Prelude.{Option, Some, None}
 use Rattle.std.specs.List.{join_with_byte}
 use Rattle.bt_bed.specs.model.feature.Interval.{Span}
 use Rattle.bt_seq.specs.model.Alignment.{Alignment}
@@ -32,8 +31,3 @@ bed_line with_cigar a block = join_with_byte 9 (bed_columns with_cigar a block) 
 -- the lines of an alignment, one for each of its blocks
 abbrev pub bed_lines : Bool → Bool → Alignment → List ℕ
 bed_lines split with_cigar a = flat_map (bed_line with_cigar a) (alignment_blocks split a)
-
--- those of an alignment, if there is one
-abbrev pub lines_if : Bool → Bool → Option Alignment → List ℕ
-lines_if split cigar None = []
-lines_if split cigar (Some a) = bed_lines split cigar a

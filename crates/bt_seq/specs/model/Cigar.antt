@@ -1,7 +1,7 @@
 -- CIGAR strings (Sequence Alignment/Map Format Specification, section 1.4, field 6): `*`, or one or
--- more operations, each a number and a letter.
+-- more operations, each a number and a letter. The laws on them are in `sequences` of bt_laws.
 use Rattle.std.specs.Prelude.{◌≡◌, ℕ, ◌+◌, ◌==◌, ◌||◌, Bool, List, [], ◌∷◌, codes, bytes_eq, min}
-use Rattle.std.specs.Prelude.{sum_by, Option, Some, None, option_map, if◌then◌else◌}
+use Rattle.std.specs.Prelude.{sum_by, Option, Some, None, option_and_then, option_map, if◌then◌else◌}
 use Rattle.bt_lines.specs.model.Number.{value_of}
 use Rattle.bt_seq.specs.declared.sam.operation.Operation.{Operation}
 
@@ -55,21 +55,17 @@ operation_of part =
 
 -- an operation before others, if all are there
 abbrev pub with_operation : Option Operation → Option (List Operation) → Option (List Operation)
-with_operation None operations = None
-with_operation (Some operation) operations = option_map (λ others. operation ∷ others) operations
+with_operation operation operations =
+    option_and_then (λ first. option_map (λ others. first ∷ others) operations) operation
 
 -- the operations of parts, if each has one
 abbrev pub each_operation : List Part → Option (List Operation)
 each_operation [] = Some []
 each_operation (part ∷ parts) = with_operation (operation_of part) (each_operation parts)
 
-abbrev pub operations_of_parts : Option (List Part) → Option (List Operation)
-operations_of_parts None = None
-operations_of_parts (Some parts) = each_operation parts
-
 -- the operations of a text that can be divided into numbers and letters
 unfoldable pub operations_in : List ℕ → Option (List Operation)
-operations_in text = operations_of_parts (parts_of text)
+operations_in text = option_and_then each_operation (parts_of text)
 
 -- The operations of a CIGAR, if it is well formed: none for `*`, which says that there is no
 -- information, and else at least one.
@@ -82,7 +78,7 @@ operations_of (byte ∷ bytes) =
 abbrev pub length_of : List ℕ → Option ℕ
 length_of cigar = option_map reference_length (operations_of cigar)
 
--- the smaller of a reference length, with so many more bases, and a million million
+-- the smaller of a reference length, with `more` bases beside it, and a million million
 abbrev pub span_with : ℕ → Option (List Operation) → Option ℕ
 span_with more operations =
     option_map (λ os. min (more + reference_length os) 1000000000000) operations

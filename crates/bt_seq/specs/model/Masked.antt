@@ -1,7 +1,10 @@
 -- The masked lines of a FASTA input, and how it meets a BED input (bedtools manual, maskfasta).
-use Rattle.std.specs.Prelude.{ℕ, suc, ◌&&◌, ◌||◌, Bool, true, false, List, [], ◌∷◌, ◌++◌, filter}
-use Rattle.std.specs.Prelude.{nat_le, nat_lt, Option, Some, None, is_none, if◌then◌else◌}
-use Rattle.std.specs.List.{list_any}
+use Rattle.std.specs.Prelude.{ℕ, suc, ◌+◌, ◌&&◌, ◌||◌, Bool, true, false, List, [], ◌∷◌, ◌++◌, filter}
+use Rattle.std.specs.Prelude.{find, is_none, nat_le, nat_lt, option_and_then, Option, Some, None}
+use Rattle.std.specs.Prelude.{if◌then◌else◌}
+use Rattle.std.specs.Char.{is_ascii_uppercase}
+use Rattle.std.specs.List.{last_or, list_any}
+use Rattle.std.specs.Option.{option_map_or}
 use Rattle.bt_bed.specs.model.feature.Feature.{Feature}
 use Rattle.bt_bed.specs.model.input.Good.{Good, Member, items_in, or_else}
 use Rattle.bt_bed.specs.model.input.GoodBlocks.{block_good}
@@ -12,11 +15,16 @@ use Rattle.bt_lines.specs.model.Handed.{whole_text}
 use Rattle.bt_lines.specs.model.Lines.{end_bytes}
 use Rattle.bt_lines.specs.declared.fault.Input.TheVariants.{First, Second}
 use Rattle.bt_lines.specs.declared.fault.Kind.TheVariants.{NoSequence}
-use Rattle.bt_seq.specs.model.MaskHow.{masked_byte}
-use Rattle.bt_seq.specs.model.Owners.{Block, block_decides, blocks_by, first_unowned, own_records}
-use Rattle.bt_seq.specs.model.Owners.{owned, owned_from}
+use Rattle.bt_seq.specs.model.Owners.{block_decides, blocks_by, own_records, owned, owned_from}
 use Rattle.bt_seq.specs.model.Sequences.{SequenceLine, bases_up_to, is_header, sequence_good}
 use Rattle.bt_seq.specs.declared.mask.mask_how.MaskHow.{MaskHow}
+use Rattle.bt_seq.specs.declared.mask.mask_how.MaskHow.TheVariants.{Soft, Hard}
+
+-- the byte that stands for a masked base (options -soft and -mc): `a` to `z` for `A` to `Z` and any
+-- other byte as it was, or one byte for all
+abbrev pub masked_byte : MaskHow → ℕ → ℕ
+masked_byte Soft byte = if is_ascii_uppercase byte then byte + 32 else byte
+masked_byte (Hard mask) byte = mask
 
 -- whether a record covers a position
 abbrev pub covers : ℕ → Feature → Bool
@@ -60,24 +68,17 @@ decided line records =
 
 -- the names of all sequences that have a line among these
 abbrev pub names_of : List SequenceLine → List (List ℕ)
-names_of [] = []
-names_of (line ∷ []) = line.names
-names_of (line ∷ next ∷ lines) = names_of (next ∷ lines)
+names_of lines = option_map_or (λ line. line.names) (last_or None lines) []
 
 -- that there is no sequence for these records, reported at the first of them
 abbrev pub told_at_first : List (Member Feature) → Option FaultValue
 told_at_first [] = None
 told_at_first (m ∷ ms) = Some (fault_at_line Second m.line NoSequence)
 
--- that there is none for a block
-abbrev pub no_sequence_for : Option (Block (Member Feature)) → Option FaultValue
-no_sequence_for None = None
-no_sequence_for (Some block) = told_at_first block.items
-
 -- the fault of the first block that belongs to no sequence of these names, if there is one
 abbrev pub no_sequence : List (List ℕ) → List (Member Feature) → Option FaultValue
 no_sequence names members =
-    no_sequence_for (first_unowned
+    option_and_then (λ o. told_at_first o.block.items) (find (λ o. is_none o.left)
     (owned_from (Some names) (blocks_by (λ m. m.item.chrom) members)))
 
 -- What the good records of the second input, and its fault, make of the lines of the first. At the

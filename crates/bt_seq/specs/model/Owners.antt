@@ -1,9 +1,11 @@
 -- Which records mask which sequence. A block is a maximal run of records of one chromosome. It
 -- belongs to the first sequence of its name after that of the block before it. It belongs to none
--- if there is no such sequence, or if the block before it belongs to none.
+-- if there is no such sequence, or if the block before it belongs to none. The laws on blocks and
+-- their sequences are in `sequences` of bt_laws.
 use Rattle.std.specs.Prelude.{◌++◌, ◌≡◌, ℕ, Bool, true, false, List, [], ◌∷◌, Option, Some, None}
-use Rattle.std.specs.Prelude.{bytes_eq, flat_map, nat_le, if◌then◌else◌}
-use Rattle.std.specs.List.{list_any}
+use Rattle.std.specs.Prelude.{bytes_eq, flat_map, nat_le, option_and_then, if◌then◌else◌}
+use Rattle.std.specs.List.{last_or, list_any}
+use Rattle.std.specs.Option.{option_map_or}
 use Rattle.bt_bed.specs.model.feature.Feature.{Feature}
 
 -- a block of things that lie on chromosomes, as records with or without their lines
@@ -31,8 +33,7 @@ names_behind name (n ∷ ns) = if bytes_eq n name then Some ns else names_behind
 -- the names after the sequence to which a block belongs, if these names were left by the
 -- block before it; none if it belongs to no sequence
 abbrev pub left_by : Option (List (List ℕ)) → List ℕ → Option (List (List ℕ))
-left_by None name = None
-left_by (Some names) name = names_behind name names
+left_by left name = option_and_then (names_behind name) left
 
 -- a block, and the names after the sequence to which it belongs
 pub record Owned (A : Type 0) : Type 0 where
@@ -67,17 +68,6 @@ block_decides bases None records = true
 block_decides bases (Some []) records = list_any (λ r. nat_le bases r.start) records
 block_decides bases (Some (name ∷ names)) records = false
 
--- the block, if it belongs to no sequence
-abbrev pub unowned_or : {A : Type 0} → Option (List (List ℕ)) → Block A → Option (Block A)
-    → Option (Block A)
-unowned_or None block later = Some block
-unowned_or (Some names) block later = later
-
--- the first of the blocks that belongs to no sequence
-abbrev pub first_unowned : {A : Type 0} → List (Owned A) → Option (Block A)
-first_unowned [] = None
-first_unowned (o ∷ os) = unowned_or o.left o.block (first_unowned os)
-
 -- the names after the sequence of the last block: these, if there is none
 abbrev pub left_at_last : {A : Type 0} → Option (List (List ℕ)) → List (Owned A)
     → Option (List (List ℕ))
@@ -89,9 +79,7 @@ left_after names records = left_at_last (Some names) (owned names records)
 
 -- whether a record goes on with the block of the last of the records
 abbrev pub goes_on : List Feature → Feature → Bool
-goes_on [] r = false
-goes_on (s ∷ []) r = bytes_eq s.chrom r.chrom
-goes_on (s ∷ t ∷ ss) r = goes_on (t ∷ ss) r
+goes_on records r = option_map_or (λ s. bytes_eq s.chrom r.chrom) (last_or None records) false
 
 -- one more record goes on with the last block, or begins one, whose sequence comes after that of
 -- the last one

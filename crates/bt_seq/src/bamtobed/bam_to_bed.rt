@@ -5,7 +5,6 @@ ghost use Rattle.bt_lines.specs.model.Fault.{FaultValue, write_failed};
 ghost use Rattle.bt_lines.specs.calls.Names.{fault_value};
 ghost use Rattle.bt_lines.specs.calls.Putting.{Adds};
 ghost use Rattle.bt_seq.specs.model.BedLines.{bed_lines};
-ghost use Rattle.bt_seq.specs.calls.BamToBedState.{bed_lines_by};
 ghost use Rattle.bt_seq.specs.calls.Sam.{alignment_lent};
 
 use crate::bamtobed::bed_line::put_line;
@@ -29,7 +28,7 @@ pub struct BamToBed {
 impl Model for BamToBed {
     ghost use Rattle.std.specs.Prelude.{None, Some, if◌then◌else◌};
     ghost use Rattle.bt_lines.specs.model.Fault.{write_failed};
-    ghost use Rattle.bt_seq.specs.calls.BamToBedState.{Converting};
+    ghost use Rattle.bt_seq.specs.calls.Sam.{Converting};
 
     ghost Value = { Converting };
 
@@ -58,7 +57,7 @@ impl BamToBed {
     /// that fault from then on.
     pub fn feed<K: Sink>(&mut self, sam: &SamRef<'_>, out: &mut Out<K>) -> Result<(), Fault>
         ensures writes { self.old.fault ≡ None
-            → Adds out.old.output (bed_lines_by self.old (alignment_lent sam.now)) result out.new.output }
+            → Adds out.old.output (bed_lines self.old.split self.old.with_cigar (alignment_lent sam.now)) result out.new.output }
         ensures unchanged { OnOk result (self.new ≡ self.old) }
         ensures kept { IfErr result (λ fault.
             self.new ≡ record self.old { fault = Some (fault_value fault) }) }

@@ -1,7 +1,7 @@
 //! Masked bases.
 
 ghost use Rattle.std.specs.Prelude.{◌≡◌, ◌≤◌, ◌++◌, drop, length, map, take};
-ghost use Rattle.bt_seq.specs.model.MaskHow.{masked_byte};
+ghost use Rattle.bt_seq.specs.model.Masked.{masked_byte};
 ghost use Rattle.bt_seq.specs.declared.mask.mask_how.MaskHow.TheVariants.{Soft};
 
 use std::simd::prelude::*;

@@ -6,11 +6,11 @@ ghost use Rattle.bt_lines.specs.calls.Names.{fault_value};
 ghost use Rattle.bt_bed.specs.calls.Bed.{feature_lent};
 ghost use Rattle.bt_bed.specs.model.feature.LineKind.{fault_at_line};
 ghost use Rattle.bt_lines.specs.calls.Buffered.{lines_in};
-ghost use Rattle.bt_seq.specs.inside.mask.CopyThrough.{CopiesThrough};
-ghost use Rattle.bt_seq.specs.calls.MaskAdvance.{GivesLines};
+ghost use Rattle.bt_seq.specs.inside.CopyThrough.{CopiesThrough};
+ghost use Rattle.bt_seq.specs.calls.MaskAdvance.{GivesBoth};
 ghost use Rattle.bt_seq.specs.calls.MaskState.{ChecksBed, Keeps, Moves, TakesBed, TakesLine, Waiting, Writes, WritesGiven, decides_by, decides_up_to, with_extent, writes_at_once};
 ghost use Rattle.bt_seq.specs.model.Sequences.{is_header};
-ghost use Rattle.bt_seq.specs.inside.mask.Window.{limit, no_bases};
+ghost use Rattle.bt_seq.specs.inside.Window.{limit, no_bases};
 
 use crate::bamtobed::put_text::put_text;
 use crate::mask::copy_through::CopyThrough;
@@ -20,7 +20,7 @@ use crate::mask::mask_want::MaskWant;
 use crate::mask::matching::{Matching, Owner};
 use crate::mask::phase::Phase;
 use crate::mask::window::{LIMIT, Window};
-use bt_bed::{BedRef, Taken, at_line};
+use bt_bed::{BedRef, Cursor, Taken, at_line};
 use bt_lines::{
     BufferedLines, Fault, Input, Kind, Line, LineEnd, Out, Place, Sink, no_memory, put_line,
 };
@@ -54,7 +54,7 @@ pub(crate) struct MaskState {
 impl Model for MaskState {
     ghost use Rattle.std.specs.Prelude.{None, Some, if◌then◌else◌};
     ghost use Rattle.bt_seq.specs.calls.MaskState.{Masking};
-    ghost use Rattle.bt_seq.specs.inside.mask.Phase.{waits_in, want_in};
+    ghost use Rattle.bt_seq.specs.inside.Phase.{waits_in, want_in};
 
     ghost Value = { Masking };
 
@@ -138,16 +138,18 @@ impl MaskState {
         self.keep(line.text, line.ending)
     }
 
-    // Takes the lines that nothing masks, and the one after them, and returns true if there is one.
-    #[tactic(auto, using(crate::proofs::lemmas::mask::steps::AdvanceLemmas::gave_copied, crate::proofs::lemmas::mask::steps::AdvanceLemmas::wants_more))]
+    // Takes the lines that nothing masks, and the one after them, and returns true if there is one. Whatever records
+    // a cursor is at, they stay.
+    #[tactic(auto, using(crate::proofs::lemmas::mask::steps::AdvanceLemmas::wants_more))]
     #[inline(always)]
-    pub(crate) fn give_lines<K: Sink>(
+    pub(crate) fn give_lines<C: Cursor, K: Sink>(
         &mut self,
         lines: &mut BufferedLines<'_>,
         out: &mut Out<K>,
     ) -> Result<bool, Fault>
         requires { self.old.want ≡ MaskWant.Line }
-        ensures gives { GivesLines self.old lines.old out.old.output result self.new lines.new out.new.output }
+        ensures gives { (records : C) → GivesBoth C.gives C.line C.has_ended self.old lines.old records out.old.output result
+            self.new lines.new records out.new.output }
         ensures stops { result ≡ Ok false → (lines_in lines.new ≡ []) × (self.new.want ≡ MaskWant.Line) }
         ensures shrinks { result ≡ Ok true → length (lines_in lines.new) < length (lines_in lines.old) }
     {

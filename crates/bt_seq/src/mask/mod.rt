@@ -10,11 +10,12 @@ pub(crate) mod phase;
 pub(crate) mod window;
 
 ghost use Rattle.std.specs.Prelude.{◌≡◌, ◌<◌, ◌⊎◌, [], Bool, None, OnErr, OnOk, Some, false, length, true};
+ghost use Rattle.std.specs.List.{last_or};
 ghost use Rattle.bt_bed.specs.calls.Bed.{feature_lent};
 ghost use Rattle.bt_bed.specs.model.input.GoodBlocks.{AreInBlocks};
 ghost use Rattle.bt_lines.specs.calls.LentLine.{line_seen};
 ghost use Rattle.bt_lines.specs.declared.reader.buffered_lines.BufferedLines.{BufferedLines};
-ghost use Rattle.bt_seq.specs.calls.MaskStage.{IsNext, MaskStage, first_stage, given, held_by, line_given_last, want_at, with_lines_ended};
+ghost use Rattle.bt_seq.specs.calls.MaskStage.{IsNext, MaskStage, first_stage, given, held_by, want_at, with_lines_ended};
 ghost use Rattle.bt_seq.specs.calls.MaskStanding.{MaskMovesTo, MaskStandsAt};
 ghost use Rattle.bt_seq.specs.calls.MaskAdvance.{GivesBoth, Stays, StopsAt, left_to_give};
 ghost use Rattle.bt_seq.specs.calls.MaskSteps.{ChecksRecord, EndsCheck, EndsRecords, GivesNextLine, GivesBed};
@@ -73,7 +74,7 @@ impl Mask {
     pub fn kept_len(&self) -> usize
         ensures stage { (stage : MaskStage) → MaskStandsAt stage self.now
             → (stage.lines_ended ≡ false) ⊎ AreInBlocks stage.taken
-            → result ≡ length (held_by (line_given_last (given stage)) stage.taken) }
+            → result ≡ length (held_by (last_or None (given stage)) stage.taken) }
     {
         self.state.kept_len()
     }
@@ -114,7 +115,7 @@ impl Mask {
     }
 
     // Takes what it wants next, and returns true if that is available.
-    #[tactic(auto, using(crate::proofs::lemmas::mask::steps::AdvanceLemmas::line_shrinks, crate::proofs::lemmas::mask::steps::AdvanceLemmas::lines_both, crate::proofs::lemmas::mask::steps::AdvanceLemmas::record_shrinks))]
+    #[tactic(auto, using(crate::proofs::lemmas::mask::steps::AdvanceLemmas::line_shrinks, crate::proofs::lemmas::mask::steps::AdvanceLemmas::record_shrinks))]
     #[inline(always)]
     fn gives_next<C: Cursor, K: Sink>(
         &mut self,
@@ -131,7 +132,7 @@ impl Mask {
             self.new lines.new records.new out.new.output }
     {
         match self.want() {
-            MaskWant::Line => self.state.give_lines(lines, out),
+            MaskWant::Line => self.state.give_lines::<C, K>(lines, out),
             MaskWant::Bed => self.give_record(records, out),
             MaskWant::Nothing => Ok(false),
         }

@@ -1,8 +1,7 @@
 //! The bases of the line given last, and the records that reach into them.
 
 ghost use Rattle.std.specs.Prelude.{◌≡◌, ◌+◌, ◌≤◌, [], ◌∷◌, ◌++◌, OnOk, OnErr, filter, length, min, nat_eq, nat_lt, true, if◌then◌else◌};
-ghost use Rattle.bt_seq.specs.inside.mask.MaskedBases.{masked_in};
-ghost use Rattle.bt_seq.specs.inside.mask.Window.{gone_on, no_bases, limit};
+ghost use Rattle.bt_seq.specs.inside.Window.{gone_on, limit, masked_in, no_bases};
 
 use crate::mask::mask_how::MaskHow;
 use crate::sam::extent::{Extent, mask_extents};
@@ -26,7 +25,7 @@ pub(crate) struct Window {
 
 impl Model for Window {
     ghost use Rattle.std.specs.Prelude.{◌≤◌};
-    ghost use Rattle.bt_seq.specs.inside.mask.Window.{Bounds, limit};
+    ghost use Rattle.bt_seq.specs.inside.Window.{Bounds, limit};
 
     ghost Value = { Bounds };
 

@@ -1,7 +1,7 @@
 //! The blocks of an alignment, one after another.
 
 ghost use Rattle.bt_seq.specs.model.Cigar.{operations_in};
-ghost use Rattle.bt_seq.specs.inside.sam.Room.{FitBehind};
+ghost use Rattle.bt_seq.specs.inside.CigarSteps.{FitBehind};
 
 use crate::sam::SamRef;
 use crate::sam::first_block::first_block;

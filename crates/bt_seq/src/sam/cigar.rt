@@ -2,7 +2,7 @@
 
 ghost use Rattle.std.specs.Prelude.{◌≡◌, IfSome, Some, min, option_map};
 ghost use Rattle.bt_seq.specs.model.Cigar.{consumes_reference, covered_by, is_letter, operations_in, operations_of, span_with};
-ghost use Rattle.bt_seq.specs.inside.sam.CigarSteps.{IsFirst, IsWithin};
+ghost use Rattle.bt_seq.specs.inside.CigarSteps.{IsFirst, IsWithin};
 
 use crate::sam::operation::Operation;
 use crate::sam::sam_text::number_in;

@@ -1,7 +1,7 @@
 //! Where records lie on a sequence, whose bases are masked there.
 
 ghost use Rattle.std.specs.Prelude.{◌≡◌, ◌-◌, ◌<◌, ◌^◌, [], ◌∷◌, length, min};
-ghost use Rattle.bt_seq.specs.inside.mask.MaskedBases.{masked_in};
+ghost use Rattle.bt_seq.specs.inside.Window.{masked_in};
 
 use crate::mask::mask_how::{MaskHow, mask_slice};
 

@@ -3,7 +3,7 @@
 ghost use Rattle.std.specs.Prelude.{◌≡◌, ◌++◌, ◌<◌, length};
 ghost use Rattle.bt_seq.specs.model.AlignmentBlocks.{blocks_in, with_bases};
 ghost use Rattle.bt_seq.specs.model.Cigar.{operations_in};
-ghost use Rattle.bt_seq.specs.inside.sam.Room.{FitBehind};
+ghost use Rattle.bt_seq.specs.inside.CigarSteps.{FitBehind};
 
 use crate::sam::cigar::{covered_by, first_operation};
 

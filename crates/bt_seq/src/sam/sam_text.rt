@@ -2,8 +2,7 @@
 
 ghost use Rattle.std.specs.Prelude.{◌≡◌, ◌≤◌, ◌∷◌, [], Some, length, take};
 ghost use Rattle.bt_lines.specs.model.Number.{value_of};
-ghost use Rattle.bt_seq.specs.model.Alignment.{alignment_of, fields_say, gives_nothing, is_skipped, up_to, value_up_to};
-ghost use Rattle.bt_seq.specs.model.Flag.{has_bit};
+ghost use Rattle.bt_seq.specs.model.Alignment.{alignment_of, fields_say, gives_nothing, has_bit, is_skipped, up_to, value_up_to};
 ghost use Rattle.bt_seq.specs.calls.Sam.{alignment_seen, fields_lent};
 
 use crate::sam::SamRef;

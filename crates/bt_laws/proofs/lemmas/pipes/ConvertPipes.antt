@@ -1,6 +1,7 @@
 -- The lines of alignments that are sorted are an input.
 use Rattle.bt_lines.proofs.Std.{◌≡◌, ◌||◌, ℕ, ◌+◌, ◌-◌, ◌<◌, ◌≤◌, Bool, true, false, cond, List, [], ◌∷◌, ◌++◌, append-nil, append_assoc, map, filter, length, Option, Some, None, Result, Ok, Err, inl, inr, refl, sym, ap, ◌∙◌, subst, arith, eqb, leb, ltb, decimal, codes, if◌then◌else◌, option_map, AllByRecursion, join_with_byte, ends_with_byte, strip_last, cases_lt, false≢true, lt-ltb, All-append, All-cons, All-from_recursion, All-nil, join_with_byte-slice_split}
 use Rattle.bt_lines.specs.model.Fault.{FaultValue}
+use Rattle.std.specs.Prelude.{option_and_then}
 use Rattle.bt_lines.specs.model.Handed.{lines_handed}
 use Rattle.bt_lines.specs.calls.LentLine.{NoLineFeed}
 use Rattle.bt_lines.specs.model.Lines.{TextLine, pieces}
@@ -15,9 +16,9 @@ use Rattle.bt_bed.specs.model.feature.Record.{IsName, columns_in, kept_columns, 
 use Rattle.bt_bed.specs.declared.record.strand.Strand.TheVariants.{Plus, Minus}
 use Rattle.bt_bed.proofs.lemmas.parse.Kept.{kept_is_cut, pieces_are_columns}
 use Rattle.bt_bed.proofs.lemmas.parse.NameLemmas.{name_ne}
-use Rattle.bt_seq.specs.model.Alignment.{Alignment, Fields, alignment_at, alignment_of, columns_say, fields_of, fields_say, gives_nothing, is_skipped, max_flag, max_position, max_quality, value_up_to}
+use Rattle.bt_seq.specs.model.Alignment.{Alignment, Fields, alignment_at, alignment_of, columns_say, fields_of, fields_say, gives_nothing, is_skipped, value_up_to}
 use Rattle.bt_seq.specs.model.BedLines.{bed_lines, read_name, strand_sign}
-use Rattle.bt_seq.specs.model.Cigar.{is_letter, length_of, onto_part, operations_in, operations_of_parts, parts_of, reference_length, with_part}
+use Rattle.bt_seq.specs.model.Cigar.{is_letter, length_of, onto_part, operations_in, each_operation, parts_of, reference_length, with_part}
 use Rattle.bt_seq.specs.model.GoodSam.{sam_format, sam_good}
 use Rattle.bt_tool.specs.model.report.Written.{alignment_lines, alignments_written}
 use Rattle.bt_tool.specs.model.report.Inputs.{Inputs}
@@ -75,7 +76,7 @@ no_star (byte ∷ next ∷ bytes) e = cc
 
 none_in : (text : List ℕ) → operations_in (text ++ 13 ∷ []) ≡ None
 unfolding operations_in
-none_in text = ap operations_of_parts (parts_none text)
+none_in text = ap (option_and_then each_operation) (parts_none text)
 
 no_length : (text : List ℕ) → length_of (text ++ 13 ∷ []) ≡ None
 no_length [] = ap (option_map reference_length) (none_in [])
@@ -171,7 +172,7 @@ said_by : (fields : Option Fields) (a : Alignment) → ((f : Fields) → fields 
 unfolding fields_say
 said_by None a h e = cc
 said_by (Some fields) a h e =
-    columns_by fields (h fields refl) (value_up_to max_flag fields.flag) fields.chrom (value_up_to max_position fields.position) (value_up_to max_quality fields.quality) (length_of fields.cigar) a refl refl e
+    columns_by fields (h fields refl) (value_up_to 65535 fields.flag) fields.chrom (value_up_to 2147483647 fields.position) (value_up_to 255 fields.quality) (length_of fields.cigar) a refl refl e
 
 skipped_by : (skipped : Bool) (said : Result (Option Alignment) Kind) (a : Alignment) → cond skipped (Ok None) said ≡ Ok (Some a) → said ≡ Ok (Some a)
 skipped_by true said a e = cc

@@ -8,8 +8,7 @@ use Rattle.bt_lines.specs.declared.fault.Input.TheVariants.{First, Second}
 use Rattle.bt_bed.specs.model.feature.Feature.{Feature, intervals_of}
 use Rattle.bt_bed.specs.model.input.Good.{Good, items_in, good, good_from, good_with, or_else}
 use Rattle.bt_bed.specs.model.input.GoodBlocks.{block_good, block_format}
-use Rattle.bt_seq.specs.model.MaskHow.{masked_byte}
-use Rattle.bt_seq.specs.model.Masked.{covers, mask_met, mask_rule, masked_from, masked_line, masked_text, names_of, no_sequence}
+use Rattle.bt_seq.specs.model.Masked.{covers, mask_met, mask_rule, masked_byte, masked_from, masked_line, masked_text, names_of, no_sequence}
 use Rattle.bt_seq.specs.model.Owners.{own_records}
 use Rattle.bt_seq.specs.model.Sequences.{SequenceLine, bases_up_to, is_header, sequence_good}
 use Rattle.bt_seq.specs.declared.mask.mask_how.MaskHow.{MaskHow}

@@ -10,8 +10,8 @@ use Rattle.bt_bed.specs.model.order.Genome.{Entry}
 use Rattle.bt_bed.specs.model.input.Good.{Good, good, items_in, or_else}
 use Rattle.bt_bed.specs.model.input.GoodBlocks.{block_good}
 use Rattle.bt_bed.specs.model.input.TwoInputReport.{Met, Rule, join_report, written}
-use Rattle.bt_seq.specs.model.MaskHow.{is_upper_case, masked_byte}
-use Rattle.bt_seq.specs.model.Masked.{covers, decided, mask_met, mask_rule, masked_from, masked_line, masked_text, names_of, no_sequence}
+use Rattle.std.specs.Char.{is_ascii_uppercase}
+use Rattle.bt_seq.specs.model.Masked.{covers, decided, mask_met, mask_rule, masked_byte, masked_from, masked_line, masked_text, names_of, no_sequence}
 use Rattle.bt_seq.specs.model.Owners.{own_records}
 use Rattle.bt_seq.specs.model.Sequences.{SequenceLine, is_header, sequence_format, sequence_good}
 use Rattle.bt_seq.specs.declared.mask.mask_how.MaskHow.{MaskHow}
@@ -39,29 +39,29 @@ abbrev IsNot : MaskHow → ℕ → Type 0
 IsNot Soft byte = Unit {0}
 IsNot (Hard mask) byte = mask ≡ byte → ⊥
 
-soft_by : (upper : Bool) (base byte : ℕ) → is_upper_case base ≡ upper → byte ≤ 64 → eqb base byte ≡ false → eqb (if upper then base + 32 else base) byte ≡ false
+soft_by : (upper : Bool) (base byte : ℕ) → is_ascii_uppercase base ≡ upper → byte ≤ 64 → eqb base byte ≡ false → eqb (if upper then base + 32 else base) byte ≡ false
 soft_by true base byte e low other =
     let bounds = and_parts (leb 65 base) (leb base 90) e in
     ne_eqb (base + 32) byte (λ same. absurd (omega (arith, same, leb-true 65 base bounds.0, low)))
 soft_by false base byte e low other = other
 
 masked_not : (how : MaskHow) (base byte : ℕ) → IsNot how byte → byte ≤ 64 → eqb base byte ≡ false → eqb (masked_byte how base) byte ≡ false
-masked_not Soft base byte is low other = soft_by (is_upper_case base) base byte refl low other
+masked_not Soft base byte is low other = soft_by (is_ascii_uppercase base) base byte refl low other
 masked_not (Hard mask) base byte is low other = ne_eqb mask byte is
 
-high_not : (n : ℕ) → 91 ≤ n → is_upper_case n ≡ false
+high_not : (n : ℕ) → 91 ≤ n → is_ascii_uppercase n ≡ false
 high_not n h = grind (arith, nat_tests)
 
-twice_by : (upper : Bool) (base : ℕ) → is_upper_case base ≡ upper → (if is_upper_case (if upper then base + 32 else base) then (if upper then base + 32 else base) + 32 else (if upper then base + 32 else base)) ≡ (if upper then base + 32 else base)
+twice_by : (upper : Bool) (base : ℕ) → is_ascii_uppercase base ≡ upper → (if is_ascii_uppercase (if upper then base + 32 else base) then (if upper then base + 32 else base) + 32 else (if upper then base + 32 else base)) ≡ (if upper then base + 32 else base)
 twice_by true base e =
     let bounds = and_parts (leb 65 base) (leb base 90) e in
     let low = leb-true 65 base bounds.0 in
-    let off : is_upper_case (base + 32) ≡ false = high_not (base + 32) (omega (arith, low)) in
+    let off : is_ascii_uppercase (base + 32) ≡ false = high_not (base + 32) (omega (arith, low)) in
     ap (λ (b : Bool). if b then (base + 32) + 32 else base + 32) off
 twice_by false base e = ap (λ (b : Bool). if b then base + 32 else base) e
 
 pub masked_again : (how : MaskHow) (base : ℕ) → masked_byte how (masked_byte how base) ≡ masked_byte how base
-masked_again Soft base = twice_by (is_upper_case base) base refl
+masked_again Soft base = twice_by (is_ascii_uppercase base) base refl
 masked_again (Hard mask) base = refl
 
 -- ---- masked bases

@@ -1,8 +1,9 @@
 -- A CIGAR's division into numbers and letters: there is one at most, and it is the one that is found.
 use Rattle.bt_lines.proofs.Std.{◌≡◌, ℕ, Bool, true, false, ◌&&◌, List, [], ◌∷◌, length, Option, Some, None, refl, sym, ap, ◌∙◌, cond, option_map, append_assoc, arith, flat_map, nat_lt, nat_le, is_ascii_digit, list_all, digits_value, and_parts}
+use Rattle.std.specs.Prelude.{option_and_then}
 use Rattle.bt_lines.specs.model.Number.{is_number, value_of}
 use Rattle.bt_laws.specs.sequences.Cigars.{Divides, division_is_found, division_is_one, is_operation, operations_are_divided, spelled}
-use Rattle.bt_seq.specs.model.Cigar.{Part, each_operation, is_letter, onto_part, operation_of, operations_in, operations_of_parts, parts_of, with_operation, with_part}
+use Rattle.bt_seq.specs.model.Cigar.{Part, each_operation, is_letter, onto_part, operation_of, operations_in, parts_of, with_operation, with_part}
 use Rattle.bt_seq.specs.declared.sam.operation.Operation.{Operation}
 use Rattle.bt_seq.proofs.lemmas.sam.CigarLemmas.{digits_no_letters, parts_cut}
 
@@ -27,7 +28,7 @@ one_division text parts others p q = let same : Some parts ≡ Some others = sym
 
 pub division_found : division_is_found
 unfolding operations_in
-division_found text parts p = ap operations_of_parts (parts_found text parts p)
+division_found text parts p = ap (option_and_then each_operation) (parts_found text parts p)
 
 -- the parts that are found are all bytes of the text
 letter_whole : (byte : ℕ) (bytes : List ℕ) (found : Option (List Part)) (parts : List Part) → with_part (record { digits = []; letter = byte }) found ≡ Some parts
@@ -95,7 +96,7 @@ each_is (part ∷ parts) operations e h =
     let number = is_number_by (is_number part.digits) part.digits refl (λ none. value_there part (value_of part.digits) (each_operation parts) operations e none) in
     rw (number, l.0, each_is parts rest.0 rest.1 l.1) refl
 
-divided_by : (text : List ℕ) (operations : List Operation) (found : Option (List Part)) → parts_of text ≡ found → operations_of_parts found ≡ Some operations
+divided_by : (text : List ℕ) (operations : List Operation) (found : Option (List Part)) → parts_of text ≡ found → option_and_then each_operation found ≡ Some operations
     → (parts : List Part) × (Divides text parts × (each_operation parts ≡ Some operations))
 divided_by text operations None is e = absurd cc
 divided_by text operations (Some parts) is e =

@@ -9,7 +9,7 @@ use Rattle.bt_lines.proofs.lemmas.writer.PuttingLemmas.{cut_off, adds_some, fail
 use Rattle.bt_seq.specs.model.Alignment.{Alignment}
 use Rattle.bt_seq.specs.model.BedLines.{bed_line, text_if}
 use Rattle.bt_seq.specs.calls.Sam.{span_given}
-use Rattle.bt_seq.specs.inside.sam.LineEnds.{bounds_text, line_tail, marks, quality_text}
+use Rattle.bt_seq.specs.inside.LineEnds.{bounds_text, line_tail, marks, quality_text}
 
 -- the pieces of a line
 line_parts : (with_cigar : Bool) (a : Alignment) (s : Span) → a.chrom ++ (bounds_text s.start s.stop ++ (a.name ++ line_tail with_cigar a)) ≡ bed_line with_cigar a s

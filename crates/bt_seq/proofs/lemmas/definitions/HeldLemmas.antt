@@ -1,12 +1,11 @@
 -- Lemmas on what is held by a line.
 use Rattle.bt_lines.proofs.Std.{◌≡◌, ℕ, suc, ◌+◌, ◌<◌, ◌≤◌, Bool, true, false, cond, ◌&&◌, ◌||◌, List, [], ◌∷◌, filter, map, length, nat_lt, refl, sym, ap, ◌∙◌, arith, list_any, nat_tests}
 use Rattle.bt_bed.specs.model.feature.Feature.{Feature}
-use Rattle.bt_seq.specs.calls.HeldMasks.{held_mask_alone, extent_of}
-use Rattle.bt_seq.specs.model.MaskHow.{masked_byte}
-use Rattle.bt_seq.specs.model.Masked.{covers, held_for, masked_from}
+use Rattle.bt_seq.specs.calls.MaskPrefixes.{held_mask_alone, extent_of}
+use Rattle.bt_seq.specs.model.Masked.{masked_byte, covers, held_for, masked_from}
 use Rattle.bt_seq.specs.model.Owners.{own_records}
 use Rattle.bt_seq.specs.model.Sequences.{bases_in}
-use Rattle.bt_seq.specs.inside.mask.MaskedBases.{has_position, masked_in}
+use Rattle.bt_seq.specs.inside.Window.{has_position, masked_in}
 use Rattle.bt_seq.specs.declared.mask.mask_how.MaskHow.{MaskHow}
 use Rattle.bt_seq.specs.declared.sam.extent.Extent.{Extent}
 

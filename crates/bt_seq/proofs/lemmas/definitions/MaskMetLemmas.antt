@@ -1,5 +1,6 @@
 -- Lemmas on masking as a meeting of two inputs.
-use Rattle.bt_lines.proofs.Std.{◌≡◌, ℕ, true, false, List, [], ◌∷◌, ◌++◌, Option, Some, None, map, refl, sym, ap, ◌∙◌, is_some}
+use Rattle.bt_lines.proofs.Std.{◌≡◌, ℕ, true, false, List, [], ◌∷◌, ◌++◌, Option, Some, None, map, refl, sym, ap, ◌∙◌, is_none, is_some, option_and_then}
+use Rattle.std.specs.Prelude.{find}
 use Rattle.bt_bed.specs.model.feature.Feature.{Feature}
 use Rattle.bt_bed.specs.model.input.Good.{Member}
 use Rattle.bt_bed.specs.model.feature.LineKind.{fault_at_line}
@@ -10,8 +11,8 @@ use Rattle.bt_seq.proofs.lemmas.definitions.LeftLemmas.{is_last, leave, leave_al
 use Rattle.bt_seq.proofs.lemmas.definitions.MaskPrefixLemmas.{none_next}
 use Rattle.bt_seq.proofs.lemmas.sam.TagLemmas.{AllHaveOne, HasOne, Tagged, blocks_have_one, next_left, spread, tag_items, tags, tags_all}
 use Rattle.bt_seq.specs.calls.MaskPrefixes.{first_unowned_is_told, owned_lack_none}
-use Rattle.bt_seq.specs.model.Masked.{no_sequence, no_sequence_for, told_at_first}
-use Rattle.bt_seq.specs.model.Owners.{Block, blocks_by, first_unowned, left_by, owned_from, unowned_or}
+use Rattle.bt_seq.specs.model.Masked.{no_sequence, told_at_first}
+use Rattle.bt_seq.specs.model.Owners.{Block, Owned, blocks_by, left_by, owned_from}
 
 abbrev chrom_at : Member Feature → List ℕ
 chrom_at m = m.item.chrom
@@ -36,16 +37,20 @@ told_later : (names : List (List ℕ)) (ms : List (Member Feature)) (ts : List (
 told_later names [] ts = refl
 told_later names (m ∷ ms) ts = told_later names ms ts
 
-told_block : (left : Option (List (List ℕ))) (b : Block (Member Feature)) (later : Option (Block (Member Feature))) (ts : List (Tagged (Member Feature))) → HasOne b.items → no_sequence_for later ≡ told_of ts
-    → no_sequence_for (unowned_or left b later) ≡ told_of (tag_items left b.items ++ ts)
-told_block None b later ts h e = told_first b.items ts h
-told_block (Some names) b later ts h e = e ∙ told_later names b.items ts
+-- what is reported of the first block that belongs to no sequence
+abbrev told_in : List (Owned (Member Feature)) → Option FaultValue
+told_in os = option_and_then (λ (o : Owned (Member Feature)). told_at_first o.block.items) (find (λ (o : Owned (Member Feature)). is_none o.left) os)
 
-told_spread : (left : Option (List (List ℕ))) (bs : List (Block (Member Feature))) → AllHaveOne bs → no_sequence_for (first_unowned (owned_from left bs)) ≡ told_of (spread (owned_from left bs))
+told_block : (left : Option (List (List ℕ))) (b : Block (Member Feature)) (os : List (Owned (Member Feature))) (ts : List (Tagged (Member Feature))) → HasOne b.items → told_in os ≡ told_of ts
+    → told_in (record { block = b; left = left } ∷ os) ≡ told_of (tag_items left b.items ++ ts)
+told_block None b os ts h e = told_first b.items ts h
+told_block (Some names) b os ts h e = e ∙ told_later names b.items ts
+
+told_spread : (left : Option (List (List ℕ))) (bs : List (Block (Member Feature))) → AllHaveOne bs → told_in (owned_from left bs) ≡ told_of (spread (owned_from left bs))
 told_spread left [] h = refl
 told_spread left (b ∷ bs) h =
     let next = left_by left b.chrom in
-    told_block next b (first_unowned (owned_from next bs)) (spread (owned_from next bs)) h.0 (told_spread next bs h.1)
+    told_block next b (owned_from next bs) (spread (owned_from next bs)) h.0 (told_spread next bs h.1)
 
 told_tagged : (names : List (List ℕ)) (ms : List (Member Feature)) → no_sequence names ms ≡ told_of (tags chrom_at (Some names) None ms)
 told_tagged names ms =

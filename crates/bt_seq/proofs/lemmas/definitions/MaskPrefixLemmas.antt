@@ -7,8 +7,7 @@ use Rattle.bt_lines.specs.model.Lines.{end_bytes}
 use Rattle.bt_seq.proofs.lemmas.definitions.LeftLemmas.{is_last, leave}
 use Rattle.bt_seq.proofs.lemmas.sam.TagLemmas.{Tagged, decided_tagged, last_from, next_left, own_in, own_tagged, tag_decides, tags, tags_append, tags_of}
 use Rattle.bt_seq.specs.calls.MaskPrefixes.{decided_lines_stay, masked_lines_are_before, masked_lines_stay}
-use Rattle.bt_seq.specs.model.Masked.{covers, decided, held_for, is_unnamed, masked_from, masked_text}
-use Rattle.bt_seq.specs.model.MaskHow.{masked_byte}
+use Rattle.bt_seq.specs.model.Masked.{covers, decided, held_for, is_unnamed, masked_from, masked_text, masked_byte}
 use Rattle.bt_seq.specs.model.Owners.{block_decides, items_if_last, left_by, own_records}
 use Rattle.bt_seq.specs.model.Sequences.{SequenceLine, bases_in, bases_up_to, is_header}
 use Rattle.bt_seq.specs.declared.mask.mask_how.MaskHow.{MaskHow}

@@ -3,8 +3,7 @@ use Rattle.bt_lines.proofs.Std.{◌≡◌, ℕ, ◌+◌, ◌≤◌, Bool, true, 
 use Rattle.bt_bed.specs.model.feature.Interval.{Span}
 use Rattle.bt_seq.specs.model.AlignmentBlocks.{begins_block, block_at, blocks_in, blocks_of, cuts, is_skip, up_to_skip, with_bases}
 use Rattle.bt_seq.specs.model.Cigar.{covered_by, operations_in, reference_length, with_operation}
-use Rattle.bt_seq.specs.inside.sam.CigarSteps.{none_left}
-use Rattle.bt_seq.specs.inside.sam.Room.{FitBehind, fit_behind}
+use Rattle.bt_seq.specs.inside.CigarSteps.{none_left, FitBehind, fit_behind}
 use Rattle.bt_seq.specs.declared.sam.operation.Operation.{Operation}
 
 -- the blocks of operations, of which the first begins here and has come so far

@@ -1,9 +1,10 @@
 -- Lemmas on the operations of a CIGAR.
 use Rattle.bt_lines.proofs.Std.{◌≡◌, ℕ, ◌+◌, ◌<◌, ◌≤◌, Bool, true, false, List, [], ◌∷◌, ◌++◌, length, take, drop, get_or, Option, Some, None, refl, sym, ap, ◌∙◌, arith, cond, option_map, append-nil, length-append, length-take, IfSome, is_ascii_digit, list_all, list_all_more, digits_value, nat_tests, and_parts, take-append-drop, take_more, drop_more, take-append-le, get_or_append_left, take_all}
+use Rattle.std.specs.Prelude.{option_and_then}
 use Rattle.bt_lines.proofs.lemmas.numbers.NumberLemmas.{digits_below, digits_denoting, value_of_digits, value_of_empty, value_of_large, value_of_other, value_short}
 use Rattle.bt_lines.specs.model.Number.{value_of}
-use Rattle.bt_seq.specs.model.Cigar.{Part, is_letter, onto_part, operation_of, operations_in, operations_of_parts, parts_of, covered_by, with_operation, with_part, span_with}
-use Rattle.bt_seq.specs.inside.sam.CigarSteps.{none_left}
+use Rattle.bt_seq.specs.model.Cigar.{Part, is_letter, onto_part, operation_of, operations_in, each_operation, parts_of, covered_by, with_operation, with_part, span_with}
+use Rattle.bt_seq.specs.inside.CigarSteps.{none_left}
 use Rattle.bt_seq.specs.declared.sam.operation.Operation.{Operation}
 
 -- no digit is a letter of an operation
@@ -45,7 +46,7 @@ onto_nothing byte (b ∷ bs) = rw (onto_nothing b bs) refl
 
 -- a prefix without letters that no number begins with
 no_number_by : (byte : ℕ) (bytes : List ℕ) (parts : Option (List Part)) → ((more : List ℕ) → value_of ((byte ∷ bytes) ++ more) ≡ None)
-    → operations_of_parts (onto_front (byte ∷ bytes) parts) ≡ None
+    → option_and_then each_operation (onto_front (byte ∷ bytes) parts) ≡ None
 no_number_by byte bytes None none = rw (onto_none (byte ∷ bytes)) refl
 no_number_by byte bytes (Some []) none = rw (onto_nothing byte bytes) refl
 no_number_by byte bytes (Some (part ∷ parts)) none = rw (onto_some (byte ∷ bytes) part parts, none part.digits) refl
@@ -54,11 +55,11 @@ pub no_number : (front rest : List ℕ) → 0 < length front → no_letters fron
 unfolding operations_in
 no_number [] rest some e none = absurd (omega arith)
 no_number (byte ∷ bytes) rest some e none =
-    ap operations_of_parts (parts_behind (byte ∷ bytes) rest e) ∙ no_number_by byte bytes (parts_of rest) none
+    ap (option_and_then each_operation) (parts_behind (byte ∷ bytes) rest e) ∙ no_number_by byte bytes (parts_of rest) none
 
 -- digits and the letter after them
-operation_by : (digits : List ℕ) (letter : ℕ) (parts : Option (List Part)) → operations_of_parts (onto_front digits (with_part (record { digits = []; letter = letter }) parts))
-    ≡ with_operation (operation_of (record { digits = digits; letter = letter })) (operations_of_parts parts)
+operation_by : (digits : List ℕ) (letter : ℕ) (parts : Option (List Part)) → option_and_then each_operation (onto_front digits (with_part (record { digits = []; letter = letter }) parts))
+    ≡ with_operation (operation_of (record { digits = digits; letter = letter })) (option_and_then each_operation parts)
 operation_by digits letter None = rw (onto_none digits) (cases (value_of digits))
   where
     cases : (value : Option ℕ) → None ≡ with_operation (option_map (λ length. record { length = length; letter = letter }) value) None
@@ -70,7 +71,7 @@ pub first_operation_is : (digits : List ℕ) (letter : ℕ) (rest : List ℕ) �
     → operations_in (digits ++ letter ∷ rest) ≡ with_operation (operation_of (record { digits = digits; letter = letter })) (operations_in rest)
 unfolding operations_in
 first_operation_is digits letter rest e is =
-    ap operations_of_parts (parts_behind digits (letter ∷ rest) e ∙ ap (onto_front digits) (rw is refl)) ∙ operation_by digits letter (parts_of rest)
+    ap (option_and_then each_operation) (parts_behind digits (letter ∷ rest) e ∙ ap (onto_front digits) (rw is refl)) ∙ operation_by digits letter (parts_of rest)
 
 none_left_some : (text : List ℕ) → 0 < length text → none_left text ≡ None
 none_left_some text some = grind arith
@@ -147,8 +148,8 @@ unfolding operations_in
 digits_alone [] end past digits = refl
 digits_alone (byte ∷ bytes) end past digits =
     let all : list_all is_ascii_digit (byte ∷ bytes) ≡ true = sym (ap (list_all is_ascii_digit) (take_all end (byte ∷ bytes) past)) ∙ digits in
-    ap (λ l. operations_of_parts (parts_of l)) (sym (append-nil (byte ∷ bytes)))
-    ∙ ap operations_of_parts (parts_behind (byte ∷ bytes) [] (digits_no_letters (byte ∷ bytes) all) ∙ onto_nothing byte bytes)
+    ap (λ l. option_and_then each_operation (parts_of l)) (sym (append-nil (byte ∷ bytes)))
+    ∙ ap (option_and_then each_operation) (parts_behind (byte ∷ bytes) [] (digits_no_letters (byte ∷ bytes) all) ∙ onto_nothing byte bytes)
 
 -- no operation is left
 pub span_end : (total : ℕ) (rest : List ℕ) → length rest ≡ 0 → total ≤ 1000000000000 → Some total ≡ span_with total (operations_in rest)

@@ -1,7 +1,7 @@
 -- Lemmas on masked extents.
 use Rattle.bt_lines.proofs.Std.{◌≡◌, ℕ, ◌+◌, ◌-◌, ◌≤◌, zero, suc, min, Bool, true, false, cond, ◌||◌, map, length, List, [], ◌∷◌, ◌++◌, take, drop, refl, ap, sym, ◌∙◌, arith, list_any, nat_tests, list_any-append}
-use Rattle.bt_seq.specs.model.MaskHow.{masked_byte}
-use Rattle.bt_seq.specs.inside.mask.MaskedBases.{has_position, masked_in}
+use Rattle.bt_seq.specs.model.Masked.{masked_byte}
+use Rattle.bt_seq.specs.inside.Window.{has_position, masked_in}
 use Rattle.bt_seq.specs.declared.mask.mask_how.MaskHow.{MaskHow}
 use Rattle.bt_seq.specs.declared.sam.extent.Extent.{Extent}
 

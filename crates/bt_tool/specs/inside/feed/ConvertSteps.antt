@@ -1,5 +1,6 @@
 -- What a run does with one line of a SAM input, and with all of them.
-use Rattle.std.specs.Prelude.{◌≡◌, ◌⊎◌, ⊤, Option, Some, Result, Ok, Err}
+use Rattle.std.specs.Prelude.{◌≡◌, ◌⊎◌, ⊤, [], Option, Some, Result, Ok, Err}
+use Rattle.std.specs.Option.{option_map_or}
 use Rattle.bt_lines.specs.declared.device.Source.{Ghosts as Source}
 use Rattle.bt_lines.specs.model.Fault.{FaultValue}
 use Rattle.bt_lines.specs.model.Lines.{TextLine}
@@ -13,8 +14,8 @@ use Rattle.bt_lines.specs.declared.reader.line_reader.LineReader.{LineReader}
 use Rattle.bt_bed.specs.model.feature.LineKind.{fault_at_line}
 use Rattle.bt_bed.specs.calls.Reading.{MemberReader}
 use Rattle.bt_seq.specs.model.Alignment.{Alignment, alignment_of}
-use Rattle.bt_seq.specs.model.BedLines.{bed_lines, lines_if}
-use Rattle.bt_seq.specs.calls.BamToBedState.{Converting}
+use Rattle.bt_seq.specs.model.BedLines.{bed_lines}
+use Rattle.bt_seq.specs.calls.Sam.{Converting}
 use Rattle.bt_seq.specs.model.GoodSam.{sam_format}
 use Rattle.bt_seq.specs.model.SamKind.{is_sam_kind}
 use Rattle.bt_tool.specs.model.report.RecordReport.{IsOneOf}
@@ -35,7 +36,8 @@ pub record LineRefused (input : Input) (line : TextLine) (out : Output) (fault :
 abbrev pub ConvertsLine : {T : Type 0} → Input → Converting → TextLine → Output → Result T Fault
     → Converting → Output → Type 0
 ConvertsLine input old line out (Ok done) new grown = (said : Option Alignment)
-    × (alignment_of line.text ≡ Ok said) × Grown out (lines_if old.split old.with_cigar said) grown
+    × (alignment_of line.text ≡ Ok said)
+    × Grown out (option_map_or (bed_lines old.split old.with_cigar) said []) grown
     × (new ≡ old)
 ConvertsLine input old line out (Err fault) new grown =
     LineRefused input line out (fault_value fault) grown

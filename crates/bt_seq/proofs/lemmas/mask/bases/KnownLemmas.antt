@@ -1,11 +1,13 @@
 -- Lemmas on what is known of blocks, from call to call.
-use Rattle.bt_lines.proofs.Std.{◌≡◌, ℕ, ◌⊎◌, Bool, true, false, cond, List, [], ◌∷◌, ◌++◌, Option, Some, None, refl, sym, ap, ◌∙◌, subst, inl, inr, bytes_eq, arith, cases_Bool, bytes_decides, is_some}
+use Rattle.bt_lines.proofs.Std.{◌≡◌, ℕ, ◌⊎◌, Bool, true, false, cond, List, [], ◌∷◌, ◌++◌, Option, Some, None, refl, sym, ap, ◌∙◌, subst, inl, inr, bytes_eq, arith, cases_Bool, bytes_decides, is_some, option_map}
+use Rattle.std.specs.List.{last_or}
 use Rattle.bt_bed.specs.model.feature.Feature.{Feature}
 use Rattle.bt_seq.proofs.lemmas.definitions.KnowsLemmas.{last_goes_on, owners_found}
 use Rattle.bt_seq.proofs.lemmas.definitions.LeftLemmas.{goes_on_or_begins}
 use Rattle.bt_seq.proofs.lemmas.mask.steps.NextLemmas.{left_grows}
+use Rattle.bt_seq.proofs.lemmas.mask.steps.StandLemmas.{last_more}
 use Rattle.bt_seq.specs.calls.Matching.{Knows, KnowsEarlier, last_chrom, owner_by, Matched, begins_own, is_it, matched_with, named, owner_of}
-use Rattle.bt_seq.specs.inside.mask.MaskInside.{KnowsAhead, KnowsLast, KnowsNext, KnowsNone, last_name}
+use Rattle.bt_seq.specs.inside.MaskInside.{KnowsAhead, KnowsLast, KnowsNext, KnowsNone}
 use Rattle.bt_seq.specs.calls.MaskStage.{IsNext}
 use Rattle.bt_seq.specs.model.Masked.{is_unnamed}
 use Rattle.bt_seq.specs.model.Owners.{goes_on, left_after, left_by, names_behind}
@@ -14,16 +16,14 @@ use Rattle.bt_seq.specs.declared.mask.matching.Owner.TheVariants.{Own, Nobody}
 pub never : false ≡ true → ⊥
 never e = absurd (let apart : false ≡ true = e in cc)
 
-last_more : (rs : List Feature) (r : Feature) → last_chrom (rs ++ r ∷ []) ≡ Some r.chrom
-last_more [] r = refl
-last_more (s ∷ []) r = refl
-last_more (s ∷ t ∷ ss) r = last_more (t ∷ ss) r
+chrom_more : (rs : List Feature) (r : Feature) → last_chrom (rs ++ r ∷ []) ≡ Some r.chrom
+chrom_more rs r = ap (option_map (λ (s : Feature). s.chrom)) (last_more rs r)
 
 bytes_same : (name : List ℕ) → bytes_eq name name ≡ true
 bytes_same name = (bytes_decides name name).1 refl
 
 goes_more : (rs : List Feature) (r : Feature) → goes_on (rs ++ r ∷ []) r ≡ true
-goes_more rs r = sym (last_goes_on (rs ++ r ∷ []) r) ∙ ap (λ l. is_it l r.chrom) (last_more rs r) ∙ bytes_same r.chrom
+goes_more rs r = sym (last_goes_on (rs ++ r ∷ []) r) ∙ ap (λ l. is_it l r.chrom) (chrom_more rs r) ∙ bytes_same r.chrom
 
 is_it_true : (o : Option (List ℕ)) (name : List ℕ) → is_it o name ≡ true → o ≡ Some name
 is_it_true None name e = absurd (never e)
@@ -88,7 +88,7 @@ module _ (names : List (List ℕ)) (taken : List Feature) (r : Feature) (m : Mat
       let it : is_it m.last r.chrom ≡ true = goes_is k.knows ∙ goes in
       let left : left_after names (taken ++ r ∷ []) ≡ left_after names taken = next_left ∙ ap (λ b. cond b (left_after names taken) (left_by (left_after names taken) r.chrom)) goes in
       let known : Knows names (taken ++ r ∷ []) m = record {
-        last = is_it_true m.last r.chrom it ∙ sym (last_more taken r);
+        last = is_it_true m.last r.chrom it ∙ sym (chrom_more taken r);
         where_last = elim k.knows.where_last [
           | inl own ↦ inl (record { left = left ∙ own.left; own = own.own })
           | inr e ↦ inr (record { before = e.before; name = e.name; left = left ∙ e.left; named = e.named; own = e.own })
@@ -106,7 +106,7 @@ module _ (names : List (List ℕ)) (taken : List Feature) (r : Feature) (m : Mat
       let left : left_after names (taken ++ r ∷ []) ≡ Some [] = own_left (left_after names (taken ++ r ∷ [])) (sym begun.2 ∙ owner_may k) in
       let x : Matched = record { name = m.name; last = m.name; own = true } in
       let known : Knows names (taken ++ r ∷ []) x = record {
-        last = is_it_true m.name r.chrom begun.1 ∙ sym (last_more taken r);
+        last = is_it_true m.name r.chrom begun.1 ∙ sym (chrom_more taken r);
         where_last = inl (record { left = left; own = refl });
       } in
       let near : (e : KnowsEarlier names (taken ++ r ∷ []) x) → e.before ≡ [] = λ e. absurd (no_snoc e.before e.name (sym left ∙ e.left)) in
@@ -130,7 +130,7 @@ module _ (names : List (List ℕ)) (taken : List Feature) (r : Feature) (m : Mat
 
   -- it was ahead, and its block is known
   known_it : KnowsLast names (taken ++ r ∷ []) m → is_it m.last r.chrom ≡ true
-  known_it k = ap (λ l. is_it l r.chrom) (k.knows.last ∙ last_more taken r) ∙ bytes_same r.chrom
+  known_it k = ap (λ l. is_it l r.chrom) (k.knows.last ∙ chrom_more taken r) ∙ bytes_same r.chrom
 
   pub take_known : KnowsLast names (taken ++ r ∷ []) m → KnowsLast names (taken ++ r ∷ []) (matched_with m r.chrom)
   take_known k = rw (known_it k) k
@@ -154,13 +154,13 @@ module _ (names : List (List ℕ)) (taken : List Feature) (r : Feature) (m : Mat
   left_none : KnowsNone names taken m → left_after names (taken ++ r ∷ []) ≡ None
   left_none k = ap (λ ns. left_after ns (taken ++ r ∷ [])) k.unnamed ∙ ap (λ (rs : List Feature). left_after [] (rs ++ r ∷ [])) k.untaken
 
-  owner_none : KnowsNone names taken m → m.name ≡ last_name names → owner_of m r.chrom ≡ owner_by (left_after names (taken ++ r ∷ []))
+  owner_none : KnowsNone names taken m → m.name ≡ last_or None names → owner_of m r.chrom ≡ owner_by (left_after names (taken ++ r ∷ []))
   owner_none k name =
       let nobody : owner_of m r.chrom ≡ Nobody = rw (k.last, k.own, name, k.unnamed) refl in
       nobody ∙ sym (ap owner_by (left_none k))
 
   -- the sequence of its block is found
-  pub owner_next : KnowsNone names taken m ⊎ (MayTake ⊎ KnowsLast names (taken ++ r ∷ []) m) → m.name ≡ last_name names → owner_of m r.chrom ≡ owner_by (left_after names (taken ++ r ∷ []))
+  pub owner_next : KnowsNone names taken m ⊎ (MayTake ⊎ KnowsLast names (taken ++ r ∷ []) m) → m.name ≡ last_or None names → owner_of m r.chrom ≡ owner_by (left_after names (taken ++ r ∷ []))
   owner_next can name = elim can [
     | inl none ↦ owner_none none name
     | inr more ↦ elim more [

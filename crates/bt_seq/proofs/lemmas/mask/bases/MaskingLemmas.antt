@@ -8,11 +8,10 @@ use Rattle.bt_lines.specs.model.Lines.{end_bytes}
 use Rattle.bt_lines.specs.calls.Putting.{Adds, FailsToAdd, Grown}
 use Rattle.bt_lines.specs.declared.fault.Fault.{Fault}
 use Rattle.bt_seq.proofs.lemmas.sam.ExtentLemmas.{none_masked}
-use Rattle.bt_seq.specs.calls.MaskState.{Keeps, Masking, PassesLine, TakesLine, Waiting, Writes, WritesGiven, decides, decides_by, decides_up_to, is_stray, line_bytes, moved_to, with_owner, writes_at_once}
+use Rattle.bt_seq.specs.calls.MaskState.{Keeps, Masking, TakesLine, Waiting, Writes, WritesGiven, decides, decides_by, decides_up_to, is_stray, line_bytes, moved_to, passed, stays_as_given, with_owner, writes_at_once}
 use Rattle.bt_seq.specs.calls.Matching.{Matched, matched_with, named, owner_of}
 use Rattle.bt_seq.specs.model.Sequences.{is_header, name_in}
-use Rattle.bt_seq.specs.inside.mask.Window.{gone_on, no_bases}
-use Rattle.bt_seq.specs.inside.mask.MaskedBases.{masked_in}
+use Rattle.bt_seq.specs.inside.Window.{gone_on, no_bases, masked_in}
 use Rattle.bt_seq.specs.declared.mask.mask_want.MaskWant.TheVariants.{Line, Bed, Nothing}
 use Rattle.bt_seq.specs.declared.mask.matching.Owner.{Owner}
 use Rattle.bt_seq.specs.declared.sam.extent.Extent.{Extent}
@@ -107,7 +106,7 @@ none_held_on held place none = ap (λ ss. filter (λ (s : Extent). nat_lt place 
 
 -- a line that stays as it was given was written
 pub passes_line : {A : Type 0} (done : A) (old new : Masking) (number : ℕ) (line : Waiting) (out grown : Output)
-    → PassesLine old line out new grown → TakesLine old number line out (Ok done) new grown
+    → (stays_as_given old line.text ≡ true) × (new ≡ passed old line.text) × Grown out (line.text ++ end_bytes line.ending) grown → TakesLine old number line out (Ok done) new grown
 passes_line done old new number line out grown p =
     let moved : Masking = record old { window = gone_on old.window (length line.text) } in
     let ahead = ahead_parts (is_header line.text) (is_some old.matched.name) (nat_eq (length old.window.held) 0) (old.bed_ended || nat_le moved.window.bases old.decided_to) p.0 in

@@ -16,10 +16,9 @@ use Rattle.bt_seq.proofs.lemmas.mask.steps.LineStepLemmas.{gives_line}
 use Rattle.bt_seq.proofs.lemmas.mask.bases.MaskingLemmas.{passes_line}
 use Rattle.bt_seq.proofs.lemmas.mask.steps.SettleLemmas.{decided_goes, goes_more, goes_nowhere, line_goes, record_goes}
 use Rattle.bt_seq.proofs.lemmas.mask.steps.StandLemmas.{stays_at, wants_bed, wants_line}
-use Rattle.bt_seq.specs.inside.mask.CopyThrough.{CopiesThrough, StayEach, passed_all}
-use Rattle.bt_seq.specs.calls.GivenLines.{PassesLines}
-use Rattle.bt_seq.specs.calls.MaskAdvance.{BothCome, ComesAfter, ComesNext, FailsAfter, FailsAtRecord, GivesBoth, GivesLines, HasCome, LinesCome, asks_more, left_to_give}
-use Rattle.bt_seq.specs.calls.MaskSettles.{GoesOn}
+use Rattle.bt_seq.specs.inside.CopyThrough.{CopiesThrough, StayEach, passed_all}
+use Rattle.bt_seq.specs.calls.MaskSettles.{PassesLines, GoesOn}
+use Rattle.bt_seq.specs.calls.MaskAdvance.{BothCome, ComesAfter, ComesNext, FailsAtRecord, GivesBoth, HasCome, asks_more, left_to_give}
 use Rattle.bt_seq.specs.calls.MaskStage.{IsNext, MaskStage, is_written_at_once, reached, want_of, with_decided, with_line, with_record}
 use Rattle.bt_seq.specs.calls.MaskStanding.{MaskMovesTo, MaskStandsAt}
 use Rattle.bt_seq.specs.calls.MaskState.{Masking, TakesLine, passed, stays_as_given}
@@ -111,11 +110,6 @@ module _ (how : MaskHow) (full : Bool) where
   abbrev pub come_nowhere : (stage : MaskStage) (m : Masking) (out : Output) → MaskMovesTo how full stage m → HasCome how full stage [] [] out m out
   come_nowhere stage m out stands = record { stage = stage; bytes = []; goes_on = goes_nowhere how full stage; stands = stands; puts = grown_none out }
 
-  -- what failed may be said otherwise
-  fails_as : (old : MaskStage) (lines : List TextLine) (taken : List Feature) (out : Output) {P Q : MaskStage → List TextLine → Output → Type 0} (f : FailsAfter how full old lines taken out P)
-      → Q f.comes.stage f.failing f.through → FailsAfter how full old lines taken out Q
-  fails_as old lines taken out f q = record { before = f.before; failing = f.failing; parts = f.parts; mask = f.mask; through = f.through; comes = f.comes; fails = q }
-
   -- lines that were copied through
   abbrev pub come_copied : (stage : MaskStage) (m new : Masking) (lines : List TextLine) (out grown : Output) → new ≡ passed_all m lines → Grown out (flat_map spelled lines) grown
       → (copied : LinesCopied stage m lines) → HasCome how full stage lines [] out new grown
@@ -142,95 +136,10 @@ passed_wants : (lines : List TextLine) (m : Masking) → m.want ≡ Line → (pa
 passed_wants [] m e = e
 passed_wants (line ∷ lines) m e = passed_wants lines (passed m line.text) refl
 
--- what giving lines does
-module _ (old : Masking) (lines : BufferedLines) (out : Output) (wants : old.want ≡ Line) where
-  module _ {A : Type 0} (done : A) (mid : Masking) (left : BufferedLines) (between : Output) (copies : CopiesThrough old lines out (Ok done) mid left between) where
-    copied_from : (stage : MaskStage) → MaskStandsAt stage old → LinesCopied old.how old.full stage old copies.texts
-    copied_from stage stands = lines_copied old.how old.full copies.texts stage old (stays_at stage old stands) wants copies.stay
-
-    -- no line comes after those that were copied through
-    pub gave_copied : {B : Type 0} (given : B) → GivesLines old lines out (Ok given) mid left between
-    gave_copied given = record {
-      texts = copies.texts;
-      passes = copies.passes;
-      comes = λ stage stands.
-          let c = copied_from stage stands in
-          (come_copied old.how old.full stage old mid copies.texts out between copies.writes.0 copies.writes.1 c, c.ahead);
-    }
-
-    pub wants_more : mid.want ≡ Line
-    wants_more = ap (λ (s : Masking). s.want) copies.writes.0 ∙ passed_wants copies.texts old wants
-
-    -- one does
-    module _ (line : TextLine) (last : BufferedLines) (passes : PassesLine left line last) (new : Masking) (grown : Output) where
-      abbrev TakesIt : {B : Type 0} → Result B Fault → Type 0
-      TakesIt {B} answer = (how : MaskHow) (full : Bool) (stage : MaskStage) → MaskMovesTo how full stage mid → GivesNextLine how full stage line between answer new grown
-
-      takes_it : {B : Type 0} (answer : Result B Fault) → TakesLine mid line.number (record { text = line.text; ending = line.ending }) between answer new grown → TakesIt answer
-      takes_it answer t how full stage at = gives_line how full stage mid at wants_more line between new grown answer t
-
-      all_pass : PassesLines lines (copies.texts ++ line ∷ []) last
-      all_pass = pass_more lines left last copies.texts (line ∷ []) copies.passes (pass_one left last line passes)
-
-      pub gave_line : {B C : Type 0} (took : B) (given : C) → TakesLine mid line.number (record { text = line.text; ending = line.ending }) between (Ok took) new grown
-          → GivesLines old lines out (Ok given) new last grown
-      gave_line took given takes = record {
-        texts = copies.texts ++ line ∷ [];
-        passes = all_pass;
-        comes = λ stage stands.
-            let c = copied_from stage stands in
-            let first : HasCome old.how old.full stage copies.texts [] out mid between = come_copied old.how old.full stage old mid copies.texts out between copies.writes.0 copies.writes.1 c in
-            let now = c.now in
-            let at : MaskMovesTo old.how old.full now mid = subst (λ (s : Masking). MaskMovesTo old.how old.full now s) (sym copies.writes.0) c.stands in
-            let taken : TakesNextLine old.how old.full now line between new grown = takes_it (Ok took) takes old.how old.full now at in
-            let one : HasCome old.how old.full now (line ∷ []) [] between new grown =
-            come_line old.how old.full now mid new line between grown (none_waits old.how old.full now mid at wants_more) taken in (
-              come_more old.how old.full stage copies.texts (line ∷ []) [] [] out between grown mid new first one,
-              ahead_by now taken.item (is_written_at_once now taken.item) ∙ c.ahead,
-            );
-      }
-
-      pub failed_line : {C : Type 0} (fault : Fault) → TakesLine {A = Unit {0}} mid line.number (record { text = line.text; ending = line.ending }) between (Err fault) new grown
-          → GivesLines {A = C} old lines out (Err fault) new last grown
-      failed_line fault takes = record {
-        texts = copies.texts ++ line ∷ [];
-        passes = all_pass;
-        comes = λ stage stands.
-            let c = copied_from stage stands in
-            let at : MaskMovesTo old.how old.full c.now mid = subst (λ (s : Masking). MaskMovesTo old.how old.full c.now s) (sym copies.writes.0) c.stands in
-            let failed = takes_it {B = Unit {0}} (Err fault) takes old.how old.full c.now at in (
-              failed.0,
-              record {
-                before = copies.texts;
-                failing = line ∷ [];
-                parts = refl;
-                mask = mid;
-                through = between;
-                comes = come_copied old.how old.full stage old mid copies.texts out between copies.writes.0 copies.writes.1 c;
-                fails = (c.ahead, sym at.stands.want_is ∙ wants_more, inl (line, refl, failed.1));
-              },
-            );
-      }
-
-  -- lines weren't all copied through
-  pub failed_copy : {A B : Type 0} (fault : Fault) (new : Masking) (left : BufferedLines) (grown : Output) → CopiesThrough {A = A} old lines out (Err fault) new left grown → GivesLines {A = B} old lines out (Err fault) new left grown
-  failed_copy fault new left grown copies = record {
-    texts = copies.texts;
-    passes = copies.passes;
-    comes = λ stage stands.
-        let c = lines_copied old.how old.full copies.texts stage old (stays_at stage old stands) wants copies.stay in (
-          copies.writes.0,
-          record {
-            before = [];
-            failing = copies.texts;
-            parts = refl;
-            mask = old;
-            through = out;
-            comes = come_nowhere old.how old.full stage old out (stays_at stage old stands);
-            fails = (refl, sym stands.want_is ∙ wants, inr (record { stage = c.now; bytes = flat_map spelled copies.texts; goes_on = c.goes; ahead_is = c.ahead; fails = copies.writes.1 }));
-          },
-        );
-  }
+-- after lines that were copied through a line is wanted
+pub wants_more : (old : Masking) (lines : BufferedLines) (out : Output) (wants : old.want ≡ Line) {A : Type 0} (done : A) (mid : Masking) (left : BufferedLines) (between : Output)
+    → CopiesThrough old lines out (Ok done) mid left between → mid.want ≡ Line
+wants_more old lines out wants done mid left between copies = ap (λ (s : Masking). s.want) copies.writes.0 ∙ passed_wants copies.texts old wants
 
 -- a cursor over records, and its laws
 module _ {C : Type 0} (gives : C → List Feature → C → Type 0) (line_at : C → ℕ) (has_ended : C → Type 0)
@@ -240,6 +149,117 @@ module _ {C : Type 0} (gives : C → List Feature → C → Type 0) (line_at : C
   -- if none was taken, the one ahead is the one that was
   after_none : (ahead : Option Feature) (records : C) → ComesAfter gives line_at has_ended ahead records [] ahead
   after_none ahead records r e = inl (e, refl)
+
+  -- lines leave it
+  next_same : (records : C) (was now : Option Feature) → now ≡ was → ComesNext gives line_at has_ended was records → ComesNext gives line_at has_ended now records
+  next_same records was now e next = subst (λ (o : Option Feature). ComesNext gives line_at has_ended o records) (sym e) next
+
+  after_same : (records : C) (was now : Option Feature) → now ≡ was → ComesAfter gives line_at has_ended was records [] now
+  after_same records was now e r is = inl (sym e ∙ is, refl)
+
+  -- what giving lines does
+  module _ (records : C) (old : Masking) (lines : BufferedLines) (out : Output) (wants : old.want ≡ Line) where
+    module _ {A : Type 0} (done : A) (mid : Masking) (left : BufferedLines) (between : Output) (copies : CopiesThrough old lines out (Ok done) mid left between) where
+      copied_from : (stage : MaskStage) → MaskStandsAt stage old → LinesCopied old.how old.full stage old copies.texts
+      copied_from stage stands = lines_copied old.how old.full copies.texts stage old (stays_at stage old stands) wants copies.stay
+
+      -- no line comes after those that were copied through
+      pub gave_copied : {B : Type 0} (given : B) → GivesBoth gives line_at has_ended old lines records out (Ok given) mid left records between
+      gave_copied given = record {
+        texts = copies.texts;
+        passes = copies.passes;
+        taken = [];
+        given = gives_none records;
+        comes = λ stage stands ahead.
+            let c = copied_from stage stands in
+            (come_copied old.how old.full stage old mid copies.texts out between copies.writes.0 copies.writes.1 c, next_same records stage.ahead c.now.ahead c.ahead ahead, after_same records stage.ahead c.now.ahead c.ahead);
+      }
+
+      wants_line_next : mid.want ≡ Line
+      wants_line_next = wants_more old lines out wants done mid left between copies
+
+      -- one does
+      module _ (line : TextLine) (last : BufferedLines) (passes : PassesLine left line last) (new : Masking) (grown : Output) where
+        abbrev TakesIt : {B : Type 0} → Result B Fault → Type 0
+        TakesIt {B} answer = (how : MaskHow) (full : Bool) (stage : MaskStage) → MaskMovesTo how full stage mid → GivesNextLine how full stage line between answer new grown
+
+        takes_it : {B : Type 0} (answer : Result B Fault) → TakesLine mid line.number (record { text = line.text; ending = line.ending }) between answer new grown → TakesIt answer
+        takes_it answer t how full stage at = gives_line how full stage mid at wants_line_next line between new grown answer t
+
+        all_pass : PassesLines lines (copies.texts ++ line ∷ []) last
+        all_pass = pass_more lines left last copies.texts (line ∷ []) copies.passes (pass_one left last line passes)
+
+        pub gave_line : {B D : Type 0} (took : B) (given : D) → TakesLine mid line.number (record { text = line.text; ending = line.ending }) between (Ok took) new grown
+            → GivesBoth gives line_at has_ended old lines records out (Ok given) new last records grown
+        gave_line took given takes = record {
+          texts = copies.texts ++ line ∷ [];
+          passes = all_pass;
+          taken = [];
+          given = gives_none records;
+          comes = λ stage stands ahead.
+              let c = copied_from stage stands in
+              let first : HasCome old.how old.full stage copies.texts [] out mid between = come_copied old.how old.full stage old mid copies.texts out between copies.writes.0 copies.writes.1 c in
+              let now = c.now in
+              let at : MaskMovesTo old.how old.full now mid = subst (λ (s : Masking). MaskMovesTo old.how old.full now s) (sym copies.writes.0) c.stands in
+              let taken : TakesNextLine old.how old.full now line between new grown = takes_it (Ok took) takes old.how old.full now at in
+              let one : HasCome old.how old.full now (line ∷ []) [] between new grown =
+              come_line old.how old.full now mid new line between grown (none_waits old.how old.full now mid at wants_line_next) taken in
+              let same : (with_line now taken.item).ahead ≡ stage.ahead = ahead_by now taken.item (is_written_at_once now taken.item) ∙ c.ahead in (
+                come_more old.how old.full stage copies.texts (line ∷ []) [] [] out between grown mid new first one,
+                next_same records stage.ahead (with_line now taken.item).ahead same ahead,
+                after_same records stage.ahead (with_line now taken.item).ahead same,
+              );
+        }
+
+        pub failed_line : {D : Type 0} (fault : Fault) → TakesLine {A = Unit {0}} mid line.number (record { text = line.text; ending = line.ending }) between (Err fault) new grown
+            → GivesBoth gives line_at has_ended {A = D} old lines records out (Err fault) new last records grown
+        failed_line fault takes = record {
+          texts = copies.texts ++ line ∷ [];
+          passes = all_pass;
+          taken = [];
+          given = gives_none records;
+          comes = λ stage stands ahead.
+              let c = copied_from stage stands in
+              let at : MaskMovesTo old.how old.full c.now mid = subst (λ (s : Masking). MaskMovesTo old.how old.full c.now s) (sym copies.writes.0) c.stands in
+              let failed = takes_it {B = Unit {0}} (Err fault) takes old.how old.full c.now at in (
+                failed.0,
+                record {
+                  before = copies.texts;
+                  failing = line ∷ [];
+                  parts = refl;
+                  mask = mid;
+                  through = between;
+                  comes = come_copied old.how old.full stage old mid copies.texts out between copies.writes.0 copies.writes.1 c;
+                  next = next_same records stage.ahead c.now.ahead c.ahead ahead;
+                  after = after_same records stage.ahead c.now.ahead c.ahead;
+                  fails = inl (sym at.stands.want_is ∙ wants_line_next, inl (line, refl, failed.1));
+                },
+              );
+        }
+
+    -- lines weren't all copied through
+    pub failed_copy : {A B : Type 0} (fault : Fault) (new : Masking) (left : BufferedLines) (grown : Output) → CopiesThrough {A = A} old lines out (Err fault) new left grown → GivesBoth gives line_at has_ended {A = B} old lines records out (Err fault) new left records grown
+    failed_copy fault new left grown copies = record {
+      texts = copies.texts;
+      passes = copies.passes;
+      taken = [];
+      given = gives_none records;
+      comes = λ stage stands ahead.
+          let c = lines_copied old.how old.full copies.texts stage old (stays_at stage old stands) wants copies.stay in (
+            copies.writes.0,
+            record {
+              before = [];
+              failing = copies.texts;
+              parts = refl;
+              mask = old;
+              through = out;
+              comes = come_nowhere old.how old.full stage old out (stays_at stage old stands);
+              next = ahead;
+              after = after_none stage.ahead records;
+              fails = inl (sym stands.want_is ∙ wants, inr (record { stage = c.now; bytes = flat_map spelled copies.texts; goes_on = c.goes; ahead_is = c.ahead; fails = copies.writes.1 }));
+            },
+          );
+    }
 
   -- nothing comes next
   pub gave_none : {A : Type 0} (done : A) (old : Masking) (lines : BufferedLines) (records : C) (out : Output) → GivesBoth gives line_at has_ended old lines records out (Ok done) old lines records out
@@ -280,7 +300,7 @@ module _ {C : Type 0} (gives : C → List Feature → C → Type 0) (line_at : C
 
       took_by : (new : Masking) (grown : Output) → Waits (Ok Yes) new grown → NoneWaits (Ok Yes) new grown → (o : Option SequenceLine) → stage.waiting ≡ o
           → (grown ≡ out) × MaskMovesTo old.how old.full (with_record stage r) new
-      took_by new grown waits none None e = let t = none stage stands e is_next in (t.same_output, t.stands)
+      took_by new grown waits none None e = let t = none stage stands e is_next in (t.1, t.0)
       took_by new grown waits none (Some a) e = let t = waits stage a stands e is_next in (t.same_output, t.stands)
 
       come_taken : (new : Masking) (grown : Output) → Waits (Ok Yes) new grown → NoneWaits (Ok Yes) new grown
@@ -331,11 +351,9 @@ module _ {C : Type 0} (gives : C → List Feature → C → Type 0) (line_at : C
               mask = old;
               through = out;
               comes = come_nowhere old.how old.full stage old out (stays_at stage old stands);
-              fails = (
-                ahead,
-                after_none stage.ahead records,
-                inr (r, later, refl, sym stands.want_is ∙ wants, given, subst (λ (n : ℕ). FailsAtRecord old.how old.full stage.waiting stage r n out (fault_value fault) grown) number_is f.1),
-              );
+              next = ahead;
+              after = after_none stage.ahead records;
+              fails = inr (r, later, refl, sym stands.want_is ∙ wants, given, subst (λ (n : ℕ). FailsAtRecord old.how old.full stage.waiting stage r n out (fault_value fault) grown) number_is f.1);
             },
           )
 
@@ -347,26 +365,6 @@ module _ {C : Type 0} (gives : C → List Feature → C → Type 0) (line_at : C
 
     pub failed_record : {A : Type 0} (fault : Fault) (new : Masking) (grown : Output) (lines : BufferedLines) → Waits (Err fault) new grown → NoneWaits (Err fault) new grown → GivesBoth gives line_at has_ended {A = A} old lines records out (Err fault) new lines records grown
     failed_record fault new grown lines waits none = record { texts = []; passes = none_pass lines; taken = []; given = gives_none records; comes = λ stage stands ahead. come_failed stage stands ahead fault new grown waits none }
-
-  -- what giving lines or a record does is what giving both does
-  module _ (records : C) {A : Type 0} (old new : Masking) (lines left : BufferedLines) (out grown : Output) where
-    lift_lines : (answer : Result A Fault) (texts : List TextLine) (how : MaskHow) (full : Bool) (stage : MaskStage) → ComesNext gives line_at has_ended stage.ahead records
-        → LinesCome how full stage texts out answer new grown → BothCome gives line_at has_ended how full stage texts [] out records answer new records grown
-    lift_lines (Ok done) texts how full stage ahead c = (c.0, subst (λ (o : Option Feature). ComesNext gives line_at has_ended o records) (sym c.1) ahead, λ r e. inl (sym c.1 ∙ e, refl))
-    lift_lines (Err fault) texts how full stage ahead c =
-        let f = c.1.fails in (
-          c.0,
-          fails_as how full stage texts [] out c.1 (subst (λ (o : Option Feature). ComesNext gives line_at has_ended o records) (sym f.0) ahead, λ r e. inl (sym f.0 ∙ e, refl), inl (f.1, f.2)),
-        )
-
-    pub lines_both : (answer : Result A Fault) → GivesLines old lines out answer new left grown → GivesBoth gives line_at has_ended old lines records out answer new left records grown
-    lines_both answer g = record {
-      texts = g.texts;
-      passes = g.passes;
-      taken = [];
-      given = gives_none records;
-      comes = λ stage stands ahead. lift_lines answer g.texts old.how old.full stage ahead (g.comes stage stands);
-    }
 
   -- what is given after that
   module _ {A : Type 0} (done : A) (old mid new : Masking) (lines between left : BufferedLines) (records passing last : C) (out through grown : Output)
@@ -401,15 +399,17 @@ module _ {C : Type 0} (gives : C → List Feature → C → Type 0) (line_at : C
         mask = c.1.mask;
         through = c.1.through;
         comes = come_more how full stage first.texts c.1.before first.taken taken out through c.1.through mid c.1.mask f.0 c.1.comes;
-        fails = (c.1.fails.0, after_both stage.ahead f.0.stage.ahead c.1.comes.stage.ahead taken f.2 c.1.fails.1, c.1.fails.2);
+        next = c.1.next;
+        after = after_both stage.ahead f.0.stage.ahead c.1.comes.stage.ahead taken f.2 c.1.after;
+        fails = c.1.fails;
       },
     )
 
-    -- the engine masks as before
-    as_before : {B : Type 0} (answer : Result B Fault) (texts : List TextLine) (taken : List Feature) (how : MaskHow) (full : Bool) (stage : MaskStage) → MaskMovesTo how full stage mid
+    -- what was given changes neither how it masks nor how it names sequences
+    masks_alike : {B : Type 0} (answer : Result B Fault) (texts : List TextLine) (taken : List Feature) (how : MaskHow) (full : Bool) (stage : MaskStage) → MaskMovesTo how full stage mid
         → BothCome gives line_at has_ended mid.how mid.full stage texts taken through passing answer new last grown
         → BothCome gives line_at has_ended how full stage texts taken through passing answer new last grown
-    as_before answer texts taken how full stage stands c =
+    masks_alike answer texts taken how full stage stands c =
         subst (λ (h : MaskHow). BothCome gives line_at has_ended h full stage texts taken through passing answer new last grown) stands.how_is
         (subst (λ (b : Bool). BothCome gives line_at has_ended mid.how b stage texts taken through passing answer new last grown) stands.full_is c)
 
@@ -422,7 +422,7 @@ module _ {C : Type 0} (gives : C → List Feature → C → Type 0) (line_at : C
       given = gives_more records passing last first.taken rest.taken first.given rest.given;
       comes = λ stage stands ahead.
           let f = first.comes stage stands ahead in
-          more_come b d rest.texts rest.taken old.how old.full stage f (as_before (Ok b) rest.texts rest.taken old.how old.full f.0.stage f.0.stands (rest.comes f.0.stage f.0.stands.stands f.1));
+          more_come b d rest.texts rest.taken old.how old.full stage f (masks_alike (Ok b) rest.texts rest.taken old.how old.full f.0.stage f.0.stands (rest.comes f.0.stage f.0.stands.stands f.1));
     }
 
     pub both_fail : {B D : Type 0} (fault : Fault) → GivesBoth gives line_at has_ended {A = B} mid between passing through (Err fault) new left last grown
@@ -434,7 +434,7 @@ module _ {C : Type 0} (gives : C → List Feature → C → Type 0) (line_at : C
       given = gives_more records passing last first.taken rest.taken first.given rest.given;
       comes = λ stage stands ahead.
           let f = first.comes stage stands ahead in
-          more_fail fault rest.texts rest.taken old.how old.full stage f (as_before {B = B} (Err fault) rest.texts rest.taken old.how old.full f.0.stage f.0.stands (rest.comes f.0.stage f.0.stands.stands f.1));
+          more_fail fault rest.texts rest.taken old.how old.full stage f (masks_alike {B = B} (Err fault) rest.texts rest.taken old.how old.full f.0.stage f.0.stands (rest.comes f.0.stage f.0.stands.stands f.1));
     }
 
 asks_one : (want : MaskWant) → asks_more want ≤ 1

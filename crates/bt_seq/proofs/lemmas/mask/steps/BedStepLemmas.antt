@@ -1,5 +1,6 @@
 -- Lemmas on a masking engine that is given a record, or the end of the records.
 use Rattle.bt_lines.proofs.Std.{◌≡◌, ℕ, ◌≤◌, ◌<◌, min, Bool, true, false, cond, ◌&&◌, ◌||◌, nat_le, nat_lt, List, [], ◌∷◌, ◌++◌, map, filter, Option, Some, None, Result, Ok, Err, refl, sym, ap, ◌∙◌, subst, append-nil, inl, inr, ◌⊎◌, arith, is_some, option_map, option_to_list, nat_tests, map-append, filter-append}
+use Rattle.std.specs.List.{last_or}
 use Rattle.bt_bed.specs.model.feature.Feature.{Feature}
 use Rattle.bt_bed.specs.model.input.GoodBlocks.{AreInBlocks}
 use Rattle.bt_bed.specs.model.feature.LineKind.{fault_at_line}
@@ -12,21 +13,21 @@ use Rattle.bt_lines.specs.declared.fault.Input.TheVariants.{Second}
 use Rattle.bt_lines.specs.declared.fault.Kind.TheVariants.{NoSequence}
 use Rattle.bt_seq.proofs.lemmas.mask.steps.CountLemmas.{decides_alike, range_more, line_masked}
 use Rattle.bt_seq.proofs.lemmas.mask.bases.KnownLemmas.{MayTake, never, next_can_be, nobody_left, none_ahead, own_ahead, owner_next, take_next}
-use Rattle.bt_seq.proofs.lemmas.definitions.MaskPrefixLemmas.{blocks_front, decided_stays, held_before, masked_before}
+use Rattle.bt_seq.proofs.lemmas.definitions.MaskPrefixLemmas.{blocks_front, decided_stays, held_before}
 use Rattle.bt_seq.proofs.lemmas.mask.steps.LineStepLemmas.{open_undecided}
 use Rattle.bt_seq.proofs.lemmas.mask.steps.NextLemmas.{decided_more, own_more}
 use Rattle.bt_seq.proofs.lemmas.mask.steps.StandLemmas.{last_waits, stands_at, wants_bed}
-use Rattle.bt_seq.specs.calls.HeldMasks.{extent_of}
+use Rattle.bt_seq.specs.calls.MaskPrefixes.{extent_of}
 use Rattle.bt_seq.specs.calls.Matching.{owner_by, Matched, matched_with, owner_of}
-use Rattle.bt_seq.specs.inside.mask.MaskInside.{Counts, IsDecided, KnowsLast, KnowsNone, decided_up_to}
-use Rattle.bt_seq.specs.calls.MaskStage.{IsNext, MaskStage, given, held_by, line_given_last, reached, want_of, with_bed_ended, with_decided, with_record}
-use Rattle.bt_seq.specs.calls.MaskStanding.{MaskMovesTo, StandsAfter, Waits, kept_line}
-use Rattle.bt_seq.specs.calls.MaskSteps.{EndsRecords, GivesBed, HasSequence, LacksSequence, WritesLine}
+use Rattle.bt_seq.specs.inside.MaskInside.{Counts, IsDecided, KnowsLast, KnowsNone, decided_up_to}
+use Rattle.bt_seq.specs.calls.MaskStage.{IsNext, MaskStage, given, held_by, reached, want_of, with_bed_ended, with_decided, with_record}
+use Rattle.bt_seq.specs.calls.MaskStanding.{MaskMovesTo, IsAtStage, Waits, kept_line}
+use Rattle.bt_seq.specs.calls.MaskSteps.{ChecksRecord, EndsRecords, GivesBed, LacksSequence, WritesLine}
 use Rattle.bt_seq.specs.model.Masked.{decided, held_for, masked_line}
-use Rattle.bt_seq.specs.calls.MaskState.{Masking, TakesBed, Writes, decides, decides_by, decides_up_to, has_owner, holding, holds, holds_by, line_bytes, with_owner, with_extent}
+use Rattle.bt_seq.specs.calls.MaskState.{Masking, TakesBed, Writes, decides, decides_by, decides_up_to, holding, holds, holds_by, line_bytes, with_owner, with_extent}
 use Rattle.bt_seq.specs.model.Owners.{block_decides, items_if_last, left_after, own_records}
 use Rattle.bt_seq.specs.model.Sequences.{SequenceLine, bases_up_to}
-use Rattle.bt_seq.specs.inside.mask.Window.{Bounds, limit}
+use Rattle.bt_seq.specs.inside.Window.{Bounds, limit}
 use Rattle.bt_seq.specs.declared.mask.mask_how.MaskHow.{MaskHow}
 use Rattle.bt_seq.specs.declared.mask.mask_want.MaskWant.TheVariants.{Line, Bed}
 use Rattle.bt_bed.specs.declared.record.taken.Taken.{Taken}
@@ -70,8 +71,9 @@ module _ (line : SequenceLine) (r : Feature) (range : r.stop ≤ max_number) whe
 left_some : (bases : ℕ) (left : Option (List (List ℕ))) (r : Feature) → block_decides bases left (r ∷ []) ≡ false → is_some left ≡ true
 left_some bases left r e = grind (arith, nat_tests)
 
-owner_some : (left : Option (List (List ℕ))) → has_owner (owner_by left) → is_some left ≡ true
-owner_some left h = grind arith
+owner_some : (left : Option (List (List ℕ))) → (owner_by left ≡ Nobody → ⊥) → is_some left ≡ true
+owner_some None h = absurd (h refl)
+owner_some (Some names) h = refl
 
 -- how far a record decides lines
 up_to_by : (left : Option (List (List ℕ))) (r : Feature) → decides_up_to (owner_by left) r.start ≡ decided_up_to left r
@@ -83,8 +85,8 @@ decides_left bases left r e = grind (arith, nat_tests)
 
 -- a line waits
 module _ (how : MaskHow) (full : Bool) (stage : MaskStage) (line : SequenceLine) (waits : stage.waiting ≡ Some line) (old : Masking) (stands : MaskMovesTo how full stage old) where
-  at_last : StandsAfter stage (Some line) old
-  at_last = subst (λ (l : Option SequenceLine). StandsAfter stage l old) (last_waits stage line waits) stands.stands
+  at_last : IsAtStage stage (Some line) old
+  at_last = subst (λ (l : Option SequenceLine). IsAtStage stage l old) (last_waits stage line waits) stands.stands
 
   as_waits : Waits stage line
   as_waits = stands.stands.waits line waits
@@ -99,8 +101,8 @@ module _ (how : MaskHow) (full : Bool) (stage : MaskStage) (line : SequenceLine)
   bytes_are =
       line_masked how line stage.taken at_last.inside.in_range as_waits.header old stands.how_is (at_last.holds (inl as_waits.lines)) at_last.inside.counts.before
 
-  given_last : line_given_last ((stage.written ++ option_to_list stage.waiting) ++ []) ≡ Some line
-  given_last = ap line_given_last (append-nil (stage.written ++ option_to_list stage.waiting)) ∙ last_waits stage line waits
+  given_last : last_or None ((stage.written ++ option_to_list stage.waiting) ++ []) ≡ Some line
+  given_last = ap (last_or None) (append-nil (stage.written ++ option_to_list stage.waiting)) ∙ last_waits stage line waits
 
   module _ (r : Feature) (some : r.start < r.stop) (range : r.stop ≤ max_number) (next : IsNext stage.ahead r) where
     abbrev left : Option (List (List ℕ))
@@ -199,7 +201,6 @@ module _ (how : MaskHow) (full : Bool) (stage : MaskStage) (line : SequenceLine)
         decides = decided_is ∙ e;
         stands = subst (λ (x : Masking). MaskMovesTo how full (with_decided stage r) x) (sym is) (decided_stands e);
         puts = subst (λ (l : List ℕ). Grown out l grown) bytes_are puts;
-        settled = masked_before how line stage.taken r (decided_is ∙ e);
       }
 
       pub gives_bed : (answer : Result Taken Fault) → TakesBed old (kept_line line) r out answer new grown → GivesBed how full stage line r out answer new grown
@@ -215,7 +216,6 @@ module _ (how : MaskHow) (full : Bool) (stage : MaskStage) (line : SequenceLine)
           | inl wrote ↦ inl (record {
             decides = decided_is ∙ wrote.0;
             fails = subst (λ (l : List ℕ). FailsToAdd out l (fault_value fault) grown) bytes_are wrote.1;
-            settled = masked_before how line stage.taken r (decided_is ∙ wrote.0);
           })
           | inr held ↦ inr (record {
             undecided = decided_is ∙ held.0;
@@ -295,7 +295,7 @@ module _ (how : MaskHow) (full : Bool) (stage : MaskStage) (none : stage.waiting
     owner_now = owner_next names stage.taken r old.matched can_now stands.stands.inside.name_is
 
     abbrev last : Option SequenceLine
-    last = line_given_last (given stage)
+    last = last_or None (given stage)
 
     decided_now : IsDecided last (stage.taken ++ r ∷ [])
     decided_now = decided_next last stage.taken stage.ahead r next (stands.stands.inside.is_decided none ended.1)
@@ -331,14 +331,10 @@ module _ (how : MaskHow) (full : Bool) (stage : MaskStage) (none : stage.waiting
       };
     }
 
-    pub checks_bed : (number : ℕ) (out : Output) (new : Masking) → has_owner (owner_of old.matched r.chrom) → new ≡ with_owner old r.chrom → HasSequence how full stage r number out new out
+    pub checks_bed : (number : ℕ) (out : Output) (new : Masking) → (owner_of old.matched r.chrom ≡ Nobody → ⊥) → new ≡ with_owner old r.chrom → ChecksRecord how full stage r number out (Ok Yes) new out
     checks_bed number out new owner is =
-        let owned : is_some left_now ≡ true = owner_some left_now (subst (λ o. has_owner o) owner_now owner) in
-        record {
-          owned = owned;
-          stands = subst (λ (x : Masking). MaskMovesTo how full (with_record stage r) x) (sym is) (checked_stands owned);
-          same_output = refl;
-        }
+        let owned : is_some left_now ≡ true = owner_some left_now (λ nobody. owner (owner_now ∙ nobody)) in
+        (subst (λ (x : Masking). MaskMovesTo how full (with_record stage r) x) (sym is) (checked_stands owned), refl)
 
     pub lacks_sequence : (number : ℕ) (out : Output) (fault : Fault) → owner_of old.matched r.chrom ≡ Nobody → fault_value fault ≡ fault_at_line Second number NoSequence → LacksSequence how full stage r number out (fault_value fault) out
     lacks_sequence number out fault nobody is = record {

@@ -9,11 +9,11 @@ use Rattle.bt_lines.specs.calls.Output.{Output}
 use Rattle.bt_lines.specs.calls.Putting.{Adds, Puts}
 use Rattle.bt_lines.specs.declared.reader.buffered_lines.BufferedLines.{BufferedLines}
 use Rattle.bt_lines.specs.declared.fault.Fault.{Fault}
-use Rattle.bt_seq.specs.inside.mask.CopyThrough.{CopiesLine, CopiesLines, CopiesThrough, StayEach, WritesAll, bounds_of, passed_all}
-use Rattle.bt_seq.specs.calls.GivenLines.{PassesLines}
+use Rattle.bt_seq.specs.inside.CopyThrough.{CopiesLine, CopiesLines, CopiesThrough, StayEach, WritesAll, bounds_of, passed_all}
+use Rattle.bt_seq.specs.calls.MaskSettles.{PassesLines}
 use Rattle.bt_seq.specs.calls.MaskState.{Masking, passed, stays_as_given}
 use Rattle.bt_seq.specs.model.Sequences.{is_header}
-use Rattle.bt_seq.specs.inside.mask.Window.{Bounds, gone_on, limit}
+use Rattle.bt_seq.specs.inside.Window.{Bounds, gone_on, limit}
 use Rattle.bt_seq.specs.declared.mask.copy_through.CopyThrough.{CopyThrough}
 use Rattle.bt_seq.specs.declared.mask.mask_want.MaskWant.TheVariants.{Line, Nothing}
 use denote.Ref.{Bor}

@@ -6,18 +6,16 @@ use Rattle.bt_seq.proofs.lemmas.definitions.HeldLemmas.{held_alone}
 use Rattle.bt_seq.proofs.lemmas.definitions.MaskPrefixLemmas.{chrom_of}
 use Rattle.bt_seq.proofs.lemmas.sam.ExtentLemmas.{none_masked}
 use Rattle.bt_seq.proofs.lemmas.sam.TagLemmas.{next_left, own_in, own_tagged, tag_decides, tags}
-use Rattle.bt_seq.specs.calls.HeldMasks.{extent_of}
+use Rattle.bt_seq.specs.calls.MaskPrefixes.{extent_of}
 use Rattle.bt_lines.specs.model.Lines.{end_bytes}
 use Rattle.bt_seq.specs.calls.MaskStanding.{kept_line}
 use Rattle.bt_seq.specs.calls.Matching.{owner_by}
-use Rattle.bt_seq.specs.model.MaskHow.{masked_byte}
-use Rattle.bt_seq.specs.inside.mask.MaskInside.{AreInRange}
-use Rattle.bt_seq.specs.model.Masked.{held_for, masked_from, masked_line, masked_text}
+use Rattle.bt_seq.specs.model.Masked.{masked_byte, held_for, masked_from, masked_line, masked_text}
+use Rattle.bt_seq.specs.inside.MaskInside.{AreInRange}
 use Rattle.bt_seq.specs.calls.MaskState.{Masking, decides_by, line_bytes}
 use Rattle.bt_seq.specs.model.Owners.{block_decides, items_if_last, own_records}
 use Rattle.bt_seq.specs.model.Sequences.{SequenceLine, bases_up_to, is_header}
-use Rattle.bt_seq.specs.inside.mask.MaskedBases.{has_position, masked_in}
-use Rattle.bt_seq.specs.inside.mask.Window.{limit}
+use Rattle.bt_seq.specs.inside.Window.{has_position, masked_in, limit}
 use Rattle.bt_seq.specs.declared.mask.mask_how.MaskHow.{MaskHow}
 use Rattle.bt_seq.specs.declared.sam.extent.Extent.{Extent}
 

@@ -1,5 +1,6 @@
 -- Lemmas on a masking engine that is given a line.
 use Rattle.bt_lines.proofs.Std.{◌≡◌, ℕ, ◌<◌, min, nat_le, Bool, true, false, cond, not, ◌&&◌, ◌||◌, nat_lt, length, List, [], ◌∷◌, ◌++◌, map, filter, Option, Some, None, Result, Ok, Err, refl, sym, ap, ◌∙◌, subst, append-nil, inl, inr, ◌⊎◌, arith, AllByRecursion, list_any, is_none, is_some, option_map, option_to_list, nat_tests, length-map, cases_Bool, not-true, not-false, or_parts}
+use Rattle.std.specs.List.{last_or}
 use Rattle.bt_bed.specs.model.feature.Feature.{Feature}
 use Rattle.bt_lines.specs.model.Lines.{TextLine}
 use Rattle.bt_lines.specs.calls.Names.{fault_value}
@@ -9,21 +10,21 @@ use Rattle.bt_lines.specs.declared.fault.Fault.{Fault}
 use Rattle.bt_lines.specs.declared.fault.Kind.TheVariants.{TextBeforeHeader}
 use Rattle.bt_seq.proofs.lemmas.mask.steps.CountLemmas.{IsLow, held_on, own_low, line_masked}
 use Rattle.bt_seq.proofs.lemmas.mask.bases.KnownLemmas.{never, with_header, with_plain}
-use Rattle.bt_seq.proofs.lemmas.definitions.MaskPrefixLemmas.{decided_by_tags, masked_before}
+use Rattle.bt_seq.proofs.lemmas.definitions.MaskPrefixLemmas.{decided_by_tags}
 use Rattle.bt_seq.proofs.lemmas.mask.steps.NextLemmas.{decided_more, left_grows, named_more, none_own, undecided_header, undecided_next}
-use Rattle.bt_seq.proofs.lemmas.mask.steps.StandLemmas.{last_more, last_name_more, last_name_none, stands_at, wants_line}
+use Rattle.bt_seq.proofs.lemmas.mask.steps.StandLemmas.{last_more, last_name_none, stands_at, wants_line}
 use Rattle.bt_seq.proofs.lemmas.sam.TagLemmas.{own_tagged, tag_decides, tags_of}
-use Rattle.bt_seq.specs.calls.HeldMasks.{extent_of}
-use Rattle.bt_seq.specs.inside.mask.MaskInside.{AreInRange, Counts, KnowsNext, decided_up_to, last_name}
-use Rattle.bt_seq.specs.calls.MaskStage.{MaskStage, given, held_by, is_written_ahead, is_written_at_once, line_given_last, reached, reached_by, want_of, with_line}
+use Rattle.bt_seq.specs.calls.MaskPrefixes.{extent_of}
+use Rattle.bt_seq.specs.inside.MaskInside.{AreInRange, Counts, KnowsNext, decided_up_to}
+use Rattle.bt_seq.specs.calls.MaskStage.{MaskStage, given, held_by, is_written_ahead, is_written_at_once, reached, reached_by, want_of, with_line}
 use Rattle.bt_seq.specs.calls.MaskStanding.{IsOpen, MaskMovesTo, kept_line}
-use Rattle.bt_seq.specs.calls.MaskSteps.{FailsWithLine, GivesNextLine, IsSettled, RefusesLine, TakesNextLine, bytes_with, may_need_memory}
+use Rattle.bt_seq.specs.calls.MaskSteps.{FailsWithLine, GivesNextLine, RefusesLine, TakesNextLine, bytes_with, may_need_memory}
 use Rattle.bt_seq.specs.model.Masked.{decided, held_for, is_unnamed, masked_line}
 use Rattle.bt_seq.specs.calls.MaskState.{Masking, TakesLine, Waiting, bytes_at_once, is_stray, line_bytes, may_grow, moved_to, writes_at_once}
 use Rattle.bt_seq.specs.calls.Matching.{Matched, named}
 use Rattle.bt_seq.specs.model.Owners.{block_decides, left_after, own_records}
 use Rattle.bt_seq.specs.model.Sequences.{SequenceLine, bases_in, bases_up_to, header_behind, is_header, line_behind, line_says, may_stand, name_in}
-use Rattle.bt_seq.specs.inside.mask.Window.{Bounds, gone_on, limit, no_bases}
+use Rattle.bt_seq.specs.inside.Window.{Bounds, gone_on, limit, no_bases}
 use Rattle.bt_seq.specs.declared.mask.mask_how.MaskHow.{MaskHow}
 use Rattle.bt_seq.specs.declared.mask.mask_want.MaskWant.TheVariants.{Line, Bed, Nothing}
 use Rattle.bt_seq.specs.declared.sam.extent.Extent.{Extent}
@@ -118,10 +119,10 @@ module _ (how : MaskHow) (full : Bool) (stage : MaskStage) (old : Masking) (s : 
   abbrev names : List (List ℕ)
   names = (reached stage).names
 
-  open_at : IsOpen (line_given_last (given stage)) stage.taken
+  open_at : IsOpen (last_or None (given stage)) stage.taken
   open_at = s.stands.is_open asked.1
 
-  held_is : old.window.held ≡ map extent_of (held_by (line_given_last (given stage)) stage.taken)
+  held_is : old.window.held ≡ map extent_of (held_by (last_or None (given stage)) stage.taken)
   held_is = s.stands.holds (inl asked.1)
 
   -- with a line, before it waits or is written
@@ -130,7 +131,7 @@ module _ (how : MaskHow) (full : Bool) (stage : MaskStage) (old : Masking) (s : 
     full_is : moved.full ≡ full
     bed_ended_is : moved.bed_ended ≡ stage.bed_ended
     counts : Counts (Some item) moved.window
-    name_is : moved.matched.name ≡ last_name item.names
+    name_is : moved.matched.name ≡ last_or None item.names
     holds : moved.window.held ≡ map extent_of (held_for item stage.taken)
     is_open : IsOpen (Some item) stage.taken
     owned : is_some (left_after item.names stage.taken) ≡ true
@@ -151,7 +152,7 @@ module _ (how : MaskHow) (full : Bool) (stage : MaskStage) (old : Masking) (s : 
   first_header going none = first_by (is_unnamed names) refl (λ e. s.stands.inside.has_ahead (sym s.stands.want_is ∙ wants) going e) none
 
   -- whether a line to which it has moved is written at once
-  once_by : (item : SequenceLine) (moved : Masking) → moved.bed_ended ≡ stage.bed_ended → moved.matched.name ≡ last_name item.names
+  once_by : (item : SequenceLine) (moved : Masking) → moved.bed_ended ≡ stage.bed_ended → moved.matched.name ≡ last_or None item.names
       → (stage.bed_ended ≡ false → is_unnamed item.names ≡ false
       → (not (is_header item.text) && nat_le moved.window.bases moved.decided_to) ≡ is_written_ahead stage.ahead stage.taken item)
       → writes_at_once moved item.text ≡ is_written_at_once stage item
@@ -184,13 +185,13 @@ module _ (how : MaskHow) (full : Bool) (stage : MaskStage) (old : Masking) (s : 
           full_is = s.full_is;
           bed_ended_is = s.stands.bed_ended_is;
           counts = record { before = omega arith; bases = omega arith };
-          name_is = sym (last_name_more names n);
+          name_is = sym (last_more names n);
           holds = sym (ap (λ (own : List Feature). map extent_of (filter (λ r. nat_lt r.start (bases_up_to header_item) && nat_lt header_item.before r.stop) own)) (none_own n names left.0 stage.taken left.1));
           is_open = inr (undecided_header n header_item names left.0 stage.taken refl left.1);
           owned = ap is_some (left_grows n names left.0 stage.taken left.1);
           header = λ e. refl;
           waits_known = λ going u. with_header names n stage.taken old.matched stage.ahead (first_header going) (going_known going);
-          at_once = once_by header_item header_moved s.stands.bed_ended_is (sym (last_name_more names n)) (λ going u.
+          at_once = once_by header_item header_moved s.stands.bed_ended_is (sym (last_more names n)) (λ going u.
               ap (λ b. not b && nat_le header_moved.window.bases header_moved.decided_to) e ∙ sym (header_ahead stage.ahead stage.taken header_item e));
           written_known = λ going now. absurd (header_later header_item (named_more n names) e going now);
           written_to = λ going now. absurd (header_later header_item (named_more n names) e going now);
@@ -216,7 +217,7 @@ module _ (how : MaskHow) (full : Bool) (stage : MaskStage) (old : Masking) (s : 
     plain_alike e going is_named (Some r) ahead =
         let known = subst (λ (o : Option Feature). KnowsNext false names stage.taken o old.matched) ahead (going_known going) in
         let left = left_after names (stage.taken ++ r ∷ []) in
-        let undecided = open_undecided plain_item stage.taken is_named (open_further stage.taken s.stands.inside.in_range line e (line_given_last (given stage)) open_at) in
+        let undecided = open_undecided plain_item stage.taken is_named (open_further stage.taken s.stands.inside.in_range line e (last_or None (given stage)) open_at) in
         let decides : nat_le plain_moved.window.bases old.decided_to ≡ decided plain_item (stage.taken ++ r ∷ []) =
         ap (λ (n : ℕ). nat_le n old.decided_to) (plain_counts e).bases
         ∙ ap (λ (n : ℕ). nat_le (min (bases_up_to plain_item) limit) n) (s.stands.inside.decided_to_is asked.0 going r ahead)
@@ -232,8 +233,8 @@ module _ (how : MaskHow) (full : Bool) (stage : MaskStage) (old : Masking) (s : 
           bed_ended_is = s.stands.bed_ended_is;
           counts = plain_counts e;
           name_is = s.stands.inside.name_is;
-          holds = held_further stage.taken s.stands.inside.in_range line e (line_given_last (given stage)) old.window s.stands.inside.counts open_at held_is;
-          is_open = open_further stage.taken s.stands.inside.in_range line e (line_given_last (given stage)) open_at;
+          holds = held_further stage.taken s.stands.inside.in_range line e (last_or None (given stage)) old.window s.stands.inside.counts open_at held_is;
+          is_open = open_further stage.taken s.stands.inside.in_range line e (last_or None (given stage)) open_at;
           owned = s.stands.owned;
           header = λ h. absurd (never (sym e ∙ h));
           waits_known = λ going u. with_plain names stage.taken stage.ahead old.matched (going_known going);
@@ -302,9 +303,6 @@ module _ (how : MaskHow) (full : Bool) (stage : MaskStage) (old : Masking) (s : 
         ∙ ap (λ (n : ℕ). is_header item.text || (not (is_written_at_once stage item) || nat_lt 0 n))
         (ap length m.holds ∙ length-map (held_for item stage.taken) extent_of)
 
-    settled : IsSettled how stage item
-    settled r d = masked_before how item stage.taken r d
-
     -- its bytes
     bytes_are : line_bytes moved (kept_line item) ≡ masked_line how stage.taken item
     bytes_are =
@@ -336,10 +334,10 @@ module _ (how : MaskHow) (full : Bool) (stage : MaskStage) (old : Masking) (s : 
     abbrev written_stage : MaskStage
     written_stage = record stage { written = stage.written ++ item ∷ [] }
 
-    written_last : line_given_last (given written_stage) ≡ Some item
+    written_last : last_or None (given written_stage) ≡ Some item
     written_last =
-        ap (λ (w : Option SequenceLine). line_given_last ((stage.written ++ item ∷ []) ++ option_to_list w)) asked.0
-        ∙ ap line_given_last (append-nil (stage.written ++ item ∷ [])) ∙ last_more stage.written item
+        ap (λ (w : Option SequenceLine). last_or None ((stage.written ++ item ∷ []) ++ option_to_list w)) asked.0
+        ∙ ap (last_or None) (append-nil (stage.written ++ item ∷ [])) ∙ last_more stage.written item
 
     or_true : (a b c : Bool) → (a || (b || c)) ≡ true → a ≡ false → b ≡ false → c ≡ true
     or_true a b c e d f = grind arith
@@ -395,7 +393,6 @@ module _ (how : MaskHow) (full : Bool) (stage : MaskStage) (old : Masking) (s : 
           (with_it g.item (moved_to old line.text) g.moved);
       puts = subst (λ (l : List ℕ). Grown out l grown)
           (ap (λ (k : Waiting). bytes_at_once (moved_to old line.text) k) (sym g.kept) ∙ bytes_now g.item (moved_to old line.text) g.moved) t.2;
-      settled = settled g.item (moved_to old line.text) g.moved;
     }
 
     fails : (A : Type 0) (fault : Fault) → Goes line → TakesLine {A = A} old line.number kept out (Err fault) new grown → (new.want ≡ Nothing) × (RefusesLine how full stage line out (fault_value fault) grown ⊎ FailsWithLine how full stage line out (fault_value fault) grown)
@@ -416,7 +413,6 @@ module _ (how : MaskHow) (full : Bool) (stage : MaskStage) (old : Masking) (s : 
                   ∙ ap (λ (k : Waiting). may_grow (moved_to old line.text) k.text) g.kept ∙ memory.2,
             )
           ];
-          settled = settled g.item (moved_to old line.text) g.moved;
         })
       ],
     )

@@ -1,13 +1,13 @@
 -- Lemmas on how a masking engine goes on from one stage to another.
 use Rattle.bt_lines.proofs.Std.{◌≡◌, ℕ, Bool, true, false, cond, not, ◌||◌, List, [], ◌∷◌, ◌++◌, append-nil, append_assoc, Option, Some, None, Ok, refl, sym, ap, ◌∙◌, subst, flat_map, option_to_list, list_all, and_from, and_parts, false≢true, or_left, flat_map-append, list_all-append}
+use Rattle.std.specs.List.{last_or}
 use Rattle.bt_bed.specs.model.feature.Feature.{Feature}
 use Rattle.bt_bed.specs.model.input.GoodBlocks.{AreInBlocks}
 use Rattle.bt_lines.specs.model.Lines.{TextLine}
 use Rattle.bt_seq.proofs.lemmas.definitions.MaskPrefixLemmas.{blocks_front, decided_stays, masked_before, masked_stay}
 use Rattle.bt_seq.proofs.lemmas.mask.steps.StandLemmas.{last_more}
-use Rattle.bt_seq.specs.calls.GivenLines.{SayEach}
-use Rattle.bt_seq.specs.calls.MaskSettles.{GoesOn, MayFollow, SettlesLines}
-use Rattle.bt_seq.specs.calls.MaskStage.{IsNext, MaskStage, given, is_written_ahead, is_written_at_once, line_given_last, reached, reached_by, with_decided, with_line, with_record}
+use Rattle.bt_seq.specs.calls.MaskSettles.{SayEach, GoesOn, MayFollow, SettlesLines}
+use Rattle.bt_seq.specs.calls.MaskStage.{IsNext, MaskStage, given, is_written_ahead, is_written_at_once, reached, reached_by, with_decided, with_line, with_record}
 use Rattle.bt_seq.specs.calls.MaskSteps.{bytes_with}
 use Rattle.bt_seq.specs.model.Masked.{decided, is_unnamed, masked_line}
 use Rattle.bt_seq.specs.model.Sequences.{Reached, SequenceLine, is_header, line_says}
@@ -18,10 +18,10 @@ abbrev reached_behind : Reached → List SequenceLine → Reached
 reached_behind reached [] = reached
 reached_behind reached (item ∷ items) = reached_behind (reached_by (Some item)) items
 
-reached_more : (before items : List SequenceLine) → reached_by (line_given_last (before ++ items)) ≡ reached_behind (reached_by (line_given_last before)) items
-reached_more before [] = ap (λ (l : List SequenceLine). reached_by (line_given_last l)) (append-nil before)
+reached_more : (before items : List SequenceLine) → reached_by (last_or None (before ++ items)) ≡ reached_behind (reached_by (last_or None before)) items
+reached_more before [] = ap (λ (l : List SequenceLine). reached_by (last_or None l)) (append-nil before)
 reached_more before (item ∷ items) =
-    ap (λ (l : List SequenceLine). reached_by (line_given_last l)) (sym (append_assoc before (item ∷ []) items))
+    ap (λ (l : List SequenceLine). reached_by (last_or None l)) (sym (append_assoc before (item ∷ []) items))
     ∙ reached_more (before ++ item ∷ []) items
     ∙ ap (λ (o : Option SequenceLine). reached_behind (reached_by o) items) (last_more before item)
 
@@ -86,7 +86,7 @@ module _ (how : MaskHow) (full : Bool) where
   goes_more old mid new lines more records further x y first rest =
       let ended : new.bed_ended ≡ mid.bed_ended = rest.bed_ended_is in
       let come : reached mid ≡ reached_behind (reached old) first.items =
-      ap (λ (l : List SequenceLine). reached_by (line_given_last l)) first.given_is ∙ reached_more (given old) first.items in
+      ap (λ (l : List SequenceLine). reached_by (last_or None l)) first.given_is ∙ reached_more (given old) first.items in
       record {
         items = first.items ++ rest.items;
         say = say_more full (reached old) lines more first.items rest.items first.say (subst (λ (r : Reached). SayEach full r more rest.items) come rest.say);

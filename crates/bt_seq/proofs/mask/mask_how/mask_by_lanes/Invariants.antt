@@ -1,5 +1,5 @@
 use Rattle.bt_lines.proofs.Std.{◌≡◌, ◌≤◌, ◌-◌, ◌++◌, take, drop, length, map}
-use Rattle.bt_seq.specs.model.MaskHow.{masked_byte}
+use Rattle.bt_seq.specs.model.Masked.{masked_byte}
 use Rattle.bt_seq.proofs.mask.mask_how.mask_by_lanes.Given as goal
 
 abbrev pub invariant-loop-bases : goal.invariant-loop-bases

@@ -1,5 +1,5 @@
 use Rattle.bt_lines.proofs.Std.{◌∙◌, ap, map, sym, splat_is_map}
-use Rattle.bt_seq.specs.model.MaskHow.{masked_byte}
+use Rattle.bt_seq.specs.model.Masked.{masked_byte}
 use Rattle.bt_seq.proofs.mask.mask_how.mask_lanes.Goals.{in-Soft, in-Hard}
 use Rattle.bt_seq.proofs.mask.mask_how.mask_lanes.Goals as goal
 

@@ -1,5 +1,5 @@
 use Rattle.bt_lines.proofs.Std.{◌≡◌, take}
-use Rattle.bt_seq.specs.inside.mask.MaskedBases.{masked_in}
+use Rattle.bt_seq.specs.inside.Window.{masked_in}
 use Rattle.bt_seq.proofs.sam.extent.mask_extents.Given as goal
 
 abbrev pub invariant-loop-extent : goal.invariant-loop-extent

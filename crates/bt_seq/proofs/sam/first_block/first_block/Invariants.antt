@@ -1,6 +1,6 @@
 use Rattle.bt_lines.proofs.Std.{◌≡◌, ◌≤◌, length}
 use Rattle.bt_seq.specs.model.Cigar.{operations_in}
-use Rattle.bt_seq.specs.inside.sam.Room.{FitBehind}
+use Rattle.bt_seq.specs.inside.CigarSteps.{FitBehind}
 use Rattle.bt_seq.proofs.lemmas.sam.BlockLemmas.{open_in}
 use Rattle.bt_seq.proofs.sam.first_block.first_block.Given as goal
 

@@ -1,5 +1,6 @@
 -- Lemmas on writing the alignments of an input, line by line.
 use Rattle.bt_lines.proofs.Std.{◌≡◌, ℕ, Bool, List, [], ◌∷◌, ◌++◌, Option, None, Some, Ok, refl, sym, ap, ◌∙◌, subst, append-nil, ⊤, option_map, flat_map-append, map-append, Appends-nil, false≢true}
+use Rattle.std.specs.Option.{option_map_or}
 use Rattle.bt_lines.specs.declared.device.Source.{Ghosts as Source}
 use Rattle.bt_lines.proofs.lemmas.reader.block.ReadsLemmas.{some_is}
 use Rattle.bt_lines.specs.model.Fault.{FaultValue, read_failed}
@@ -14,8 +15,8 @@ use Rattle.bt_bed.specs.model.input.Good.{Member}
 use Rattle.bt_bed.specs.model.feature.LineKind.{fault_at_line}
 use Rattle.bt_bed.specs.calls.Reading.{MemberReader}
 use Rattle.bt_seq.specs.model.Alignment.{Alignment, alignment_of}
-use Rattle.bt_seq.specs.model.BedLines.{bed_lines, lines_if}
-use Rattle.bt_seq.specs.calls.BamToBedState.{Converting}
+use Rattle.bt_seq.specs.model.BedLines.{bed_lines}
+use Rattle.bt_seq.specs.calls.Sam.{Converting}
 use Rattle.bt_seq.specs.model.GoodSam.{sam_format}
 use Rattle.bt_seq.specs.model.SamKind.{is_sam_kind}
 use Rattle.bt_seq.proofs.lemmas.sam.SamKindLemmas.{kinds_of_lines, wrong_kinds}
@@ -137,17 +138,17 @@ module _ {S : Type 0} (split cigar : Bool) (device : Source S) where
           sound = sound g.sound;
         }
 
-        goes_by : (said : Option Alignment) (later : Output) → alignment_of line.text ≡ Ok said → Grown grown (lines_if split cigar said) later → Going old out new later
+        goes_by : (said : Option Alignment) (later : Output) → alignment_of line.text ≡ Ok said → Grown grown (option_map_or (bed_lines split cigar) said []) later → Going old out new later
         goes_by None later says writes =
             goes_with g.past [] later (passes_none device (sam_reader old) (sam_reader now) g.past g.fed.passes (sam_reader new) line gives kept refl refl gives.goes says refl) (sym (append-nil (lines_of (member_items g.past)))) writes
         goes_by (Some a) later says writes =
             goes_with (g.past ++ member_on line a ∷ []) (bed_lines split cigar a) later (with_it a says) (ap lines_of (map-append (λ m. m.item) g.past (member_on line a ∷ [])) ∙ pushed a) writes
 
         -- what it says was written
-        pub going_line : (converting after : Converting) → converting.split ≡ split → converting.with_cigar ≡ cigar → (later : Output) → ((said : Option Alignment) × (alignment_of line.text ≡ Ok said) × Grown grown (lines_if converting.split converting.with_cigar said) later × (after ≡ converting)) → Going old out new later
+        pub going_line : (converting after : Converting) → converting.split ≡ split → converting.with_cigar ≡ cigar → (later : Output) → ((said : Option Alignment) × (alignment_of line.text ≡ Ok said) × Grown grown (option_map_or (bed_lines converting.split converting.with_cigar) said []) later × (after ≡ converting)) → Going old out new later
         going_line converting after same same_cigar later written =
             goes_by written.0 later written.1
-            (subst (λ s. Grown grown (lines_if s cigar written.0) later) same (subst (λ c. Grown grown (lines_if converting.split c written.0) later) same_cigar written.2))
+            (subst (λ s. Grown grown (option_map_or (bed_lines s cigar) written.0 []) later) same (subst (λ c. Grown grown (option_map_or (bed_lines converting.split c) written.0 []) later) same_cigar written.2))
 
 -- a line that was refused is no failed read
 pub refused_no_read : (input : Input) (line : TextLine) (out : Output) (fault : FaultValue) (grown : Output) → LineRefused input line out fault grown → (other : Input) (at : ℕ) → Some fault ≡ Some (read_failed other at) → ⊥

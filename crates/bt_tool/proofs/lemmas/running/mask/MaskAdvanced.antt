@@ -17,8 +17,7 @@ use Rattle.bt_bed.specs.model.input.Good.{Member}
 use Rattle.bt_bed.specs.model.feature.LineKind.{fault_at_line, is_of_line}
 use Rattle.bt_bed.specs.model.order.Locus.{Locus}
 use Rattle.bt_bed.specs.calls.Reading.{MemberReader, members_from, state_behind}
-use Rattle.bt_seq.specs.calls.GivenLines.{SayEach}
-use Rattle.bt_seq.specs.calls.MaskSettles.{GoesOn}
+use Rattle.bt_seq.specs.calls.MaskSettles.{SayEach, GoesOn}
 use Rattle.bt_seq.specs.calls.MaskStanding.{MaskMovesTo}
 use Rattle.bt_seq.specs.calls.MaskStage.{MaskStage, given, reached}
 use Rattle.bt_seq.specs.calls.MaskState.{Masking}

@@ -22,9 +22,8 @@ use Rattle.bt_bed.specs.calls.Reading.{MemberReader, state_behind}
 use Rattle.bt_bed.specs.declared.read.batch.Batch.{Batch}
 use Rattle.bt_seq.proofs.lemmas.mask.steps.SettleLemmas.{goes_more, line_goes}
 use Rattle.bt_seq.proofs.lemmas.mask.steps.StandLemmas.{wants_line}
-use Rattle.bt_seq.specs.calls.GivenLines.{SayEach}
-use Rattle.bt_seq.specs.calls.MaskAdvance.{BothCome, ComesAfter, ComesNext, FailsAtLines, FailsAtRecord, FailsBehind, HasCome, StopsAt}
-use Rattle.bt_seq.specs.calls.MaskSettles.{GoesOn}
+use Rattle.bt_seq.specs.calls.MaskSettles.{SayEach, GoesOn}
+use Rattle.bt_seq.specs.calls.MaskAdvance.{BothCome, ComesAfter, ComesNext, FailsAfter, FailsAtLines, FailsAtRecord, HasCome, StopsAt}
 use Rattle.bt_seq.specs.calls.MaskStage.{IsNext, MaskStage, given, is_written_at_once, reached, want_at, want_of, with_line}
 use Rattle.bt_seq.specs.calls.MaskStanding.{MaskStandsAt, kept_line}
 use Rattle.bt_seq.specs.calls.MaskSteps.{FailsWithLine, RefusesLine, bytes_with}
@@ -201,12 +200,12 @@ module _ {A B : Type 0} (source_a : Source A) (source_b : Source B) (start : Mas
         )
 
   -- the last of what was given failed
-  module _ (fault : FaultValue) (now : Output) (behind : FailsBehind Passes line_in HasEnded start.mask.how start.mask.full s.stage texts taken out first_beds fault last_beds now) where
+  module _ (fault : FaultValue) (now : Output) (behind : FailsAfter Passes line_in HasEnded start.mask.how start.mask.full s.stage texts taken out first_beds fault last_beds now) where
     abbrev comes : HasCome start.mask.how start.mask.full s.stage behind.before taken out behind.mask behind.through
     comes = behind.comes
 
     kept : (r : Feature) → comes.stage.ahead ≡ Some r → item_ahead second_now ≡ Some r
-    kept = kept_then comes.stage.ahead behind.fails.1
+    kept = kept_then comes.stage.ahead behind.after
 
     -- lines that are settled weren't all written
     module _ (final : MaskStage) (bytes : List ℕ) (goes : GoesOn start.mask.how start.mask.full comes.stage behind.failing [] final bytes) (ahead_is : final.ahead ≡ comes.stage.ahead) where
@@ -325,7 +324,7 @@ module _ {A B : Type 0} (source_a : Source A) (source_b : Source B) (start : Mas
     fails_both (inr at_record) = fails_next at_record.0 at_record.1 at_record.2 at_record.3 at_record.4 at_record.5
 
     failed_both : EndsAt (Some fault) now
-    failed_both = fails_both behind.fails.2
+    failed_both = fails_both behind.fails
 
   -- the engine masks as the run says
   as_run : {T : Type 0} (answer : Result T Fault) (masked : Masking) (now : Output) → BothCome Passes line_in HasEnded mask.how mask.full s.stage texts taken out first_beds answer masked last_beds now

@@ -1,5 +1,6 @@
 -- Lemmas on how far a masking engine over two readers has come: what it wants, and what its inputs still have then.
 use Rattle.bt_lines.proofs.Std.{◌≡◌, ℕ, suc, Bool, true, false, not, ◌||◌, List, [], ◌∷◌, ◌++◌, Option, None, Some, Err, refl, sym, ap, ◌∙◌, subst, append-nil, append_assoc, option_to_list, inl, inr, ◌⊎◌, IfSome, IsSome, IsTrue, is_some, option_map, false≢true, or_left, or_right, map-append, IfSome_then}
+use Rattle.std.specs.List.{last_or}
 use Rattle.bt_lines.specs.declared.device.Source.{Ghosts as Source}
 use Rattle.bt_lines.specs.model.Fault.{FaultValue}
 use Rattle.bt_lines.specs.model.Lines.{TextLine}
@@ -17,12 +18,11 @@ use Rattle.bt_bed.specs.model.input.GoodBlocks.{AreInBlocks}
 use Rattle.bt_bed.specs.model.feature.LineKind.{fault_at_line}
 use Rattle.bt_bed.specs.model.order.Locus.{Locus}
 use Rattle.bt_bed.specs.calls.Reading.{MemberReader, ahead_in, first_from, good_coming, state_behind}
-use Rattle.bt_seq.proofs.lemmas.definitions.MaskPrefixLemmas.{decided_stays}
+use Rattle.bt_seq.proofs.lemmas.definitions.MaskPrefixLemmas.{decided_stays, masked_before}
 use Rattle.bt_seq.specs.calls.MaskAdvance.{FailsAtRecord}
-use Rattle.bt_seq.specs.calls.MaskPrefixes.{LineBefore}
 use Rattle.bt_seq.proofs.lemmas.mask.steps.StandLemmas.{last_more}
 use Rattle.bt_seq.proofs.lemmas.definitions.MaskMetLemmas.{first_is_told, lack_none}
-use Rattle.bt_seq.specs.calls.MaskStage.{MaskStage, given, line_given_last, reached, reached_by, want_of, with_bed_ended, with_lines_ended}
+use Rattle.bt_seq.specs.calls.MaskStage.{MaskStage, given, reached, reached_by, want_of, with_bed_ended, with_lines_ended}
 use Rattle.bt_seq.specs.calls.MaskStanding.{IsOpen, MaskMovesTo}
 use Rattle.bt_seq.specs.model.Masked.{decided, is_unnamed, masked_line, names_of, no_sequence}
 use Rattle.bt_seq.specs.calls.MaskState.{Masking}
@@ -75,29 +75,29 @@ named_open line e = ap (λ b. b || false) e
 
 -- how far the lines given have come is what is known after them
 reached_said : (full : Bool) (line : SequenceLine) (lines : List SequenceLine) (state : Reached)
-    → state_behind (sequence_format full) state (line ∷ lines) ≡ reached_by (line_given_last (line ∷ lines))
+    → state_behind (sequence_format full) state (line ∷ lines) ≡ reached_by (last_or None (line ∷ lines))
 reached_said full line [] state = refl
 reached_said full line (next ∷ lines) state = reached_said full next lines ((sequence_format full).after state line)
 
-pub reached_behind : (full : Bool) (lines : List SequenceLine) → state_behind (sequence_format full) (record { names = []; bases = 0 }) lines ≡ reached_by (line_given_last lines)
+pub reached_behind : (full : Bool) (lines : List SequenceLine) → state_behind (sequence_format full) (record { names = []; bases = 0 }) lines ≡ reached_by (last_or None lines)
 reached_behind full [] = refl
 reached_behind full (line ∷ lines) = reached_said full line lines (record { names = []; bases = 0 })
 
 -- the names of the sequences of lines are those that the last line has come to
-names_reached : (lines : List SequenceLine) → names_of lines ≡ (reached_by (line_given_last lines)).names
+names_reached : (lines : List SequenceLine) → names_of lines ≡ (reached_by (last_or None lines)).names
 names_reached [] = refl
 names_reached (line ∷ []) = refl
 names_reached (line ∷ next ∷ lines) = names_reached (next ∷ lines)
 
 -- the last line is one of them
-last_leaves : (lines : List SequenceLine) (line : SequenceLine) (records : List Feature) → line_given_last lines ≡ Some line → decided line records ≡ false → IsTrue (leaves_some lines records)
+last_leaves : (lines : List SequenceLine) (line : SequenceLine) (records : List Feature) → last_or None lines ≡ Some line → decided line records ≡ false → IsTrue (leaves_some lines records)
 last_leaves [] line records e open_at = cc
 last_leaves (x ∷ []) line records e open_at =
     let same : x ≡ line = cc in
     or_left (not (decided x records)) false (ap (λ (l : SequenceLine). not (decided l records)) same ∙ ap not open_at)
 last_leaves (x ∷ next ∷ lines) line records e open_at = or_right (not (decided x records)) (leaves_some (next ∷ lines) records) (last_leaves (next ∷ lines) line records e open_at)
 
-open_leaves : (lines : List SequenceLine) (last : Option SequenceLine) (records : List Feature) → line_given_last lines ≡ last → IsOpen last records → (records ≡ []) ⊎ IsTrue (leaves_some lines records)
+open_leaves : (lines : List SequenceLine) (last : Option SequenceLine) (records : List Feature) → last_or None lines ≡ last → IsOpen last records → (records ≡ []) ⊎ IsTrue (leaves_some lines records)
 open_leaves lines None records e is_open = inl is_open
 open_leaves lines (Some line) records e (inl none) = inl none
 open_leaves lines (Some line) records e (inr open_at) = inr (last_leaves lines line records e open_at)
@@ -150,10 +150,10 @@ module _ {A B : Type 0} (source_a : Source A) (source_b : Source B) (start : Mas
     -- the lines given have come as far as is known
     pub come_so_far : at ≡ reached stage
     come_so_far =
-        s.comes.first_passes.state ∙ reached_behind start.mask.full (member_items s.past_first) ∙ ap (λ (l : List SequenceLine). reached_by (line_given_last l)) (sym s.comes.all_given)
+        s.comes.first_passes.state ∙ reached_behind start.mask.full (member_items s.past_first) ∙ ap (λ (l : List SequenceLine). reached_by (last_or None l)) (sym s.comes.all_given)
 
     pub asked : stage.lines_ended ≡ false → join.Asks (given stage) stage.taken
-    asked going = open_leaves (given stage) (line_given_last (given stage)) stage.taken refl (s.stands.is_open going)
+    asked going = open_leaves (given stage) (last_or None (given stage)) stage.taken refl (s.stands.is_open going)
 
     pub asks_for : stage.lines_ended ≡ false → AsksFor join pair before s.past_first second
     asks_for going = stop.asks_now join pair before (stage_of stage) s.past_first s.past_second first second grown s.comes (asked going)
@@ -184,7 +184,7 @@ module _ {A B : Type 0} (source_a : Source A) (source_b : Source B) (start : Mas
       pub names_alone : names_of stage.written ≡ (reached stage).names
       names_alone =
           names_reached stage.written
-          ∙ ap (λ (l : List SequenceLine). (reached_by (line_given_last l)).names) (sym (ap (λ (o : Option SequenceLine). stage.written ++ option_to_list o) none ∙ append-nil stage.written))
+          ∙ ap (λ (l : List SequenceLine). (reached_by (last_or None l)).names) (sym (ap (λ (o : Option SequenceLine). stage.written ++ option_to_list o) none ∙ append-nil stage.written))
 
       pub owned_alone : AreOwned stage.written (member_items s.past_second)
       owned_alone =
@@ -201,7 +201,7 @@ module _ {A B : Type 0} (source_a : Source A) (source_b : Source B) (start : Mas
     pub undecided : (line : SequenceLine) → stage.waiting ≡ Some line → decided line stage.taken ≡ false
     undecided line waits =
         let w = s.stands.waits line waits in
-        let last : line_given_last (given stage) ≡ Some line = ap (λ (o : Option SequenceLine). line_given_last (stage.written ++ option_to_list o)) waits ∙ last_more stage.written line in
+        let last : last_or None (given stage) ≡ Some line = ap (λ (o : Option SequenceLine). last_or None (stage.written ++ option_to_list o)) waits ∙ last_more stage.written line in
         undecided_by line w.named (subst (λ (o : Option SequenceLine). IsOpen o stage.taken) last (s.stands.is_open w.lines))
 
     -- a line is wanted
@@ -319,15 +319,15 @@ module _ {A B : Type 0} (source_a : Source A) (source_b : Source B) (start : Mas
       seen = ap (λ (o : Option Feature). stage.taken ++ option_to_list o) next
 
       -- if it decides the waiting line, that stays as it is
-      settles_decided : (a : SequenceLine) → decided a (stage.taken ++ r ∷ []) ≡ true → LineBefore start.mask.how a stage.taken r → IsKnown pair
+      settles_decided : (a : SequenceLine) → decided a (stage.taken ++ r ∷ []) ≡ true → IsKnown pair
           → SettlesPair join (stage.written ++ a ∷ []) (s.comes.bytes ++ masked_line start.mask.how stage.taken a) (stage.taken ++ option_to_list (item_ahead second)) stage.bed_ended
-      settles_decided a decides settled known =
+      settles_decided a decides known =
           settles_with join stage.written s.comes.bytes (stage.taken ++ option_to_list (item_ahead second)) stage.bed_ended a (masked_line start.mask.how stage.taken a) (s.comes.settles known)
           (λ rest ordered.
           let front : (stage.taken ++ option_to_list (item_ahead second)) ++ rest ≡ (stage.taken ++ r ∷ []) ++ rest = ap (λ (l : List Feature). l ++ rest) seen in
           let parts : (stage.taken ++ option_to_list (item_ahead second)) ++ rest ≡ stage.taken ++ r ∷ rest = front ∙ append_assoc stage.taken (r ∷ []) rest in (
             ap (decided a) front ∙ decided_stays a (stage.taken ++ r ∷ []) rest decides,
-            ap (λ (l : List Feature). masked_line start.mask.how l a) parts ∙ settled rest (subst AreInBlocks parts ordered),
+            ap (λ (l : List Feature). masked_line start.mask.how l a) parts ∙ masked_before start.mask.how a stage.taken r decides rest (subst AreInBlocks parts ordered),
           ))
 
       unowned_by : (none : stage.waiting ≡ None) → left_after (reached stage).names (stage.taken ++ r ∷ []) ≡ None → left_after (names_of stage.written) (member_items (s.past_second ++ m ∷ [])) ≡ None
@@ -360,7 +360,7 @@ module _ {A B : Type 0} (source_a : Source A) (source_b : Source B) (start : Mas
       fails_by (Some a) waits fault now (inl writes) = (
         first,
         refl,
-        stop.fails_waiting join pair before (stage_of stage) s.past_first s.past_second first second grown s.comes asks_for (λ known. tt) a waits (masked_line start.mask.how stage.taken a) (settles_decided a writes.decides writes.settled) fault now writes.fails,
+        stop.fails_waiting join pair before (stage_of stage) s.past_first s.past_second first second grown s.comes asks_for (λ known. tt) a waits (masked_line start.mask.how stage.taken a) (settles_decided a writes.decides) fault now writes.fails,
         λ input line e. e,
       )
       fails_by (Some a) waits fault now (inr holds) = (

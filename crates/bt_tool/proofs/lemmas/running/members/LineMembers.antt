@@ -17,7 +17,7 @@ use Rattle.bt_bed.proofs.lemmas.read.good.SaidRuns.{LinesSay, good_said, say_fro
 use Rattle.bt_bed.specs.model.input.Good.{Good, Member, good_from}
 use Rattle.bt_bed.specs.calls.Reading.{IsBeyond, IsFaultBeyond, AreSaid, MemberReader, first_from, good_behind, good_coming, members_from, state_behind, with_members}
 use Rattle.bt_bed.specs.model.feature.LineKind.{fault_at_line}
-use Rattle.bt_seq.specs.calls.GivenLines.{SayEach}
+use Rattle.bt_seq.specs.calls.MaskSettles.{SayEach}
 use Rattle.bt_seq.specs.model.Sequences.{Reached, SequenceLine, is_header, line_says, may_stand, sequence_format}
 use Rattle.bt_tool.specs.inside.pair.MaskLoop.{line_members}
 use Rattle.bt_tool.specs.inside.feed.Passed.{ComeFirst, HasTaken, IsReadFor, Passes, StopsAfter}

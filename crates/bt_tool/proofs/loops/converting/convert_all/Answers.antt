@@ -5,7 +5,7 @@ use Rattle.bt_lines.specs.calls.Names.{fault_value}
 use Rattle.bt_lines.specs.declared.fault.Input.{Input}
 use Rattle.bt_lines.specs.calls.Reader.{HasRead}
 use Rattle.bt_bed.proofs.lemmas.order.ResultLemmas.{passed_on}
-use Rattle.bt_seq.specs.calls.BamToBedState.{Converting}
+use Rattle.bt_seq.specs.calls.Sam.{Converting}
 use Rattle.bt_tool.specs.inside.feed.ConvertSteps.{ConvertsAll, LineRefused, sam_reader}
 use Rattle.bt_tool.specs.calls.run.OwnReads.{AnswersNoRead}
 use Rattle.bt_tool.proofs.lemmas.running.feed.ConvertLemmas.{converts_all, going_line, going_start, refused_no_read, stops_at_line, stops_reading, stops_writing}

@@ -8,10 +8,10 @@ use Rattle.bt_lines.specs.calls.Output.{Output}
 use Rattle.bt_lines.specs.calls.Putting.{FailsToAdd, Grown}
 use Rattle.bt_lines.specs.declared.reader.buffered_lines.BufferedLines.{BufferedLines}
 use Rattle.bt_lines.specs.declared.fault.Fault.{Fault}
-use Rattle.bt_seq.specs.calls.GivenLines.{PassesLines}
+use Rattle.bt_seq.specs.calls.MaskSettles.{PassesLines}
 use Rattle.bt_seq.specs.calls.MaskState.{Masking, passed, stays_as_given}
 use Rattle.bt_seq.specs.model.Sequences.{is_header}
-use Rattle.bt_seq.specs.inside.mask.Window.{Bounds, gone_on}
+use Rattle.bt_seq.specs.inside.Window.{Bounds, gone_on}
 use Rattle.bt_seq.specs.declared.mask.copy_through.CopyThrough.{CopyThrough}
 use Rattle.bt_seq.specs.declared.mask.mask_want.MaskWant.TheVariants.{Nothing}
 

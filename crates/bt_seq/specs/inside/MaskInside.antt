@@ -2,7 +2,8 @@
 -- last, how many bases were counted, and how far the record ahead decides lines.
 use Rattle.std.specs.Prelude.{◌≡◌, ◌⊎◌, ⊤, ℕ, ◌≤◌, ◌<◌, Bool, false, true, List, [], ◌∷◌, ◌++◌, min}
 use Rattle.std.specs.Prelude.{Option, Some, None, is_some, option_to_list}
-use Rattle.std.specs.List.{AllByRecursion}
+use Rattle.std.specs.List.{AllByRecursion, last_or}
+use Rattle.std.specs.Option.{option_map_or}
 use Rattle.bt_bed.specs.model.feature.Feature.{Feature}
 use Rattle.bt_lines.specs.model.Number.{max_number}
 use Rattle.bt_seq.specs.calls.Matching.{Knows, KnowsEarlier, Matched}
@@ -11,7 +12,7 @@ use Rattle.bt_seq.specs.model.Masked.{decided, is_unnamed}
 use Rattle.bt_seq.specs.calls.MaskState.{Masking}
 use Rattle.bt_seq.specs.model.Owners.{goes_on, left_after, names_behind}
 use Rattle.bt_seq.specs.model.Sequences.{SequenceLine}
-use Rattle.bt_seq.specs.inside.mask.Window.{Bounds, limit}
+use Rattle.bt_seq.specs.inside.Window.{Bounds, limit}
 use Rattle.bt_seq.specs.declared.mask.mask_want.MaskWant.TheVariants.{Line}
 
 -- the last line is decided by these records, if there is one
@@ -19,21 +20,10 @@ abbrev pub IsDecided : Option SequenceLine → List Feature → Type 0
 IsDecided None records = ⊤
 IsDecided (Some line) records = decided line records ≡ true
 
--- how many bases of its sequence come before the line, and up to its end
-abbrev pub bases_before : Option SequenceLine → ℕ
-bases_before None = 0
-bases_before (Some line) = line.before
-
--- the bases are counted as far as records reach
+-- the bases before the line and up to its end are counted as far as records reach
 pub record Counts (last : Option SequenceLine) (window : Bounds) : Type 0 where
-  pub before : window.before ≡ min (bases_before last) limit
+  pub before : window.before ≡ min (option_map_or (λ line. line.before) last 0) limit
   pub bases : window.bases ≡ min (reached_by last).bases limit
-
--- the last of names, if there is one
-abbrev pub last_name : List (List ℕ) → Option (List ℕ)
-last_name [] = None
-last_name (name ∷ []) = Some name
-last_name (name ∷ next ∷ names) = last_name (next ∷ names)
 
 module _ (names : List (List ℕ)) (taken : List Feature) (m : Matched) where
   -- there is no sequence
@@ -79,7 +69,7 @@ AreInRange records = AllByRecursion (λ r. r.stop ≤ max_number) records
 -- what the state inside says of the stage, if this line was given last; callers of the engine don't look at it
 pub record KnowsStage (stage : MaskStage) (last : Option SequenceLine) (m : Masking) : Type 0 where
   pub counts : Counts last m.window
-  pub name_is : m.matched.name ≡ last_name (reached_by last).names
+  pub name_is : m.matched.name ≡ last_or None (reached_by last).names
   -- if no line waits and records may come, those taken and the one ahead decide the last line
   pub is_decided : stage.waiting ≡ None → stage.bed_ended ≡ false
       → IsDecided last (stage.taken ++ option_to_list stage.ahead)

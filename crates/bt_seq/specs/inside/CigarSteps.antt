@@ -1,7 +1,8 @@
 -- What is read of a CIGAR, one operation after another.
-use Rattle.std.specs.Prelude.{◌≡◌, ℕ, ◌<◌, ◌≤◌, ⊤, List, [], ◌∷◌, length, Option, Some, None}
+use Rattle.std.specs.Prelude.{◌≡◌, ℕ, ◌+◌, ◌<◌, ◌≤◌, ⊤, Bool, false, IsTrue, List, [], ◌∷◌, length}
+use Rattle.std.specs.Prelude.{nat_le, Option, Some, None}
 use Rattle.bt_lines.specs.model.Number.{max_number}
-use Rattle.bt_seq.specs.model.Cigar.{operations_in, with_operation}
+use Rattle.bt_seq.specs.model.Cigar.{operations_in, reference_length, with_operation}
 use Rattle.bt_seq.specs.declared.sam.operation.Operation.{Operation}
 use denote.Ref.{Bor}
 
@@ -20,3 +21,11 @@ IsFirst text (Some first) =
 abbrev pub IsWithin : List ℕ → Option (Operation × Bor (List ℕ)) → Type 0
 IsWithin text None = ⊤
 IsWithin text (Some first) = (length first.1.now < length text) × (first.0.length ≤ max_number)
+
+-- whether there are operations that from a place of the reference on end within the greatest number
+abbrev pub fit_behind : ℕ → Option (List Operation) → Bool
+fit_behind start None = false
+fit_behind start (Some operations) = nat_le (start + reference_length operations) max_number
+
+abbrev pub FitBehind : ℕ → Option (List Operation) → Type 0
+FitBehind start operations = IsTrue (fit_behind start operations)

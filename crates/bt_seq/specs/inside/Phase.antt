@@ -14,7 +14,5 @@ want_in Ended = Nothing
 
 -- whether a line waits
 abbrev pub waits_in : Phase → Bool
-waits_in Lines = false
 waits_in Waits = true
-waits_in Checks = false
-waits_in Ended = false
+waits_in _ = false
