@@ -11,7 +11,7 @@ use Rattle.bt_lines.specs.calls.LentLine.{GivesFirst, line_seen}
 use Rattle.bt_lines.specs.model.Lines.{TextLine, line_feeds, lines_from}
 use Rattle.bt_lines.specs.calls.Names.{fault_value}
 use Rattle.bt_lines.specs.inside.ReadBuffer.{complete, unread}
-use Rattle.bt_lines.specs.calls.Reader.{DropsLines, FillsLines, GivesEnd, GivesFault, GivesLine, HasRead, IsKept, IsSound, MakesLine, NextLine, TellsOwnFailure, TellsReads, buffered_bytes, bytes_left, bytes_taken, end_told, fault_kept, feeds_taken, has_ended, held, input_of, left_at, line_at, lines_given, lines_left, source_of}
+use Rattle.bt_lines.specs.calls.Reader.{DropsLines, FillsLines, GivesFault, GivesLine, HasRead, IsKept, IsSound, MakesLine, NextLine, TellsOwnFailure, TellsReads, buffered_bytes, bytes_left, bytes_taken, end_told, fault_kept, feeds_taken, has_ended, held, input_of, left_at, line_at, lines_given, lines_left, source_of}
 use Rattle.bt_lines.specs.inside.ReaderState.{ended_at, fault_at, lends_at, open_at, taken_at}
 use Rattle.bt_lines.specs.inside.Shape.{held_at}
 use Rattle.bt_lines.specs.declared.fault.Fault.{Fault}
@@ -47,10 +47,6 @@ none_left_at false held n a e none = absurd (false≢true e)
 none_left_told : {S : Type 0} (left : S → Option (List ℕ)) (reader : LineReader S) → end_told reader ≡ true → held reader ≡ [] → IfSome (lines_left left reader) (λ lines. lines ≡ [])
 unfolding bytes_left
 none_left_told left reader e none = none_left_at (end_told reader) (held reader) (suc (lines_given reader)) (left (source_of reader)) e none
-
-ended_lends : (state : State) → ended_at state ≡ true → lends_at state ≡ false
-ended_lends Ended e = refl
-ended_lends _ e = absurd (false≢true e)
 
 module _ {S : Type 0} (device : Source S) where
   -- a line is buffered already
@@ -172,20 +168,6 @@ module _ {S : Type 0} (device : Source S) where
         sound = λ h. let kept = fills.kept (record { end = h.end; within = h.within }) in
             record { end = kept.end; within = kept.within; near = λ e. absurd (some_told fault (fault_kept new) fills.answers.kept e) };
       }
-
-  -- a step to the end
-  pub ends_by : (old new : LineReader S) → FillsLines device old (Ok false) new → HasRead device.is_read old new
-      → (line : Option Line) → option_map line_seen line ≡ line_at new → NextLine device old (Ok line) new
-  unfolding line_at has_ended
-  ends_by old new fills read None at = record {
-    answers = fills.answers;
-    own_failure = read;
-    sound = λ h. let kept = fills.kept (record { end = h.end; within = h.within }) in
-        record { end = kept.end; within = kept.within; near = λ e. rw fills.answers.nothing_held (omega arith) };
-  }
-  ends_by old new fills read (Some line) at =
-      let none : line_at new ≡ None = rw (ended_lends new.state fills.answers.ends) refl in
-      absurd (false≢true (sym (ap is_some (at ∙ none))))
 
   cuts_by : (b : Bool) (mid : LineReader S) → 0 < length (buffered_bytes mid) → (b ≡ false → complete mid.buffer ≡ []) → b ≡ true
   unfolding buffered_bytes

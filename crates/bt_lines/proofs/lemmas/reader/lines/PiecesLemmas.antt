@@ -1,5 +1,5 @@
 -- Lemmas on the pieces of a text between separators.
-use Rattle.bt_lines.proofs.Std.{◌≡◌, ℕ, zero, ◌+◌, ◌<◌, false, List, [], ◌∷◌, ◌++◌, length, take, drop, get_or, Option, Some, None, refl, sym, ap, ◌∙◌, subst, arith, eqb, take-append-drop, drop_more, get_or-take, get_or_default, length-take-le, take_all, slice_split_at, slice_split_none, All, false_from_ne_true, IfSome, slice_index, eq-eqb, eqb-true}
+use Rattle.bt_lines.proofs.Std.{◌≡◌, ℕ, zero, ◌+◌, ◌<◌, false, List, [], ◌∷◌, ◌++◌, length, take, drop, get_or, Option, Some, None, refl, sym, ap, ◌∙◌, subst, arith, eqb, take-append-drop, drop_more, get_or-take, get_or_default, length-take-le, take_all, slice_split_at, slice_split_none, All, false_from_ne_true, slice_index, eq-eqb, eqb-true}
 use Rattle.memchr.specs.Find.{FindsNeedle, IsFirstByte, OccursAt, Passes, is_byte}
 use Rattle.bt_lines.specs.calls.FirstByte.{IsBefore, IsFirstOf, Lacks}
 use Rattle.bt_lines.specs.calls.Columns.{CutAt}

@@ -1,5 +1,5 @@
 use Rattle.bt_lines.proofs.Std.{◌∙◌, Ok, ap}
-use Rattle.bt_lines.proofs.lemmas.reader.block.FillLemmas.{ends_by, moves_by, stops_by}
+use Rattle.bt_lines.proofs.lemmas.reader.block.FillLemmas.{moves_by, stops_by}
 use Rattle.bt_lines.proofs.reader.line_reader.LineReader.step.Goals as goal
 
 pub returns-in-Err-clause-stopped : goal.returns-in-Err-clause-stopped
