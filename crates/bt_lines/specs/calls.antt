@@ -1,5 +1,4 @@
 -- What calls do, as contracts say it.
-pub mod Adapter
 pub mod Buffered
 pub mod Columns
 pub mod Device

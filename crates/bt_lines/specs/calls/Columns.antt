@@ -1,7 +1,5 @@
 -- The columns of a line: the pieces between tabs.
-use Rattle.std.specs.Prelude.{◌≡◌, ℕ, ◌<◌, ◌+◌, ◌==◌, false, List, [], ◌∷◌, length, take, drop}
-use Rattle.std.specs.Prelude.{get_or, Option, Some, None}
-use Rattle.std.specs.List.{All}
+use Rattle.std.specs.Prelude.{◌≡◌, ℕ, ◌+◌, List, [], ◌∷◌, take, drop, Option, Some, None}
 use Rattle.bt_lines.specs.model.Lines.{pieces}
 use Rattle.bt_lines.specs.declared.reader.column_iter.Columns.{Columns}
 use denote.Ref.{Bor}
@@ -14,12 +12,6 @@ columns_of_rest (Some rest) = pieces 9 rest.now
 -- the columns still to come
 abbrev pub columns_left : Columns → List (List ℕ)
 columns_left columns = columns_of_rest columns.rest
-
--- the first tab is here
-pub record IsFirstTab (text : List ℕ) (at : ℕ) : Type 0 where
-  pub within : at < length text
-  pub tab : get_or text at 0 ≡ 9
-  pub column : All (λ byte. (byte == 9) ≡ false) (take at text)
 
 -- the offset of the first tab, if there is one: it divides the first column from the others
 abbrev pub CutAt : List ℕ → Option ℕ → Type 0

@@ -1,11 +1,11 @@
 -- What a reader of lines holds, and what one call of `next` does.
 use Rattle.std.specs.Prelude.{◌≡◌, ◌≢◌, ℕ, suc, ◌+◌, ◌-◌, ◌^◌, ◌<◌, ◌≤◌, ◌⊎◌, Bool, true, false}
 use Rattle.std.specs.Prelude.{List, [], ◌++◌, length, Option, Some, None, option_map, Result, Ok}
-use Rattle.std.specs.Prelude.{Err, IfSome, IsSome, take, drop, ⊤}
+use Rattle.std.specs.Prelude.{Err, IfSome, take, drop, ⊤, ◌&&◌, if◌then◌else◌, nat_lt}
 use Rattle.std.specs.Io.KnownBytes.{Consumes, IsAtEnd, prepend_known}
 use Rattle.bt_lines.specs.declared.device.Source.{Ghosts as Source}
 use Rattle.bt_lines.specs.inside.ReadBuffer.{complete, text_in, unread}
-use Rattle.bt_lines.specs.inside.ReaderState.{ended_at, fault_at, open_at, taken_at, text_at}
+use Rattle.bt_lines.specs.inside.ReaderState.{ended_at, fault_at, lends_at, open_at, taken_at}
 use Rattle.bt_lines.specs.inside.ReaderState.{told_at}
 use Rattle.bt_lines.specs.inside.Shape.{held_at, is_fed}
 use Rattle.bt_lines.specs.calls.Buffered.{buffered_lines}
@@ -31,25 +31,16 @@ abbrev pub DropsLines : Option (List TextLine) → ℕ → Option (List TextLine
 DropsLines None count new = ⊤
 DropsLines (Some lines) count new = new ≡ Some (drop count lines)
 
--- the lines are the same, if they were known
-abbrev pub SameLines : Option (List TextLine) → Option (List TextLine) → Type 0
-SameLines None new = ⊤
-SameLines (Some lines) new = new ≡ Some lines
-
 module _ {S : Type 0} where
-  -- the source
   unfoldable pub source_of : LineReader S → S
   source_of reader = reader.source
 
-  -- the input that the reader stands for
   unfoldable pub input_of : LineReader S → Input
   input_of reader = reader.input
 
-  -- how many lines were given
   unfoldable pub lines_given : LineReader S → ℕ
   lines_given reader = reader.lines
 
-  -- how many bytes were taken from the source
   unfoldable pub bytes_taken : LineReader S → ℕ
   bytes_taken reader = taken_at reader.state reader.taken
 
@@ -99,8 +90,9 @@ module _ {S : Type 0} where
   -- the line that a reader is at
   unfoldable pub line_at : LineReader S → Option TextLine
   line_at reader =
-      option_map (λ text. record { number = reader.lines; text = text; ending = reader.ending })
-      (text_at reader.state reader.lines (text_in reader.buffer))
+      if lends_at reader.state && nat_lt 0 reader.lines
+      then Some (record { number = reader.lines; text = text_in reader.buffer; ending = reader.ending })
+      else None
 
   -- the source handed over these bytes in the call
   pub record Hands (left : S → Option (List ℕ)) (old : LineReader S) (bytes : List ℕ)
@@ -234,27 +226,6 @@ module _ {S : Type 0} where
     pub own_failure : TellsOwnFailure device.is_read old answer new
     pub sound : IsSound device old → IsSound device new
 
-  -- what a step to the next line gives, or to the end if there is none
-  abbrev pub StepsTo : Source S → LineReader S → Option TextLine → LineReader S → Type 0
-  StepsTo device old (Some line) new = GivesLine device old line new
-  StepsTo device old None new = GivesEnd device old new
-
-  -- a step that met no fault
-  pub record Moves (device : Source S) (old new : LineReader S) : Type 0 where
-    pub steps : StepsTo device old (line_at new) new
-    pub read : HasRead device.is_read old new
-    pub sound : IsSound device old → IsSound device new
-
-  -- a step that met a fault, which the reader keeps
-  pub record Stops (device : Source S) (old new : LineReader S) : Type 0 where
-    pub kept : IsSome (fault_kept new)
-    -- whatever has this fault as its result
-    pub answers : (fault : Fault) → fault_kept new ≡ Some (fault_value fault)
-        → GivesFault device old (fault_value fault) new
-    pub own_failure : (fault : Fault) → fault_kept new ≡ Some (fault_value fault)
-        → TellsOwnFailure {A = Option Line} device.is_read old (Err fault) new
-    pub sound : IsSound device old → IsSound device new
-
   -- the complete lines that are buffered, as bytes
   unfoldable pub buffered_bytes : LineReader S → List ℕ
   buffered_bytes reader = complete reader.buffer
@@ -263,7 +234,7 @@ module _ {S : Type 0} where
   pub record MakesLine (device : Source S) (old new : LineReader S) : Type 0 where
     pub some : 0 < length (buffered_bytes new)
     pub bytes : (bytes : List ℕ) × Hands device.left old bytes new × (held new ≡ held old ++ bytes)
-    pub same : SameLines (lines_left device.left old) (lines_left device.left new)
+    pub same : DropsLines (lines_left device.left old) 0 (lines_left device.left new)
     pub counted : lines_given new ≡ lines_given old
     -- nothing is read while a complete line is held
     pub ready : 0 < line_feeds (held old) → source_of new ≡ source_of old
@@ -290,13 +261,6 @@ module _ {S : Type 0} where
     -- if a line is buffered, nothing changes
     pub unread : 0 < length (buffered_bytes old) → new ≡ old
     pub kept : IsKept device old → IsKept device new
-
-  -- the first line that is buffered was given
-  pub record CutsFirst (device : Source S) (old new : LineReader S) : Type 0 where
-    pub line : TextLine
-    pub at : line_at new ≡ Some line
-    pub gives : GivesLine device old line new
-    pub sound : IsKept device old → IsSound device new
 
   -- whether the last line that is buffered has no line feed of its own
   unfoldable pub is_open : LineReader S → Bool

@@ -1,5 +1,5 @@
 -- What scripted devices hold: they stand for a file or a terminal in tests.
-use Rattle.std.specs.Prelude.{◌≡◌, ℕ, ◌+◌, ◌-◌, Bool, List, min, length, Option, Some, None, nat_le}
+use Rattle.std.specs.Prelude.{◌≡◌, ℕ, ◌+◌, ◌-◌, Bool, List, min, Option, Some, None, nat_le}
 use Rattle.std.specs.Prelude.{false, true}
 
 -- a source that hands over its bytes in order, at most step of them a call,
@@ -34,11 +34,3 @@ is_spent (Some good) moved = nat_le good moved
 abbrev pub let_through : Option ℕ → ℕ → ℕ → ℕ
 let_through None moved n = n
 let_through (Some good) moved n = min n (good - moved)
-
--- how many bytes a reading hands over into a block of this size
-abbrev pub hands_over : Reading → ℕ → ℕ
-hands_over r room = let_through r.good r.given (min (min r.step room) (length r.bytes - r.given))
-
--- how many of n bytes a writing takes
-abbrev pub takes_of : Writing → ℕ → ℕ
-takes_of w n = let_through w.good (length w.taken) (min w.step n)

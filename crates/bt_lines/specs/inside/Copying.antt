@@ -1,5 +1,5 @@
 -- Pieces that are copied by their first and their last bytes.
-use Rattle.std.specs.Prelude.{◌≡◌, ℕ, ◌*◌, ◌≤◌, ◌⊎◌}
+use Rattle.std.specs.Prelude.{◌≡◌, ℕ, ◌≤◌, ◌⊎◌}
 
 -- a piece of this length is copied without a call
 abbrev pub IsShort : ℕ → Type 0
@@ -12,7 +12,3 @@ IsWide size = (4 ≤ size) × (size ≤ 64)
 -- the same, or it is a single byte
 abbrev pub IsEnd : ℕ → Type 0
 IsEnd size = (size ≡ 1) ⊎ IsWide size
-
--- the first bytes of a piece, this many, and as many of its last bytes are all of it
-abbrev pub Covers : ℕ → ℕ → Type 0
-Covers width size = (width ≤ size) × (size ≤ 2 * width)

@@ -1,6 +1,5 @@
 -- How far a reader is.
-use Rattle.std.specs.Prelude.{ℕ, suc, Bool, true, false, List, Option, Some, None, nat_lt}
-use Rattle.std.specs.Prelude.{if◌then◌else◌}
+use Rattle.std.specs.Prelude.{ℕ, suc, Bool, true, false, Option, Some, None}
 use Rattle.bt_lines.specs.model.Fault.{FaultValue, read_failed, no_memory}
 use Rattle.bt_lines.specs.declared.fault.Input.{Input}
 use Rattle.bt_lines.specs.declared.reader.line_reader.State.{State}
@@ -41,9 +40,3 @@ lends_at _ = false
 abbrev pub taken_at : State → ℕ → ℕ
 taken_at TooLong taken = suc taken
 taken_at _ taken = taken
-
--- the text of the line that the reader is at, once it has given this many
-abbrev pub text_at : State → ℕ → List ℕ → Option (List ℕ)
-text_at Reading lines text = if nat_lt 0 lines then Some text else None
-text_at LastLine lines text = if nat_lt 0 lines then Some text else None
-text_at _ lines text = None

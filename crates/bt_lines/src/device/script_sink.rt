@@ -1,8 +1,8 @@
 //! A sink that plays a script, for tests.
 
-ghost use Rattle.std.specs.Prelude.{◌≡◌, ℕ, ◌+◌, ◌<◌, ◌≤◌, ◌++◌, [], IsTrue, IsErr, IsOk, length, IfOk, OnOk, OnErr, Some, true, false, take};
+ghost use Rattle.std.specs.Prelude.{◌≡◌, ℕ, ◌+◌, ◌<◌, ◌≤◌, ◌++◌, [], IsTrue, IsErr, IsOk, length, IfOk, OnOk, OnErr, Some, true, false, take, min};
 ghost use Rattle.std.specs.Io.KnownBytes.{Keeps, WriteAppends};
-ghost use Rattle.bt_lines.specs.calls.Script.{is_spent, takes_of};
+ghost use Rattle.bt_lines.specs.calls.Script.{is_spent, let_through};
 
 use crate::device::{DeviceFailed, Sink, let_through};
 use std::alloc::Global;
@@ -75,7 +75,7 @@ impl Sink for ScriptSink {
         ensures failed { OnErr result (self.new.has_failed ≡ true) }
 
         ensures count { IfOk result (λ n. 0 < length bytes.now
-            → n ≡ takes_of self.old (length bytes.now)) }
+            → n ≡ let_through self.old.good (length self.old.taken) (min self.old.step (length bytes.now))) }
         ensures spent { IsTrue (is_spent self.old.good (length self.old.taken))
             → 0 < length bytes.now → IsErr result }
         ensures for_good { IsTrue self.old.has_failed → IsErr result × (self.new ≡ self.old) }

@@ -1,9 +1,9 @@
 //! A source that plays a script, for tests.
 
-ghost use Rattle.std.specs.Prelude.{◌≡◌, ℕ, ◌<◌, ◌≤◌, ◌↔◌, IsTrue, length, IfNone, IfSome, IfOk, OnOk, OnErr, Some, true, false, drop, take, IsErr, ◌+◌};
+ghost use Rattle.std.specs.Prelude.{◌≡◌, ℕ, ◌<◌, ◌≤◌, ◌↔◌, IsTrue, length, IfNone, IfSome, IfOk, OnOk, OnErr, Some, true, false, drop, take, IsErr, min, ◌+◌, ◌-◌};
 ghost use Rattle.std.specs.Io.KnownBytes.{ReadConsumes};
 ghost use Rattle.bt_lines.specs.calls.Device.{TellsEnd};
-ghost use Rattle.bt_lines.specs.calls.Script.{IsScriptRead, is_spent, hands_over, let_through};
+ghost use Rattle.bt_lines.specs.calls.Script.{IsScriptRead, is_spent, let_through};
 
 use crate::device::{DeviceFailed, Source, let_through};
 use std::marker::Model;
@@ -107,7 +107,8 @@ impl Source for ScriptSource<'_> {
         ensures end { TellsEnd self.old.end_told self.new.end_told result block.new }
 
         ensures spent { IsErr result ↔ IsTrue (is_spent self.old.good self.old.given) }
-        ensures count { IfOk result (λ n. n ≡ hands_over self.old (length block.new)) }
+        ensures count { IfOk result (λ n. n ≡ let_through self.old.good self.old.given
+            (min (min self.old.step (length block.new)) (length self.old.bytes - self.old.given))) }
         ensures given { IfOk result (λ n. self.new.given ≡ self.old.given + n) }
         ensures given_at_failure { OnErr result (self.new.given ≡ self.old.given) }
         ensures same_script { (self.new.bytes ≡ self.old.bytes) × (self.new.step ≡ self.old.step)

@@ -57,11 +57,11 @@ pub struct LineReader<S> {
 
 #[tactic(auto, unfolding(crate::specs::calls::Reader::source_of, crate::specs::calls::Reader::input_of, crate::specs::calls::Reader::lines_given, crate::specs::calls::Reader::bytes_taken, crate::specs::calls::Reader::held, crate::specs::calls::Reader::fault_kept, crate::specs::calls::Reader::has_ended, crate::specs::calls::Reader::line_at, crate::specs::calls::Reader::end_told, crate::specs::calls::Reader::bytes_left, crate::specs::calls::Reader::feeds_taken))]
 impl<S: Source> LineReader<S> {
-    ghost use Rattle.std.specs.Prelude.{◌≡◌, ℕ, List, suc, ◌<◌, ◌-◌, ◌≤◌, ◌^◌, None, Some, IsSome, [], false, true, option_map};
+    ghost use Rattle.std.specs.Prelude.{◌≡◌, ℕ, List, suc, ◌<◌, ◌-◌, ◌≤◌, ◌^◌, None, Some, IsSome, Option, Ok, Err, [], false, true, option_map};
     ghost use Rattle.std.specs.Borrow.{sem};
     ghost use Rattle.std.specs.Io.BufRead.{Rests};
     ghost use Rattle.bt_lines.specs.contracts.reader.line_reader.LineReader.{the_row};
-    ghost use Rattle.bt_lines.specs.calls.Reader.{CutsFirst, FillsLines, IsPrefix, IsTaken, TakesLines, buffered_bytes, buffered_in, is_open, HasRead, IsSound, Moves, NextLine, Stops, TellsOwnFailure, line_at, feeds_taken, source_of, input_of, lines_given, bytes_taken, held, fault_kept, has_ended, lines_left};
+    ghost use Rattle.bt_lines.specs.calls.Reader.{FillsLines, GivesLine, IsKept, IsPrefix, IsTaken, TakesLines, buffered_bytes, buffered_in, is_open, HasRead, IsSound, NextLine, TellsOwnFailure, line_at, feeds_taken, source_of, input_of, lines_given, bytes_taken, held, fault_kept, has_ended, lines_left};
     ghost use Rattle.bt_lines.specs.calls.Buffered.{BeginsLines, lines_in};
     ghost use Rattle.bt_lines.specs.calls.LentLine.{line_seen};
     ghost use Rattle.bt_lines.specs.model.Lines.{text_lines};
@@ -205,7 +205,9 @@ impl<S: Source> LineReader<S> {
     // Moves on to the next line if one is buffered, and else does nothing.
     #[inline(always)]
     fn cut_line(&mut self) -> bool
-        ensures cut { result ≡ true → CutsFirst S.Source self.old self.new }
+        ensures cut { result ≡ true → (line : Line) → Some (line_seen line) ≡ line_at self.new
+            → GivesLine S.Source self.old (line_seen line) self.new }
+        ensures sound { result ≡ true → IsKept S.Source self.old → IsSound S.Source self.new }
         ensures at { result ≡ true → IsSome (line_at self.new) }
         ensures reads_nothing { result ≡ true → HasRead S.is_read self.old self.new }
         ensures unchanged { result ≡ false → self.new ≡ self.old }
@@ -227,8 +229,11 @@ impl<S: Source> LineReader<S> {
     #[inline(never)]
     fn move_on(&mut self) -> bool
         requires { complete self.old.buffer ≡ [] }
-        ensures moved { result ≡ true → Moves S.Source self.old self.new }
-        ensures stopped { result ≡ false → Stops S.Source self.old self.new }
+        ensures moved { result ≡ true → (line : Option Line) → option_map line_seen line ≡ line_at self.new
+            → NextLine S.Source self.old (Ok line) self.new }
+        ensures stopped { result ≡ false → (fault : Fault) → fault_kept self.new ≡ Some (fault_value fault)
+            → NextLine S.Source self.old (Err fault) self.new }
+        ensures kept { result ≡ false → IsSome (fault_kept self.new) }
     {
         self.step()
     }
@@ -236,8 +241,11 @@ impl<S: Source> LineReader<S> {
     // The same. It isn't marked as cold, so that the search for a line feed is inlined.
     fn step(&mut self) -> bool
         requires { complete self.old.buffer ≡ [] }
-        ensures moved { result ≡ true → Moves S.Source self.old self.new }
-        ensures stopped { result ≡ false → Stops S.Source self.old self.new }
+        ensures moved { result ≡ true → (line : Option Line) → option_map line_seen line ≡ line_at self.new
+            → NextLine S.Source self.old (Ok line) self.new }
+        ensures stopped { result ≡ false → (fault : Fault) → fault_kept self.new ≡ Some (fault_value fault)
+            → NextLine S.Source self.old (Err fault) self.new }
+        ensures kept { result ≡ false → IsSome (fault_kept self.new) }
     {
         match self.fill() {
             Ok(true) => {

@@ -1,7 +1,8 @@
 //! Cutting a line into its columns.
 
-ghost use Rattle.std.specs.Prelude.{◌≡◌, IfSome};
-ghost use Rattle.bt_lines.specs.calls.Columns.{CutAt, IsFirstTab, columns_left};
+ghost use Rattle.std.specs.Prelude.{◌≡◌};
+ghost use Rattle.bt_lines.specs.calls.Columns.{CutAt, columns_left};
+ghost use Rattle.bt_lines.specs.calls.FirstByte.{IsFirstOf};
 ghost use Rattle.bt_lines.specs.model.Lines.{pieces};
 
 use crate::reader::column_iter::Columns;
@@ -16,7 +17,7 @@ pub fn columns(text: &[u8]) -> Columns<'_>
 
 /// How many bytes come before the first tab of a text, if it has one.
 pub fn first_tab(text: &[u8]) -> Option<usize>
-    ensures first { IfSome result (IsFirstTab text.now) }
+    ensures first { IsFirstOf 9 text.now result }
     ensures cut { CutAt text.now result }
 {
     text.find(b"\t")

@@ -1,7 +1,7 @@
 //! Short pieces, copied without a call.
 
-ghost use Rattle.std.specs.Prelude.{◌≡◌, ◌≤◌, length, true};
-ghost use Rattle.bt_lines.specs.inside.Copying.{Covers, IsEnd, IsShort, IsWide};
+ghost use Rattle.std.specs.Prelude.{◌≡◌, ◌*◌, ◌≤◌, length, true};
+ghost use Rattle.bt_lines.specs.inside.Copying.{IsEnd, IsShort, IsWide};
 
 use std::simd::prelude::*;
 
@@ -119,7 +119,7 @@ fn copy_few(to: &mut [u8], piece: &[u8])
 #[tactic(auto, using(crate::proofs::lemmas::writer::CopyLemmas::both_ends))]
 fn copy_ends<const N: usize>(to: &mut [u8], piece: &[u8])
     requires same { length to.old ≡ length piece.now }
-    requires covers { Covers N (length piece.now) }
+    requires covers { (N ≤ length piece.now) × (length piece.now ≤ 2 * N) }
     ensures { to.new ≡ piece.now }
 {
     let last = piece.len() - N;

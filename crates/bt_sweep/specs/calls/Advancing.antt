@@ -1,6 +1,6 @@
 -- What a sweep does with records of both inputs that come one after another.
 use Rattle.std.specs.Prelude.{◌≡◌, ◌⊎◌, ℕ, ◌<◌, ⊤, true, List, [], ◌∷◌, ◌++◌, Option, Some, None}
-use Rattle.std.specs.Prelude.{IfSome, IsOk, Result, Ok, Err, is_some, option_to_list}
+use Rattle.std.specs.Prelude.{IfSome, Result, Ok, Err, is_some, option_to_list}
 use Rattle.bt_lines.specs.model.Fault.{FaultValue, no_memory}
 use Rattle.bt_lines.specs.calls.Names.{fault_value}
 use Rattle.bt_lines.specs.calls.Output.{Output}
@@ -80,11 +80,6 @@ PutsEach order old firsts seconds newly out grown =
 module _ {V : Type 0} (b_gives : V → List Feature → V → Type 0) (b_ended : V → Type 0) (b_line : V → ℕ)
     (order : Order) (old : Sweeping) (out : Output) (firsts seconds newly : List Feature)
     (waiting : Option Feature) (to_b : V) (fault : FaultValue) (grown : Output) where
-  -- the lines couldn't all be written
-  abbrev pub FailsToWrite : Type 0
-  FailsToWrite = AtEach order old firsts seconds
-      (λ stage. FailsToAdd out (intersect old.shape old.rule newly (stage.taken ++ seconds)) fault grown)
-
   -- they were written; the next record of the second input shares a base with the one that waits, and
   -- can't be held
   pub record FailsToTake : Type 0 where
@@ -104,8 +99,12 @@ module _ {V : Type 0} (b_gives : V → List Feature → V → Type 0) (b_ended :
     pub ended : b_ended to_b
     pub puts : PutsEach order old firsts seconds newly out grown
 
+  -- the lines couldn't all be written, or one of these
   abbrev pub Fails : Type 0
-  Fails = FailsToWrite ⊎ (FailsToTake ⊎ FailsToKeep)
+  Fails =
+      AtEach order old firsts seconds
+      (λ stage. FailsToAdd out (intersect old.shape old.rule newly (stage.taken ++ seconds)) fault grown)
+      ⊎ (FailsToTake ⊎ FailsToKeep)
 
 module _ {U V : Type 0} (a_gives : U → List Feature → U → Type 0) (a_ended : U → Type 0)
     (b_gives : V → List Feature → V → Type 0) (b_ended : V → Type 0) (b_line : V → ℕ) (order : Order)
@@ -141,41 +140,16 @@ module _ {U V : Type 0} (a_gives : U → List Feature → U → Type 0) (a_ended
     pub cause : Fails b_gives b_ended b_line order old out proceeds.firsts proceeds.seconds proceeds.newly waiting to_b
         fault grown
 
-  -- what the answer says
-  abbrev pub Advances : {T : Type 0} → Result T Fault → Sweeping → U → V → Output → Type 0
-  Advances (Ok done) new to_a to_b grown =
-      AdvancesSo new to_a to_b grown × StopsFor (want_in new) to_a to_b
-  Advances (Err fault) new to_a to_b grown = FailsAt (fault_value fault) to_a to_b grown
-
   -- the one that waited before is written, and what comes after it isn't looked at
   abbrev pub HasWritten : Sweeping → Type 0
   HasWritten new = (is_some old.current ≡ true) × (new.current ≡ None)
 
+  -- what the answer says
   abbrev pub AdvancesOn : {T : Type 0} → Result T Fault → Sweeping → U → V → Output → Type 0
   AdvancesOn (Ok done) new to_a to_b grown =
       AdvancesSo new to_a to_b grown × (StopsFor (want_in new) to_a to_b ⊎ HasWritten new)
   AdvancesOn (Err fault) new to_a to_b grown = FailsAt (fault_value fault) to_a to_b grown
 
--- a sweep that wants nothing takes nothing, and writes nothing
-abbrev pub IsIdle : {T U V : Type 0} → Sweeping → U → V → Output → Result T Fault → Sweeping → U → V → Output
-    → Type 0
-IsIdle old from_a from_b out result new to_a to_b grown =
-    IsOk result × (new ≡ old) × (to_a ≡ from_a) × (to_b ≡ from_b) × (grown ≡ out)
-
 -- no record of the first input was given
 abbrev pub NoneGiven : Unit {0} → List Feature → Unit {0} → Type 0
 NoneGiven from firsts to = firsts ≡ []
-
--- of the second input alone, for the record that waits, if one does
-module _ {V : Type 0} (b_gives : V → List Feature → V → Type 0) (b_ended : V → Type 0) (b_line : V → ℕ)
-    (order : Order) (old : Sweeping) (from_b : V) (out : Output) where
-  -- it still waits, and there is none of the second input, or none waits
-  abbrev pub IsLeftOrNone : Sweeping → V → Type 0
-  IsLeftOrNone new to_b = ((want_in new ≡ B) × b_ended to_b) ⊎ (new.current ≡ None)
-
-  abbrev pub DecidesCurrent : {T : Type 0} → Result T Fault → Sweeping → V → Output → Type 0
-  DecidesCurrent (Ok done) new to_b grown =
-      AdvancesSo NoneGiven (λ u. ⊤) b_gives b_ended b_line order old tt from_b out new tt to_b grown
-      × IsLeftOrNone new to_b
-  DecidesCurrent (Err fault) new to_b grown =
-      FailsAt NoneGiven (λ u. ⊤) b_gives b_ended b_line order old tt from_b out (fault_value fault) tt to_b grown

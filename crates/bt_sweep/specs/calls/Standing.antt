@@ -7,10 +7,9 @@ use Rattle.bt_bed.specs.model.order.Locus.{ArePlaced}
 use Rattle.bt_bed.specs.model.order.Order.{Order}
 use Rattle.bt_sweep.specs.model.Deciding.{decides}
 pub use Rattle.bt_sweep.specs.model.Limit.{is_held, held_for}
-use Rattle.bt_sweep.specs.calls.SweepState.{SameConfig, Sweeping, want_of}
+use Rattle.bt_sweep.specs.calls.SweepState.{SameConfig, Sweeping}
 use Rattle.bt_sweep.specs.declared.sweep.phase.Phase.{Phase}
 use Rattle.bt_sweep.specs.declared.sweep.phase.Phase.TheVariants.{Both, First, Over}
-use Rattle.bt_sweep.specs.declared.sweep.want.Want.{Want}
 
 -- How far a sweep has come: the records of the first input whose lines are written, the one whose
 -- lines aren't, and the records of the second input that were taken. Last, whether each input has ended.
@@ -28,10 +27,6 @@ first_stage = record { written = []; waiting = None; taken = []; a_ended = false
 -- all records of the first input that were given
 abbrev pub given : Stage → List Feature
 given stage = stage.written ++ option_to_list stage.waiting
-
--- what is wanted
-abbrev pub want_at : Stage → Want
-want_at stage = want_of (is_some stage.waiting) stage.a_ended
 
 -- the records of both inputs are in order
 pub record IsInOrder (order : Order) (stage : Stage) : Type 0 where

@@ -1,21 +1,18 @@
 -- What the calls of a sweep do.
-use Rattle.std.specs.Prelude.{◌≡◌, ◌⊎◌, ℕ, Bool, true, false, cond, List, [], Option, Some, None}
-use Rattle.std.specs.Prelude.{Result, Ok, Err, length, nat_lt}
+use Rattle.std.specs.Prelude.{◌≡◌, ◌⊎◌, ℕ, true, false, cond, List, [], Result, Ok, Err}
 use Rattle.bt_lines.specs.model.Fault.{FaultValue, no_memory}
 use Rattle.bt_lines.specs.calls.Names.{fault_value}
 use Rattle.bt_lines.specs.calls.Output.{Output}
 use Rattle.bt_lines.specs.calls.Putting.{FailsToAdd, Grown}
 use Rattle.bt_lines.specs.declared.fault.Fault.{Fault}
-use Rattle.bt_lines.specs.declared.fault.Input.TheVariants.{Second}
-use Rattle.bt_lines.specs.declared.fault.Kind.TheVariants.{TooManyHeld}
 use Rattle.bt_bed.specs.model.feature.Feature.{Feature}
-use Rattle.bt_bed.specs.model.feature.LineKind.{fault_at_line}
 use Rattle.bt_bed.specs.model.order.Order.{Order}
 use Rattle.bt_sweep.specs.model.Deciding.{decides}
 use Rattle.bt_sweep.specs.model.IntersectLines.{LinesBefore, lines_for}
-use Rattle.bt_sweep.specs.calls.Standing.{MovesTo, Stage, held_for, is_held, with_a, with_b}
-use Rattle.bt_sweep.specs.calls.Standing.{with_b_ended, with_lines}
+use Rattle.bt_sweep.specs.calls.Standing.{MovesTo, Stage, is_held, with_a, with_b, with_b_ended}
+use Rattle.bt_sweep.specs.calls.Standing.{with_lines}
 use Rattle.bt_sweep.specs.calls.SweepState.{Sweeping, want_in}
+use Rattle.bt_sweep.specs.calls.Taking.{CannotBeHeld}
 use Rattle.bt_bed.specs.declared.record.taken.Taken.{Taken}
 use Rattle.bt_bed.specs.declared.record.taken.Taken.TheVariants.{Yes, No}
 use Rattle.bt_sweep.specs.declared.sweep.want.Want.TheVariants.{Nothing}
@@ -51,11 +48,6 @@ EndsB order stage a old out (Err fault) new grown =
     (want_in new ≡ Nothing)
     × FailsToAdd out (lines_for old.shape old.rule a stage.taken) (fault_value fault) grown
 
--- whether one more record may be held beside `count`
-abbrev pub has_room : Option ℕ → ℕ → Bool
-has_room None count = true
-has_room (Some most) count = nat_lt count most
-
 -- one more record of the second input, at a line, while a waits
 module _ (order : Order) (stage : Stage) (a b : Feature) (line : ℕ) (old : Sweeping) (out : Output) where
   -- it leaves a undecided, and is taken
@@ -76,21 +68,12 @@ module _ (order : Order) (stage : Stage) (a b : Feature) (line : ℕ) (old : Swe
     pub decides : decides order a b ≡ true
     pub fails : FailsToAdd out (lines_for old.shape old.rule a stage.taken) fault grown
 
-  -- it leaves a undecided and has to be held, for which the limit leaves no room
-  pub record PassesLimit (fault : FaultValue) (grown : Output) : Type 0 where
-    pub undecided : decides order a b ≡ false
-    pub to_hold : is_held a b ≡ true
-    pub is_full : has_room old.limit (length (held_for (Some a) stage.taken)) ≡ false
-    pub is : fault ≡ fault_at_line Second line TooManyHeld
-    pub same_output : grown ≡ out
-
-  -- it leaves a undecided and has to be held, for which the limit leaves room, but there is no
+  -- it leaves a undecided and has to be held, for which the limit leaves no room, or there is no
   -- memory
   pub record FailsToHold (fault : FaultValue) (grown : Output) : Type 0 where
     pub undecided : decides order a b ≡ false
     pub to_hold : is_held a b ≡ true
-    pub room : has_room old.limit (length (held_for (Some a) stage.taken)) ≡ true
-    pub is : fault ≡ no_memory
+    pub lacks : CannotBeHeld old.limit a stage.taken line fault
     pub same_output : grown ≡ out
 
   -- what the result says
@@ -99,5 +82,4 @@ module _ (order : Order) (stage : Stage) (a b : Feature) (line : ℕ) (old : Swe
   GivesB (Ok No) new grown = WritesA new grown
   GivesB (Err fault) new grown =
       (want_in new ≡ Nothing)
-      × (FailsToWriteA (fault_value fault) grown
-      ⊎ (PassesLimit (fault_value fault) grown ⊎ FailsToHold (fault_value fault) grown))
+      × (FailsToWriteA (fault_value fault) grown ⊎ FailsToHold (fault_value fault) grown)

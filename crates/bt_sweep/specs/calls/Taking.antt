@@ -1,6 +1,6 @@
 -- How records of the second input meet those of the first: which they decide, and for which they are taken.
 use Rattle.std.specs.Prelude.{◌≡◌, ◌⊎◌, ℕ, ◌≤◌, ⊤, true, false, IfSome, List, [], ◌∷◌, ◌++◌, Option}
-use Rattle.std.specs.Prelude.{filter, Some, length}
+use Rattle.std.specs.Prelude.{Bool, None, filter, nat_lt, Some, length}
 use Rattle.std.specs.List.{list_all}
 use Rattle.bt_lines.specs.model.Fault.{FaultValue, no_memory}
 use Rattle.bt_lines.specs.declared.fault.Input.TheVariants.{Second}
@@ -10,7 +10,6 @@ use Rattle.bt_bed.specs.model.feature.LineKind.{fault_at_line}
 use Rattle.bt_bed.specs.model.order.Order.{Order}
 use Rattle.bt_sweep.specs.model.Deciding.{decided, decides}
 use Rattle.bt_sweep.specs.calls.Standing.{held_for, is_held}
-use Rattle.bt_sweep.specs.calls.Steps.{has_room}
 
 -- the records of the second input decide each
 abbrev pub AreDecided : Order → List Feature → List Feature → Type 0
@@ -39,12 +38,21 @@ abbrev pub LeavesLast : Order → List Feature → Feature → Type 0
 LeavesLast order seconds a =
     (before : List Feature) (b : Feature) → seconds ≡ before ++ b ∷ [] → decides order a b ≡ false
 
--- a record that has to be held can't be: there is no room for it, or no memory
+-- whether one more record may be held beside `count`
+abbrev pub has_room : Option ℕ → ℕ → Bool
+has_room None count = true
+has_room (Some most) count = nat_lt count most
+
+-- a record from a line that has to be held can't be: there is no room for it, or no memory
+abbrev pub CannotHold : Bool → ℕ → FaultValue → Type 0
+CannotHold room line fault =
+    ((room ≡ false) × (fault ≡ fault_at_line Second line TooManyHeld))
+    ⊎ ((room ≡ true) × (fault ≡ no_memory))
+
+-- the same beside those that are held for `last`
 abbrev pub CannotBeHeld : Option ℕ → Feature → List Feature → ℕ → FaultValue → Type 0
 CannotBeHeld limit last taken line fault =
-    ((has_room limit (length (held_for (Some last) taken)) ≡ false)
-    × (fault ≡ fault_at_line Second line TooManyHeld))
-    ⊎ ((has_room limit (length (held_for (Some last) taken)) ≡ true) × (fault ≡ no_memory))
+    CannotHold (has_room limit (length (held_for (Some last) taken))) line fault
 
 -- the record that a cursor gives next, if it is known
 abbrev pub ComesNext : {B : Type 0} → (B → List Feature → B → Type 0) → B → Option Feature → Type 0

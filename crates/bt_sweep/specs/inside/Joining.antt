@@ -71,22 +71,6 @@ CutsFor For first firsts seconds old newly pending out fault grown =
     BehindFor For first firsts seconds old
     (λ order shape rule limit as_given taken. FailsToAdd out (pending ++ intersect shape rule newly taken) fault grown)
 
--- the same in every order
-abbrev pub Behind : Feature → List Feature → List Feature → Sweeping
-    → (Order → Shape → HitRule → Option ℕ → List Feature → List Feature → Type 0) → Type 0
-Behind = BehindFor IsTotal
-
-abbrev pub GoesTo : Feature → List Feature → List Feature → Sweeping → Sweeping → Type 0
-GoesTo = GoesToFor IsTotal
-
-abbrev pub Writes : Feature → List Feature → List Feature → Sweeping → List Feature → List ℕ → Output
-    → List ℕ → Output → Type 0
-Writes = WritesFor IsTotal
-
-abbrev pub Cuts : Feature → List Feature → List Feature → Sweeping → List Feature → List ℕ → Output → FaultValue
-    → Output → Type 0
-Cuts = CutsFor IsTotal
-
 -- each was taken for one that those taken leave undecided, in such orders, wherever it is with `first`
 -- given last
 abbrev pub TakesEachFor : (Order → Type 0) → Feature → List Feature → List Feature → Sweeping → Type 0
@@ -123,8 +107,8 @@ module _ {A : Type 0} (gives : A → List Feature → A → Type 0) (has_ended :
     pub are : first ∷ firsts ≡ newly ++ option_to_list waiting
     pub end : EndUpTo first.chrom place newly
     pub waits : WaitsOn first.chrom new.held waiting
-    pub goes : GoesTo first firsts [] old new
-    pub writes : Writes first firsts [] old newly pending out left grown
+    pub goes : GoesToFor IsTotal first firsts [] old new
+    pub writes : WritesFor IsTotal first firsts [] old newly pending out left grown
 
   -- one waits that ends after the place, or there is none
   abbrev pub StopsBehind : Option Feature → A → Type 0
@@ -139,7 +123,7 @@ module _ {A : Type 0} (gives : A → List Feature → A → Type 0) (has_ended :
     pub given : gives from firsts to
     pub are : first ∷ firsts ≡ newly ++ option_to_list waiting
     pub end : EndUpTo first.chrom place newly
-    pub cuts : Cuts first firsts [] old newly pending out fault grown
+    pub cuts : CutsFor IsTotal first firsts [] old newly pending out fault grown
 
 abbrev pub WritesUpTo : {A R : Type 0} → (A → List Feature → A → Type 0) → (A → Type 0) → (R → Feature) → ℕ
     → Sweeping → Feature → A → List ℕ → Output → Result (Option R) Fault → Sweeping → A → List ℕ → Output
@@ -183,10 +167,6 @@ module _ {A B : Type 0} (a_gives : A → List Feature → A → Type 0) (a_ended
 
   module _ (firsts seconds newly : List Feature) (waiting : Option Feature) (to_b : B) (fault : FaultValue)
       (left : List ℕ) (grown : Output) where
-    -- the lines couldn't all be written
-    abbrev pub CutsLines : Type 0
-    CutsLines = CutsFor For first firsts seconds old newly pending out fault grown
-
     -- the next record of the second input shares a base with the one that waits, and can't be held
     pub record LacksRoom : Type 0 where
       pub shares : SharesBase b_gives waiting to_b
@@ -198,7 +178,7 @@ module _ {A B : Type 0} (a_gives : A → List Feature → A → Type 0) (a_ended
   pub record Breaks (fault : FaultValue) (to_a : A) (to_b : B) (left : List ℕ) (grown : Output) : Type 0 where
     pub waiting : Option Feature
     pub proceeds : Proceeded waiting to_a to_b
-    pub cause : CutsLines proceeds.firsts proceeds.seconds proceeds.newly waiting to_b fault left grown
+    pub cause : CutsFor For first proceeds.firsts proceeds.seconds old proceeds.newly pending out fault grown
         ⊎ LacksRoom proceeds.firsts proceeds.seconds proceeds.newly waiting to_b fault left grown
 
 abbrev pub Joins : {A B R : Type 0} → (A → List Feature → A → Type 0) → (A → Type 0)

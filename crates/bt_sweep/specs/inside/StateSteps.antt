@@ -1,18 +1,15 @@
 -- What the steps of a sweep do to what it keeps. Callers know them by `Steps` and `Advancing`.
-use Rattle.std.specs.Prelude.{◌≡◌, ◌⊎◌, ◌<◌, ℕ, Bool, true, false, cond, decimal, List, [], ◌∷◌}
+use Rattle.std.specs.Prelude.{◌≡◌, ◌<◌, ℕ, Bool, true, false, cond, decimal, List, [], ◌∷◌}
 use Rattle.std.specs.Prelude.{◌++◌, Some, Result, Ok, Err, filter, length, nat_lt, bytes_eq}
 use Rattle.bt_lines.specs.model.Fault.{no_memory}
 use Rattle.bt_lines.specs.calls.Names.{fault_value}
 use Rattle.bt_lines.specs.declared.fault.Fault.{Fault}
-use Rattle.bt_lines.specs.declared.fault.Input.TheVariants.{Second}
-use Rattle.bt_lines.specs.declared.fault.Kind.TheVariants.{TooManyHeld}
 use Rattle.bt_bed.specs.model.feature.Feature.{Feature}
-use Rattle.bt_bed.specs.model.feature.LineKind.{fault_at_line}
 use Rattle.bt_bed.specs.model.feature.Record.{bed_text}
 use Rattle.bt_sweep.specs.model.IntersectLines.{line_with, lines_of}
 use Rattle.bt_sweep.specs.calls.Standing.{is_held}
-use Rattle.bt_sweep.specs.calls.Steps.{has_room}
 use Rattle.bt_sweep.specs.calls.SweepState.{Sweeping}
+use Rattle.bt_sweep.specs.calls.Taking.{CannotHold, has_room}
 use Rattle.bt_sweep.specs.declared.sweep.phase.Phase.TheVariants.{Over}
 use Rattle.bt_sweep.specs.declared.output.shape.Shape.{Shape}
 use Rattle.bt_sweep.specs.declared.output.unmatched.Unmatched.{Unmatched}
@@ -49,18 +46,12 @@ stopped old = record old { phase = Over }
 abbrev pub has_room_in : Sweeping → Bool
 has_room_in sweep = has_room sweep.limit (length sweep.held)
 
--- why b, at a line, couldn't be held: no room, or no memory
-abbrev pub CannotHold : Sweeping → ℕ → Fault → Type 0
-CannotHold old line fault =
-    ((has_room_in old ≡ false) × (fault_value fault ≡ fault_at_line Second line TooManyHeld))
-    ⊎ ((has_room_in old ≡ true) × (fault_value fault ≡ no_memory))
-
 -- taking b, at a line, which leaves a undecided
 abbrev pub Takes : {A : Type 0} → Sweeping → Feature → Feature → ℕ → Result A Fault → Sweeping → Type 0
 Takes old a b line (Ok done) new =
     (new ≡ holding old a b) × (is_held a b ≡ true → has_room_in old ≡ true)
 Takes old a b line (Err fault) new =
-    (new ≡ stopped old) × (is_held a b ≡ true) × CannotHold old line fault
+    (new ≡ stopped old) × (is_held a b ≡ true) × CannotHold (has_room_in old) line (fault_value fault)
 
 -- keeping a copy of a, which waits
 abbrev pub KeepsOne : {A : Type 0} → Sweeping → Feature → Result A Fault → Sweeping → Type 0

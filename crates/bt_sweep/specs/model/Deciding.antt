@@ -4,16 +4,12 @@ use Rattle.std.specs.Prelude.{Bool, not, List}
 use Rattle.std.specs.List.{list_any}
 use Rattle.bt_bed.specs.model.feature.Feature.{Feature}
 use Rattle.bt_bed.specs.model.input.GoodBed.{locus_at}
-use Rattle.bt_bed.specs.model.order.Locus.{Locus, is_below}
+use Rattle.bt_bed.specs.model.order.Locus.{is_below}
 use Rattle.bt_bed.specs.model.order.Order.{Order}
-
--- where a record ends
-abbrev pub end_of : Feature → Locus
-end_of a = record { chrom = a.chrom; start = a.stop }
 
 -- whether the place of b isn't below the end of a
 abbrev pub decides : Order → Feature → Feature → Bool
-decides order a b = not (is_below order (locus_at b) (end_of a))
+decides order a b = not (is_below order (locus_at b) (record { chrom = a.chrom; start = a.stop }))
 
 -- whether one of the records decides a
 abbrev pub decided : Order → Feature → List Feature → Bool

@@ -31,28 +31,18 @@ cut a b = cut_to (max a.start b.start) (min a.stop b.stop) a
 abbrev pub piece_line : Feature → Span → List ℕ
 piece_line a piece = line_with (bed_text (cut_to piece.start piece.stop a) ∷ [])
 
--- what is written of a and one record that hits it; the last five shapes write no line of it
+-- what is written of a and one record that hits it; the other shapes write no line of it
 abbrev pub hit_line : Shape → Feature → Feature → List ℕ
 hit_line Cut a b = line_with (bed_text (cut a b) ∷ [])
 hit_line OrigA a b = line_with (bed_text a ∷ [])
 hit_line CutAndB a b = line_with (bed_text (cut a b) ∷ bed_text b ∷ [])
 hit_line OrigBoth a b = line_with (bed_text a ∷ bed_text b ∷ [])
 hit_line Overlap a b = line_with (bed_text a ∷ bed_text b ∷ decimal (shared_bases a b) ∷ [])
-hit_line Once a b = []
-hit_line Missing a b = []
-hit_line Count a b = []
-hit_line Pieces a b = []
-hit_line Whole a b = []
+hit_line _ a b = []
 
--- what is written of a and all that hit it: a line for each of them; or a, if there are some; or
--- a, if there is none; or a and how many there are; or the pieces of a that they leave; or a,
--- if there is none
+-- what is written of a and all that hit it: a, if there are some; or a, if there is none; or a and
+-- how many there are; or the pieces of a that they leave; or a, if there is none; or a line for each
 abbrev pub lines_of : Shape → Feature → List Feature → List ℕ
-lines_of Cut a found = flat_map (hit_line Cut a) found
-lines_of OrigA a found = flat_map (hit_line OrigA a) found
-lines_of CutAndB a found = flat_map (hit_line CutAndB a) found
-lines_of OrigBoth a found = flat_map (hit_line OrigBoth a) found
-lines_of Overlap a found = flat_map (hit_line Overlap a) found
 lines_of Once a [] = []
 lines_of Once a (b ∷ more) = line_with (bed_text a ∷ [])
 lines_of Missing a [] = line_with (bed_text a ∷ [])
@@ -61,6 +51,7 @@ lines_of Count a found = line_with (bed_text a ∷ decimal (length found) ∷ []
 lines_of Pieces a found = flat_map (piece_line a) (pieces a found)
 lines_of Whole a [] = line_with (bed_text a ∷ [])
 lines_of Whole a (b ∷ more) = []
+lines_of shape a found = flat_map (hit_line shape a) found
 
 -- what is written of a against all records of the second input
 unfoldable pub lines_for : Shape → HitRule → Feature → List Feature → List ℕ

@@ -25,12 +25,11 @@ pub struct HeldList {
 
 impl HeldList {
     ghost use Rattle.std.specs.Prelude.{◌≡◌, [], IsTrue, false, filter, nat_lt};
-    ghost use Rattle.bt_sweep.specs.calls.HeldList.{records_in};
-    ghost use Rattle.bt_sweep.specs.inside.HeldList.{HasRoom};
+    ghost use Rattle.std.specs.VecDeque.{deque_capacity, deque_len};
 
     /// No record. It doesn't allocate.
     pub fn new(alloc: Global) -> HeldList
-        ensures { records_in result ≡ [] }
+        ensures { result.records.items ≡ [] }
     {
         HeldList {
             records: VecDeque::new(alloc),
@@ -40,7 +39,7 @@ impl HeldList {
 
     // Whether they are known to come by their starts once this one is added.
     fn rises_to(&self, rec: &Rec) -> bool
-        ensures { result ≡ true → IsNonDecreasingBy (λ r. r.start) (records_in self.now ++ rec.now ∷ []) }
+        ensures { result ≡ true → IsNonDecreasingBy (λ r. r.start) (self.now.records.items ++ rec.now ∷ []) }
     {
         match self.records.back() {
             None => true,
@@ -50,16 +49,16 @@ impl HeldList {
 
     // Makes room for one more. It returns false if memory is refused.
     pub(crate) fn reserve_one(&mut self) -> bool
-        ensures same { records_in self.new ≡ records_in self.old }
-        ensures room { IsTrue result → HasRoom self.new }
+        ensures same { self.new.records.items ≡ self.old.records.items }
+        ensures room { IsTrue result → deque_len self.new.records < deque_capacity self.new.records }
     {
         self.records.try_reserve(1).is_ok()
     }
 
     // Adds a record after the others, for which there is room.
     pub(crate) fn push_reserved(&mut self, rec: Rec)
-        requires { HasRoom self.old }
-        ensures { records_in self.new ≡ records_in self.old ++ rec ∷ [] }
+        requires { deque_len self.old.records < deque_capacity self.old.records }
+        ensures { self.new.records.items ≡ self.old.records.items ++ rec ∷ [] }
     {
         self.rising = self.rises_to(&rec);
         self.records.push_back_reserved(rec);
@@ -67,14 +66,14 @@ impl HeldList {
 
     // Returns true if a record may have ended at the place.
     fn may_have_ended(&self, place: u64) -> bool
-        ensures { result ≡ false → records_in self.now ≡ filter (λ r. nat_lt place r.stop) (records_in self.now) }
+        ensures { result ≡ false → self.now.records.items ≡ filter (λ r. nat_lt place r.stop) self.now.records.items }
     {
         !self.rising || has_ended(&self.records, started_in(&self.records, place), place)
     }
 
     // Drops those that end at or before the place, in one pass.
     pub(crate) fn remove_ended(&mut self, place: u64)
-        ensures { records_in self.new ≡ filter (λ r. nat_lt place r.stop) (records_in self.old) }
+        ensures { self.new.records.items ≡ filter (λ r. nat_lt place r.stop) self.old.records.items }
     {
         if !self.rising {
             self.records.retain(|record| place < record.as_bed().stop);
@@ -86,9 +85,7 @@ impl HeldList {
 }
 
 impl Held for HeldList {
-    ghost use Rattle.bt_sweep.specs.calls.HeldList.{records_in};
-
-    ghost records = { records_in };
+    ghost records = { λ held. held.records.items };
 
     fn push(&mut self, rec: Rec) -> Result<(), Rec> {
         if !self.reserve_one() {

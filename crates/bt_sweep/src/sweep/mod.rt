@@ -38,19 +38,19 @@ pub struct Sweep<'o, H: Held, O: ChromOrder> {
 }
 
 impl<'o, H: Held, O: ChromOrder> Sweep<'o, H, O> {
-    ghost use Rattle.std.specs.Prelude.{◌≡◌, ℕ, All, List, [], IsTrue, None, OnErr, OnOk, Option, Some};
+    ghost use Rattle.std.specs.Prelude.{◌≡◌, ℕ, All, List, [], IsOk, IsTrue, None, OnErr, OnOk, Option, Some, is_some, ⊤};
     ghost use Rattle.bt_bed.specs.calls.Bed.{feature_lent};
     ghost use Rattle.bt_bed.specs.model.order.Order.{Order};
-    ghost use Rattle.bt_sweep.specs.calls.Standing.{IsInOrder, MovesTo, Stage, StandsAt, first_stage, given, held_for, last_given, want_at, with_a, with_a_ended, with_b};
+    ghost use Rattle.bt_sweep.specs.calls.Standing.{IsInOrder, MovesTo, Stage, StandsAt, first_stage, given, held_for, last_given, with_a, with_a_ended, with_b};
     ghost use Rattle.bt_sweep.specs.calls.Steps.{EndsB, GivesA, GivesB};
-    ghost use Rattle.bt_sweep.specs.calls.Advancing.{Advances, AdvancesOn, DecidesCurrent, IsIdle, IsThis, Settles};
+    ghost use Rattle.bt_sweep.specs.calls.Advancing.{AdvancesOn, IsThis, NoneGiven, Settles};
     ghost use Rattle.bt_sweep.specs.calls.Held.{CanHit};
     ghost use Rattle.bt_sweep.specs.inside.Joining.{Joins};
     ghost use Rattle.bt_sweep.specs.inside.Pending.{line_in, pending_in};
     ghost use Rattle.bt_sweep.specs.calls.Taking.{GivesKnown, LeavesLast};
     ghost use Rattle.bt_sweep.specs.inside.Relating.{EndsWhile};
     ghost use Rattle.bt_sweep.specs.calls.SweepView.{order_of, state_of};
-    ghost use Rattle.bt_sweep.specs.calls.SweepState.{want_in};
+    ghost use Rattle.bt_sweep.specs.calls.SweepState.{want_in, want_of};
 
     /// A sweep that was given nothing, over an empty list of held records. With a limit no more records
     /// than that are held. It doesn't allocate.
@@ -78,7 +78,7 @@ impl<'o, H: Held, O: ChromOrder> Sweep<'o, H, O> {
     /// What it wants next.
     pub fn want(&self) -> Want
         ensures is { result ≡ want_in (state_of self.now) }
-        ensures stage { (order : Order) (stage : Stage) → StandsAt order stage (state_of self.now) → result ≡ want_at stage }
+        ensures stage { (order : Order) (stage : Stage) → StandsAt order stage (state_of self.now) → result ≡ want_of (is_some stage.waiting) stage.a_ended }
     {
         self.state.want()
     }
@@ -95,7 +95,7 @@ impl<'o, H: Held, O: ChromOrder> Sweep<'o, H, O> {
     /// Takes records of both inputs, one after another, as [`Sweep::give_a`] and [`Sweep::give_b`] do with each, as long as
     /// the input that it wants has a next one. It may stop too once the record is written that waited before.
     /// If it wants nothing, it takes none. It fails as these calls do.
-    #[tactic(auto, using(crate::proofs::lemmas::sweep::GiveLemmas::goes_on, crate::proofs::lemmas::sweep::GiveLemmas::lifts_current, crate::proofs::lemmas::sweep::StandLemmas::one_waits))]
+    #[tactic(auto, using(crate::proofs::lemmas::sweep::GiveLemmas::lifts_current, crate::proofs::lemmas::sweep::StandLemmas::one_waits))]
     pub fn advance<A: Cursor, B: Cursor, K: Sink>(
         &mut self,
         a: &mut A,
@@ -107,7 +107,7 @@ impl<'o, H: Held, O: ChromOrder> Sweep<'o, H, O> {
         ensures advances { AdvancesOn A.gives A.has_ended B.gives B.has_ended B.line (order_of self.old) (state_of self.old)
             a.old b.old out.old.output result (state_of self.new) a.new b.new out.new.output }
         ensures idle { want_in (state_of self.old) ≡ Want.Nothing
-            → IsIdle (state_of self.old) a.old b.old out.old.output result (state_of self.new) a.new b.new out.new.output }
+            → IsOk result × (state_of self.new ≡ state_of self.old) × (a.new ≡ a.old) × (b.new ≡ b.old) × (out.new.output ≡ out.old.output) }
         ensures stops { OnErr result (want_in (state_of self.new) ≡ Want.Nothing) }
         ensures order { order_of self.new ≡ order_of self.old }
     {
@@ -206,8 +206,8 @@ impl<'o, H: Held, O: ChromOrder> Sweep<'o, H, O> {
         out: &mut Out<K>,
     ) -> Result<(), Fault>
         requires known_b { GivesKnown B.gives (order_of self.old) b.old }
-        ensures decides { DecidesCurrent B.gives B.has_ended B.line (order_of self.old) (state_of self.old) b.old
-            out.old.output result (state_of self.new) b.new out.new.output }
+        ensures decides { AdvancesOn NoneGiven (λ u. ⊤) B.gives B.has_ended B.line (order_of self.old) (state_of self.old)
+            tt b.old out.old.output result (state_of self.new) tt b.new out.new.output }
         ensures phase { OnOk result ((state_of self.new).phase ≡ (state_of self.old).phase) }
         ensures stops { OnErr result (want_in (state_of self.new) ≡ Want.Nothing) }
         ensures order { order_of self.new ≡ order_of self.old }
@@ -234,7 +234,7 @@ impl<'o, H: Held, O: ChromOrder> Sweep<'o, H, O> {
         requires want { want_in (state_of self.old) ≡ Want.A }
         requires known_a { GivesKnown A.gives (order_of self.old) a.old }
         requires known_b { GivesKnown B.gives (order_of self.old) b.old }
-        ensures advances { Advances A.gives A.has_ended B.gives B.has_ended B.line (order_of self.old) (state_of self.old)
+        ensures advances { AdvancesOn A.gives A.has_ended B.gives B.has_ended B.line (order_of self.old) (state_of self.old)
             a.old b.old out.old.output result (state_of self.new) a.new b.new out.new.output }
         ensures stops { OnErr result (want_in (state_of self.new) ≡ Want.Nothing) }
         ensures order { order_of self.new ≡ order_of self.old }

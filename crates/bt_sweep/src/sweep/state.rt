@@ -10,7 +10,7 @@ ghost use Rattle.bt_sweep.specs.calls.Held.{AreReady, AreRising, CanHit, CanHitA
 ghost use Rattle.bt_sweep.specs.model.IntersectLines.{lines_for};
 ghost use Rattle.bt_sweep.specs.inside.Joining.{AddsWith, AreDecidedOn, Joins, LeavesOn, SkipsAll, WritesUpTo};
 ghost use Rattle.bt_sweep.specs.inside.Pending.{IsQuiet, PutsOr, line_in, pending_in};
-ghost use Rattle.bt_sweep.specs.inside.StateSteps.{CannotHold, KeepsOne, Takes, are_on, has_room_in, held_with, stopped};
+ghost use Rattle.bt_sweep.specs.inside.StateSteps.{KeepsOne, Takes, are_on, has_room_in, held_with, stopped};
 ghost use Rattle.bt_sweep.specs.calls.SweepState.{want_in};
 
 use crate::active::held::Held;

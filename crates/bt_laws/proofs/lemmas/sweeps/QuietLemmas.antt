@@ -9,8 +9,5 @@ quiet_taken order stage a b line old out (Ok No) new grown gives undecided free 
 quiet_taken order stage a b line old out (Err f) new grown gives undecided free =
     elim gives.1 [
       | inl cut ↦ absurd (false≢true (sym undecided ∙ cut.decides))
-      | inr refused ↦ elim refused [
-        | inl full ↦ absurd (false≢true (sym free ∙ full.to_hold))
-        | inr lacks ↦ absurd (false≢true (sym free ∙ lacks.to_hold))
-      ]
+      | inr refused ↦ absurd (false≢true (sym free ∙ refused.to_hold))
     ]

@@ -10,7 +10,7 @@ use Rattle.bt_bed.specs.model.order.Order.{Order}
 use Rattle.bt_sweep.specs.model.Deciding.{decided}
 use Rattle.bt_sweep.specs.model.Limit.{are_too_many, cut_behind, first_open, held_for, is_held}
 use Rattle.bt_sweep.specs.inside.StateSteps.{are_on, held_with}
-use Rattle.bt_sweep.specs.calls.Steps.{has_room}
+use Rattle.bt_sweep.specs.calls.Taking.{has_room}
 
 -- fewer than are allowed
 pub within_less : (limit : Option ℕ) (more less : ℕ) → less ≤ more → IfSome limit (λ most. more ≤ most) → IfSome limit (λ most. less ≤ most)

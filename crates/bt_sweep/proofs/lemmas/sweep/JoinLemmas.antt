@@ -11,11 +11,10 @@ use Rattle.bt_bed.specs.model.order.Order.{Order, IsTotal}
 use Rattle.bt_sweep.specs.model.Deciding.{decided, decides}
 use Rattle.bt_sweep.specs.calls.Held.{CanHit}
 use Rattle.bt_sweep.specs.model.IntersectLines.{intersect}
-use Rattle.bt_sweep.specs.calls.Taking.{AreDecided, CannotBeHeld, GivesKnown, LeavesLast, TakenEach, TakenFor}
-use Rattle.bt_sweep.specs.inside.Joining.{AreDecidedOn, Behind, Breaks, Cuts, CutsOff, EndUpTo, GoesTo, GrownWith, Joins, JoinsSo, Keeps, LeavesOn, LieOn, Proceeded, WaitsOn, Writes, WritesSo}
+use Rattle.bt_sweep.specs.calls.Taking.{AreDecided, CannotBeHeld, CannotHold, GivesKnown, LeavesLast, TakenEach, TakenFor, has_room}
+use Rattle.bt_sweep.specs.inside.Joining.{AreDecidedOn, BehindFor, Breaks, CutsFor, CutsOff, EndUpTo, GoesToFor, GrownWith, Joins, JoinsSo, Keeps, LeavesOn, LieOn, Proceeded, WaitsOn, WritesFor, WritesSo}
 use Rattle.bt_sweep.specs.calls.Standing.{held_for, is_held, last_given}
-use Rattle.bt_sweep.specs.inside.StateSteps.{CannotHold, has_room_in, holding}
-use Rattle.bt_sweep.specs.calls.Steps.{has_room}
+use Rattle.bt_sweep.specs.inside.StateSteps.{has_room_in, holding}
 use Rattle.bt_sweep.specs.calls.SweepState.{Sweeping}
 use Rattle.bt_sweep.specs.declared.hits.hit_rule.HitRule.{HitRule}
 use Rattle.bt_sweep.specs.declared.output.shape.Shape.{Shape}
@@ -76,9 +75,9 @@ each_push order limit as_given b taken (x ∷ seconds) each last =
 
 -- ---- one run after another
 
-module _ (first : Feature) (firsts seconds newly : List Feature) (cur : Feature) (are : first ∷ firsts ≡ newly ++ cur ∷ []) (old mid : Sweeping) (goes : GoesTo first firsts seconds old mid) where
-  pub behind_more : (firsts2 seconds2 : List Feature) (P : Order → Shape → HitRule → Option ℕ → List Feature → List Feature → Type 0) → Behind cur firsts2 seconds2 mid P
-      → Behind first (firsts ++ firsts2) (seconds ++ seconds2) old P
+module _ (first : Feature) (firsts seconds newly : List Feature) (cur : Feature) (are : first ∷ firsts ≡ newly ++ cur ∷ []) (old mid : Sweeping) (goes : GoesToFor IsTotal first firsts seconds old mid) where
+  pub behind_more : (firsts2 seconds2 : List Feature) (P : Order → Shape → HitRule → Option ℕ → List Feature → List Feature → Type 0) → BehindFor IsTotal cur firsts2 seconds2 mid P
+      → BehindFor IsTotal first (firsts ++ firsts2) (seconds ++ seconds2) old P
   behind_more firsts2 seconds2 P behind order shape rule limit before taken total kept pg pt =
       let whole = split_more before first firsts newly cur are firsts2 in
       let both : taken ++ (seconds ++ seconds2) ≡ (taken ++ seconds) ++ seconds2 = sym (append_assoc taken seconds seconds2) in
@@ -90,21 +89,21 @@ module _ (first : Feature) (firsts seconds newly : List Feature) (cur : Feature)
       (behind order shape rule limit (before ++ newly) (taken ++ seconds) total k (subst (λ (l : List Feature). ArePlaced order (intervals_of l)) whole pg) pt'))
 
   -- without a record of the second input
-  pub behind_same : (firsts2 : List Feature) (P : Order → Shape → HitRule → Option ℕ → List Feature → List Feature → Type 0) → Behind cur firsts2 [] mid P → Behind first (firsts ++ firsts2) seconds old P
-  behind_same firsts2 P behind = subst (λ (l : List Feature). Behind first (firsts ++ firsts2) l old P) (append-nil seconds) (behind_more firsts2 [] P behind)
+  pub behind_same : (firsts2 : List Feature) (P : Order → Shape → HitRule → Option ℕ → List Feature → List Feature → Type 0) → BehindFor IsTotal cur firsts2 [] mid P → BehindFor IsTotal first (firsts ++ firsts2) seconds old P
+  behind_same firsts2 P behind = subst (λ (l : List Feature). BehindFor IsTotal first (firsts ++ firsts2) l old P) (append-nil seconds) (behind_more firsts2 [] P behind)
 
 -- ---- what was written after what was
 
-module _ (first : Feature) (firsts seconds newly : List Feature) (cur : Feature) (are : first ∷ firsts ≡ newly ++ cur ∷ []) (old mid : Sweeping) (goes : GoesTo first firsts seconds old mid)
-    (pending left : List ℕ) (out grown : Output) (wrote : Writes first firsts seconds old newly pending out left grown) (firsts2 newly2 : List Feature) where
-  pub writes_both : (rest : List ℕ) (now : Output) → Writes cur firsts2 [] mid newly2 left grown rest now → Writes first (firsts ++ firsts2) seconds old (newly ++ newly2) pending out rest now
+module _ (first : Feature) (firsts seconds newly : List Feature) (cur : Feature) (are : first ∷ firsts ≡ newly ++ cur ∷ []) (old mid : Sweeping) (goes : GoesToFor IsTotal first firsts seconds old mid)
+    (pending left : List ℕ) (out grown : Output) (wrote : WritesFor IsTotal first firsts seconds old newly pending out left grown) (firsts2 newly2 : List Feature) where
+  pub writes_both : (rest : List ℕ) (now : Output) → WritesFor IsTotal cur firsts2 [] mid newly2 left grown rest now → WritesFor IsTotal first (firsts ++ firsts2) seconds old (newly ++ newly2) pending out rest now
   writes_both rest now more order shape rule limit before taken total kept pg pt =
       lines_both shape rule (taken ++ seconds) pending left out grown newly
       (wrote order shape rule limit before taken total kept (front_of order before first firsts firsts2 pg) pt) newly2 rest now
       (behind_same first firsts seconds newly cur are old mid goes firsts2 (λ order shape rule limit as_given taken. GrownWith left grown (intersect shape rule newly2 taken) rest now) more
       order shape rule limit before taken total kept pg pt)
 
-  pub cuts_both : (fault : FaultValue) (now : Output) → Cuts cur firsts2 [] mid newly2 left grown fault now → Cuts first (firsts ++ firsts2) seconds old (newly ++ newly2) pending out fault now
+  pub cuts_both : (fault : FaultValue) (now : Output) → CutsFor IsTotal cur firsts2 [] mid newly2 left grown fault now → CutsFor IsTotal first (firsts ++ firsts2) seconds old (newly ++ newly2) pending out fault now
   cuts_both fault now more order shape rule limit before taken total kept pg pt =
       cut_both shape rule (taken ++ seconds) pending left out grown newly
       (wrote order shape rule limit before taken total kept (front_of order before first firsts firsts2 pg) pt) newly2 fault now
@@ -339,11 +338,11 @@ module _ {A B : Type 0} (a_gives : A → List Feature → A → Type 0) (a_ended
       room_is order shape rule limit gs taken k =
           ap (λ (l : List Feature). has_room limit (length l)) (sym (keeps_held order shape rule limit gs cur taken s k)) ∙ ap (λ (l : Option ℕ). has_room l (length s.held)) (sym k.limit_is)
 
-      cannot : (fault : Fault) (line : ℕ) (limit : Option ℕ) (taken : List Feature) → has_room limit (length (held_for (Some cur) taken)) ≡ has_room_in s → CannotHold s line fault → CannotBeHeld limit cur taken line (fault_value fault)
+      cannot : (fault : Fault) (line : ℕ) (limit : Option ℕ) (taken : List Feature) → has_room limit (length (held_for (Some cur) taken)) ≡ has_room_in s → CannotHold (has_room_in s) line (fault_value fault) → CannotBeHeld limit cur taken line (fault_value fault)
       cannot fault line limit taken room x5 = grind arith
 
       -- b has to be held, and can't be
-      pub breaks_take : (fault : Fault) → is_held cur b ≡ true → CannotHold s (b_line after) fault → BreaksSo (fault_value fault) to_a to_b left grown
+      pub breaks_take : (fault : Fault) → is_held cur b ≡ true → CannotHold (has_room_in s) (b_line after) (fault_value fault) → BreaksSo (fault_value fault) to_a to_b left grown
       breaks_take fault held lacks = record {
         proceeds = j.proceeds;
         waiting = Some cur;

@@ -12,11 +12,10 @@ use Rattle.bt_bed.proofs.lemmas.parse.NameLemmas.{name_eq}
 use Rattle.bt_sweep.specs.model.Deciding.{decided, decides}
 use Rattle.bt_sweep.specs.calls.Held.{AreRising}
 use Rattle.bt_sweep.specs.model.IntersectLines.{intersect, lines_for}
-use Rattle.bt_sweep.specs.calls.Taking.{AreDecided}
+use Rattle.bt_sweep.specs.calls.Taking.{AreDecided, has_room}
 use Rattle.bt_sweep.specs.inside.Joining.{GrownWith, Keeps}
 use Rattle.bt_sweep.specs.calls.Standing.{HoldsFor, held_for, is_held, last_given}
 use Rattle.bt_sweep.specs.inside.StateSteps.{has_room_in, held_with, holding}
-use Rattle.bt_sweep.specs.calls.Steps.{has_room}
 use Rattle.bt_sweep.specs.calls.SweepState.{Sweeping}
 use Rattle.bt_sweep.specs.declared.hits.hit_rule.HitRule.{HitRule}
 use Rattle.bt_sweep.specs.declared.output.shape.Shape.{Shape}

@@ -16,7 +16,7 @@ use Rattle.bt_sweep.specs.model.Deciding.{decided, decides}
 use Rattle.bt_sweep.specs.calls.Held.{CanHit}
 use Rattle.bt_sweep.specs.model.IntersectLines.{intersect}
 use Rattle.bt_sweep.specs.calls.Taking.{AreDecided, CannotBeHeld, ComesNext, LeavesLast, TakenEach}
-use Rattle.bt_sweep.specs.inside.Joining.{AreDecidedOn, Behind, BehindFor, GrownWith, StopsAt, EndUpTo, Joins, Keeps, LeavesOn, LieOn, Proceeded, WaitsOn, SkipsAll, WritesUpTo}
+use Rattle.bt_sweep.specs.inside.Joining.{AreDecidedOn, BehindFor, GrownWith, StopsAt, EndUpTo, Joins, Keeps, LeavesOn, LieOn, Proceeded, WaitsOn, SkipsAll, WritesUpTo}
 use Rattle.bt_sweep.specs.inside.Relating.{Compares, EndsWhile, Relates}
 use Rattle.bt_sweep.specs.calls.Standing.{HoldsFor, is_held}
 use Rattle.bt_sweep.specs.calls.SweepState.{Sweeping}
@@ -143,7 +143,7 @@ module _ {A B R : Type 0} (a_gives : A → List Feature → A → Type 0) (a_end
     λ before b e. undecided_before order total first known name lies.compared b (lie_last name before b (subst (LieOn name) e skip.on)),
   )
 
-  to_this : (firsts seconds : List Feature) (P : Order → Shape → HitRule → Option ℕ → List Feature → List Feature → Type 0) → Behind first firsts seconds old P → BehindFor (IsThis order) first firsts seconds old P
+  to_this : (firsts seconds : List Feature) (P : Order → Shape → HitRule → Option ℕ → List Feature → List Feature → Type 0) → BehindFor IsTotal first firsts seconds old P → BehindFor (IsThis order) first firsts seconds old P
   to_this firsts seconds P behind other shape rule limit before taken this kept pg pt = behind other shape rule limit before taken (subst IsTotal (sym this) total) kept pg pt
 
   abbrev JoinsBeside : Result (Option R) Fault → Sweeping → A → B → Output → Type 0

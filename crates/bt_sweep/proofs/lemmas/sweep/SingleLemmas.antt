@@ -5,10 +5,7 @@ use Rattle.bt_lines.specs.calls.Names.{fault_value}
 use Rattle.bt_lines.specs.calls.Output.{Output}
 use Rattle.bt_lines.specs.calls.Putting.{FailsToAdd, Grown}
 use Rattle.bt_lines.specs.declared.fault.Fault.{Fault}
-use Rattle.bt_lines.specs.declared.fault.Input.TheVariants.{Second}
-use Rattle.bt_lines.specs.declared.fault.Kind.TheVariants.{TooManyHeld}
 use Rattle.bt_bed.specs.model.feature.Feature.{Feature, intervals_of}
-use Rattle.bt_bed.specs.model.feature.LineKind.{fault_at_line}
 use Rattle.bt_bed.specs.model.order.Locus.{ArePlaced}
 use Rattle.bt_bed.specs.model.order.Order.{Order, IsTotal}
 use Rattle.bt_bed.specs.calls.Single.{GivesSingle, HasNone, single_left, single_line}
@@ -16,13 +13,13 @@ use Rattle.bt_bed.specs.declared.read.cursor.Single.{Single}
 use Rattle.bt_bed.specs.declared.record.taken.Taken.TheVariants.{Yes, No}
 use Rattle.bt_bed.proofs.lemmas.parse.NameLemmas.{name_eq}
 use Rattle.bt_sweep.specs.calls.Advancing.{AdvancesOn, AdvancesSo, FailsAt, FailsToTake, HasWritten, IsThis, Settles, StopsFor, stage_after}
-use Rattle.bt_sweep.specs.calls.Taking.{AreDecided, ComesNext, TakenEach}
+use Rattle.bt_sweep.specs.calls.Taking.{AreDecided, ComesNext, TakenEach, CannotBeHeld}
 use Rattle.bt_sweep.specs.model.Deciding.{decides}
 use Rattle.bt_sweep.specs.model.IntersectLines.{intersect, lines_for}
 use Rattle.bt_sweep.specs.inside.Joining.{Breaks, JoinsSo, Keeps, StopsAt}
 use Rattle.bt_sweep.specs.inside.Relating.{EndsWhile}
 use Rattle.bt_sweep.specs.calls.Standing.{HoldsFor, IsInOrder, MovesTo, Stage, StandsAt, given, held_for, is_held, phase_of, with_a, with_b, with_b_ended, with_lines}
-use Rattle.bt_sweep.specs.calls.Steps.{EndsB, FailsToHold, FailsToKeepA, FailsToWriteA, GivesA, GivesB, PassesLimit, has_room}
+use Rattle.bt_sweep.specs.calls.Steps.{EndsB, FailsToHold, FailsToKeepA, FailsToWriteA, GivesA, GivesB}
 use Rattle.bt_sweep.specs.calls.SweepState.{Sweeping, want_in}
 use Rattle.bt_sweep.specs.declared.hits.hit_rule.HitRule.{HitRule}
 use Rattle.bt_sweep.specs.declared.sweep.phase.Phase.{Phase}
@@ -442,7 +439,7 @@ module _ (order : Order) (stage : Stage) (old : Sweeping) (st : StandsAt order s
         each_f = f.proceeds.each stage st (given_placed_b f.proceeds.firsts none_more) (taken_placed_b to_b f.proceeds.seconds f.proceeds.gives_seconds)
 
         abbrev FailsB : Type 0
-        FailsB = FailsToWriteA order stage a b line old out fault grown ⊎ (PassesLimit order stage a b line old out fault grown ⊎ FailsToHold order stage a b line old out fault grown)
+        FailsB = FailsToWriteA order stage a b line old out fault grown ⊎ FailsToHold order stage a b line old out fault grown
 
         cut_b : FailsToAdd out (intersect old.shape old.rule f.proceeds.newly (stage.taken ++ f.proceeds.seconds)) fault grown → FailsB
         cut_b cut = elim parts [
@@ -471,20 +468,11 @@ module _ (order : Order) (stage : Stage) (old : Sweeping) (st : StandsAt order s
                 let undecided = undecided_beside order total a b known chrom starts in
                 let held : is_held a b ≡ true = and_from (bytes_eq a.chrom b.chrom) (ltb a.start b.stop) (name_eq a.chrom b.chrom (sym chrom)) (lt-ltb a.start b.stop ends) in
                 let same : stage.taken ++ f.proceeds.seconds ≡ stage.taken = ap (λ (l : List Feature). stage.taken ++ l) kept.0 ∙ append-nil stage.taken in
-                let room_is : has_room old.limit (length (held_for (Some lack.shares.last) (stage.taken ++ f.proceeds.seconds))) ≡ has_room old.limit (length (held_for (Some a) stage.taken)) =
-                ap (λ (l : List Feature). has_room old.limit (length (held_for (Some lack.shares.last) l))) same ∙ ap (λ (x : Feature). has_room old.limit (length (held_for (Some x) stage.taken))) is_a in
                 let output = same_output old.shape old.rule f.proceeds.newly (stage.taken ++ f.proceeds.seconds) out grown still.0 (lack.puts stage st (given_placed_b f.proceeds.firsts none_more) (taken_placed_b to_b f.proceeds.seconds f.proceeds.gives_seconds)) in
                 let on_line : single_line lack.shares.after ≡ line = lack.shares.gives.line ∙ f.proceeds.gives_seconds.line ∙ at_line in
-                elim (lack.lacks stage st (given_placed_b f.proceeds.firsts none_more) (taken_placed_b to_b f.proceeds.seconds f.proceeds.gives_seconds)) [
-                  | inl full ↦ inr (inl (record {
-                    undecided = undecided;
-                    to_hold = held;
-                    is_full = sym room_is ∙ full.0;
-                    is = full.1 ∙ ap (λ (n : ℕ). fault_at_line Second n TooManyHeld) on_line;
-                    same_output = output;
-                  }))
-                  | inr lost ↦ inr (inr (record { undecided = undecided; to_hold = held; room = sym room_is ∙ lost.0; is = lost.1; same_output = output }))
-                ]
+                let lacks = lack.lacks stage st (given_placed_b f.proceeds.firsts none_more) (taken_placed_b to_b f.proceeds.seconds f.proceeds.gives_seconds) in
+                let for_a = subst (λ (x : Feature). CannotBeHeld old.limit x stage.taken (single_line lack.shares.after) fault) is_a (subst (λ (l : List Feature). CannotBeHeld old.limit lack.shares.last l (single_line lack.shares.after) fault) same lacks) in
+                inr (record { undecided = undecided; to_hold = held; lacks = subst (λ (n : ℕ). CannotBeHeld old.limit a stage.taken n fault) on_line for_a; same_output = output })
           ]
         ]
 

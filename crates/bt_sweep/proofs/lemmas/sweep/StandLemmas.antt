@@ -11,7 +11,7 @@ use Rattle.bt_bed.specs.model.order.Locus.{ArePlaced}
 use Rattle.bt_bed.specs.model.order.Order.{Order, IsTotal}
 use Rattle.bt_bed.specs.calls.Single.{GivesSingle, single_left}
 use Rattle.bt_bed.specs.declared.read.cursor.Single.{Single}
-use Rattle.bt_sweep.specs.calls.Advancing.{Advances, AdvancesSo, AtEach, FailsAt, IsThis, Proceeded, PutsEach, Settles, StopsFor, stage_after}
+use Rattle.bt_sweep.specs.calls.Advancing.{AdvancesOn, AdvancesSo, AtEach, FailsAt, IsThis, Proceeded, PutsEach, Settles, StopsFor, stage_after}
 use Rattle.bt_sweep.specs.model.IntersectLines.{intersect}
 use Rattle.bt_sweep.specs.calls.Taking.{CannotBeHeld, LeavesLast, TakenEach}
 use Rattle.bt_sweep.specs.inside.Joining.{BehindFor, Breaks, JoinsSo, Keeps, Proceeded as Joined, TakesEachFor, WritesFor}
@@ -217,10 +217,10 @@ module _ (order : Order) (old mid : Sweeping) (first : Feature) (pre : List Feat
     -- it is kept, or can't be
     pub kept_or_not : {T : Type 0} (a : Feature) (j : JoinsSo a_gives a_ended b_gives b_ended' b_line (IsThis order) (Settles order mid.phase) mid first from_a from_b [] out (Some a) new to_a to_b [] grown) → old.current ≡ None → b_ended to_b → (mid.phase ≡ First → ⊥)
         → u_gives from_u (pre ++ j.proceeds.firsts) to_u → new.phase ≡ old.phase → (old.phase ≡ Over → ⊥) → LeavesLast order j.proceeds.seconds a → (result : Result T Fault) (final : Sweeping) → KeepsOne new a result final
-        → Advances u_gives u_ended b_gives b_ended b_line order old from_u from_b out result final to_u to_b grown
+        → AdvancesOn u_gives u_ended b_gives b_ended b_line order old from_u from_b out result final to_u to_b grown
     kept_or_not a j none ended not_first gives same not_over leaves (Ok t) final is = (
       advances_from (Some a) final j gives same is (λ w stage st. both_open stage.a_ended stage.b_ended old.phase st.phase_is (λ e. not_first (phase ∙ e)) not_over) leaves,
-      stops_b u_gives u_ended b_gives b_ended b_line order old from_u to_u from_b to_b out final (want_b final a (ap (λ (s : Sweeping). s.current) is)) ended,
+      inl (stops_b u_gives u_ended b_gives b_ended b_line order old from_u to_u from_b to_b out final (want_b final a (ap (λ (s : Sweeping). s.current) is)) ended),
     )
     kept_or_not a j none ended not_first gives same not_over leaves (Err fault) final is = lacks_from a (fault_value fault) j gives none (still_both old.phase (λ e. not_first (phase ∙ e)) not_over) ended is.1
 

@@ -8,7 +8,7 @@ use Rattle.bt_bed.specs.model.order.Locus.{ArePlaced}
 use Rattle.bt_bed.specs.model.order.Order.{Order, IsTotal}
 use Rattle.bt_sweep.specs.calls.Held.{AreRising, CanHit}
 use Rattle.bt_sweep.specs.model.IntersectLines.{intersect, lines_for}
-use Rattle.bt_sweep.specs.inside.Joining.{CutsOff, EndUpTo, GrownWith, Keeps, Writes, WritesSo}
+use Rattle.bt_sweep.specs.inside.Joining.{CutsOff, EndUpTo, GrownWith, Keeps, WritesFor, WritesSo}
 use Rattle.bt_sweep.specs.calls.SweepState.{Sweeping}
 use Rattle.bt_sweep.specs.declared.hits.hit_rule.HitRule.{HitRule}
 use Rattle.bt_sweep.specs.declared.output.shape.Shape.{Shape}
@@ -87,7 +87,7 @@ module _ {A : Type 0} (gives : A → List Feature → A → Type 0) (has_ended :
         (so.goes order shape rule limit before taken total kept pg pt)
 
     module _ (rest : List ℕ) (now : Output) (adds : AreRising s.held → GrownWith left grown (lines_for s.shape s.rule cur s.held) rest now) where
-      written_one : Writes first so.firsts [] old (so.newly ++ cur ∷ []) pending out rest now
+      written_one : WritesFor IsTotal first so.firsts [] old (so.newly ++ cur ∷ []) pending out rest now
       written_one order shape rule limit before taken total kept pg pt =
           let k = kept_so order shape rule limit before taken total kept pg pt in
           lines_then shape rule (taken ++ []) pending left out grown so.newly (so.writes order shape rule limit before taken total kept pg pt) cur rest now

@@ -8,7 +8,7 @@ use Rattle.bt_lines.specs.model.Fault.{FaultValue, read_failed}
 use Rattle.bt_lines.specs.calls.LentLine.{GivesFirst}
 use Rattle.bt_lines.specs.model.Lines.{TextLine, AreNumbered, bytes_in, line_feeds, lines_from}
 use Rattle.bt_lines.specs.calls.Output.{block_size}
-use Rattle.bt_lines.specs.calls.Reader.{CutsOff, DropsLines, GivesFault, Hands, IsKept, IsNear, MakesLine, SameLines, TakenLines, TakesLines, buffered_bytes, buffered_in, bytes_left, bytes_taken, fault_kept, has_ended, held, input_of, lines_given, lines_left, room, source_of}
+use Rattle.bt_lines.specs.calls.Reader.{CutsOff, DropsLines, GivesFault, Hands, IsKept, IsNear, MakesLine, TakenLines, TakesLines, buffered_bytes, buffered_in, bytes_left, bytes_taken, fault_kept, has_ended, held, input_of, lines_given, lines_left, room, source_of}
 use Rattle.bt_lines.specs.declared.reader.buffered_lines.ConsumedLines.{ConsumedLines}
 use Rattle.bt_lines.specs.declared.reader.line_reader.LineReader.{LineReader}
 use Rattle.bt_bed.specs.calls.Reading.{LinesPass}
@@ -37,13 +37,13 @@ numbered_by n bytes = grind (arith, lines_are_numbered)
 pub front_of_both : (first second : List ℕ) (n m : ℕ) → n ≡ length first + m → take n (first ++ second) ≡ first ++ take m second
 front_of_both first second n m e = rw e (take-append-add first second m)
 
-same_pass : (a b : Option (List TextLine)) (n m : ℕ) → SameLines a b → m ≡ n → IfSome a (λ all. b ≡ Some (drop (m - n) all))
+same_pass : (a b : Option (List TextLine)) (n m : ℕ) → DropsLines a 0 b → m ≡ n → IfSome a (λ all. b ≡ Some (drop (m - n) all))
 same_pass a b n m s e = grind arith
 
 pub drops_pass : (a b : Option (List TextLine)) (count k : ℕ) → DropsLines a count b → k ≡ count → IfSome a (λ all. b ≡ Some (drop k all))
 drops_pass a b count k d e = grind arith
 
-first_by : (a b c : Option (List TextLine)) (line : TextLine) (more buffered : List TextLine) (count : ℕ) → SameLines a b → IfSome b (λ all. take (length buffered) all ≡ buffered) → buffered ≡ line ∷ more → DropsLines b count c → count ≡ 1
+first_by : (a b c : Option (List TextLine)) (line : TextLine) (more buffered : List TextLine) (count : ℕ) → DropsLines a 0 b → IfSome b (λ all. take (length buffered) all ≡ buffered) → buffered ≡ line ∷ more → DropsLines b count c → count ≡ 1
     → GivesFirst a line c
 first_by a b c line more buffered count s p is d one = grind arith
 

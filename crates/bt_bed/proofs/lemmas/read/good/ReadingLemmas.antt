@@ -5,7 +5,7 @@ use Rattle.bt_lines.proofs.lemmas.reader.lines.ReaderLemmas.{not_told, hands_non
 use Rattle.bt_lines.specs.model.Fault.{FaultValue, read_failed, no_memory}
 use Rattle.bt_lines.specs.calls.LentLine.{GivesFirst}
 use Rattle.bt_lines.specs.model.Lines.{TextLine, AreNumbered}
-use Rattle.bt_lines.specs.calls.Reader.{Hands, IsKept, MakesLine, SameLines, FailsToRead, GivesEnd, GivesFault, buffered_bytes, buffered_in, source_of, input_of, lines_given, end_told, has_ended, lines_left, room as line_room, fault_kept as line_fault}
+use Rattle.bt_lines.specs.calls.Reader.{Hands, IsKept, MakesLine, DropsLines, FailsToRead, GivesEnd, GivesFault, buffered_bytes, buffered_in, source_of, input_of, lines_given, end_told, has_ended, lines_left, room as line_room, fault_kept as line_fault}
 use Rattle.bt_lines.specs.declared.fault.Input.{Input}
 use Rattle.bt_lines.specs.declared.fault.Kind.{Kind}
 use Rattle.bt_lines.specs.declared.reader.line_reader.LineReader.{LineReader}
@@ -63,7 +63,7 @@ module _ {A State : Type 0} (format : Format A State) (input : Input) (state : S
   unfolding good_from
   good_end a h = grind arith
 
-remains_lines : {A State : Type 0} (format : Format A State) (input : Input) (state : State) (a b : Option (List TextLine)) → SameLines a b
+remains_lines : {A State : Type 0} (format : Format A State) (input : Input) (state : State) (a b : Option (List TextLine)) → DropsLines a 0 b
     → Remains (option_map (good_behind format input None state) a) (option_map (good_behind format input None state) b)
 remains_lines format input state a b s = grind arith
 

@@ -11,7 +11,7 @@ consumed xs start end count inside =
     sym (ap (λ j. drop count (take j (drop start xs))) parts ∙ drop-take count _ (drop start xs)
     ∙ ap (take (end - (start + count))) (drop-drop count start xs))
 
--- a part of a list is no longer than its ends are apart
+-- a part of a list is at most as long as its ends are apart
 pub length-range-le : (xs : List ℕ) (start end : ℕ) → length (slice_range xs start end) ≤ end - start
 length-range-le xs start end = omega (arith, length-take (end - start) (drop start xs))
 

@@ -1,5 +1,5 @@
 -- Lemmas on making a line buffered, and on the step to the next line by it.
-use Rattle.bt_lines.proofs.Std.{◌≡◌, ◌⊎◌, inl, inr, ℕ, suc, ◌-◌, ◌<◌, Bool, true, false, List, [], ◌++◌, length, take, Option, Result, None, Some, Ok, Err, refl, sym, ap, ◌∙◌, subst, append_assoc, append-nil, length-append, add-zero, arith, option_map, is_some, IfSome, false≢true, Consumes-nil}
+use Rattle.bt_lines.proofs.Std.{◌≡◌, ◌⊎◌, inl, inr, ℕ, suc, ◌-◌, ◌<◌, Bool, true, false, List, [], ◌++◌, length, take, Option, Result, None, Some, Ok, Err, refl, sym, ap, ◌∙◌, subst, append_assoc, append-nil, length-append, add-zero, arith, option_map, is_some, IfSome, IsSome, false≢true, Consumes-nil}
 use Rattle.bt_lines.specs.declared.device.Source.{Ghosts as Source}
 use Rattle.bt_lines.proofs.lemmas.reader.lines.ReaderLemmas.{hands_both, hands_none}
 use Rattle.bt_lines.proofs.lemmas.reader.block.ReadsLemmas.{has_read_then, some_is}
@@ -7,27 +7,28 @@ use Rattle.bt_lines.proofs.lemmas.reader.lines.StateLemmas.{some_state}
 use Rattle.bt_lines.proofs.lemmas.reader.lines.StepLemmas.{none_told, some_length}
 use Rattle.bt_lines.proofs.lemmas.reader.lines.TextLemmas.{line_feeds-append}
 use Rattle.bt_lines.specs.model.Fault.{FaultValue}
-use Rattle.bt_lines.specs.calls.LentLine.{GivesFirst}
+use Rattle.bt_lines.specs.calls.LentLine.{GivesFirst, line_seen}
 use Rattle.bt_lines.specs.model.Lines.{TextLine, line_feeds, lines_from}
 use Rattle.bt_lines.specs.calls.Names.{fault_value}
 use Rattle.bt_lines.specs.inside.ReadBuffer.{complete, unread}
-use Rattle.bt_lines.specs.calls.Reader.{CutsFirst, FillsLines, HasRead, TellsOwnFailure, GivesLine, MakesLine, GivesFault, Moves, SameLines, StepsTo, Stops, TellsReads, buffered_bytes, bytes_left, bytes_taken, end_told, fault_kept, feeds_taken, has_ended, held, input_of, left_at, lines_given, lines_left, source_of}
+use Rattle.bt_lines.specs.calls.Reader.{DropsLines, FillsLines, GivesFault, GivesLine, HasRead, IsKept, IsSound, MakesLine, NextLine, TellsOwnFailure, TellsReads, buffered_bytes, bytes_left, bytes_taken, end_told, fault_kept, feeds_taken, has_ended, held, input_of, left_at, line_at, lines_given, lines_left, source_of}
 use Rattle.bt_lines.specs.inside.ReaderState.{ended_at, fault_at, lends_at, open_at, taken_at}
 use Rattle.bt_lines.specs.inside.Shape.{held_at}
 use Rattle.bt_lines.specs.declared.fault.Fault.{Fault}
 use Rattle.bt_lines.specs.declared.fault.Input.{Input}
+use Rattle.bt_lines.specs.declared.reader.line.Line.{Line}
 use Rattle.bt_lines.specs.declared.reader.line_reader.LineReader.{LineReader}
 use Rattle.bt_lines.specs.declared.reader.line_reader.State.{State}
 use Rattle.bt_lines.specs.declared.reader.line_reader.State.TheVariants.{Reading, LastLine, Ended}
 
-same_lines : (lines : Option (List TextLine)) → SameLines lines lines
+same_lines : (lines : Option (List TextLine)) → DropsLines lines 0 lines
 same_lines None = tt
 same_lines (Some xs) = refl
 
 first_of_same : (xs : List TextLine) (b : Option (List TextLine)) (line : TextLine) (c : Option (List TextLine)) → b ≡ Some xs → GivesFirst b line c → GivesFirst (Some xs) line c
 first_of_same xs b line c e first = subst (λ (o : Option (List TextLine)). GivesFirst o line c) e first
 
-first_after : (a b : Option (List TextLine)) (line : TextLine) (c : Option (List TextLine)) → SameLines a b → GivesFirst b line c → GivesFirst a line c
+first_after : (a b : Option (List TextLine)) (line : TextLine) (c : Option (List TextLine)) → DropsLines a 0 b → GivesFirst b line c → GivesFirst a line c
 first_after None b line c same first = tt
 first_after (Some xs) b line c same first = first_of_same xs b line c same first
 
@@ -156,13 +157,14 @@ module _ {S : Type 0} (device : Source S) where
         goes = gives.goes;
       }
 
-  pub stops_by : (old new : LineReader S) (fault : Fault) → FillsLines device old (Err fault) new → TellsOwnFailure {A = Bool} device.is_read old (Err fault) new → Stops device old new
-  stops_by old new fault fills tells =
-      let same : (other : Fault) → fault_kept new ≡ Some (fault_value other) → fault_value fault ≡ fault_value other = λ other e. some_is (fault_value fault) (fault_value other) (sym fills.answers.kept ∙ e) in
+  -- a step that met a fault, which the reader keeps
+  pub stops_by : (old new : LineReader S) (fault : Fault) → FillsLines device old (Err fault) new → TellsOwnFailure {A = Bool} device.is_read old (Err fault) new
+      → (other : Fault) → fault_kept new ≡ Some (fault_value other) → NextLine device old (Err other) new
+  stops_by old new fault fills tells other e =
+      let same : fault_value fault ≡ fault_value other = some_is (fault_value fault) (fault_value other) (sym fills.answers.kept ∙ e) in
       record {
-        kept = rw fills.answers.kept refl;
-        answers = λ other e. subst (λ v. GivesFault device old v new) (same other e) fills.answers;
-        own_failure = λ other e none. subst (λ v. TellsReads device.is_read old (Some v) new) (same other e) (tells none);
+        answers = subst (λ v. GivesFault device old v new) same fills.answers;
+        own_failure = λ none. subst (λ v. TellsReads device.is_read old (Some v) new) same (tells none);
         sound = λ h. let kept = fills.kept (record { end = h.end; within = h.within }) in
             record { end = kept.end; within = kept.within; near = λ e. absurd (some_told fault (fault_kept new) fills.answers.kept e) };
       }
@@ -179,15 +181,20 @@ module _ {S : Type 0} (device : Source S) where
   pub is_cut : (old mid : LineReader S) (answer : Result Bool Fault) (b : Bool) → answer ≡ Ok true → FillsLines device old answer mid → (b ≡ false → complete mid.buffer ≡ []) → b ≡ true
   is_cut old mid answer b e fills none = let made = (filled old mid answer e fills).answers in cuts_by b mid made.some none
 
+  -- a step to a line
   pub moves_by : (old mid new : LineReader S) (answer : Result Bool Fault) (b : Bool) → answer ≡ Ok true → FillsLines device old answer mid → (b ≡ false → complete mid.buffer ≡ [])
-      → (b ≡ true → CutsFirst device mid new) → TellsOwnFailure device.is_read old answer mid → (b ≡ true → HasRead device.is_read mid new) → Moves device old new
-  moves_by old mid new answer b e fills none cuts read then =
+      → (b ≡ true → (line : Line) → Some (line_seen line) ≡ line_at new → GivesLine device mid (line_seen line) new) → (b ≡ true → IsSome (line_at new)) → (b ≡ true → IsKept device mid → IsSound device new)
+      → TellsOwnFailure device.is_read old answer mid → (b ≡ true → HasRead device.is_read mid new)
+      → (line : Option Line) → option_map line_seen line ≡ line_at new → NextLine device old (Ok line) new
+  moves_by old mid new answer b e fills none gives some sound read then None at =
+      let none_at : is_some (line_at new) ≡ false = ap is_some (sym at) in
+      absurd (false≢true (sym none_at ∙ some (is_cut old mid answer b e fills none)))
+  moves_by old mid new answer b e fills none gives some sound read then (Some line) at =
       let filled = filled old mid answer e fills in
       let cut = is_cut old mid answer b e fills none in
-      let first = cuts cut in
       let reads : HasRead device.is_read old mid = subst (λ (r : Result Bool Fault). TellsOwnFailure device.is_read old r mid) e read in
       record {
-        steps = subst (λ l. StepsTo device old l new) (sym first.at) (gives_after old mid new first.line filled.answers first.gives);
-        read = has_read_then device.is_read old mid new reads (then cut);
-        sound = λ h. first.sound (filled.kept (record { end = h.end; within = h.within }));
+        answers = gives_after old mid new (line_seen line) filled.answers (gives cut line at);
+        own_failure = has_read_then device.is_read old mid new reads (then cut);
+        sound = λ h. sound cut (filled.kept (record { end = h.end; within = h.within }));
       }

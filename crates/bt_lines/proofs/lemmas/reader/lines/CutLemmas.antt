@@ -1,5 +1,5 @@
 -- Lemmas on a line that is taken of those that are buffered.
-use Rattle.bt_lines.proofs.Std.{◌≡◌, ◌⊎◌, inl, inr, ℕ, suc, ◌+◌, ◌-◌, ◌<◌, ◌≤◌, Bool, true, false, cond, nat_eq, List, [], ◌∷◌, ◌++◌, length, take, drop, slice_range, Option, Some, refl, sym, ap, ◌∙◌, append_assoc, append-nil, length-append, add-zero, arith, IsSome, nat_lt, ends_with_byte, strip_last, take-append_seam, false≢true, nat_tests, length-take, Consumes-nil, Consumes}
+use Rattle.bt_lines.proofs.Std.{◌≡◌, ◌⊎◌, inl, inr, ℕ, suc, ◌+◌, ◌-◌, ◌<◌, ◌≤◌, Bool, true, false, cond, nat_eq, List, [], ◌∷◌, ◌++◌, length, take, drop, slice_range, Option, Some, refl, sym, ap, ◌∙◌, subst, append_assoc, append-nil, length-append, add-zero, arith, IsSome, nat_lt, ends_with_byte, strip_last, take-append_seam, false≢true, nat_tests, length-take, Consumes-nil, Consumes}
 use Rattle.bt_lines.specs.declared.device.Source.{Ghosts as Source}
 use Rattle.bt_lines.proofs.lemmas.reader.block.BlockLemmas.{unread_fits}
 use Rattle.bt_lines.proofs.lemmas.reader.block.BufferLemmas.{fed_none}
@@ -7,18 +7,33 @@ use Rattle.bt_lines.proofs.lemmas.reader.lines.StateLemmas.{some_state}
 use Rattle.bt_lines.proofs.lemmas.reader.lines.StepLemmas.{goes, told_last, gives_fed, sound_fed, gives_last, sound_last}
 use Rattle.bt_lines.proofs.lemmas.reader.lines.TextLemmas.{line_feeds-fed}
 use Rattle.bt_lines.specs.calls.FirstLine.{Cut, Shown, ending_at}
-use Rattle.bt_lines.specs.calls.LentLine.{NoLineFeed}
+use Rattle.bt_lines.specs.calls.LentLine.{NoLineFeed, line_seen}
 use Rattle.bt_lines.specs.model.Lines.{TextLine, fed_line, line_feeds}
 use Rattle.bt_lines.specs.calls.Output.{block_size}
 use Rattle.bt_lines.specs.inside.ReadBuffer.{complete, text_in, unread}
-use Rattle.bt_lines.specs.calls.Reader.{CutsFirst, has_ended, held, input_of, line_at, lines_given, source_of}
+use Rattle.bt_lines.specs.calls.Reader.{GivesLine, IsKept, IsSound, has_ended, held, input_of, line_at, lines_given, source_of}
 use Rattle.bt_lines.specs.inside.ReaderState.{lends_at, open_at, told_at}
 use Rattle.bt_lines.specs.inside.Shape.{AreComplete, IsLast, held_at, is_fed}
 use Rattle.bt_lines.specs.declared.reader.line.LineEnd.TheVariants.{Absent, Lf, CrLf, Cr}
 use Rattle.bt_lines.specs.declared.reader.line_reader.LineReader.{LineReader}
+use Rattle.bt_lines.specs.declared.reader.line.Line.{Line}
 use Rattle.bt_lines.specs.declared.reader.line_reader.State.{State}
 use Rattle.bt_lines.specs.declared.reader.line_reader.State.TheVariants.{Reading, LastLine}
 use Rattle.bt_lines.specs.declared.reader.read_buffer.ReadBuffer.{ReadBuffer}
+
+-- the first line that is buffered was given
+pub record CutsFirst {S : Type 0} (device : Source S) (old new : LineReader S) : Type 0 where
+  pub line : TextLine
+  pub at : line_at new ≡ Some line
+  pub gives : GivesLine device old line new
+  pub sound : IsKept device old → IsSound device new
+
+same_line : (a b : TextLine) → Some a ≡ Some b → a ≡ b
+same_line a b e = cc
+
+-- the line that the reader is at then is this one
+pub cut_gives : {S : Type 0} (device : Source S) (old new : LineReader S) → CutsFirst device old new → (line : Line) → Some (line_seen line) ≡ line_at new → GivesLine device old (line_seen line) new
+cut_gives device old new cuts line at = subst (λ l. GivesLine device old l new) (same_line cuts.line (line_seen line) (sym cuts.at ∙ sym at)) cuts.gives
 
 pub are_fed : (buffer : ReadBuffer) → AreComplete buffer.is_spilled (complete buffer)
 unfolding complete

@@ -1,8 +1,8 @@
 -- Lemmas on the pieces of a text between separators.
-use Rattle.bt_lines.proofs.Std.{◌≡◌, ℕ, zero, ◌+◌, ◌<◌, false, List, [], ◌∷◌, ◌++◌, length, take, drop, get_or, Option, Some, None, refl, sym, ap, ◌∙◌, subst, arith, eqb, take-append-drop, drop_more, get_or-take, get_or_default, length-take-le, take_all, slice_split_at, slice_split_none, All, false_from_ne_true, IfSome, slice_index, eq-eqb, eqb-true}
+use Rattle.bt_lines.proofs.Std.{◌≡◌, ℕ, zero, ◌+◌, ◌<◌, false, List, [], ◌∷◌, ◌++◌, length, take, drop, get_or, Option, Some, None, refl, sym, ap, ◌∙◌, subst, arith, eqb, take-append-drop, drop_more, get_or-take, get_or_default, length-take-le, take_all, slice_split_at, slice_split_none, All, false_from_ne_true, slice_index, eq-eqb, eqb-true}
 use Rattle.memchr.specs.Find.{FindsNeedle, IsFirstByte, OccursAt, Passes, is_byte}
-use Rattle.bt_lines.specs.calls.FirstByte.{IsBefore, Lacks}
-use Rattle.bt_lines.specs.calls.Columns.{CutAt, IsFirstTab}
+use Rattle.bt_lines.specs.calls.FirstByte.{IsBefore, IsFirstOf, Lacks}
+use Rattle.bt_lines.specs.calls.Columns.{CutAt}
 use Rattle.bt_lines.specs.model.Lines.{pieces}
 
 -- none comes before the first separator
@@ -26,10 +26,10 @@ pieces_whole s bytes nowhere =
     slice_split_none (λ x. eqb x s) bytes (λ k d h. rw (get_or_default bytes k d 0 h) (false_from_ne_true _ (nowhere k (omega arith) h)))
 
 -- the first tab divides the first column from the others
-pub tab_divides : (text : List ℕ) (found : Option ℕ) → IsFirstByte (is_byte 9) text found → IfSome found (IsFirstTab text) × CutAt text found
-tab_divides text None nowhere = (tt, pieces_whole 9 text nowhere)
+pub tab_divides : (text : List ℕ) (found : Option ℕ) → IsFirstByte (is_byte 9) text found → IsFirstOf 9 text found × CutAt text found
+tab_divides text None nowhere = (λ k d h. rw (get_or_default text k d 0 h) (false_from_ne_true _ (nowhere k (omega arith) h)), pieces_whole 9 text nowhere)
 tab_divides text (Some i) first = (
-  record { within = first.0.high; tab = eqb-true (get_or text i 0) 9 first.1; column = clear_before 9 text i first },
+  (first.0.high, sym (take-append-drop i text) ∙ ap (λ l. take i text ++ l) (drop_more text i 0 first.0.high ∙ ap (λ byte. byte ∷ drop (i + 1) text) (eqb-true (get_or text i 0) 9 first.1)), clear_before 9 text i first),
   pieces_cut 9 text i first,
 )
 

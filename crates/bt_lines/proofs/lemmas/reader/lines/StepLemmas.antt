@@ -12,7 +12,7 @@ use Rattle.bt_lines.specs.inside.Spill.{Buffers, closed}
 use Rattle.bt_lines.specs.calls.Output.{block_size}
 use Rattle.bt_lines.specs.calls.LentLine.{GivesFirst, NoLineFeed}
 use Rattle.bt_lines.specs.calls.Names.{fault_value}
-use Rattle.bt_lines.specs.calls.Reader.{FillsLines, IsKept, IsSound, MakesLine, SameLines, buffered_bytes, Hands, IsNear, FailsToRead, end_told, GivesLine, line_at, source_of, input_of, lines_given, bytes_taken, held, fault_kept, has_ended, bytes_left, feeds_taken}
+use Rattle.bt_lines.specs.calls.Reader.{FillsLines, IsKept, IsSound, MakesLine, DropsLines, buffered_bytes, Hands, IsNear, FailsToRead, end_told, GivesLine, line_at, source_of, input_of, lines_given, bytes_taken, held, fault_kept, has_ended, bytes_left, feeds_taken}
 use Rattle.bt_lines.specs.declared.fault.Fault.{Fault}
 use Rattle.bt_lines.specs.declared.fault.Input.{Input}
 use Rattle.bt_lines.specs.declared.reader.spill.Stop.{Stop}
@@ -68,7 +68,7 @@ last_of_known n (Some xs) piece rest line h e = h ∙ ap (λ l. line ∷ l) (sym
 
 -- those that are left stay the same while more bytes are taken
 same_known : (n : ℕ) (a b : Option (List ℕ)) (old new bytes : List ℕ) → Consumes a b bytes → new ≡ old ++ bytes
-    → SameLines (option_map (lines_from n) (prepend_known old a)) (option_map (lines_from n) (prepend_known new b))
+    → DropsLines (option_map (lines_from n) (prepend_known old a)) 0 (option_map (lines_from n) (prepend_known new b))
 same_known n None b old new bytes c e = tt
 same_known n (Some xs) None old new bytes c e = absurd c
 same_known n (Some xs) (Some ys) old new bytes c e =
@@ -76,7 +76,7 @@ same_known n (Some xs) (Some ys) old new bytes c e =
 
 -- nor when the end is reported
 same_at_end : (n : ℕ) (a b : Option (List ℕ)) (old new bytes : List ℕ) → Consumes a b bytes → IsAtEnd b → new ≡ old ++ bytes
-    → SameLines (option_map (lines_from n) (prepend_known old a)) (option_map (lines_from n) (option_map (λ ys. new) b))
+    → DropsLines (option_map (lines_from n) (prepend_known old a)) 0 (option_map (lines_from n) (option_map (λ ys. new) b))
 same_at_end n None b old new bytes c end e = tt
 same_at_end n (Some xs) None old new bytes c end e = absurd c
 same_at_end n (Some xs) (Some ys) old new bytes c end e =
@@ -255,7 +255,7 @@ module _ {S : Type 0} (device : Source S) (old new : LineReader S) (bytes : List
     told_stays = λ t. absurd (false≢true (sym was.untold ∙ t));
   }
 
-  made_by : SameLines (option_map (lines_from (suc (lines_given old))) (bytes_left device.left old)) (option_map (lines_from (suc (lines_given new))) (bytes_left device.left new)) → MakesLine device old new
+  made_by : DropsLines (option_map (lines_from (suc (lines_given old))) (bytes_left device.left old)) 0 (option_map (lines_from (suc (lines_given new))) (bytes_left device.left new)) → MakesLine device old new
   made_by kept = record {
     some = some;
     bytes = (bytes, made_hands, holds);

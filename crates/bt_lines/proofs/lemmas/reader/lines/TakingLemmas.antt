@@ -132,7 +132,7 @@ left_drops true number lines unread n (Some rest) fed =
 held_plain : (b : Bool) (lines unread : List ℕ) → b ≡ false → held_at b lines unread ≡ lines ++ unread
 held_plain b lines unread e = rw e refl
 
--- lines of so many bytes were taken, and nothing else changed
+-- lines of `n` bytes in all were taken, and nothing else changed
 pub record Takes {S : Type 0} (old new : LineReader S) (n : ℕ) : Type 0 where
   pub state : new.state ≡ old.state
   pub source : new.source ≡ old.source

@@ -1,4 +1,4 @@
-use Rattle.bt_lines.proofs.Std.{◌≡◌, List, [], ◌∷◌, Option, Some, None, inl, inr, ap, refl, subst, sym, ◌∙◌, is_some, ⊤, false≢true, err_from_is_err_and}
+use Rattle.bt_lines.proofs.Std.{◌≡◌, List, [], ◌∷◌, Option, Some, None, inl, ap, refl, subst, sym, ◌∙◌, is_some, ⊤, false≢true, err_from_is_err_and}
 use Rattle.bt_lines.specs.calls.Names.{fault_value}
 use Rattle.bt_bed.specs.calls.Bed.{feature_lent}
 use Rattle.bt_bed.specs.model.feature.Feature.{Feature}
@@ -7,7 +7,8 @@ use Rattle.bt_sweep.specs.calls.Advancing.{AdvancesSo, NoneGiven}
 use Rattle.bt_sweep.specs.inside.Relating.{EndsWhile}
 use Rattle.bt_sweep.specs.calls.SweepState.{Sweeping}
 use Rattle.bt_sweep.specs.calls.SweepView.{order_of, state_of}
-use Rattle.bt_sweep.proofs.lemmas.sweep.StandLemmas.{advances_from, advances_none, fails_from, keeps_current, only_first, pre_current, single_none, want_b}
+use Rattle.bt_sweep.proofs.lemmas.sweep.StandLemmas.{advances_from, advances_none, fails_from, keeps_current, only_first, pre_current, single_none, stops_b, want_b}
+use Rattle.bt_sweep.proofs.lemmas.sweep.GiveLemmas.{stops_none}
 use Rattle.bt_sweep.proofs.sweep.Sweep.decide_current.Goals as goal
 
 pub returns-in_default-clause-decides : goal.returns-in_default-clause-decides
@@ -17,7 +18,7 @@ returns-in_default-clause-decides g c =
     let same : c.take_current.new.self ≡ old = c.take_current.ensures.taken ∙ ap (λ (o : Option Feature). record old { current = o }) none in (
       subst (λ (n : Sweeping). AdvancesSo NoneGiven (λ u. ⊤) g.B.Cursor.gives g.B.Cursor.has_ended g.B.Cursor.line (order_of c.args.self.now) old tt c.args.b.now c.args.out.now.output n tt c.args.b.now c.args.out.now.output) (sym same)
           (advances_none NoneGiven (λ u. ⊤) g.B.Cursor.gives g.B.Cursor.has_ended g.B.Cursor.line (order_of c.args.self.now) old tt c.args.b.now c.args.out.now.output refl (g.met.B.Cursor.gives_none _)),
-      inr (ap (λ (s : Sweeping). s.current) c.take_current.ensures.taken),
+      inl (stops_none g.B.Cursor.gives g.B.Cursor.has_ended g.B.Cursor.line (order_of c.args.self.now) old c.args.b.now c.args.out.now.output c.take_current.new.self c.args.b.now (ap (λ (s : Sweeping). s.current) c.take_current.ensures.taken)),
     )
 
 pub returns-in_err-decide-clause-decides : goal.returns-in_err-decide-clause-decides
@@ -51,7 +52,7 @@ returns-in_default-2-clause-decides g c =
           NoneGiven (λ u. ⊤) tt tt c.new-none.result.cursor c.decide.new.a.cursor c.args.b.now c.decide.new.b c.args.out.now.output c.decide.new.out.output (state_of c.decide.new.self)
           None final j.0 (single_none c.new-none.result.cursor c.decide.new.a.cursor j.0.proceeds.firsts (ap single_left c.new-none.ensures.cursor ∙ c.none.ensures.left) j.0.proceeds.gives_firsts) (c.in_ok-decide.ensures.phase ∙ phase)
           (ap (λ (o : Option Feature). record final { current = o }) c.decide.ensures.none) (λ bad. absurd (false≢true bad)) tt,
-      inr c.decide.ensures.none,
+      inl (stops_none g.B.Cursor.gives g.B.Cursor.has_ended g.B.Cursor.line order old c.args.b.now c.args.out.now.output final c.decide.new.b c.decide.ensures.none),
     )
 
 pub returns-clause-decides : goal.returns-clause-decides
@@ -73,5 +74,5 @@ returns-clause-decides g c =
           NoneGiven (λ u. ⊤) tt tt c.new-none.result.cursor c.decide.new.a.cursor c.args.b.now c.decide.new.b c.args.out.now.output c.decide.new.out.output (state_of c.decide.new.self)
           (Some last) final j.0 alone (c.in_ok-decide.ensures.phase ∙ phase) back
           (λ waits stage st. st.unended (ap is_some (sym st.current_is ∙ some))) j.2,
-      inl (want_b final last (ap (λ (s : Sweeping). s.current) back), j.1.0),
+      inl (stops_b NoneGiven (λ u. ⊤) g.B.Cursor.gives g.B.Cursor.has_ended g.B.Cursor.line order old tt tt c.args.b.now c.decide.new.b c.args.out.now.output final (want_b final last (ap (λ (s : Sweeping). s.current) back)) j.1.0),
     )

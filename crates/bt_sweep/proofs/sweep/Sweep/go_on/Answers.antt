@@ -1,4 +1,4 @@
-use Rattle.bt_lines.proofs.Std.{◌≡◌, [], ◌∷◌, Option, None, ap, subst, sym, ◌∙◌, false≢true, err_from_is_err_and}
+use Rattle.bt_lines.proofs.Std.{◌≡◌, [], ◌∷◌, Option, None, ap, inl, subst, sym, ◌∙◌, false≢true, err_from_is_err_and}
 use Rattle.bt_lines.specs.calls.Names.{fault_value}
 use Rattle.bt_bed.specs.model.feature.Feature.{Feature}
 use Rattle.bt_sweep.specs.inside.Relating.{EndsWhile}
@@ -14,8 +14,8 @@ pub returns-in_default-clause-advances : goal.returns-in_default-clause-advances
 returns-in_default-clause-advances g c =
     let ended = subst (λ (x : g.row.A.Denot). g.A.Cursor.has_ended x) c.new-firsts.ensures.cursor c.in_default.ensures.none in (
       advances_none g.A.Cursor.gives g.A.Cursor.has_ended g.B.Cursor.gives g.B.Cursor.has_ended g.B.Cursor.line (order_of c.args.self.now) (state_of c.args.self.now) c.args.a.now c.args.b.now c.args.out.now.output (g.met.A.Cursor.gives_none _) (g.met.B.Cursor.gives_none _),
-      stops_a g.A.Cursor.gives g.A.Cursor.has_ended g.B.Cursor.gives g.B.Cursor.has_ended g.B.Cursor.line (order_of c.args.self.now) (state_of c.args.self.now) c.args.a.now c.args.a.now c.args.b.now c.args.b.now c.args.out.now.output (state_of c.args.self.now)
-          c.requires.want ended,
+      inl (stops_a g.A.Cursor.gives g.A.Cursor.has_ended g.B.Cursor.gives g.B.Cursor.has_ended g.B.Cursor.line (order_of c.args.self.now) (state_of c.args.self.now) c.args.a.now c.args.a.now c.args.b.now c.args.b.now c.args.out.now.output (state_of c.args.self.now)
+          c.requires.want ended),
     )
 
 pub returns-in_err-waiting-clause-advances : goal.returns-in_err-waiting-clause-advances
@@ -52,8 +52,8 @@ returns-in_default-2-clause-advances g c =
           g.A.Cursor.gives g.A.Cursor.has_ended c.args.a.now c.decide-decided.new.a.cursor c.next.new.self.cursor c.decide-decided.new.a.cursor c.args.b.now c.decide-decided.new.b c.args.out.now.output c.decide-decided.new.out.output (state_of c.decide-decided.new.self)
           None final j.0 (g.met.A.Cursor.gives_more _ _ _ (first ∷ []) j.0.proceeds.firsts given j.0.proceeds.gives_firsts) same
           (ap (λ (o : Option Feature). record final { current = o }) c.decide-decided.ensures.none) (λ bad. absurd (false≢true bad)) tt,
-      stops_a g.A.Cursor.gives g.A.Cursor.has_ended g.B.Cursor.gives g.B.Cursor.has_ended g.B.Cursor.line order old c.args.a.now c.decide-decided.new.a.cursor c.args.b.now c.decide-decided.new.b c.args.out.now.output final
-          (want_a final c.decide-decided.ensures.none (λ e. not_over old c.requires.want (sym same ∙ e))) j.1,
+      inl (stops_a g.A.Cursor.gives g.A.Cursor.has_ended g.B.Cursor.gives g.B.Cursor.has_ended g.B.Cursor.line order old c.args.a.now c.decide-decided.new.a.cursor c.args.b.now c.decide-decided.new.b c.args.out.now.output final
+          (want_a final c.decide-decided.ensures.none (λ e. not_over old c.requires.want (sym same ∙ e))) j.1),
     )
 
 pub returns-clause-advances : goal.returns-clause-advances

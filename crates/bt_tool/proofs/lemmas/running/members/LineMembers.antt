@@ -6,7 +6,7 @@ use Rattle.bt_lines.proofs.lemmas.reader.lines.TakingLemmas.{is_prefix, near_nex
 use Rattle.bt_lines.specs.model.Fault.{FaultValue}
 use Rattle.bt_lines.specs.model.Lines.{AreNumbered, TextLine, lines_from}
 use Rattle.bt_lines.specs.calls.Output.{block_size}
-use Rattle.bt_lines.specs.calls.Reader.{DropsLines, GivesEnd, GivesFault, Hands, IsKept, MakesLine, SameLines, TakenLines, TakesLines, buffered_bytes, buffered_in, bytes_left, end_told, fault_kept as line_fault, held, input_of, left_at, lines_given, lines_left, source_of}
+use Rattle.bt_lines.specs.calls.Reader.{DropsLines, GivesEnd, GivesFault, Hands, IsKept, MakesLine, TakenLines, TakesLines, buffered_bytes, buffered_in, bytes_left, end_told, fault_kept as line_fault, held, input_of, left_at, lines_given, lines_left, source_of}
 use Rattle.bt_lines.specs.declared.reader.buffered_lines.ConsumedLines.{ConsumedLines}
 use Rattle.bt_lines.specs.declared.fault.Kind.{Kind}
 use Rattle.bt_lines.specs.declared.fault.Kind.TheVariants.{TextBeforeHeader}
@@ -63,10 +63,10 @@ front_of (x ∷ front) more (y ∷ all) e =
     let further = front_of front more all rest in
     (further.0, ap (λ l. l ∷ all) same ∙ ap (λ l. x ∷ l) further.1)
 
-lines_same : (start now new : Option (List TextLine)) (given later : ℕ) → later ≡ given → IfSome start (λ lines. now ≡ Some (drop given lines)) → SameLines now new → IfSome start (λ lines. new ≡ Some (drop later lines))
+lines_same : (start now new : Option (List TextLine)) (given later : ℕ) → later ≡ given → IfSome start (λ lines. now ≡ Some (drop given lines)) → DropsLines now 0 new → IfSome start (λ lines. new ≡ Some (drop later lines))
 lines_same start now new given later e p s = pass_more start now new given 0 later p (same_drop now s) (omega (arith, e))
   where
-    same_drop : (now : Option (List TextLine)) → SameLines now new → IfSome now (λ lines. new ≡ Some (drop 0 lines))
+    same_drop : (now : Option (List TextLine)) → DropsLines now 0 new → IfSome now (λ lines. new ≡ Some (drop 0 lines))
     same_drop None s = tt
     same_drop (Some lines) s = s
 
@@ -88,7 +88,7 @@ unfolding bytes_left
 still_unknown left old new same none =
     unknown_by (left (source_of old)) (left (source_of new)) (end_told old) (end_told new) (held old) (held new) (suc (lines_given old)) (suc (lines_given new)) (ap left same) none
 
-come_same : {A : Type 0} (old : Option (Good A)) (f g : List TextLine → Good A) (now new : Option (List TextLine)) (past : List (Member A)) → ((l : List TextLine) → f l ≡ g l) → SameLines now new
+come_same : {A : Type 0} (old : Option (Good A)) (f g : List TextLine → Good A) (now new : Option (List TextLine)) (past : List (Member A)) → ((l : List TextLine) → f l ≡ g l) → DropsLines now 0 new
     → ComeFirst old past (option_map f now) → ComeFirst old past (option_map g new)
 come_same None f g now new past e s c = tt
 come_same (Some good) f g None new past e s c = absurd c

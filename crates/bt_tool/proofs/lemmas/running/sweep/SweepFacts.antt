@@ -20,13 +20,12 @@ use Rattle.bt_lines.specs.declared.fault.Kind.TheVariants.{TooManyHeld}
 use Rattle.bt_bed.specs.model.feature.LineKind.{fault_at_line}
 use Rattle.bt_bed.specs.model.order.Locus.{ArePlaced}
 use Rattle.bt_sweep.specs.model.Limit.{are_too_many, cut_behind, is_held, limited}
-use Rattle.bt_sweep.specs.calls.Steps.{has_room}
 use Rattle.bt_sweep.proofs.lemmas.definitions.LimitLemmas.{cut_front, cut_here, cut_keeps, cut_next, cut_none, cut_on, few_decided, many_by}
 use Rattle.bt_tool.proofs.lemmas.running.pair.PairMet.{AreLimits}
 use Rattle.bt_bed.specs.calls.Reading.{members_from}
 use Rattle.bt_sweep.specs.calls.Advancing.{Settles}
 use Rattle.bt_sweep.specs.model.IntersectLines.{intersect}
-use Rattle.bt_sweep.specs.calls.Taking.{AreDecided, TakenEach}
+use Rattle.bt_sweep.specs.calls.Taking.{AreDecided, TakenEach, has_room}
 use Rattle.bt_sweep.specs.declared.sweep.phase.Phase.{Phase}
 use Rattle.bt_sweep.specs.declared.sweep.phase.Phase.TheVariants.{First}
 use Rattle.bt_sweep.proofs.lemmas.definitions.DecidingLemmas.{none_before, placed_back}

@@ -1,7 +1,7 @@
 use Rattle.bt_lines.proofs.Std.{◌∙◌, ◌+◌, ◌∷◌, ◌++◌, None, Some, ap, length, refl, sym, nat_lt}
 use Rattle.bt_lines.proofs.lemmas.reader.block.BufferLemmas.{fed_clear}
 use Rattle.bt_lines.proofs.lemmas.reader.lines.BufferedLemmas.{begins_first}
-use Rattle.bt_lines.proofs.lemmas.reader.lines.CutLemmas.{are_fed, cut_within, cuts_first, last_cut, quiet_cut, some_at, spaced_cut}
+use Rattle.bt_lines.proofs.lemmas.reader.lines.CutLemmas.{are_fed, cut_gives, cut_within, cuts_first, last_cut, quiet_cut, some_at, spaced_cut}
 use Rattle.bt_lines.proofs.lemmas.reader.block.ReadsLemmas.{counts_none}
 use Rattle.bt_lines.specs.calls.FirstLine.{ending_at, line_shown}
 use Rattle.bt_lines.specs.inside.ReadBuffer.{complete, unread}
@@ -15,10 +15,19 @@ take_line-requires-clause-line g c =
 
 pub returns-clause-cut : goal.returns-clause-cut
 unfolding buffered_bytes
-returns-clause-cut g c = λ e.
-    cuts_first _ c.args.self.now _ (line_shown c.in-Some.field-0) refl refl refl refl refl (begins_first c.buffered.result _ _ _ (Some (line_shown c.in-Some.field-0)) c.buffered.ensures.begins c.in-Some.ensures.cut)
+returns-clause-cut g c = λ e line at.
+    let cuts = cuts_first g.S.Source c.args.self.now _ (line_shown c.in-Some.field-0) refl refl refl refl refl (begins_first c.buffered.result _ _ _ (Some (line_shown c.in-Some.field-0)) c.buffered.ensures.begins c.in-Some.ensures.cut)
     (c.take_line.ensures.lines) c.take_line.ensures.unread c.take_line.ensures.text c.take_line.ensures.spilled
-    (c.ending_of-self.ensures ∙ ap (λ b. ending_at b (nat_lt (length c.in-Some.field-0.text.now + 1) c.in-Some.field-0.size)) c.is_open.ensures)
+    (c.ending_of-self.ensures ∙ ap (λ b. ending_at b (nat_lt (length c.in-Some.field-0.text.now + 1) c.in-Some.field-0.size)) c.is_open.ensures) in
+    cut_gives _ c.args.self.now _ cuts line at
+
+pub returns-clause-sound : goal.returns-clause-sound
+unfolding buffered_bytes
+returns-clause-sound g c = λ e.
+    let cuts = cuts_first g.S.Source c.args.self.now _ (line_shown c.in-Some.field-0) refl refl refl refl refl (begins_first c.buffered.result _ _ _ (Some (line_shown c.in-Some.field-0)) c.buffered.ensures.begins c.in-Some.ensures.cut)
+    (c.take_line.ensures.lines) c.take_line.ensures.unread c.take_line.ensures.text c.take_line.ensures.spilled
+    (c.ending_of-self.ensures ∙ ap (λ b. ending_at b (nat_lt (length c.in-Some.field-0.text.now + 1) c.in-Some.field-0.size)) c.is_open.ensures) in
+    cuts.sound
 
 pub returns-clause-at : goal.returns-clause-at
 unfolding buffered_bytes

@@ -3,7 +3,9 @@ use Rattle.bt_lines.specs.calls.Names.{fault_value}
 use Rattle.bt_bed.specs.model.order.Order.{IsTotal}
 use Rattle.bt_sweep.specs.inside.Joining.{AreDecidedOn}
 use Rattle.bt_sweep.specs.inside.Pending.{pending_in}
-use Rattle.bt_sweep.specs.inside.StateSteps.{CannotHold}
+use Rattle.bt_sweep.specs.inside.StateSteps.{has_room_in}
+use Rattle.bt_sweep.specs.calls.Taking.{CannotHold}
+use Rattle.bt_lines.specs.calls.Names.{fault_value}
 use Rattle.bt_sweep.specs.calls.SweepState.{Sweeping}
 use Rattle.bt_sweep.proofs.lemmas.sweep.JoinLemmas.{breaks_take, breaks_write, joins_first, joins_take, joins_write, leaves_none}
 use Rattle.bt_sweep.proofs.sweep.state.State.join_pending.Goals as goal
@@ -78,7 +80,7 @@ returns-in_err-take-clause-joins g c =
     (breaks_take g.A.Cursor.gives g.A.Cursor.has_ended g.met.A.Cursor.gives_none g.met.A.Cursor.gives_more g.B.Cursor.gives g.B.Cursor.has_ended g.B.Cursor.line g.met.B.Cursor.gives_none g.met.B.Cursor.gives_more
     c.args.self.now (g.A.Record.Record.feature c.args.first) c.args.firsts.now.cursor c.args.seconds.now (pending_in (g.A.Cursor.consumed c.args.firsts.now.cursor) c.args.firsts.now.from c.args.firsts.now.to) c.args.out.now.output
     cur2 c.write_up_to.new.self c.write_up_to.new.firsts.cursor c.loop-next.seconds rest c.write_up_to.new.out.output j.0 b c.next.new.self gives_b on j.1 w.1.0
-    c.in_err-take.field-0.0 lacks.1 (subst (λ (n : ℕ). CannotHold c.write_up_to.new.self n c.in_err-take.field-0.0) c.line.ensures lacks.2))
+    c.in_err-take.field-0.0 lacks.1 (subst (λ (n : ℕ). CannotHold (has_room_in c.write_up_to.new.self) n (fault_value c.in_err-take.field-0.0)) c.line.ensures lacks.2))
 
 pub loop-next-preserved : goal.loop-next-preserved
 loop-next-preserved g c =
