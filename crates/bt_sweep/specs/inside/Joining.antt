@@ -1,7 +1,8 @@
 -- What runs of steps over records of both inputs come to. Callers know them by `Advancing`.
-use Rattle.std.specs.Prelude.{◌≡◌, ◌⊎◌, ℕ, ◌<◌, ◌≤◌, ⊤, true, All, IfSome, List, [], ◌∷◌, ◌++◌}
+use Rattle.std.specs.Prelude.{◌≡◌, ◌⊎◌, ℕ, ◌<◌, ◌≤◌, ⊤, Bool, true, All, IfSome, List, [], ◌∷◌, ◌++◌}
 use Rattle.std.specs.Prelude.{Option, None, Some, Result, Ok, Err, length, option_map}
 use Rattle.std.specs.Prelude.{option_to_list}
+use Rattle.std.specs.Bool.{then_some}
 use Rattle.bt_lines.specs.model.Fault.{FaultValue}
 use Rattle.bt_lines.specs.calls.Names.{fault_value}
 use Rattle.bt_lines.specs.model.Number.{max_number}
@@ -124,6 +125,11 @@ module _ {A : Type 0} (gives : A → List Feature → A → Type 0) (has_ended :
     pub are : first ∷ firsts ≡ newly ++ option_to_list waiting
     pub end : EndUpTo first.chrom place newly
     pub cuts : CutsFor IsTotal first firsts [] old newly pending out fault grown
+
+-- the current record, if it is the one that is left
+abbrev pub left_in : {R : Type 0} → R → Result Bool Fault → Result (Option R) Fault
+left_in current (Ok is_left) = Ok (then_some is_left current)
+left_in current (Err fault) = Err fault
 
 abbrev pub WritesUpTo : {A R : Type 0} → (A → List Feature → A → Type 0) → (A → Type 0) → (R → Feature) → ℕ
     → Sweeping → Feature → A → List ℕ → Output → Result (Option R) Fault → Sweeping → A → List ℕ → Output

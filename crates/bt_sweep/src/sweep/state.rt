@@ -8,7 +8,7 @@ ghost use Rattle.bt_bed.specs.model.feature.LineKind.{fault_at_line};
 ghost use Rattle.bt_bed.specs.model.order.Order.{IsTotal};
 ghost use Rattle.bt_sweep.specs.calls.Held.{AreReady, AreRising, CanHit, CanHitAt};
 ghost use Rattle.bt_sweep.specs.model.IntersectLines.{lines_for};
-ghost use Rattle.bt_sweep.specs.inside.Joining.{AddsWith, AreDecidedOn, Joins, LeavesOn, SkipsAll, WritesUpTo};
+ghost use Rattle.bt_sweep.specs.inside.Joining.{AddsWith, AreDecidedOn, Joins, LeavesOn, SkipsAll, WritesUpTo, left_in};
 ghost use Rattle.bt_sweep.specs.inside.Pending.{IsQuiet, PutsOr, line_in, pending_in};
 ghost use Rattle.bt_sweep.specs.inside.StateSteps.{KeepsOne, Takes, are_on, has_room_in, held_with, stopped};
 ghost use Rattle.bt_sweep.specs.calls.SweepState.{want_in};
@@ -336,42 +336,45 @@ impl<H: Held> State<H> {
         put
     }
 
-    // Writes records of the first input, from this one on, as long as they end at the place or before it. It returns the
-    // first one that doesn't, if there is one. Lines may be left pending.
+    // Writes records of the first input, from the current one on, as long as they end at the place or before it. It returns
+    // true if there is one that doesn't, and makes that the current one. Lines may be left pending. It is out of line, so
+    // that the loop over the second input stays in registers.
     #[tactic(auto, using(crate::proofs::lemmas::sweep::WriteLemmas::writes_first))]
-    #[inline(always)]
+    #[inline(never)]
     fn write_up_to<A: Cursor, K: Sink>(
         &mut self,
         place: u64,
-        first: A::Record,
+        current: &mut A::Record,
         firsts: &mut Pending<A>,
         out: &mut Out<K>,
-    ) -> Result<Option<A::Record>, Fault>
+    ) -> Result<bool, Fault>
         requires none { self.old.current ≡ None }
-        requires hits { All (CanHit (A.Record.feature first)) self.old.held }
-        requires on { A.name firsts.old.cursor ≡ (A.Record.feature first).chrom }
-        requires line { line_in (A.consumed firsts.old.cursor) firsts.old.to ≡ A.Record.raw first }
+        requires hits { All (CanHit (A.Record.feature current.old)) self.old.held }
+        requires on { A.name firsts.old.cursor ≡ (A.Record.feature current.old).chrom }
+        requires line { line_in (A.consumed firsts.old.cursor) firsts.old.to ≡ A.Record.raw current.old }
         requires quiet { IsQuiet self.old.shape (pending_in (A.consumed firsts.old.cursor) firsts.old.from firsts.old.to) }
-        ensures writes { WritesUpTo A.gives A.has_ended A.Record.feature place self.old (A.Record.feature first) firsts.old.cursor
-            (pending_in (A.consumed firsts.old.cursor) firsts.old.from firsts.old.to) out.old.output result self.new firsts.new.cursor
+        ensures writes { WritesUpTo A.gives A.has_ended A.Record.feature place self.old (A.Record.feature current.old) firsts.old.cursor
+            (pending_in (A.consumed firsts.old.cursor) firsts.old.from firsts.old.to) out.old.output (left_in current.new result) self.new firsts.new.cursor
             (pending_in (A.consumed firsts.new.cursor) firsts.new.from firsts.new.to) out.new.output }
         ensures on { A.name firsts.new.cursor ≡ A.name firsts.old.cursor }
-        ensures line { IfOk result (λ waiting. IfSome waiting (λ a. line_in (A.consumed firsts.new.cursor) firsts.new.to ≡ A.Record.raw a)) }
+        ensures line { IfOk result (λ is_left. is_left ≡ true → line_in (A.consumed firsts.new.cursor) firsts.new.to ≡ A.Record.raw current.new) }
         ensures quiet { OnOk result (IsQuiet self.new.shape (pending_in (A.consumed firsts.new.cursor) firsts.new.from firsts.new.to)) }
         ensures none { self.new.current ≡ None }
         ensures phase { OnOk result (self.new.phase ≡ self.old.phase) }
         ensures stops { OnErr result (self.new.phase ≡ Phase.Over) }
     {
-        let mut current = first;
-        while current.stop() <= place {
-            self.write(&current, firsts, out)?;
+        // A copy is read, so that it stays in registers.
+        let mut given = *current;
+        while given.stop() <= place {
+            self.write(&given, firsts, out)?;
             let Some(next) = firsts.next() else {
-                return Ok(None);
+                return Ok(false);
             };
             self.drop_ended(next.start());
-            current = next;
+            given = next;
         }
-        Ok(Some(current))
+        *current = given;
+        Ok(true)
     }
 
     // Writes all records of the first input, from this one on.
@@ -393,9 +396,10 @@ impl<H: Held> State<H> {
         ensures phase { OnOk result (self.new.phase ≡ self.old.phase) }
         ensures stops { OnErr result (self.new.phase ≡ Phase.Over) }
     {
-        let written = self.write_up_to(MAX_NUMBER, first, firsts, out)?;
+        let mut current = first;
+        let is_left = self.write_up_to(MAX_NUMBER, &mut current, firsts, out)?;
         self.put_pending(firsts.lines(), out)?;
-        Ok(written)
+        Ok(is_left.then_some(current))
     }
 
     // Joins records of both inputs on one chromosome, from this one of the first on. Where all that there are of the
@@ -456,10 +460,11 @@ impl<H: Held> State<H> {
         // A record is consumed only once it is taken, and not if it decides all of the first or can't be held.
         let mut ahead = *seconds;
         while let Some(next) = ahead.next() {
-            let Some(waiting) = self.write_up_to(next.start(), current, firsts, out)? else {
+            if current.stop() <= next.start()
+                && !self.write_up_to(next.start(), &mut current, firsts, out)?
+            {
                 return Ok(None);
-            };
-            current = waiting;
+            }
             self.take(&current, &next, ahead.line())?;
             *seconds = ahead;
         }

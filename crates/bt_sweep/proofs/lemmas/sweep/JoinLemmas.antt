@@ -1,5 +1,5 @@
 -- Lemmas on records of both inputs that are joined.
-use Rattle.bt_lines.proofs.Std.{◌≡◌, ◌<◌, ◌≤◌, inl, inr, ℕ, true, false, List, [], ◌∷◌, ◌++◌, Option, Some, None, Ok, Err, Result, option_map, refl, sym, ap, ◌∙◌, subst, append-nil, append_assoc, option_to_list, bytes_eq, length, ltb, arith, All, IfSome, list_all, and_from, and_parts, ltb-true, or_left, or_right, list_any-append}
+use Rattle.bt_lines.proofs.Std.{◌≡◌, ◌<◌, ◌≤◌, ◌⊎◌, inl, inr, ℕ, true, false, List, [], ◌∷◌, ◌++◌, Option, Some, None, Ok, Err, Result, option_map, refl, sym, ap, ◌∙◌, subst, append-nil, append_assoc, option_to_list, bytes_eq, length, ltb, arith, All, IfSome, list_all, and_from, and_parts, ltb-true, or_left, or_right, list_any-append}
 use Rattle.bt_lines.specs.model.Fault.{FaultValue}
 use Rattle.bt_lines.specs.calls.Names.{fault_value}
 use Rattle.bt_lines.specs.calls.Output.{Output}
@@ -22,7 +22,7 @@ use Rattle.bt_sweep.proofs.lemmas.definitions.DecidingLemmas.{placed_back}
 use Rattle.bt_sweep.proofs.lemmas.sweep.KeepLemmas.{cut_both, decided_before, decided_behind, decided_both, decides_beside, keeps_held, keeps_taken, lines_both, lines_stay_so, undecided_beside}
 use Rattle.bt_sweep.proofs.lemmas.sweep.PendingLemmas.{fails_again, with_none, with_rest, with_rest_cut}
 use Rattle.bt_sweep.proofs.lemmas.definitions.PlacedLemmas.{front_placed, last_given-push}
-use Rattle.bt_sweep.proofs.lemmas.sweep.WriteLemmas.{front_of, split_last, split_more}
+use Rattle.bt_sweep.proofs.lemmas.sweep.WriteLemmas.{front_of, split_last, split_more, writes_first}
 
 -- the chromosome of the next record is known
 pub known_head : {B : Type 0} (order : Order) (gives : B → List Feature → B → Type 0) (from : B) (b : Feature) (after : B) (name : List ℕ) → GivesKnown gives order from → gives from (b ∷ []) after → b.chrom ≡ name → order.knows name ≡ true
@@ -266,6 +266,14 @@ module _ {A B : Type 0} (a_gives : A → List Feature → A → Type 0) (a_ended
         },
         refl,
       )
+
+      -- they were, or it decides none
+      pub joins_past : (s2 : Sweeping) (to_a2 : A) (rest : List ℕ) (now : Output) (cur2 : Feature)
+          → WritesSo a_gives a_ended b.start s cur to_a left grown (Some cur2) s2 to_a2 rest now ⊎ ((s2 ≡ s) × (to_a2 ≡ to_a) × (rest ≡ left) × (now ≡ grown) × (cur2 ≡ cur))
+          → (k : So (Some cur2) s2 to_a2 to_b rest now) × (k.proceeds.next ≡ Some b)
+      joins_past s2 to_a2 rest now cur2 (inl w) = joins_write s2 to_a2 rest now (Some cur2) w
+      joins_past s2 to_a2 rest now cur2 (inr same) =
+          rw (same.0, same.1, same.2, same.3, same.4) (joins_write s to_a left grown (Some cur) (writes_first a_gives a_ended a_none a_more b.start s cur to_a left grown j.waits.1))
 
       -- they couldn't all be
       pub breaks_write : (to_a2 : A) (rest : List ℕ) (now : Output) (fault : FaultValue) → CutsOff a_gives a_ended b.start s cur to_a left grown fault to_a2 now → BreaksSo fault to_a2 to_b rest now

@@ -1,13 +1,13 @@
-use Rattle.bt_lines.proofs.Std.{[], ◌∷◌, Some, None, ℕ, ap, refl, subst, ◌∙◌, err_from_is_err_and}
+use Rattle.bt_lines.proofs.Std.{[], ◌<◌, ◌∷◌, Some, None, ℕ, ap, inl, inr, refl, subst, ◌∙◌, err_from_is_err_and}
 use Rattle.bt_lines.specs.calls.Names.{fault_value}
 use Rattle.bt_bed.specs.model.order.Order.{IsTotal}
 use Rattle.bt_sweep.specs.inside.Joining.{AreDecidedOn}
 use Rattle.bt_sweep.specs.inside.Pending.{pending_in}
-use Rattle.bt_sweep.specs.inside.StateSteps.{has_room_in}
+use Rattle.bt_sweep.specs.inside.StateSteps.{NeedsHit, has_room_in}
 use Rattle.bt_sweep.specs.calls.Taking.{CannotHold}
-use Rattle.bt_lines.specs.calls.Names.{fault_value}
 use Rattle.bt_sweep.specs.calls.SweepState.{Sweeping}
-use Rattle.bt_sweep.proofs.lemmas.sweep.JoinLemmas.{breaks_take, breaks_write, joins_first, joins_take, joins_write, leaves_none}
+use Rattle.bt_sweep.proofs.lemmas.sweep.JoinLemmas.{breaks_take, breaks_write, joins_first, joins_past, joins_take, joins_write, leaves_none}
+use Rattle.bt_sweep.proofs.sweep.state.State.join_pending.Goals.{else-stop-start-via-then-stop-start+in_ok-write_up_to+else-not-branch, else-stop-start-via-else-stop-start}
 use Rattle.bt_sweep.proofs.sweep.state.State.join_pending.Goals as goal
 
 pub loop-next-init : goal.loop-next-init
@@ -24,8 +24,8 @@ loop-next-init g c = record {
       IsTotal (AreDecidedOn (g.A.Record.Record.feature c.args.first).chrom) (λ order total known. refl) c.requires.hits in (first.0, first.1, λ order total known. leaves_none order first.0.proceeds.seconds (g.A.Record.Record.feature c.args.first) first.2);
 }
 
-pub returns-in_err-waiting-clause-joins : goal.returns-in_err-waiting-clause-joins
-returns-in_err-waiting-clause-joins g c =
+pub returns-in_err-write_up_to-clause-joins : goal.returns-in_err-write_up_to-clause-joins
+returns-in_err-write_up_to-clause-joins g c =
     let inv = c.loop-next.invariant in
     let left = pending_in (g.A.Cursor.consumed c.loop-next.firsts.cursor) c.loop-next.firsts.from c.loop-next.firsts.to in
     let rest = pending_in (g.A.Cursor.consumed c.write_up_to.new.firsts.cursor) c.write_up_to.new.firsts.from c.write_up_to.new.firsts.to in
@@ -34,15 +34,15 @@ returns-in_err-waiting-clause-joins g c =
     let gives_b = subst (λ (x : g.row.B.Denot). g.B.Cursor.gives x (b ∷ []) c.next.new.self) inv.same c.in-Some.ensures.some in
     let on = c.in-Some.ensures.on ∙ inv.beside ∙ c.requires.beside in
     let e = err_from_is_err_and c.from_residual.result c.from_residual.ensures.1 in
-    let cut = rw c.start.ensures at c.in_err-waiting.ensures.writes in
+    let cut = rw c.start-then-stop-start.ensures at c.in_err-write_up_to.ensures.writes in
     rw (e.1, e.2)
     (breaks_write g.A.Cursor.gives g.A.Cursor.has_ended g.met.A.Cursor.gives_none g.met.A.Cursor.gives_more g.B.Cursor.gives g.B.Cursor.has_ended g.B.Cursor.line g.met.B.Cursor.gives_none g.met.B.Cursor.gives_more
     c.args.self.now (g.A.Record.Record.feature c.args.first) c.args.firsts.now.cursor c.args.seconds.now (pending_in (g.A.Cursor.consumed c.args.firsts.now.cursor) c.args.firsts.now.from c.args.firsts.now.to) c.args.out.now.output
     cur c.loop-next.self c.loop-next.firsts.cursor c.loop-next.seconds left c.loop-next.out.output inv.going.0 b c.next.new.self gives_b on inv.going.1
-    c.write_up_to.new.firsts.cursor rest c.write_up_to.new.out.output (fault_value c.in_err-waiting.field-0.0) cut)
+    c.write_up_to.new.firsts.cursor rest c.write_up_to.new.out.output (fault_value c.in_err-write_up_to.field-0.0) cut)
 
-pub returns-in_default-2-clause-joins : goal.returns-in_default-2-clause-joins
-returns-in_default-2-clause-joins g c =
+pub returns-then-not-branch-clause-joins : goal.returns-then-not-branch-clause-joins
+returns-then-not-branch-clause-joins g c =
     let inv = c.loop-next.invariant in
     let left = pending_in (g.A.Cursor.consumed c.loop-next.firsts.cursor) c.loop-next.firsts.from c.loop-next.firsts.to in
     let rest = pending_in (g.A.Cursor.consumed c.write_up_to.new.firsts.cursor) c.write_up_to.new.firsts.from c.write_up_to.new.firsts.to in
@@ -50,7 +50,7 @@ returns-in_default-2-clause-joins g c =
     let cur = g.A.Record.Record.feature c.loop-next.current in
     let gives_b = subst (λ (x : g.row.B.Denot). g.B.Cursor.gives x (b ∷ []) c.next.new.self) inv.same c.in-Some.ensures.some in
     let on = c.in-Some.ensures.on ∙ inv.beside ∙ c.requires.beside in
-    let w = rw (c.start.ensures, c.in_default-2.is) at c.in_ok-waiting.ensures.writes in (
+    let w = rw (c.start-then-stop-start.ensures, c.if-not-branch.true) at c.in_ok-write_up_to.ensures.writes in (
       (joins_write g.A.Cursor.gives g.A.Cursor.has_ended g.met.A.Cursor.gives_none g.met.A.Cursor.gives_more g.B.Cursor.gives g.B.Cursor.has_ended g.B.Cursor.line g.met.B.Cursor.gives_none g.met.B.Cursor.gives_more
           c.args.self.now (g.A.Record.Record.feature c.args.first) c.args.firsts.now.cursor c.args.seconds.now (pending_in (g.A.Cursor.consumed c.args.firsts.now.cursor) c.args.firsts.now.from c.args.firsts.now.to) c.args.out.now.output
           cur c.loop-next.self c.loop-next.firsts.cursor c.loop-next.seconds left c.loop-next.out.output inv.going.0 b c.next.new.self gives_b on inv.going.1
@@ -62,53 +62,88 @@ returns-in_default-2-clause-joins g c =
 pub returns-in_err-take-clause-joins : goal.returns-in_err-take-clause-joins
 returns-in_err-take-clause-joins g c =
     let inv = c.loop-next.invariant in
+    let past = c.else-stop-start in
     let left = pending_in (g.A.Cursor.consumed c.loop-next.firsts.cursor) c.loop-next.firsts.from c.loop-next.firsts.to in
-    let rest = pending_in (g.A.Cursor.consumed c.write_up_to.new.firsts.cursor) c.write_up_to.new.firsts.from c.write_up_to.new.firsts.to in
+    let rest = pending_in (g.A.Cursor.consumed past.firsts.cursor) past.firsts.from past.firsts.to in
     let b = g.B.Record.Record.feature c.in-Some.next in
     let cur = g.A.Record.Record.feature c.loop-next.current in
+    let cur2 = g.A.Record.Record.feature past.current in
     let gives_b = subst (λ (x : g.row.B.Denot). g.B.Cursor.gives x (b ∷ []) c.next.new.self) inv.same c.in-Some.ensures.some in
     let on = c.in-Some.ensures.on ∙ inv.beside ∙ c.requires.beside in
-    let w = rw (c.start.ensures, c.in-Some-2.is) at c.in_ok-waiting.ensures.writes in
-    let cur2 = g.A.Record.Record.feature c.in-Some-2.waiting in
-    let j = joins_write g.A.Cursor.gives g.A.Cursor.has_ended g.met.A.Cursor.gives_none g.met.A.Cursor.gives_more g.B.Cursor.gives g.B.Cursor.has_ended g.B.Cursor.line g.met.B.Cursor.gives_none g.met.B.Cursor.gives_more
+    let j = joins_past g.A.Cursor.gives g.A.Cursor.has_ended g.met.A.Cursor.gives_none g.met.A.Cursor.gives_more g.B.Cursor.gives g.B.Cursor.has_ended g.B.Cursor.line g.met.B.Cursor.gives_none g.met.B.Cursor.gives_more
     c.args.self.now (g.A.Record.Record.feature c.args.first) c.args.firsts.now.cursor c.args.seconds.now (pending_in (g.A.Cursor.consumed c.args.firsts.now.cursor) c.args.firsts.now.from c.args.firsts.now.to) c.args.out.now.output
     cur c.loop-next.self c.loop-next.firsts.cursor c.loop-next.seconds left c.loop-next.out.output inv.going.0 b c.next.new.self gives_b on inv.going.1
-    c.write_up_to.new.self c.write_up_to.new.firsts.cursor rest c.write_up_to.new.out.output (Some cur2) w.0 in
+    past.self past.firsts.cursor rest past.out.output cur2
+    (elim past.branch [
+      | else-stop-start-via-then-stop-start+in_ok-write_up_to+else-not-branch w ↦
+          inl (rw (w.self-is, w.firsts-is, w.out-is, w.current-is) (rw (w.start-then-stop-start.ensures, w.if-not-branch.false) at w.in_ok-write_up_to.ensures.writes).0)
+      | else-stop-start-via-else-stop-start w ↦
+          inr (w.self-is, ap (λ f. f.cursor) w.firsts-is, ap (λ f. pending_in (g.A.Cursor.consumed f.cursor) f.from f.to) w.firsts-is, ap (λ o. o.output) w.out-is, ap g.A.Record.Record.feature w.current-is)
+    ]) in
+    let before_end : b.start < cur2.stop = elim past.branch [
+      | else-stop-start-via-then-stop-start+in_ok-write_up_to+else-not-branch w ↦ rw (w.current-is) (rw (w.start-then-stop-start.ensures, w.if-not-branch.false) at w.in_ok-write_up_to.ensures.writes).1.0
+      | else-stop-start-via-else-stop-start w ↦ rw w.current-is (rw (c.start.ensures, c.stop.ensures.is) at w.if-stop-start.false)
+    ] in
     let e = err_from_is_err_and c.from_residual-in_err-take.result c.from_residual-in_err-take.ensures.1 in
     let lacks = c.in_err-take.ensures.takes in
     rw (e.1, e.2)
     (breaks_take g.A.Cursor.gives g.A.Cursor.has_ended g.met.A.Cursor.gives_none g.met.A.Cursor.gives_more g.B.Cursor.gives g.B.Cursor.has_ended g.B.Cursor.line g.met.B.Cursor.gives_none g.met.B.Cursor.gives_more
     c.args.self.now (g.A.Record.Record.feature c.args.first) c.args.firsts.now.cursor c.args.seconds.now (pending_in (g.A.Cursor.consumed c.args.firsts.now.cursor) c.args.firsts.now.from c.args.firsts.now.to) c.args.out.now.output
-    cur2 c.write_up_to.new.self c.write_up_to.new.firsts.cursor c.loop-next.seconds rest c.write_up_to.new.out.output j.0 b c.next.new.self gives_b on j.1 w.1.0
-    c.in_err-take.field-0.0 lacks.1 (subst (λ (n : ℕ). CannotHold (has_room_in c.write_up_to.new.self) n (fault_value c.in_err-take.field-0.0)) c.line.ensures lacks.2))
+    cur2 past.self past.firsts.cursor c.loop-next.seconds rest past.out.output j.0 b c.next.new.self gives_b on j.1 before_end
+    c.in_err-take.field-0.0 lacks.1 (subst (λ (n : ℕ). CannotHold (has_room_in past.self) n (fault_value c.in_err-take.field-0.0)) c.line.ensures lacks.2))
 
 pub loop-next-preserved : goal.loop-next-preserved
 loop-next-preserved g c =
     let inv = c.loop-next.invariant in
+    let past = c.else-stop-start in
     let left = pending_in (g.A.Cursor.consumed c.loop-next.firsts.cursor) c.loop-next.firsts.from c.loop-next.firsts.to in
-    let rest = pending_in (g.A.Cursor.consumed c.write_up_to.new.firsts.cursor) c.write_up_to.new.firsts.from c.write_up_to.new.firsts.to in
+    let rest = pending_in (g.A.Cursor.consumed past.firsts.cursor) past.firsts.from past.firsts.to in
     let b = g.B.Record.Record.feature c.in-Some.next in
     let cur = g.A.Record.Record.feature c.loop-next.current in
+    let cur2 = g.A.Record.Record.feature past.current in
     let gives_b = subst (λ (x : g.row.B.Denot). g.B.Cursor.gives x (b ∷ []) c.next.new.self) inv.same c.in-Some.ensures.some in
     let on = c.in-Some.ensures.on ∙ inv.beside ∙ c.requires.beside in
-    let w = rw (c.start.ensures, c.in-Some-2.is) at c.in_ok-waiting.ensures.writes in
-    let cur2 = g.A.Record.Record.feature c.in-Some-2.waiting in
-    let j = joins_write g.A.Cursor.gives g.A.Cursor.has_ended g.met.A.Cursor.gives_none g.met.A.Cursor.gives_more g.B.Cursor.gives g.B.Cursor.has_ended g.B.Cursor.line g.met.B.Cursor.gives_none g.met.B.Cursor.gives_more
+    let j = joins_past g.A.Cursor.gives g.A.Cursor.has_ended g.met.A.Cursor.gives_none g.met.A.Cursor.gives_more g.B.Cursor.gives g.B.Cursor.has_ended g.B.Cursor.line g.met.B.Cursor.gives_none g.met.B.Cursor.gives_more
     c.args.self.now (g.A.Record.Record.feature c.args.first) c.args.firsts.now.cursor c.args.seconds.now (pending_in (g.A.Cursor.consumed c.args.firsts.now.cursor) c.args.firsts.now.from c.args.firsts.now.to) c.args.out.now.output
     cur c.loop-next.self c.loop-next.firsts.cursor c.loop-next.seconds left c.loop-next.out.output inv.going.0 b c.next.new.self gives_b on inv.going.1
-    c.write_up_to.new.self c.write_up_to.new.firsts.cursor rest c.write_up_to.new.out.output (Some cur2) w.0 in
+    past.self past.firsts.cursor rest past.out.output cur2
+    (elim past.branch [
+      | else-stop-start-via-then-stop-start+in_ok-write_up_to+else-not-branch w ↦
+          inl (rw (w.self-is, w.firsts-is, w.out-is, w.current-is) (rw (w.start-then-stop-start.ensures, w.if-not-branch.false) at w.in_ok-write_up_to.ensures.writes).0)
+      | else-stop-start-via-else-stop-start w ↦
+          inr (w.self-is, ap (λ f. f.cursor) w.firsts-is, ap (λ f. pending_in (g.A.Cursor.consumed f.cursor) f.from f.to) w.firsts-is, ap (λ o. o.output) w.out-is, ap g.A.Record.Record.feature w.current-is)
+    ]) in
+    let before_end : b.start < cur2.stop = elim past.branch [
+      | else-stop-start-via-then-stop-start+in_ok-write_up_to+else-not-branch w ↦ rw (w.current-is) (rw (w.start-then-stop-start.ensures, w.if-not-branch.false) at w.in_ok-write_up_to.ensures.writes).1.0
+      | else-stop-start-via-else-stop-start w ↦ rw w.current-is (rw (c.start.ensures, c.stop.ensures.is) at w.if-stop-start.false)
+    ] in
     let takes = c.in_ok-take.ensures.takes in
     record {
-      none = ap (λ (s : Sweeping). s.current) takes.0 ∙ c.write_up_to.ensures.none;
-      phase = ap (λ (s : Sweeping). s.phase) takes.0 ∙ c.in_ok-waiting.ensures.phase ∙ inv.phase;
-      on = c.write_up_to.ensures.on ∙ inv.on;
-      line = rw c.in-Some-2.is at c.in_ok-waiting.ensures.line;
-      quiet = λ needs. c.in_ok-waiting.ensures.quiet (rw (← ap (λ (s : Sweeping). s.shape) takes.0) needs);
+      none = ap (λ (s : Sweeping). s.current) takes.0 ∙ elim past.branch [
+        | else-stop-start-via-then-stop-start+in_ok-write_up_to+else-not-branch w ↦ ap (λ (s : Sweeping). s.current) w.self-is ∙ w.write_up_to.ensures.none
+        | else-stop-start-via-else-stop-start w ↦ ap (λ (s : Sweeping). s.current) w.self-is ∙ inv.none
+      ];
+      phase = ap (λ (s : Sweeping). s.phase) takes.0 ∙ elim past.branch [
+        | else-stop-start-via-then-stop-start+in_ok-write_up_to+else-not-branch w ↦ ap (λ (s : Sweeping). s.phase) w.self-is ∙ w.in_ok-write_up_to.ensures.phase ∙ inv.phase
+        | else-stop-start-via-else-stop-start w ↦ ap (λ (s : Sweeping). s.phase) w.self-is ∙ inv.phase
+      ];
+      on = elim past.branch [
+        | else-stop-start-via-then-stop-start+in_ok-write_up_to+else-not-branch w ↦ ap (λ f. g.A.Cursor.name f.cursor) w.firsts-is ∙ w.write_up_to.ensures.on ∙ inv.on
+        | else-stop-start-via-else-stop-start w ↦ ap (λ f. g.A.Cursor.name f.cursor) w.firsts-is ∙ inv.on
+      ];
+      line = elim past.branch [
+        | else-stop-start-via-then-stop-start+in_ok-write_up_to+else-not-branch w ↦ rw (w.firsts-is, w.current-is) (w.in_ok-write_up_to.ensures.line w.if-not-branch.false)
+        | else-stop-start-via-else-stop-start w ↦ rw (w.firsts-is, w.current-is) inv.line
+      ];
+      quiet = λ needs. elim past.branch [
+        | else-stop-start-via-then-stop-start+in_ok-write_up_to+else-not-branch w ↦ rw w.firsts-is (w.in_ok-write_up_to.ensures.quiet (subst NeedsHit (ap (λ (s : Sweeping). s.shape) takes.0 ∙ ap (λ (s : Sweeping). s.shape) w.self-is) needs))
+        | else-stop-start-via-else-stop-start w ↦ rw w.firsts-is (inv.quiet (subst NeedsHit (ap (λ (s : Sweeping). s.shape) takes.0 ∙ ap (λ (s : Sweeping). s.shape) w.self-is) needs))
+      ];
       beside = c.next.ensures.same ∙ inv.beside;
       same = refl;
       going = joins_take g.A.Cursor.gives g.A.Cursor.has_ended g.met.A.Cursor.gives_none g.met.A.Cursor.gives_more g.B.Cursor.gives g.B.Cursor.has_ended g.B.Cursor.line g.met.B.Cursor.gives_none g.met.B.Cursor.gives_more
           c.args.self.now (g.A.Record.Record.feature c.args.first) c.args.firsts.now.cursor c.args.seconds.now (pending_in (g.A.Cursor.consumed c.args.firsts.now.cursor) c.args.firsts.now.from c.args.firsts.now.to) c.args.out.now.output
-          cur2 c.write_up_to.new.self c.write_up_to.new.firsts.cursor c.loop-next.seconds rest c.write_up_to.new.out.output j.0 b c.next.new.self gives_b on j.1 w.1.0
+          cur2 past.self past.firsts.cursor c.loop-next.seconds rest past.out.output j.0 b c.next.new.self gives_b on j.1 before_end
           c.take.new.self takes.0 takes.1 c.in_ok-take.ensures.hits;
     }
 
