@@ -33,10 +33,7 @@ pub fn worked_cases()
     ensures no_genome { options (codes "merge" ∷ [])
         ≡ Ok (record {
           command = Command.Merge 0 MergeStrand.All;
-          genome = None;
-          first = codes "stdin";
-          second = None;
-          output = None;
+          names = record { genome = None; first = codes "stdin"; second = None; output = None };
         }) }
     ensures one_input { options (codes "intersect" ∷ codes "-a" ∷ codes "x" ∷ []) ≡ Err required_missing }
     ensures twice { options (codes "merge" ∷ codes "-g" ∷ codes "-" ∷ [])
@@ -44,81 +41,54 @@ pub fn worked_cases()
     ensures standard_input { options (codes "merge" ∷ codes "-g" ∷ codes "g" ∷ [])
         ≡ Ok (record {
           command = Command.Merge 0 MergeStrand.All;
-          genome = Some (codes "g");
-          first = codes "stdin";
-          second = None;
-          output = None;
+          names = record { genome = Some (codes "g"); first = codes "stdin"; second = None; output = None };
         }) }
     ensures genome_from_standard_input { options (codes "merge" ∷ codes "-g" ∷ codes "-"
         ∷ codes "-i" ∷ codes "a.bed" ∷ []) ≡ Ok (record {
           command = Command.Merge 0 MergeStrand.All;
-          genome = Some (codes "-");
-          first = codes "a.bed";
-          second = None;
-          output = None;
+          names = record { genome = Some (codes "-"); first = codes "a.bed"; second = None; output = None };
         }) }
     ensures last_value { options (codes "merge" ∷ codes "-g" ∷ codes "a"
         ∷ codes "-g" ∷ codes "b" ∷ []) ≡ Ok (record {
           command = Command.Merge 0 MergeStrand.All;
-          genome = Some (codes "b");
-          first = codes "stdin";
-          second = None;
-          output = None;
+          names = record { genome = Some (codes "b"); first = codes "stdin"; second = None; output = None };
         }) }
     ensures gap_without_a_number { options (codes "merge" ∷ codes "-g" ∷ codes "g" ∷ codes "-d" ∷ [])
         ≡ Err (value_missing 3) }
     ensures last_gap { options (codes "merge" ∷ codes "-g" ∷ codes "g" ∷ codes "-d" ∷ codes "1"
         ∷ codes "-d" ∷ codes "5" ∷ []) ≡ Ok (record {
           command = Command.Merge 5 MergeStrand.All;
-          genome = Some (codes "g");
-          first = codes "stdin";
-          second = None;
-          output = None;
+          names = record { genome = Some (codes "g"); first = codes "stdin"; second = None; output = None };
         }) }
     ensures complement_of_chromosomes_with_records { options (codes "complement" ∷ codes "-L"
         ∷ codes "-g" ∷ codes "g" ∷ []) ≡ Ok (record {
           command = Command.Complement true;
-          genome = Some (codes "g");
-          first = codes "stdin";
-          second = None;
-          output = None;
+          names = record { genome = Some (codes "g"); first = codes "stdin"; second = None; output = None };
         }) }
     ensures fraction_of_both_on_one_strand { options (codes "intersect" ∷ codes "-a" ∷ codes "x" ∷ codes "-b"
         ∷ codes "y" ∷ codes "-g" ∷ codes "g" ∷ codes "-f" ∷ codes ".5" ∷ codes "-r" ∷ codes "-s" ∷ [])
         ≡ Ok (record {
           command = Command.Intersect Shape.Cut (record { billionths = 500000000; both = true; same_strand = true }) None;
-          genome = Some (codes "g");
-          first = codes "x";
-          second = Some (codes "y");
-          output = None;
+          names = record { genome = Some (codes "g"); first = codes "x"; second = Some (codes "y"); output = None };
         }) }
     ensures whole_records_by_a_fraction { options (codes "subtract" ∷ codes "-A" ∷ codes "-a" ∷ codes "x" ∷ codes "-b"
         ∷ codes "y" ∷ codes "-g" ∷ codes "g" ∷ codes "-f" ∷ codes "1" ∷ [])
         ≡ Ok (record {
           command = Command.Subtract true (record { billionths = 1000000000; both = false; same_strand = false }) None;
-          genome = Some (codes "g");
-          first = codes "x";
-          second = Some (codes "y");
-          output = None;
+          names = record { genome = Some (codes "g"); first = codes "x"; second = Some (codes "y"); output = None };
         }) }
     ensures neither_depths { options (codes "genomecov" ∷ codes "-g" ∷ codes "g" ∷ []) ≡ Err required_missing }
     ensures all_depths_of_one_strand { options (codes "genomecov" ∷ codes "-bg" ∷ codes "-g" ∷ codes "g"
         ∷ codes "-strand" ∷ codes "-" ∷ codes "-bga" ∷ [])
         ≡ Ok (record {
           command = Command.Coverage true (Some Strand.Minus);
-          genome = Some (codes "g");
-          first = codes "stdin";
-          second = None;
-          output = None;
+          names = record { genome = Some (codes "g"); first = codes "stdin"; second = None; output = None };
         }) }
     ensures subtract_of_both { options (codes "subtract" ∷ codes "-r" ∷ []) ≡ Err (unknown_option 1) }
     ensures value_like_an_option { options (codes "merge" ∷ codes "-g" ∷ codes "-i" ∷ [])
         ≡ Ok (record {
           command = Command.Merge 0 MergeStrand.All;
-          genome = Some (codes "-i");
-          first = codes "stdin";
-          second = None;
-          output = None;
+          names = record { genome = Some (codes "-i"); first = codes "stdin"; second = None; output = None };
         }) }
     ensures first_fault { options (codes "merge" ∷ codes "-i" ∷ codes "a" ∷ codes "-q"
         ∷ codes "-g" ∷ []) ≡ Err (unknown_option 3) }
@@ -129,26 +99,17 @@ pub fn worked_cases()
 pub fn worked_conversions()
     ensures no_words { options (codes "bamtobed" ∷ []) ≡ Ok (record {
       command = Command.BamToBed false false;
-      genome = None;
-      first = codes "stdin";
-      second = None;
-      output = None;
+      names = record { genome = None; first = codes "stdin"; second = None; output = None };
     }) }
     ensures cut_and_with_cigars { options (codes "bamtobed" ∷ codes "-split" ∷ codes "-cigar" ∷ [])
         ≡ Ok (record {
           command = Command.BamToBed true true;
-          genome = None;
-          first = codes "stdin";
-          second = None;
-          output = None;
+          names = record { genome = None; first = codes "stdin"; second = None; output = None };
         }) }
     ensures cigars_alone { options (codes "bamtobed" ∷ codes "-cigar" ∷ codes "-i" ∷ codes "a.sam" ∷ [])
         ≡ Ok (record {
           command = Command.BamToBed false true;
-          genome = None;
-          first = codes "a.sam";
-          second = None;
-          output = None;
+          names = record { genome = None; first = codes "a.sam"; second = None; output = None };
         }) }
     ensures no_genome { options (codes "bamtobed" ∷ codes "-g" ∷ codes "g" ∷ [])
         ≡ Err (unknown_option 1) }

@@ -18,7 +18,7 @@ use Rattle.bt_sweep.specs.model.Deciding.{decides}
 use Rattle.bt_sweep.specs.model.IntersectLines.{intersect, lines_for}
 use Rattle.bt_sweep.specs.inside.Joining.{Breaks, JoinsSo, Keeps, StopsAt}
 use Rattle.bt_sweep.specs.inside.Relating.{EndsWhile}
-use Rattle.bt_sweep.specs.calls.Standing.{HoldsFor, IsInOrder, MovesTo, Stage, StandsAt, given, held_for, is_held, phase_of, with_a, with_b, with_b_ended, with_lines}
+use Rattle.bt_sweep.specs.calls.Standing.{HoldsFor, IsInOrder, MovesTo, Stage, StandsAt, given, is_held, phase_of, with_a, with_b, with_b_ended, with_lines}
 use Rattle.bt_sweep.specs.calls.Steps.{EndsB, FailsToHold, FailsToKeepA, FailsToWriteA, GivesA, GivesB}
 use Rattle.bt_sweep.specs.calls.SweepState.{Sweeping, want_in}
 use Rattle.bt_sweep.specs.declared.hits.hit_rule.HitRule.{HitRule}
