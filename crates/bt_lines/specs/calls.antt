@@ -1,4 +1,5 @@
 -- What calls do, as contracts say it.
+pub mod Adapter
 pub mod Buffered
 pub mod Columns
 pub mod Device

@@ -57,7 +57,7 @@ Remains None new = ⊤
 Remains (Some good) None = ⊥
 Remains (Some good) (Some new) = new ≡ good
 
--- why a line that says this wasn't taken: it is at fault, or memory ran out for its item
+-- why a line that says this gave no item: it is at fault, or memory ran out for its item
 abbrev pub IsLost : {A : Type 0} → Place → Result (Option A) Kind → FaultValue → Type 0
 IsLost place (Err kind) fault = fault ≡ fault_at_line place.input place.line kind
 IsLost place (Ok None) fault = ⊥

@@ -136,13 +136,14 @@ module _ {S Q : Type 0} where
       pub takes : TakesAs old line answer new
       pub keeps : KeepsLast old.lookahead new.lookahead
 
--- What the calls do, whatever the rule. Of the record ahead it is known that it is `Next`, and of the reader what it `Keeps`.
+-- What the calls do, whatever the rule. `Next` is what is known of the record ahead, and `Keeps` is
+-- what else the call leaves as it was.
 module _ {S : Type 0} (device : Source S) (Next : Feature → Type 0) (Keeps : Type 0)
     (old new : MemberReader S Feature (Option Locus)) where
   -- a call of `fill`
   pub record FillsSorted (answer : Result Bool Fault) : Type 0 where
     pub answers : FillAnswers device old answer new
-    -- the record ahead is one that a line can say
+    -- the record ahead, if there is one, is one that a line can say, and comes next
     pub next : IfSome (ahead_in new) (λ m. IsFeature m.item × Next m.item)
     pub own_failure : TellsOwnFailure device.is_read old.fault old.below answer new.below
     pub kept : IsKept device old.below → IsKept device new.below
@@ -163,7 +164,7 @@ module _ {S : Type 0} (device : Source S) (Next : Feature → Type 0) (Keeps : T
     pub kept : IsKept device old.below → IsKept device new.below
     pub order : Keeps
 
-  -- a call of `consume`: the first `count` of those that are buffered are taken, and nothing is read
+  -- a call of `consume` or `advance`: the first `count` of those that are buffered are taken, and nothing is read
   pub record TakesSorted (count : ℕ) : Type 0 where
     pub takes : Takes device old (take count old.buffered) new
     pub order : Keeps

@@ -1,3 +1,4 @@
+-- Definitions of a line.
 pub mod Bases
 pub mod Feature
 pub mod Header

@@ -1,3 +1,4 @@
+-- Definitions of a complete input.
 pub mod Good
 pub mod GoodBed
 pub mod GoodBlocks

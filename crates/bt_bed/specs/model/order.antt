@@ -1,3 +1,4 @@
+-- Definitions of an order of chromosomes.
 pub mod ByteOrder
 pub mod Genome
 pub mod Locus

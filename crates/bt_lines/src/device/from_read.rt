@@ -3,6 +3,7 @@
 ghost use Rattle.std.specs.Prelude.{◌≡◌, ℕ, ◌≤◌, false, true, IsTrue, IsErr, length, IfOk, OnOk, OnErr};
 ghost use Rattle.std.specs.Io.KnownBytes.{ReadConsumes};
 ghost use Rattle.bt_lines.specs.calls.Device.{TellsEnd, TellsFailure};
+ghost use Rattle.bt_lines.specs.calls.Adapter.{reader_of, read_has_failed, read_end_told};
 
 use crate::device::{DeviceFailed, Source};
 use std::io::Read;
@@ -22,9 +23,9 @@ pub struct FromRead<R> {
 impl<R> FromRead<R> {
     /// A source that hands over what the reader has left.
     pub fn new(reader: R) -> FromRead<R>
-        ensures reader { result.reader ≡ reader }
-        ensures served { result.has_failed ≡ false }
-        ensures end { result.end_told ≡ false }
+        ensures reader { reader_of result ≡ reader }
+        ensures served { read_has_failed result ≡ false }
+        ensures end { read_end_told result ≡ false }
     {
         FromRead {
             reader,
@@ -35,7 +36,7 @@ impl<R> FromRead<R> {
 
     /// The reader.
     pub fn into_inner(self) -> R
-        ensures { result ≡ self.reader }
+        ensures { result ≡ reader_of self }
     {
         let FromRead {
             reader,
@@ -47,25 +48,25 @@ impl<R> FromRead<R> {
 }
 
 impl<R: Read> Source for FromRead<R> {
-    ghost left = { λ s. R.remaining s.reader };
+    ghost left = { λ s. R.remaining (reader_of s) };
 
-    ghost has_failed = { λ s. s.has_failed };
+    ghost has_failed = { read_has_failed };
 
-    ghost end_told = { λ s. s.end_told };
+    ghost end_told = { read_end_told };
 
-    ghost is_read = { λ before count after. TellsFailure count before.has_failed after.has_failed };
+    ghost is_read = { λ before count after. TellsFailure count (read_has_failed before) (read_has_failed after) };
 
     fn read(&mut self, block: &mut [u8]) -> Result<usize, DeviceFailed>
         ensures within { IfOk result (λ n. n ≤ length block.new) }
-        ensures bytes { ReadConsumes (R.remaining self.old.reader)
-            (R.remaining self.new.reader) result block.new }
-        ensures served { OnOk result (self.new.has_failed ≡ self.old.has_failed) }
-        ensures failed { OnErr result (self.new.has_failed ≡ true) }
+        ensures bytes { ReadConsumes (R.remaining (reader_of self.old))
+            (R.remaining (reader_of self.new)) result block.new }
+        ensures served { OnOk result (read_has_failed self.new ≡ read_has_failed self.old) }
+        ensures failed { OnErr result (read_has_failed self.new ≡ true) }
         ensures counted { OnOk result
-            ((self.old.has_failed ≡ false) × (self.new.has_failed ≡ false)) }
-        ensures refused { OnErr result (self.new.has_failed ≡ true) }
-        ensures end { TellsEnd self.old.end_told self.new.end_told result block.new }
-        ensures for_good { IsTrue self.old.has_failed → IsErr result × (self.new ≡ self.old) }
+            ((read_has_failed self.old ≡ false) × (read_has_failed self.new ≡ false)) }
+        ensures refused { OnErr result (read_has_failed self.new ≡ true) }
+        ensures end { TellsEnd (read_end_told self.old) (read_end_told self.new) result block.new }
+        ensures for_good { IsTrue (read_has_failed self.old) → IsErr result × (self.new ≡ self.old) }
     {
         if self.has_failed {
             return Err(DeviceFailed);

@@ -2,6 +2,7 @@
 
 ghost use Rattle.std.specs.Prelude.{◌≡◌, ℕ, ◌<◌, ◌≤◌, false, true, IsTrue, IsErr, length, IfOk, OnOk, OnErr};
 ghost use Rattle.std.specs.Io.KnownBytes.{Keeps, WriteAppends};
+ghost use Rattle.bt_lines.specs.calls.Adapter.{writer_of, write_has_failed, write_is_flushed};
 
 use crate::device::{DeviceFailed, Sink};
 use std::io::Write;
@@ -21,9 +22,9 @@ pub struct ToWrite<W> {
 impl<W> ToWrite<W> {
     /// A sink that hands bytes to the writer.
     pub fn new(writer: W) -> ToWrite<W>
-        ensures writer { result.writer ≡ writer }
-        ensures served { result.has_failed ≡ false }
-        ensures unflushed { result.is_flushed ≡ false }
+        ensures writer { writer_of result ≡ writer }
+        ensures served { write_has_failed result ≡ false }
+        ensures unflushed { write_is_flushed result ≡ false }
     {
         ToWrite {
             writer,
@@ -34,7 +35,7 @@ impl<W> ToWrite<W> {
 
     /// The writer.
     pub fn into_inner(self) -> W
-        ensures { result ≡ self.writer }
+        ensures { result ≡ writer_of self }
     {
         let ToWrite {
             writer,
@@ -46,23 +47,23 @@ impl<W> ToWrite<W> {
 }
 
 impl<W: Write> Sink for ToWrite<W> {
-    ghost took = { λ s. W.contents s.writer };
+    ghost took = { λ s. W.contents (writer_of s) };
 
-    ghost has_failed = { λ s. s.has_failed };
+    ghost has_failed = { write_has_failed };
 
-    ghost is_flushed = { λ s. s.is_flushed };
+    ghost is_flushed = { write_is_flushed };
 
     fn write(&mut self, bytes: &[u8]) -> Result<usize, DeviceFailed>
         ensures within { IfOk result (λ n. n ≤ length bytes.now) }
         ensures progress { IfOk result (λ n. 0 < length bytes.now → 0 < n) }
-        ensures bytes { WriteAppends (W.contents self.old.writer)
-            (W.contents self.new.writer) result bytes.now }
-        ensures served { OnOk result (self.new.has_failed ≡ self.old.has_failed) }
-        ensures failed { OnErr result (self.new.has_failed ≡ true) }
-        ensures for_good { IsTrue self.old.has_failed
+        ensures bytes { WriteAppends (W.contents (writer_of self.old))
+            (W.contents (writer_of self.new)) result bytes.now }
+        ensures served { OnOk result (write_has_failed self.new ≡ write_has_failed self.old) }
+        ensures failed { OnErr result (write_has_failed self.new ≡ true) }
+        ensures for_good { IsTrue (write_has_failed self.old)
             → IsErr result × (self.new ≡ self.old) }
-        ensures unflushed { self.old.has_failed ≡ false
-            → self.new.is_flushed ≡ false }
+        ensures unflushed { write_has_failed self.old ≡ false
+            → write_is_flushed self.new ≡ false }
     {
         if self.has_failed {
             return Err(DeviceFailed);
@@ -78,11 +79,11 @@ impl<W: Write> Sink for ToWrite<W> {
     }
 
     fn flush(&mut self) -> Result<(), DeviceFailed>
-        ensures bytes { Keeps (W.contents self.old.writer) (W.contents self.new.writer) }
-        ensures flushed { OnOk result (self.new.is_flushed ≡ true) }
-        ensures served { OnOk result (self.new.has_failed ≡ self.old.has_failed) }
-        ensures failed { OnErr result (self.new.has_failed ≡ true) }
-        ensures for_good { IsTrue self.old.has_failed
+        ensures bytes { Keeps (W.contents (writer_of self.old)) (W.contents (writer_of self.new)) }
+        ensures flushed { OnOk result (write_is_flushed self.new ≡ true) }
+        ensures served { OnOk result (write_has_failed self.new ≡ write_has_failed self.old) }
+        ensures failed { OnErr result (write_has_failed self.new ≡ true) }
+        ensures for_good { IsTrue (write_has_failed self.old)
             → IsErr result × (self.new ≡ self.old) }
     {
         if self.has_failed {

@@ -25,10 +25,13 @@ masked_lines_stay = (how : MaskHow) (line : SequenceLine) (records more : List F
     → masked_line how (records ++ more) line ≡ masked_line how records line
 
 -- the record that decides a line, and what follows it in order, mask none of its bases
+abbrev pub LineBefore : MaskHow → SequenceLine → List Feature → Feature → Type 0
+LineBefore how line taken r = (more : List Feature) → AreInBlocks (taken ++ r ∷ more)
+    → masked_line how (taken ++ r ∷ more) line ≡ masked_line how taken line
+
 abbrev pub masked_lines_are_before : Type 0
 masked_lines_are_before = (how : MaskHow) (line : SequenceLine) (taken : List Feature) (r : Feature)
-    → decided line (taken ++ r ∷ []) ≡ true → (more : List Feature) → AreInBlocks (taken ++ r ∷ more)
-    → masked_line how (taken ++ r ∷ more) line ≡ masked_line how taken line
+    → decided line (taken ++ r ∷ []) ≡ true → LineBefore how line taken r
 
 -- if the block of each record belongs to a sequence, none lacks one
 abbrev pub owned_lack_none : Type 0

@@ -1,5 +1,4 @@
--- What the calls of a masking engine do. By the laws in MaskPrefixes a line that is decided stays as
--- it is written, whatever records follow in order.
+-- What the calls of a masking engine do.
 use Rattle.std.specs.Prelude.{◌≡◌, ◌⊎◌, ◌||◌, ℕ, length, nat_lt, not, Bool, true, false, cond, List}
 use Rattle.std.specs.Prelude.{[], ◌∷◌, ◌++◌, Some, None, is_some, Result, Ok, Err}
 use Rattle.bt_bed.specs.model.feature.Feature.{Feature}
@@ -16,6 +15,7 @@ use Rattle.bt_lines.specs.declared.fault.Kind.TheVariants.{NoSequence}
 use Rattle.bt_seq.specs.calls.MaskStage.{MaskStage, is_written_at_once, reached, with_bed_ended}
 use Rattle.bt_seq.specs.calls.MaskStage.{with_decided, with_line, with_record}
 use Rattle.bt_seq.specs.calls.MaskStanding.{MaskMovesTo}
+use Rattle.bt_seq.specs.calls.MaskPrefixes.{LineBefore}
 use Rattle.bt_seq.specs.model.Masked.{decided, held_for, masked_line}
 use Rattle.bt_seq.specs.calls.MaskState.{Masking}
 use Rattle.bt_seq.specs.model.Owners.{left_after}
@@ -38,6 +38,11 @@ may_need_memory stage line =
     is_header line.text || (not (is_written_at_once stage line)
     || nat_lt 0 (length (held_for line stage.taken)))
 
+-- if a record decides a line, it stays as it is, whatever follows in order
+abbrev pub IsSettled : MaskHow → MaskStage → SequenceLine → Type 0
+IsSettled how stage line =
+    (r : Feature) → decided line (stage.taken ++ r ∷ []) ≡ true → LineBefore how line stage.taken r
+
 -- one more line of the FASTA input
 module _ (how : MaskHow) (full : Bool) (stage : MaskStage) (line : TextLine) (out : Output) where
   -- it is a line of a sequence, or a blank one before the first
@@ -46,6 +51,8 @@ module _ (how : MaskHow) (full : Bool) (stage : MaskStage) (line : TextLine) (ou
     pub says : line_says full (reached stage) line ≡ Ok (Some item)
     pub stands : MaskMovesTo how full (with_line stage item) new
     pub puts : Grown out (bytes_with how stage item) grown
+    -- by the law that decided lines stay, said here for the caller
+    pub settled : IsSettled how stage item
 
   -- it is at fault
   pub record RefusesLine (fault : FaultValue) (grown : Output) : Type 0 where
@@ -61,6 +68,7 @@ module _ (how : MaskHow) (full : Bool) (stage : MaskStage) (line : TextLine) (ou
     pub says : line_says full (reached stage) line ≡ Ok (Some item)
     pub fails : FailsToAdd out (bytes_with how stage item) fault grown
         ⊎ ((fault ≡ no_memory) × (grown ≡ out) × (may_need_memory stage item ≡ true))
+    pub settled : IsSettled how stage item
 
   -- what the result says; after a fault nothing is wanted
   abbrev pub GivesNextLine : {A : Type 0} → Result A Fault → Masking → Output → Type 0
@@ -77,16 +85,18 @@ module _ (how : MaskHow) (full : Bool) (stage : MaskStage) (line : SequenceLine)
     pub stands : MaskMovesTo how full (with_record stage r) new
     pub same_output : grown ≡ out
 
-  -- it decides the line, which is written
+  -- it decides the line, which is written as it stays, whatever follows in order
   pub record WritesLine (new : Masking) (grown : Output) : Type 0 where
     pub decides : decided line (stage.taken ++ r ∷ []) ≡ true
     pub stands : MaskMovesTo how full (with_decided stage r) new
     pub puts : Grown out (masked_line how stage.taken line) grown
+    pub settled : LineBefore how line stage.taken r
 
   -- it decides the line, which couldn't be written
   pub record FailsToWriteLine (fault : FaultValue) (grown : Output) : Type 0 where
     pub decides : decided line (stage.taken ++ r ∷ []) ≡ true
     pub fails : FailsToAdd out (masked_line how stage.taken line) fault grown
+    pub settled : LineBefore how line stage.taken r
 
   -- it leaves the line undecided and has to be held, for which there is no memory
   pub record FailsToHoldRecord (fault : FaultValue) (grown : Output) : Type 0 where

@@ -126,10 +126,10 @@ module _ {A : Type 0} (gives : A → List Feature → A → Type 0) (has_ended :
     pub end : EndUpTo first.chrom place newly
     pub cuts : CutsFor IsTotal first firsts [] old newly pending out fault grown
 
--- the current record, if it is the one that is left
-abbrev pub left_in : {R : Type 0} → R → Result Bool Fault → Result (Option R) Fault
-left_in current (Ok is_left) = Ok (then_some is_left current)
-left_in current (Err fault) = Err fault
+-- the r that waits, if one is left
+abbrev pub waiting_in : {R : Type 0} → R → Result Bool Fault → Result (Option R) Fault
+waiting_in r (Ok is_left) = Ok (then_some is_left r)
+waiting_in r (Err fault) = Err fault
 
 abbrev pub WritesUpTo : {A R : Type 0} → (A → List Feature → A → Type 0) → (A → Type 0) → (R → Feature) → ℕ
     → Sweeping → Feature → A → List ℕ → Output → Result (Option R) Fault → Sweeping → A → List ℕ → Output

@@ -4,6 +4,7 @@ ghost use Rattle.std.specs.Prelude.{◌≡◌, ℕ, ◌+◌, ◌^◌, ◌<◌, �
 ghost use Rattle.std.specs.BTreeMap.{IsUnchanged, get, is_at};
 ghost use Rattle.std.specs.Ordering.{nat_cmp};
 ghost use Rattle.bt_sweep.specs.inside.Ends.{CountsEnds};
+ghost use Rattle.bt_sweep.specs.calls.HeldList.{records_in};
 
 use crate::active::held::Held;
 use crate::active::held_list::HeldList;
@@ -19,15 +20,16 @@ pub struct HeldIndex {
     list: HeldList,
     // How many of them have each end.
     ends: BTreeMap<u64, usize>,
-    ghost counts: { CountsEnds ends list.records.items },
+    ghost counts: { CountsEnds ends (records_in list) },
 }
 
 impl HeldIndex {
     ghost use Rattle.std.specs.Prelude.{◌≡◌, [], false, filter, nat_lt};
+    ghost use Rattle.bt_sweep.specs.calls.HeldIndex.{indexed_records};
 
     /// No records. It doesn't allocate.
     pub fn new(alloc: Global) -> HeldIndex
-        ensures { result.list.records.items ≡ [] }
+        ensures { indexed_records result ≡ [] }
     {
         HeldIndex {
             list: HeldList::new(alloc),
@@ -38,7 +40,7 @@ impl HeldIndex {
     // Returns true if a record has ended at the place. It looks at the least end alone.
     #[inline(always)]
     fn has_ended(&self, place: u64) -> bool
-        ensures { result ≡ false → self.now.list.records.items ≡ filter (λ r. nat_lt place r.stop) self.now.list.records.items }
+        ensures { result ≡ false → indexed_records self.now ≡ filter (λ r. nat_lt place r.stop) (indexed_records self.now) }
     {
         has_end_by(&self.ends, place)
     }
@@ -46,7 +48,7 @@ impl HeldIndex {
     // Out of line, so that the test before it stays small.
     #[inline(never)]
     fn remove_ended(&mut self, place: u64)
-        ensures { self.new.list.records.items ≡ filter (λ r. nat_lt place r.stop) self.old.list.records.items }
+        ensures { indexed_records self.new ≡ filter (λ r. nat_lt place r.stop) (indexed_records self.old) }
     {
         remove_ends(&mut self.ends, place);
         self.list.remove_ended(place);
@@ -54,7 +56,9 @@ impl HeldIndex {
 }
 
 impl Held for HeldIndex {
-    ghost records = { λ held. held.list.records.items };
+    ghost use Rattle.bt_sweep.specs.calls.HeldIndex.{indexed_records};
+
+    ghost records = { indexed_records };
 
     fn push(&mut self, rec: Rec) -> Result<(), Rec> {
         if !self.list.reserve_one() || !count_end(&mut self.ends, rec.as_bed().stop) {

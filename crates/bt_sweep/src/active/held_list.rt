@@ -25,11 +25,12 @@ pub struct HeldList {
 
 impl HeldList {
     ghost use Rattle.std.specs.Prelude.{◌≡◌, [], IsTrue, false, filter, nat_lt};
-    ghost use Rattle.std.specs.VecDeque.{deque_capacity, deque_len};
+    ghost use Rattle.bt_sweep.specs.calls.HeldList.{records_in};
+    ghost use Rattle.bt_sweep.specs.inside.HeldList.{HasRoom};
 
     /// No record. It doesn't allocate.
     pub fn new(alloc: Global) -> HeldList
-        ensures { result.records.items ≡ [] }
+        ensures { records_in result ≡ [] }
     {
         HeldList {
             records: VecDeque::new(alloc),
@@ -39,7 +40,7 @@ impl HeldList {
 
     // Whether they are known to come by their starts once this one is added.
     fn rises_to(&self, rec: &Rec) -> bool
-        ensures { result ≡ true → IsNonDecreasingBy (λ r. r.start) (self.now.records.items ++ rec.now ∷ []) }
+        ensures { result ≡ true → IsNonDecreasingBy (λ r. r.start) (records_in self.now ++ rec.now ∷ []) }
     {
         match self.records.back() {
             None => true,
@@ -49,16 +50,16 @@ impl HeldList {
 
     // Makes room for one more. It returns false if memory is refused.
     pub(crate) fn reserve_one(&mut self) -> bool
-        ensures same { self.new.records.items ≡ self.old.records.items }
-        ensures room { IsTrue result → deque_len self.new.records < deque_capacity self.new.records }
+        ensures same { records_in self.new ≡ records_in self.old }
+        ensures room { IsTrue result → HasRoom self.new }
     {
         self.records.try_reserve(1).is_ok()
     }
 
     // Adds a record after the others, for which there is room.
     pub(crate) fn push_reserved(&mut self, rec: Rec)
-        requires { deque_len self.old.records < deque_capacity self.old.records }
-        ensures { self.new.records.items ≡ self.old.records.items ++ rec ∷ [] }
+        requires { HasRoom self.old }
+        ensures { records_in self.new ≡ records_in self.old ++ rec ∷ [] }
     {
         self.rising = self.rises_to(&rec);
         self.records.push_back_reserved(rec);
@@ -66,14 +67,14 @@ impl HeldList {
 
     // Returns true if a record may have ended at the place.
     fn may_have_ended(&self, place: u64) -> bool
-        ensures { result ≡ false → self.now.records.items ≡ filter (λ r. nat_lt place r.stop) self.now.records.items }
+        ensures { result ≡ false → records_in self.now ≡ filter (λ r. nat_lt place r.stop) (records_in self.now) }
     {
         !self.rising || has_ended(&self.records, started_in(&self.records, place), place)
     }
 
     // Drops those that end at or before the place, in one pass.
     pub(crate) fn remove_ended(&mut self, place: u64)
-        ensures { self.new.records.items ≡ filter (λ r. nat_lt place r.stop) self.old.records.items }
+        ensures { records_in self.new ≡ filter (λ r. nat_lt place r.stop) (records_in self.old) }
     {
         if !self.rising {
             self.records.retain(|record| place < record.as_bed().stop);
@@ -85,7 +86,9 @@ impl HeldList {
 }
 
 impl Held for HeldList {
-    ghost records = { λ held. held.records.items };
+    ghost use Rattle.bt_sweep.specs.calls.HeldList.{records_in};
+
+    ghost records = { records_in };
 
     fn push(&mut self, rec: Rec) -> Result<(), Rec> {
         if !self.reserve_one() {

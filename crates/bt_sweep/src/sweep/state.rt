@@ -8,7 +8,7 @@ ghost use Rattle.bt_bed.specs.model.feature.LineKind.{fault_at_line};
 ghost use Rattle.bt_bed.specs.model.order.Order.{IsTotal};
 ghost use Rattle.bt_sweep.specs.calls.Held.{AreReady, AreRising, CanHit, CanHitAt};
 ghost use Rattle.bt_sweep.specs.model.IntersectLines.{lines_for};
-ghost use Rattle.bt_sweep.specs.inside.Joining.{AddsWith, AreDecidedOn, Joins, LeavesOn, SkipsAll, WritesUpTo, left_in};
+ghost use Rattle.bt_sweep.specs.inside.Joining.{AddsWith, AreDecidedOn, Joins, LeavesOn, SkipsAll, WritesUpTo, waiting_in};
 ghost use Rattle.bt_sweep.specs.inside.Pending.{IsQuiet, PutsOr, line_in, pending_in};
 ghost use Rattle.bt_sweep.specs.inside.StateSteps.{KeepsOne, Takes, are_on, has_room_in, held_with, stopped};
 ghost use Rattle.bt_sweep.specs.calls.SweepState.{want_in};
@@ -336,35 +336,35 @@ impl<H: Held> State<H> {
         put
     }
 
-    // Writes records of the first input, from the current one on, as long as they end at the place or before it. It returns
-    // true if there is one that doesn't, and makes that the current one. Lines may be left pending. It is out of line, so
-    // that the loop over the second input stays in registers.
+    // Writes records of the first input, from this one on, as long as they end at the place or before it. It returns true if
+    // there is one that doesn't, and puts it here. Lines may be left pending. It is out of line, so that the loop over the
+    // second input stays in registers.
     #[tactic(auto, using(crate::proofs::lemmas::sweep::WriteLemmas::writes_first))]
     #[inline(never)]
     fn write_up_to<A: Cursor, K: Sink>(
         &mut self,
         place: u64,
-        current: &mut A::Record,
+        first: &mut A::Record,
         firsts: &mut Pending<A>,
         out: &mut Out<K>,
     ) -> Result<bool, Fault>
         requires none { self.old.current ≡ None }
-        requires hits { All (CanHit (A.Record.feature current.old)) self.old.held }
-        requires on { A.name firsts.old.cursor ≡ (A.Record.feature current.old).chrom }
-        requires line { line_in (A.consumed firsts.old.cursor) firsts.old.to ≡ A.Record.raw current.old }
+        requires hits { All (CanHit (A.Record.feature first.old)) self.old.held }
+        requires on { A.name firsts.old.cursor ≡ (A.Record.feature first.old).chrom }
+        requires line { line_in (A.consumed firsts.old.cursor) firsts.old.to ≡ A.Record.raw first.old }
         requires quiet { IsQuiet self.old.shape (pending_in (A.consumed firsts.old.cursor) firsts.old.from firsts.old.to) }
-        ensures writes { WritesUpTo A.gives A.has_ended A.Record.feature place self.old (A.Record.feature current.old) firsts.old.cursor
-            (pending_in (A.consumed firsts.old.cursor) firsts.old.from firsts.old.to) out.old.output (left_in current.new result) self.new firsts.new.cursor
+        ensures writes { WritesUpTo A.gives A.has_ended A.Record.feature place self.old (A.Record.feature first.old) firsts.old.cursor
+            (pending_in (A.consumed firsts.old.cursor) firsts.old.from firsts.old.to) out.old.output (waiting_in first.new result) self.new firsts.new.cursor
             (pending_in (A.consumed firsts.new.cursor) firsts.new.from firsts.new.to) out.new.output }
         ensures on { A.name firsts.new.cursor ≡ A.name firsts.old.cursor }
-        ensures line { IfOk result (λ is_left. is_left ≡ true → line_in (A.consumed firsts.new.cursor) firsts.new.to ≡ A.Record.raw current.new) }
+        ensures line { IfOk result (λ is_left. is_left ≡ true → line_in (A.consumed firsts.new.cursor) firsts.new.to ≡ A.Record.raw first.new) }
         ensures quiet { OnOk result (IsQuiet self.new.shape (pending_in (A.consumed firsts.new.cursor) firsts.new.from firsts.new.to)) }
         ensures none { self.new.current ≡ None }
         ensures phase { OnOk result (self.new.phase ≡ self.old.phase) }
         ensures stops { OnErr result (self.new.phase ≡ Phase.Over) }
     {
         // A copy is read, so that it stays in registers.
-        let mut given = *current;
+        let mut given = *first;
         while given.stop() <= place {
             self.write(&given, firsts, out)?;
             let Some(next) = firsts.next() else {
@@ -373,7 +373,7 @@ impl<H: Held> State<H> {
             self.drop_ended(next.start());
             given = next;
         }
-        *current = given;
+        *first = given;
         Ok(true)
     }
 
@@ -460,6 +460,7 @@ impl<H: Held> State<H> {
         // A record is consumed only once it is taken, and not if it decides all of the first or can't be held.
         let mut ahead = *seconds;
         while let Some(next) = ahead.next() {
+            // Most records decide none, and make no call.
             if current.stop() <= next.start()
                 && !self.write_up_to(next.start(), &mut current, firsts, out)?
             {

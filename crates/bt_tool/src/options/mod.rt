@@ -22,7 +22,7 @@ ghost use Rattle.bt_tool.specs.model.report.Report.{ReportsAnswer, ReportsRefusa
 ghost use Rattle.bt_tool.specs.model.usage.Table.{table_of};
 ghost use Rattle.bt_tool.specs.model.usage.Usage.{no_command};
 ghost use Rattle.bt_bed.specs.model.feature.Record.{strand_named};
-ghost use Rattle.bt_lines.specs.model.Number.{max_number, value_of as number_of};
+ghost use Rattle.bt_lines.specs.model.Number.{max_number, value_of};
 
 use crate::options::character::character;
 use crate::options::fraction::fraction;
@@ -90,7 +90,7 @@ fn command(tool: Tool, given: Given<'_>) -> Command
 
 // The number of a value, 0 without one.
 fn number_of(value: Option<&str>) -> u64
-    ensures value { result ≡ denoted number_of 0 (option_map (λ value. value.now) value.entry) }
+    ensures value { result ≡ denoted value_of 0 (option_map (λ value. value.now) value.entry) }
     ensures limit { result ≤ max_number }
 {
     match value {
@@ -101,7 +101,7 @@ fn number_of(value: Option<&str>) -> u64
 
 // How many records may be held, by a value; without one that isn't limited.
 fn limit_of(value: Option<&str>) -> Option<u64>
-    ensures value { result ≡ option_and_then number_of (option_map (λ value. value.now) value.entry) }
+    ensures value { result ≡ option_and_then value_of (option_map (λ value. value.now) value.entry) }
     ensures limit { IsTrue (is_limit result) }
 {
     match value {
@@ -168,11 +168,11 @@ fn mask_how_of(given: Given<'_>) -> MaskHow
     if given.has("-soft") {
         return MaskHow::Soft;
     }
-    MaskHow::Hard(character_of(given.value_of("-mc")))
+    MaskHow::Hard(mask_character(given.value_of("-mc")))
 }
 
 // The character of a value, `N` without one.
-fn character_of(value: Option<&str>) -> u8
+fn mask_character(value: Option<&str>) -> u8
     ensures value { result ≡ denoted character_of 78 (option_map (λ value. value.now) value.entry) }
     ensures limit { IsTrue (is_printable result) }
 {

@@ -93,12 +93,12 @@ strand_by true value = Each
 strand_by false None = All
 strand_by false (Some word) = One (strand_named word)
 
--- what the value of an option denotes, and without one that denotes something this
+-- what the value of an option denotes; without a value, or if it denotes nothing, this
 abbrev pub denoted : {A : Type 0} → (Word → Option A) → A → Option Word → A
 denoted reading without value = unwrap_or (option_and_then reading value) without
 
--- what makes a hit: the fraction of -f, of both records or of the first alone,
--- and equal strands with -s
+-- what makes a hit: the fraction of -f in billionths, 0 without one, of both records or of the
+-- first alone, and equal strands with -s
 abbrev pub rule_by : List Item → Bool → HitRule
 rule_by items both = record {
   billionths = denoted fraction_of 0 (value_of items (codes "-f"));

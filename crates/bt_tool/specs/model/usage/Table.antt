@@ -1,6 +1,7 @@
 -- The commands, and for each its options, those that it requires, and what their values name.
 -- The options are those of the tool's page in the bedtools manual; that merge has `-g`, and intersect
--- and subtract `-held`, is this program's own rule. A later command is a name and a table.
+-- and subtract `-held`, is this program's own rule. A later command is a name, a place in
+-- the list of `command_named`, and a table.
 use Rattle.std.specs.Prelude.{ℕ, Bool, false, true, ◌&&◌, ◌||◌, List, [], ◌∷◌, Option, Some, None}
 use Rattle.std.specs.Prelude.{bytes_eq, codes, find, if◌then◌else◌, is_some, length, nat_le, nat_lt}
 use Rattle.std.specs.Prelude.{option_map, IsTrue, IsSome, IsNone}
@@ -186,6 +187,7 @@ tool_name Coverage = codes "genomecov"
 tool_name BamToBed = codes "bamtobed"
 tool_name MaskFasta = codes "maskfasta"
 
+-- the tool of this name, if there is one
 abbrev pub command_named : Word → Option Tool
 command_named word = find (λ tool. bytes_eq word (tool_name tool))
     (Merge ∷ Complement ∷ Intersect ∷ Subtract ∷ Coverage ∷ BamToBed ∷ MaskFasta ∷ [])

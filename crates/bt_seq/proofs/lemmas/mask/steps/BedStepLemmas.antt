@@ -13,7 +13,7 @@ use Rattle.bt_lines.specs.declared.fault.Input.TheVariants.{Second}
 use Rattle.bt_lines.specs.declared.fault.Kind.TheVariants.{NoSequence}
 use Rattle.bt_seq.proofs.lemmas.mask.steps.CountLemmas.{decides_alike, range_more, line_masked}
 use Rattle.bt_seq.proofs.lemmas.mask.bases.KnownLemmas.{MayTake, never, next_can_be, nobody_left, none_ahead, own_ahead, owner_next, take_next}
-use Rattle.bt_seq.proofs.lemmas.definitions.MaskPrefixLemmas.{blocks_front, decided_stays, held_before}
+use Rattle.bt_seq.proofs.lemmas.definitions.MaskPrefixLemmas.{blocks_front, decided_stays, held_before, masked_before}
 use Rattle.bt_seq.proofs.lemmas.mask.steps.LineStepLemmas.{open_undecided}
 use Rattle.bt_seq.proofs.lemmas.mask.steps.NextLemmas.{decided_more, own_more}
 use Rattle.bt_seq.proofs.lemmas.mask.steps.StandLemmas.{last_waits, stands_at, wants_bed}
@@ -201,6 +201,7 @@ module _ (how : MaskHow) (full : Bool) (stage : MaskStage) (line : SequenceLine)
         decides = decided_is ∙ e;
         stands = subst (λ (x : Masking). MaskMovesTo how full (with_decided stage r) x) (sym is) (decided_stands e);
         puts = subst (λ (l : List ℕ). Grown out l grown) bytes_are puts;
+        settled = masked_before how line stage.taken r (decided_is ∙ e);
       }
 
       pub gives_bed : (answer : Result Taken Fault) → TakesBed old (kept_line line) r out answer new grown → GivesBed how full stage line r out answer new grown
@@ -216,6 +217,7 @@ module _ (how : MaskHow) (full : Bool) (stage : MaskStage) (line : SequenceLine)
           | inl wrote ↦ inl (record {
             decides = decided_is ∙ wrote.0;
             fails = subst (λ (l : List ℕ). FailsToAdd out l (fault_value fault) grown) bytes_are wrote.1;
+            settled = masked_before how line stage.taken r (decided_is ∙ wrote.0);
           })
           | inr held ↦ inr (record {
             undecided = decided_is ∙ held.0;

@@ -10,7 +10,7 @@ use Rattle.bt_lines.specs.declared.fault.Fault.{Fault}
 use Rattle.bt_lines.specs.declared.fault.Kind.TheVariants.{TextBeforeHeader}
 use Rattle.bt_seq.proofs.lemmas.mask.steps.CountLemmas.{IsLow, held_on, own_low, line_masked}
 use Rattle.bt_seq.proofs.lemmas.mask.bases.KnownLemmas.{never, with_header, with_plain}
-use Rattle.bt_seq.proofs.lemmas.definitions.MaskPrefixLemmas.{decided_by_tags}
+use Rattle.bt_seq.proofs.lemmas.definitions.MaskPrefixLemmas.{decided_by_tags, masked_before}
 use Rattle.bt_seq.proofs.lemmas.mask.steps.NextLemmas.{decided_more, left_grows, named_more, none_own, undecided_header, undecided_next}
 use Rattle.bt_seq.proofs.lemmas.mask.steps.StandLemmas.{last_more, last_name_none, stands_at, wants_line}
 use Rattle.bt_seq.proofs.lemmas.sam.TagLemmas.{own_tagged, tag_decides, tags_of}
@@ -393,6 +393,7 @@ module _ (how : MaskHow) (full : Bool) (stage : MaskStage) (old : Masking) (s : 
           (with_it g.item (moved_to old line.text) g.moved);
       puts = subst (λ (l : List ℕ). Grown out l grown)
           (ap (λ (k : Waiting). bytes_at_once (moved_to old line.text) k) (sym g.kept) ∙ bytes_now g.item (moved_to old line.text) g.moved) t.2;
+      settled = masked_before how g.item stage.taken;
     }
 
     fails : (A : Type 0) (fault : Fault) → Goes line → TakesLine {A = A} old line.number kept out (Err fault) new grown → (new.want ≡ Nothing) × (RefusesLine how full stage line out (fault_value fault) grown ⊎ FailsWithLine how full stage line out (fault_value fault) grown)
@@ -413,6 +414,7 @@ module _ (how : MaskHow) (full : Bool) (stage : MaskStage) (old : Masking) (s : 
                   ∙ ap (λ (k : Waiting). may_grow (moved_to old line.text) k.text) g.kept ∙ memory.2,
             )
           ];
+          settled = masked_before how g.item stage.taken;
         })
       ],
     )

@@ -1,5 +1,6 @@
 use Rattle.bt_lines.proofs.Std.{None, ap, cond, nat_lt, sym, ◌∙◌}
 use Rattle.bt_sweep.specs.inside.Ends.{ending_at, if_some}
+use Rattle.bt_sweep.specs.calls.HeldList.{records_in}
 use Rattle.bt_sweep.proofs.lemmas.active.EndLemmas.{kept_ends}
 use Rattle.bt_sweep.proofs.active.held_index.HeldIndex.remove_ended.Goals as goal
 
@@ -10,6 +11,6 @@ invariant_of-self c =
       counts = λ stop.
           c.remove_ends.ensures stop
           ∙ ap (λ o. cond (nat_lt c.args.place stop) o None) (held.counts stop)
-          ∙ sym (kept_ends c.args.place stop held.list.records.items)
+          ∙ sym (kept_ends c.args.place stop (records_in held.list))
           ∙ sym (ap (λ l. if_some (ending_at stop l)) c.remove_ended.ensures);
     }

@@ -15,7 +15,7 @@ returns-in_err-put_pending-clause-writes g c =
     let fails = subst (λ (l : List ℕ). FailsToAdd c.write_up_to.new.out.output l (fault_value c.in_err-put_pending.field-0.0) c.put_pending.new.out.output) c.lines.ensures c.in_err-put_pending.ensures.puts in
     rw (e.1, e.2)
     (cuts_rest g.A.Cursor.gives g.A.Cursor.has_ended g.met.A.Cursor.gives_none g.met.A.Cursor.gives_more max_number c.args.self.now (g.A.Record.Record.feature c.args.first)
-    c.args.firsts.now.cursor [] c.args.out.now.output (option_map g.A.Record.Record.feature (then_some c.in_ok-is_left.is_left c.write_up_to.new.current)) c.write_up_to.new.self c.write_up_to.new.firsts.cursor left c.write_up_to.new.out.output c.put_pending.new.out.output
+    c.args.firsts.now.cursor [] c.args.out.now.output (option_map g.A.Record.Record.feature (then_some c.in_ok-is_left.is_left c.write_up_to.new.first)) c.write_up_to.new.self c.write_up_to.new.firsts.cursor left c.write_up_to.new.out.output c.put_pending.new.out.output
     (fault_value c.in_err-put_pending.field-0.0) w.0 fails)
 
 pub returns-clause-writes : goal.returns-clause-writes
@@ -26,6 +26,6 @@ returns-clause-writes g c =
     rw c.then_some.ensures (
       rw c.in_ok-put_pending.ensures.same
           (writes_rest g.A.Cursor.gives g.A.Cursor.has_ended g.met.A.Cursor.gives_none g.met.A.Cursor.gives_more max_number c.args.self.now (g.A.Record.Record.feature c.args.first)
-          c.args.firsts.now.cursor [] c.args.out.now.output (option_map g.A.Record.Record.feature (then_some c.in_ok-is_left.is_left c.write_up_to.new.current)) c.write_up_to.new.self c.write_up_to.new.firsts.cursor left c.write_up_to.new.out.output c.put_pending.new.out.output w.0 puts),
+          c.args.firsts.now.cursor [] c.args.out.now.output (option_map g.A.Record.Record.feature (then_some c.in_ok-is_left.is_left c.write_up_to.new.first)) c.write_up_to.new.self c.write_up_to.new.firsts.cursor left c.write_up_to.new.out.output c.put_pending.new.out.output w.0 puts),
       w.1,
     )
