@@ -126,7 +126,7 @@ module _ {A : Type 0} (gives : A → List Feature → A → Type 0) (has_ended :
     pub end : EndUpTo first.chrom place newly
     pub cuts : CutsFor IsTotal first firsts [] old newly pending out fault grown
 
--- the r that waits, if one is left
+-- the record that waits, if one is left
 abbrev pub waiting_in : {R : Type 0} → R → Result Bool Fault → Result (Option R) Fault
 waiting_in r (Ok is_left) = Ok (then_some is_left r)
 waiting_in r (Err fault) = Err fault
